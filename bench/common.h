@@ -5,11 +5,14 @@
 #include <string.h>
 #include <time.h>
 
+/* How many values, members of lists and members of bags are written and read, and how many octets; a hundredth of them where instructions are
+ * counted. */
+#ifdef FEW
+#define COUNT 10000u
+#define OCTETS ((size_t)64 * 1024 * 1024 / 100)
+#else
+#define COUNT 1000000u
 #define OCTETS ((size_t)64 * 1024 * 1024)
-
-/* What stands before a reader whose instructions are counted, so that it stays a function of its own. */
-#ifndef WORK
-#define WORK
 #endif
 
 static uint64_t next(uint64_t state)

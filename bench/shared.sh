@@ -52,19 +52,46 @@ make_package() {
     done
 }
 
+# What the types of «Types» and «Kinds» stand on, and the codecs.
+schema='asn1_model asn1_schema_additions asn1_schema_constraints asn1_schema_constructed asn1_schema_decode asn1_schema_encode'
+schema="$schema asn1_schema_faults asn1_schema_presented asn1_schema_tags asn1_schema_types asn1_schema_variants asn1_schema_wrapped asn1_values_octets"
+codecs='asn1_schema_decode asn1_schema_encode asn1_schema_faults oer_codec per_codec'
+
+# make_bench_common, make_bench_rules, make_types_bench, make_kinds_types, make_kinds_bench, make_kinds_recode: the packages of these names.
+make_bench_common() {
+    make_package bench_common '' lib=common.in
+}
+make_bench_rules() {
+    make_package bench_rules "$codecs" lib=rules.in
+}
+make_types_bench() {
+    make_package types_bench "$schema bench_common bench_rules anyhow" main=types/main.in sample=types/sample.in
+}
+make_kinds_types() {
+    make_package kinds_types "$schema bench_common" lib=kinds/types.in added=kinds/added.in grown=kinds/grown.in made=kinds/made.in pick=kinds/pick.in
+}
+make_kinds_bench() {
+    make_package kinds_bench "kinds_types bench_common bench_rules asn1_schema_decode asn1_schema_encode asn1_schema_faults anyhow" main=kinds/main.in
+}
+make_kinds_recode() {
+    make_package kinds_recode "kinds_types bench_common asn1_relay_core asn1_schema_decode asn1_schema_encode anyhow" main=kinds/recode.in
+}
+
 # compile FLAG.. FILE: the work in C.
 compile() {
     ${CC:-clang} -O2 -o "$work/plain" "$@"
 }
 
-# generate FOLDER SCHEMA: the work in the code that asn1c generates of a schema, where asn1c is there.
+# generate FOLDER SCHEMA [FLAG..]: the work in the code that asn1c generates of a schema, where asn1c is there.
 generate() {
     command -v asn1c > "$work/found" || return 0
     rm -rf "$work/generated"
     mkdir -p "$work/generated"
     (cd "$work/generated" && asn1c -gen-PER -fcompound-names "$1/$2" > log 2>&1 && rm -f converter-sample.c)
     generated=$work/asn1c
-    ${CC:-clang} -O2 -w -I"$work/generated" -o "$generated" "$1/asn1c.c" "$work"/generated/*.c
+    folder=$1
+    shift 2
+    ${CC:-clang} -O2 -w "$@" -I"$work/generated" -o "$generated" "$folder/asn1c.c" "$work"/generated/*.c
 }
 
 # prove PROGRAM: proves a program of the benchmark, with all packages that are not built yet, and builds it.

@@ -2,7 +2,6 @@
  * hold. */
 #include "../buffer.h"
 
-#define COUNT 1000000u
 #define TAGS 20u
 #define ADDITIONS 8u
 

@@ -16,15 +16,11 @@ case $rules in
     recode_aligned) compile -DBASIC -DALIGNED "$here/kinds/recode.c"; program=kinds_recode ;;
     *) echo "no such rules" >&2; exit 2 ;;
 esac
-codecs='asn1_schema_decode asn1_schema_encode asn1_schema_faults oer_codec per_codec'
-types='asn1_model asn1_schema_additions asn1_schema_constraints asn1_schema_constructed'
-types="$types asn1_schema_decode asn1_schema_encode asn1_schema_faults asn1_schema_presented asn1_schema_tags"
-types="$types asn1_schema_types asn1_schema_variants asn1_schema_wrapped asn1_values_octets"
-take_packages $types $codecs asn1_relay_core
-make_package bench_common '' lib=common.in
-make_package bench_rules "$codecs" lib=rules.in
-make_package kinds_types "$types bench_common" lib=kinds/types.in added=kinds/added.in grown=kinds/grown.in made=kinds/made.in pick=kinds/pick.in
-make_package kinds_bench "kinds_types bench_common bench_rules asn1_schema_decode asn1_schema_encode asn1_schema_faults anyhow" main=kinds/main.in
-make_package kinds_recode "kinds_types bench_common asn1_relay_core asn1_schema_decode asn1_schema_encode anyhow" main=kinds/recode.in
+take_packages $schema $codecs asn1_relay_core
+make_bench_common
+make_bench_rules
+make_kinds_types
+make_kinds_bench
+make_kinds_recode
 prove $program
 measure $program "$rules"

@@ -4,12 +4,9 @@
 here=$(cd "$(dirname "$0")/.." && pwd)
 work=${1:-$(mktemp -d)}
 . "$here/shared.sh"
-types='asn1_model asn1_schema_additions asn1_schema_constraints asn1_schema_constructed'
-types="$types asn1_schema_decode asn1_schema_encode asn1_schema_faults asn1_schema_presented asn1_schema_tags"
-types="$types asn1_schema_types asn1_schema_variants asn1_schema_wrapped asn1_values_octets asn1_schema_authored asn1_relay_types"
-take_packages $types asn1_relay_core
-make_package bench_common '' lib=common.in
-make_package routes_types "$types bench_common" lib=routes/types.in added=kinds/added.in grown=kinds/grown.in versions=routes/versions.in
+take_packages $schema asn1_schema_authored asn1_relay_types asn1_relay_core
+make_bench_common
+make_package routes_types "$schema asn1_schema_authored asn1_relay_types bench_common" lib=routes/types.in added=kinds/added.in grown=kinds/grown.in versions=routes/versions.in
 make_package routes_bench "routes_types bench_common asn1_relay_core asn1_relay_types anyhow" main=routes/main.in
 prove routes_bench
 : > "$work/times"

@@ -5,12 +5,9 @@ here=$(cd "$(dirname "$0")/.." && pwd)
 work=${1:-$(mktemp -d)}
 . "$here/shared.sh"
 compile "$here/streams/plain.c"
-codecs='asn1_schema_decode asn1_schema_encode asn1_schema_faults'
-types='asn1_model asn1_schema_constraints asn1_schema_decode asn1_schema_encode asn1_schema_faults asn1_schema_presented'
-types="$types asn1_schema_tags asn1_schema_types asn1_schema_wrapped asn1_values_octets"
-take_packages $types asn1_relay_core
-make_package bench_common '' lib=common.in
-make_package streams_bench "$types bench_common asn1_relay_core anyhow" main=streams/main.in sample=types/sample.in
+take_packages $schema asn1_relay_core
+make_bench_common
+make_package streams_bench "$schema bench_common asn1_relay_core anyhow" main=streams/main.in sample=types/sample.in
 prove streams_bench
 : > "$work/times"
 for round in 1 2 3 4 5; do

@@ -49,7 +49,7 @@ static int put_string(struct buffer *b, const uint8_t *octets, size_t count)
     }
 }
 
-static WORK int get_sample(struct input *in, struct sample *s)
+static int get_sample(struct input *in, struct sample *s)
 {
     uint32_t flag;
     uint64_t number;
@@ -78,7 +78,7 @@ static WORK int get_sample(struct input *in, struct sample *s)
     return skip_filling(in);
 }
 
-static WORK int get_list(struct input *in, struct buffer *members)
+static int get_list(struct input *in, struct buffer *members)
 {
     size_t count, i;
     uint64_t number;

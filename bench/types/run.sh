@@ -12,12 +12,9 @@ case $rules in
     aper) compile -DALIGNED "$here/types/per.c" ;;
     *) echo "no such rules" >&2; exit 2 ;;
 esac
-codecs='asn1_schema_decode asn1_schema_encode asn1_schema_faults oer_codec per_codec'
-types='asn1_model asn1_schema_constraints asn1_schema_decode asn1_schema_encode asn1_schema_faults asn1_schema_presented'
-types="$types asn1_schema_tags asn1_schema_types asn1_schema_wrapped asn1_values_octets"
-take_packages $types $codecs
-make_package bench_common '' lib=common.in
-make_package bench_rules "$codecs" lib=rules.in
-make_package types_bench "$types bench_common bench_rules anyhow" main=types/main.in sample=types/sample.in
+take_packages $schema $codecs
+make_bench_common
+make_bench_rules
+make_types_bench
 prove types_bench
 measure types_bench "$rules"

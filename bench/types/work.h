@@ -2,8 +2,6 @@
  * get_list, put_string and get_string, and includes this file first. */
 #include "../buffer.h"
 
-#define COUNT 1000000u
-
 struct sample {
     uint32_t a;
     uint64_t b;
