@@ -74,11 +74,16 @@ fn put<'input>(
     ensures { OnOk result (framed innermost.new outer.new.items ≡ scope_of frame.entry
         ∷ framed innermost.old outer.old.items) }
 {
-    match innermost.take() {
-        Some(around) => outer.push(around)?,
-        None => outer.clear(),
+    if innermost.is_none() {
+        if !outer.is_empty() {
+            outer.clear();
+        }
+        *innermost = Some(frame);
+        return Ok(());
     }
-    *innermost = Some(frame);
+    if let Some(around) = innermost.replace(frame) {
+        outer.push(around)?;
+    }
     Ok(())
 }
 

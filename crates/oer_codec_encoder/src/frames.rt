@@ -67,11 +67,16 @@ fn put(
 ) -> Result<(), AllocError>
     ensures { OnOk result (others_of innermost.new outer.new.items ≡ frame ∷ others_of innermost.old outer.old.items) }
 {
-    match innermost.take() {
-        Some(around) => outer.push(around)?,
-        None => outer.clear(),
+    if innermost.is_none() {
+        if !outer.is_empty() {
+            outer.clear();
+        }
+        *innermost = Some(frame);
+        return Ok(());
     }
-    *innermost = Some(frame);
+    if let Some(around) = innermost.replace(frame) {
+        outer.push(around)?;
+    }
     Ok(())
 }
 
