@@ -19,6 +19,7 @@ use std::mem;
 /// # Errors
 ///
 /// `CallOutOfPlace` if nothing that is open takes this call, and `OutOfMemory`.
+#[inline(always)]
 pub(crate) fn begin_additions(
     octets: &mut Vec<u8>,
     worker: &mut Vec<u8>,
@@ -64,7 +65,7 @@ pub(crate) fn count_addition(additions: &mut Additions, present: bool) -> Result
 /// # Errors
 ///
 /// `CallOutOfPlace` if nothing that is open takes this call, and `OutOfMemory`.
-#[inline]
+#[inline(always)]
 pub(crate) fn put_addition(
     octets: &mut Vec<u8>,
     frames: &mut Frames,
@@ -85,7 +86,7 @@ pub(crate) fn put_addition(
 /// # Errors
 ///
 /// `CallOutOfPlace` if nothing that is open takes this call, and `OutOfMemory`.
-#[inline]
+#[inline(always)]
 pub(crate) fn end_addition(
     octets: &mut Vec<u8>,
     frames: &mut Frames,

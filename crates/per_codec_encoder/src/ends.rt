@@ -102,6 +102,7 @@ fn end_open_type(output: &mut Packing, outer: Packing, variant: Variant) -> Resu
 /// # Errors
 ///
 /// `CallOutOfPlace` where nothing is open, or something of what is innermost is due; `OutOfMemory`.
+#[inline(always)]
 pub(crate) fn end_scope(
     output: &mut Packing,
     frames: &mut Frames,

@@ -131,7 +131,7 @@ impl Packing {
     /// # Errors
     ///
     /// Want of memory; nothing is changed then.
-    #[inline]
+    #[inline(always)]
     pub fn push_bits(&mut self, value: u128, width: u32) -> Result<(), AllocError>
         requires { width ≤ 128 }
         ensures ok { OnOk result (self.new ≡ plus self.old (as_text (binary width value))) }
@@ -146,6 +146,7 @@ impl Packing {
     /// # Errors
     ///
     /// Want of memory; nothing is changed then.
+    #[inline(always)]
     pub fn extend_from_bytes(&mut self, bytes: &[u8]) -> Result<(), AllocError>
         ensures ok { OnOk result (self.new ≡ plus self.old (as_text (octet_bits bytes.now))) }
         ensures err { OnErr result (self.new ≡ self.old) }

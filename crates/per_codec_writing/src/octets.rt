@@ -21,6 +21,7 @@ use per_codec_packing::Packing;
 ///
 /// `SizeConstraintNotSatisfied` where the type does not hold so many octets, or a size without an extension marker does
 /// not admit them.
+#[inline(always)]
 pub fn push_octet_string(
     output: &mut Packing,
     variant: Variant,

@@ -17,6 +17,7 @@ use per_codec_limits::{Variant, told_highest};
 use per_codec_packing::Packing;
 
 /// Adds a number of units, one of `low` to `high`, and padding behind it if `pads` tells so (X.691 11.9.4.1).
+#[inline(always)]
 fn push_number(
     output: &mut Packing,
     variant: Variant,
@@ -40,6 +41,7 @@ fn push_number(
 
 /// Adds the number of units of the root of a size: by its bounds where the highest is below 65536, else a length
 /// determinant in the general form (X.691 11.9.4.1).
+#[inline(always)]
 fn push_root_count(
     output: &mut Packing,
     variant: Variant,
@@ -72,6 +74,7 @@ fn push_root_count(
 /// # Errors
 ///
 /// `SizeConstraintNotSatisfied` where a size without an extension marker does not admit so many; `OutOfMemory`.
+#[inline(always)]
 pub fn push_size(
     output: &mut Packing,
     variant: Variant,

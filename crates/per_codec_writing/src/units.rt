@@ -39,6 +39,7 @@ impl Units for &[u8] {
         (*self).len()
     }
 
+    #[inline(always)]
     fn push_range(&self, output: &mut Packing, from: usize, to: usize) -> Result<(), EncodeError> {
         output.extend_from_bytes(&self[from..to])?;
         Ok(())
@@ -53,6 +54,7 @@ impl Units for BitStr<'_> {
         self.len()
     }
 
+    #[inline(always)]
     fn push_range(&self, output: &mut Packing, from: usize, to: usize) -> Result<(), EncodeError> {
         let front = self.split_at(to).0;
         output.extend_from_bitslice(front.split_at(from).1)?;
@@ -68,6 +70,7 @@ impl Units for &[TextView<'_>] {
         self.len()
     }
 
+    #[inline(always)]
     fn push_range(&self, output: &mut Packing, from: usize, to: usize) -> Result<(), EncodeError> {
         push_each(output, &self[from..to])?;
         Ok(())
