@@ -1,7 +1,7 @@
 //! Sequences and sets that are newer versions of others.
 ghost use Rattle.std.specs.Prelude.{refl, [], ◌∷◌};
 ghost use Rattle.asn1_model.specs.Value.{fields};
-ghost use Rattle.asn1_schema.proofs.Author.{set_of};
+ghost use Rattle.asn1_schema.proofs.Author.{set_of, set_tag};
 ghost use Rattle.asn1_schema_presented.specs.Tables.{no_field};
 ghost use Rattle.asn1_schema_presented.proofs.Values.{type_sequence, value_sequence};
 ghost use Rattle.asn1_schema_authored.proofs.Defaults.{default_gains};
@@ -391,6 +391,8 @@ pub struct OldGrownFields {
 
 impl Components for OldGrownFields {
     const TAG: Tag = Tag::SET;
+
+    ghost TAG = { set_tag };
 
     ghost shape = { set_of ⟦<OldGrownForm as ComponentsOf>⟧ tt refl refl (λ x. x.components) };
 

@@ -64,7 +64,7 @@ impl Model for Encoder {
 /// (X.691 11.1).
 fn message(bits: BitBuffer) -> Result<Vec<u8>, EncodeError>
     ensures { MatchResult result (λ octets. octets_of (as_text bits, []) ≡ Some octets.items)
-        (λ e. e ≡ EncodeError.OutOfMemory) }
+        (λ e. (e ≡ EncodeError.OutOfMemory) × (bits ≡ [])) }
 {
     if bits.is_empty() {
         let mut octets = bits.into_vec();
@@ -101,16 +101,18 @@ impl Encoder {
         }
     }
 
-    /// Takes the octets of the message (X.691 11.1), at least one, and leaves nothing.
+    /// Takes the octets of the message (X.691 11.1), at least one, and leaves nothing. Only the one octet of a message
+    /// of no bits may take memory.
     ///
     /// # Errors
     ///
-    /// `OutOfMemory`, where the one octet of a message of no bits has no room.
+    /// `OutOfMemory`, where that octet has no room.
     #[inline(always)]
     pub fn output(&mut self) -> Result<Vec<u8>, EncodeError>
         ensures octets { IfOk result (λ octets. self.old.failed ≡ false → self.old.state.1 ≡ []
             → octets_of self.old.state ≡ Some octets.items) }
         ensures only { IfErr result (λ e. e ≡ EncodeError.OutOfMemory) }
+        ensures bare { OnErr result (self.old.failed ≡ false → self.old.state.1 ≡ [] → self.old.state.0 ≡ []) }
         ensures none { self.new ≡ record { state = ([], []); aligned = self.old.aligned; failed = self.old.failed } }
     {
         self.frames.clear();
@@ -118,7 +120,7 @@ impl Encoder {
         message(bits)
     }
 
-    /// The octets of the message (X.691 11.1), at least one.
+    /// The octets of the message (X.691 11.1), at least one, as `output` takes them.
     ///
     /// # Errors
     ///
@@ -127,6 +129,7 @@ impl Encoder {
         ensures octets { IfOk result (λ octets. self.failed ≡ false → self.state.1 ≡ []
             → octets_of self.state ≡ Some octets.items) }
         ensures only { IfErr result (λ e. e ≡ EncodeError.OutOfMemory) }
+        ensures bare { OnErr result (self.failed ≡ false → self.state.1 ≡ [] → self.state.0 ≡ []) }
     {
         let mut encoder = self;
         encoder.output()
