@@ -78,8 +78,8 @@ impl<T: EqualByMeaning> EqualByMeaning for SetOf<T> {
     ghost agrees = { λ x y. bags_agree T.PartialEq.laws T.Described.meaning T.agrees x.items.items y.items.items };
 }
 
-// What is left of two lists behind the items in front that are equal at the same places: bags that hold the same members
-// in the same order, as those of one message read twice do, are compared in one go.
+// What is left of two lists behind the items in front that are equal at the same places: bags that hold the same
+// members in the same order, as those of one message read twice do, are compared in one go.
 fn behind_equal<'a, T: PartialEq>(left: &'a [T], right: &'a [T]) -> (&'a [T], &'a [T])
     ensures { same_items T.eq result.0.now result.1.now ≡ same_items T.eq left.now right.now }
 {
