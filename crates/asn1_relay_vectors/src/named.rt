@@ -10,14 +10,14 @@ use asn1_relay_vectors_types::{
     Schedule, Spaced, Twelve, Versioned,
 };
 use asn1_schema_authored::Sequence;
+use asn1_schema_example::answer::Answer;
+use asn1_schema_example::colour::Colour;
 use asn1_schema_example::control::Control;
 use asn1_schema_example::gauge::Gauge;
 use asn1_schema_example::grown::Grown;
+use asn1_schema_example::message::Message;
 use asn1_schema_example::station::Station;
-use asn1_schema_example_choices::answer::Answer;
-use asn1_schema_example_choices::colour::Colour;
-use asn1_schema_example_choices::message::Message;
-use asn1_schema_example_choices::tree::Tree;
+use asn1_schema_example::tree::Tree;
 use asn1_schema_wrapped::SetOf;
 use asn1_values_bit_strings::BitString;
 use asn1_values_integers::{ConstrainedInteger, Integer};

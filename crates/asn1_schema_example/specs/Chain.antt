@@ -1,24 +1,17 @@
 -- T ::= SEQUENCE {value INTEGER, next T OPTIONAL}: the type and its values.
-use Rattle.std.specs.Prelude.{◌≡◌, ℕ, ℤ, zero, suc, refl, false, List, [], ◌∷◌, Option, Some, None}
+use Rattle.std.specs.Prelude.{◌≡◌, ℕ, ℤ, zero, suc, refl, List, [], ◌∷◌, Option, Some, None}
 use Rattle.std.proofs.Common.{Box, Global}
-use Rattle.asn1_schema.specs.Author.{Value, Parts, number, fields, end, Schema, Tag, required, optional, integer}
+use Rattle.asn1_schema.specs.Author.{Value, Parts, number, fields, end, Schema, Tag, required, optional}
 use Rattle.asn1_schema.specs.Author.{Part, left_out, there, with_part, part_of, Table, no_table, with_field}
 use Rattle.asn1_schema.specs.Author.{components_at, scope, sequence_type, IsType, IsValue, IsPart}
 use Rattle.asn1_schema.specs.Author.{recursive_sequence}
-use Rattle.asn1_schema.proofs.Author.{integer_type, integer_value, no_types, more_types, no_values, more_values}
+use Rattle.asn1_schema.proofs.Author.{integer_value, no_types, more_types, no_values, more_values}
 use Rattle.asn1_schema.proofs.Author.{part_required, value_sequence, recursive_type, value_as, part_absent}
 use Rattle.asn1_schema.proofs.Author.{part_there}
+use Rattle.asn1_schema_example.specs.Numbers.{whole_number, number_typed}
 use Rattle.asn1_schema_example.specs.declared.chain.Chain.{Chain, Chain', Held-Chain-next, None', Some'}
 use Rattle.asn1_schema_example.specs.declared.chain.Chain.TheViews.{out-Chain, roll-Chain}
 use denote.Hole.Carrier.{out, roll}
-
--- INTEGER, in any number of levels.
-abbrev pub whole_number : ℕ → Schema
-whole_number n = integer (record { range = record { low = None; high = None }; extensible = false })
-    (record { low = None; high = None })
-
-pub number_typed : IsType (record { class = 0; number = 2 } ∷ []) whole_number
-number_typed = integer_type _ _ refl refl refl
 
 -- The components, by the type that the second leads to.
 abbrev pub chain_table : (ℕ → Schema) → Table
@@ -37,7 +30,7 @@ chain_is (suc n) = refl
 -- The type is lawful.
 pub chain_typed : IsType (record { class = 0; number = 16 } ∷ []) chain_schema
 chain_typed = recursive_type chain_table refl (λ s t. more_types _ required (λ _. refl)
-    (integer_type _ _ refl refl refl) (more_types _ optional (λ _. refl) t no_types)) (λ s. refl)
+    number_typed (more_types _ optional (λ _. refl) t no_types)) (λ s. refl)
 
 -- What a chain means.
 abbrev mutual

@@ -1,1 +1,3 @@
 pub mod Chain
+pub mod Numbers
+pub mod Tree

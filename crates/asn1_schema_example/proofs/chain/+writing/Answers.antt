@@ -3,7 +3,8 @@ use Rattle.asn1_schema.proofs.Author.{raised, writes_required, writes_end, write
 use Rattle.asn1_schema.proofs.Author.{cannot_as, cannot_required, cannot_end, cannot_field, cannot_field_here}
 use Rattle.asn1_schema.proofs.Author.{cannot_this, cannot_this_here, count_presence_bits, integer_value, part_optional}
 use Rattle.asn1_schema.proofs.Author.{passed, failed_before_value, failed_before_part}
-use Rattle.asn1_schema_example.specs.Chain.{chain_table, chain_schema, chain_is, chain_opens, chain_meaning, chain_typed, chain_valued, number_typed}
+use Rattle.asn1_schema_example.specs.Numbers.{number_typed}
+use Rattle.asn1_schema_example.specs.Chain.{chain_table, chain_schema, chain_is, chain_opens, chain_meaning, chain_typed, chain_valued}
 use Rattle.asn1_schema_example.proofs.chain.+writing.Goals as goal
 
 pub ChainConstructed::write_fields-returns-in_err-encode-clause-only : goal.ChainConstructed::write_fields-returns-in_err-encode-clause-only

@@ -4,7 +4,8 @@ use Rattle.asn1_schema.proofs.Author.{raised, reads_as, unread_as, reads_require
 use Rattle.asn1_schema.proofs.Author.{reads_end, reads_field, reads_sequence, unread_required, unread_presence_bit}
 use Rattle.asn1_schema.proofs.Author.{unread_marked, unread_end, unread_field, unread_field_here, unread_sequence}
 use Rattle.asn1_schema.proofs.Author.{unread_sequence_here, failed_before, passed_on, failed_reads, count_presence_bits}
-use Rattle.asn1_schema_example.specs.Chain.{chain_table, chain_schema, chain_is, chain_opens, chain_made, chain_typed, number_typed}
+use Rattle.asn1_schema_example.specs.Numbers.{number_typed}
+use Rattle.asn1_schema_example.specs.Chain.{chain_table, chain_schema, chain_is, chain_opens, chain_made, chain_typed}
 use Rattle.asn1_schema_example.proofs.chain.ChainConstructed.+read_fields.Goals as goal
 
 pub returns-in_err-value-clause-only : goal.returns-in_err-value-clause-only

@@ -1,7 +1,7 @@
 use Rattle.std.proofs.Common.{◌≡◌, ◌+◌, ◌*◌, ◌-◌, ◌^◌}
 use Rattle.asn1_schema.proofs.Author.{ReadsFrom}
-use Rattle.asn1_schema_example_choices.specs.Tree.{tree_schema, tree_meaning}
-use Rattle.asn1_schema_example_choices.proofs.tree.+reading.Given as goal
+use Rattle.asn1_schema_example.specs.Tree.{tree_schema, tree_meaning}
+use Rattle.asn1_schema_example.proofs.tree.+reading.Given as goal
 
 abbrev pub decreases-TreeConstructed::read_fields : goal.decreases-TreeConstructed::read_fields
 decreases-TreeConstructed::read_fields g l = g.D.Decoder.levels l.decoder.now * 2 + 1

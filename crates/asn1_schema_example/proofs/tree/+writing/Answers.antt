@@ -3,8 +3,9 @@ use Rattle.asn1_schema.proofs.Author.{cannot_as, cannot_end, cannot_field, canno
 use Rattle.asn1_schema.proofs.Author.{cannot_this, cannot_this_here, count_presence_bits, failed_before_value, integer_value}
 use Rattle.asn1_schema.proofs.Author.{passed, raised, value_list, writes_as, writes_end, writes_field}
 use Rattle.asn1_schema.proofs.Author.{writes_required, writes_this}
-use Rattle.asn1_schema_example_choices.specs.Tree.{tree_table, tree_schema, tree_meaning, tree_valued, tree_is, branches_schema, branches_are, tree_opens, number_typed, branches_typed}
-use Rattle.asn1_schema_example_choices.proofs.tree.+writing.Goals as goal
+use Rattle.asn1_schema_example.specs.Numbers.{number_typed}
+use Rattle.asn1_schema_example.specs.Tree.{tree_table, tree_schema, tree_meaning, tree_valued, tree_is, branches_schema, branches_are, tree_opens, branches_typed}
+use Rattle.asn1_schema_example.proofs.tree.+writing.Goals as goal
 
 pub TreeConstructed::write_fields-returns-in_err-encode-clause-only : goal.TreeConstructed::write_fields-returns-in_err-encode-clause-only
 TreeConstructed::write_fields-returns-in_err-encode-clause-only g t c = raised _ _ _ c.from_residual.ensures.1 (cannot_field_here _ _ _ _ (cannot_required number_typed c.in_err-encode.ensures.only))

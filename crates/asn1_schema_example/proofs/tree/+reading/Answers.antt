@@ -4,9 +4,10 @@ use Rattle.asn1_schema.proofs.Author.{from_start, from_stuck, passed_on, raised,
 use Rattle.asn1_schema.proofs.Author.{reads_list, reads_required, reads_sequence, unread_as, unread_end}
 use Rattle.asn1_schema.proofs.Author.{unread_field, unread_field_here, unread_list, unread_list_here}
 use Rattle.asn1_schema.proofs.Author.{unread_required, unread_sequence, unread_sequence_here}
-use Rattle.asn1_schema_example_choices.specs.Tree.{tree_table, tree_is, branches_schema, branches_are, tree_opens, tree_made, number_typed, branches_typed}
-use Rattle.asn1_schema_example_choices.proofs.Held.{is_held}
-use Rattle.asn1_schema_example_choices.proofs.tree.+reading.Goals as goal
+use Rattle.asn1_schema_example.specs.Numbers.{number_typed}
+use Rattle.asn1_schema_example.specs.Tree.{tree_table, tree_is, branches_schema, branches_are, tree_opens, tree_made, branches_typed}
+use Rattle.asn1_schema_example.proofs.Held.{is_held}
+use Rattle.asn1_schema_example.proofs.tree.+reading.Goals as goal
 
 pub TreeConstructed::read_fields-returns-in_err-value-clause-only : goal.TreeConstructed::read_fields-returns-in_err-value-clause-only
 TreeConstructed::read_fields-returns-in_err-value-clause-only g t c = raised _ _ _ c.from_residual.ensures.1 (unread_field_here _ _ (unread_required number_typed c.in_err-value.ensures.only))

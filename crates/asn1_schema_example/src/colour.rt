@@ -19,7 +19,7 @@ pub enum Colour {
 }
 
 impl Described for Colour {
-    ghost use Rattle.asn1_schema_example_choices.specs.declared.colour.Colour.TheVariants.{Red, Green, Blue};
+    ghost use Rattle.asn1_schema_example.specs.declared.colour.Colour.TheVariants.{Red, Green, Blue};
 
     ghost tags = { record { class = 0; number = 10 } ∷ [] };
 
@@ -65,7 +65,7 @@ impl AsnType for Colour {
 }
 
 impl Enumerated for Colour {
-    ghost use Rattle.asn1_schema_example_choices.specs.declared.colour.Colour.TheVariants.{Red, Green, Blue};
+    ghost use Rattle.asn1_schema_example.specs.declared.colour.Colour.TheVariants.{Red, Green, Blue};
 
     ghost roots = { pos 0 ∷ pos 1 ∷ [] };
 
@@ -110,7 +110,7 @@ impl Enumerated for Colour {
 }
 
 impl EnumeratedType for Colour {
-    ghost use Rattle.asn1_schema_example_choices.specs.declared.colour.Colour.TheVariants.{Red, Green, Blue};
+    ghost use Rattle.asn1_schema_example.specs.declared.colour.Colour.TheVariants.{Red, Green, Blue};
 
     ghost is_of = { λ _. refl };
 
@@ -118,7 +118,7 @@ impl EnumeratedType for Colour {
 }
 
 impl NamedItems for Colour {
-    ghost use Rattle.asn1_schema_example_choices.specs.declared.colour.Colour.TheVariants.{Red, Green, Blue};
+    ghost use Rattle.asn1_schema_example.specs.declared.colour.Colour.TheVariants.{Red, Green, Blue};
 
     ghost name = { elim [ Red ↦ codes "red" | Green ↦ codes "green" | Blue ↦ codes "blue" ] };
 

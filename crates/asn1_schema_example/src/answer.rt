@@ -17,7 +17,7 @@ pub enum Answer {
 }
 
 impl Described for Answer {
-    ghost use Rattle.asn1_schema_example_choices.specs.declared.answer.Answer.TheVariants.{Yes, No};
+    ghost use Rattle.asn1_schema_example.specs.declared.answer.Answer.TheVariants.{Yes, No};
 
     ghost tags = { record { class = 0; number = 10 } ∷ [] };
 
@@ -53,7 +53,7 @@ impl AsnType for Answer {
 }
 
 impl Enumerated for Answer {
-    ghost use Rattle.asn1_schema_example_choices.specs.declared.answer.Answer.TheVariants.{Yes, No};
+    ghost use Rattle.asn1_schema_example.specs.declared.answer.Answer.TheVariants.{Yes, No};
 
     ghost roots = { negsuc 999 ∷ pos 1000 ∷ [] };
 
@@ -92,7 +92,7 @@ impl Enumerated for Answer {
 }
 
 impl EnumeratedType for Answer {
-    ghost use Rattle.asn1_schema_example_choices.specs.declared.answer.Answer.TheVariants.{Yes, No};
+    ghost use Rattle.asn1_schema_example.specs.declared.answer.Answer.TheVariants.{Yes, No};
 
     ghost is_of = { λ _. refl };
 

@@ -1,7 +1,7 @@
 //! Tree ::= SEQUENCE {value INTEGER, branches SEQUENCE OF Tree}, a type that leads back to itself through a list.
 ghost use Rattle.std.specs.Prelude.{◌≡◌, [], ◌∷◌, refl, OnOk, OnErr, IfOk, IfErr};
 ghost use Rattle.asn1_schema.specs.Author.{Reads, Unread, end, members, no_constraint, sequence_form, values_of};
-ghost use Rattle.asn1_schema_example_choices.specs.Tree.{branches_schema, tree_meaning};
+ghost use Rattle.asn1_schema_example.specs.Tree.{branches_schema, tree_meaning};
 
 use asn1_schema::{
     AsnType, Bounded, Constraints, Constructed, Decode, DecodeError, Decoder, Described, Encode,
@@ -20,7 +20,7 @@ pub struct Tree {
 }
 
 impl Described for Tree {
-    ghost use Rattle.asn1_schema_example_choices.specs.Tree.{tree_schema, tree_meaning, tree_typed, tree_valued};
+    ghost use Rattle.asn1_schema_example.specs.Tree.{tree_schema, tree_meaning, tree_typed, tree_valued};
 
     ghost tags = { record { class = 0; number = 16 } ∷ [] };
 
@@ -56,8 +56,8 @@ impl AsnType for Tree {
 }
 
 impl Constructed for Tree {
-    ghost use Rattle.asn1_schema_example_choices.specs.Tree.{tree_table, branches_schema, tree_root, tree_opens};
-    ghost use Rattle.asn1_schema_example_choices.specs.Tree.{tree_is};
+    ghost use Rattle.asn1_schema_example.specs.Tree.{tree_table, branches_schema, tree_root, tree_opens};
+    ghost use Rattle.asn1_schema_example.specs.Tree.{tree_is};
 
     ghost form = { sequence_form };
 

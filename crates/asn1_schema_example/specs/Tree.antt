@@ -1,27 +1,20 @@
 -- T ::= SEQUENCE {value INTEGER, branches SEQUENCE OF T}: the type and its values.
-use Rattle.std.specs.Prelude.{◌≡◌, ℕ, zero, suc, refl, List, [], ◌∷◌, map, None, false}
+use Rattle.std.specs.Prelude.{◌≡◌, ℕ, zero, suc, refl, List, [], ◌∷◌, map}
 use Rattle.std.proofs.Common.{ap, sym, subst, ◌∙◌}
 use Rattle.asn1_schema.specs.Author.{IsType, IsValue, Parts, Schema, Table, Value, Values, any_number, any_size}
-use Rattle.asn1_schema.specs.Author.{components_at, cut, end, fields, integer, is_lawful, is_tidy, list_type, member}
+use Rattle.asn1_schema.specs.Author.{components_at, cut, end, fields, is_lawful, is_tidy, list_type, member}
 use Rattle.asn1_schema.specs.Author.{members, no_more, no_table, number, required, scope, sequence_type, there}
 use Rattle.asn1_schema.specs.Author.{values_of, with_field, with_part}
-use Rattle.asn1_schema.proofs.Author.{integer_type, integer_value, more_types, more_values, no_types, no_values}
+use Rattle.asn1_schema.proofs.Author.{integer_value, more_types, more_values, no_types, no_values}
 use Rattle.asn1_schema.proofs.Author.{part_required, type_list, type_sequence, value_as, value_list, value_sequence}
-use Rattle.asn1_schema_example_choices.specs.declared.tree.Tree.{Tree, Tree', Row_of-Tree, end_of-Tree, more_of-Tree}
-use Rattle.asn1_schema_example_choices.specs.declared.tree.Tree.{items-the_row-Tree, items_hidden-the_row-Tree-0}
-use Rattle.asn1_schema_example_choices.specs.declared.tree.Tree.TheBlock.{hidden-the_row-Tree-0}
-use Rattle.asn1_schema_example_choices.specs.declared.tree.Tree.TheOpen.{Tree-F}
-use Rattle.asn1_schema_example_choices.specs.declared.tree.Tree.TheViews.{out-Tree, roll-Tree, out-roll-Tree}
-use Rattle.asn1_schema_example_choices.specs.declared.tree.Tree.TheViews.{roll-out-Tree, rolls-struct-Tree}
-use Rattle.asn1_schema_example_choices.specs.declared.tree.Tree.TheFolds.{ind-Tree}
-
--- INTEGER, in any number of levels.
-abbrev pub whole_number : ℕ → Schema
-whole_number n = integer (record { range = record { low = None; high = None }; extensible = false })
-    (record { low = None; high = None })
-
-pub number_typed : IsType (record { class = 0; number = 2 } ∷ []) whole_number
-number_typed = integer_type _ _ refl refl refl
+use Rattle.asn1_schema_example.specs.Numbers.{whole_number, number_typed}
+use Rattle.asn1_schema_example.specs.declared.tree.Tree.{Tree, Tree', Row_of-Tree, end_of-Tree, more_of-Tree}
+use Rattle.asn1_schema_example.specs.declared.tree.Tree.{items-the_row-Tree, items_hidden-the_row-Tree-0}
+use Rattle.asn1_schema_example.specs.declared.tree.Tree.TheBlock.{hidden-the_row-Tree-0}
+use Rattle.asn1_schema_example.specs.declared.tree.Tree.TheOpen.{Tree-F}
+use Rattle.asn1_schema_example.specs.declared.tree.Tree.TheViews.{out-Tree, roll-Tree, out-roll-Tree}
+use Rattle.asn1_schema_example.specs.declared.tree.Tree.TheViews.{roll-out-Tree, rolls-struct-Tree}
+use Rattle.asn1_schema_example.specs.declared.tree.Tree.TheFolds.{ind-Tree}
 
 -- The components, by the type of the second.
 abbrev pub tree_table : (ℕ → Schema) → Table

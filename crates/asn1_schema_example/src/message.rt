@@ -38,7 +38,7 @@ const NAME: Tag = Tag {
 };
 
 impl Described for Message {
-    ghost use Rattle.asn1_schema_example_choices.specs.declared.message.Message.TheVariants.{Flag, Count, Name};
+    ghost use Rattle.asn1_schema_example.specs.declared.message.Message.TheVariants.{Flag, Count, Name};
 
     ghost tags = { context 0 ∷ context 1 ∷ context 2 ∷ [] };
 
@@ -154,7 +154,7 @@ impl Alternatives for Message {
 }
 
 impl Choice for Message {
-    ghost use Rattle.asn1_schema_example_choices.specs.declared.message.Message.TheVariants.{Flag, Count, Name};
+    ghost use Rattle.asn1_schema_example.specs.declared.message.Message.TheVariants.{Flag, Count, Name};
 
     ghost place = { elim [
       | Flag x ↦ record { added = false; place = 0 }

@@ -1,0 +1,12 @@
+-- The numbers in types that lead back to themselves: the type, without constraints, and that it is lawful.
+use Rattle.std.specs.Prelude.{ℕ, refl, false, [], ◌∷◌, None}
+use Rattle.asn1_schema.specs.Author.{IsType, Schema, integer}
+use Rattle.asn1_schema.proofs.Author.{integer_type}
+
+-- INTEGER, in any number of levels.
+abbrev pub whole_number : ℕ → Schema
+whole_number n = integer (record { range = record { low = None; high = None }; extensible = false })
+    (record { low = None; high = None })
+
+pub number_typed : IsType (record { class = 0; number = 2 } ∷ []) whole_number
+number_typed = integer_type _ _ refl refl refl
