@@ -53,7 +53,7 @@ make_package() {
 }
 
 # What the types of «Types» and «Kinds» stand on, and the codecs.
-schema='asn1_model asn1_schema_additions asn1_schema_constraints asn1_schema_constructed asn1_schema_decode asn1_schema_encode'
+schema='asn1_model asn1_schema_authored asn1_schema_constraints asn1_schema_constructed asn1_schema_decode asn1_schema_encode'
 schema="$schema asn1_schema_faults asn1_schema_presented asn1_schema_tags asn1_schema_types asn1_schema_variants asn1_schema_wrapped asn1_values_octets"
 codecs='asn1_schema_decode asn1_schema_encode asn1_schema_faults oer_codec per_codec'
 

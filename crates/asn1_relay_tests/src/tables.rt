@@ -1,7 +1,7 @@
 //! Tables of fields, of alternatives and of items, by calls of their own.
 use crate::assertions::assert_same;
 use asn1_relay_types::{Extra, ExtraFields, New, Set};
-use asn1_schema_additions::Group;
+use asn1_schema_authored::Group;
 use asn1_schema_constructed::{Alternatives, Choice, Constructed, Fields, NamedItems};
 use asn1_schema_example::answer::Answer;
 use asn1_schema_example::colour::Colour;

@@ -1,6 +1,6 @@
 //! Components and additions that are written as they were read, whichever they are.
 ghost use Rattle.std.specs.Prelude.{◌≡◌, OnOk, OnErr, IfErr};
-ghost use Rattle.asn1_schema_additions.specs.Writes.{CannotWriteAdded, WritesAdded};
+ghost use Rattle.asn1_schema_authored.specs.Writes.{CannotWriteAdded, WritesAdded};
 ghost use Rattle.asn1_schema_encode.specs.Writes.{CannotWriteTail, WritesTail};
 
 use asn1_schema::{

@@ -1,3 +1,10 @@
+pub mod Extending
+pub mod Writing
+pub mod GroupWriting
+pub mod Reading
+pub mod GroupReading
+pub mod Going
+pub mod Failing
 mod Composing
 pub mod Shaping
 pub mod ChoiceShaping

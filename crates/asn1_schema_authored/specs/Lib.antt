@@ -1,3 +1,5 @@
+pub mod Writes
+pub mod Reads
 pub mod Shapes
 pub mod ChoiceShapes
 pub mod Groups

@@ -1,7 +1,7 @@
 //! How many additions there are, of which `usize` counts all.
 ghost use Rattle.std.proofs.Common.{rules, arith};
 
-use asn1_schema_additions::{
+use crate::{
     AddedGroupComponent, AddedOptionalComponent, AddedRequiredComponent, AdditionsOf, CountOf,
     Group, NoMore,
 };

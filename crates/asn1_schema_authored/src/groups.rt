@@ -4,8 +4,8 @@ ghost use Rattle.std.proofs.Common.{◌∙◌, ap};
 ghost use Rattle.asn1_model.specs.Value.{are_absent};
 ghost use Rattle.asn1_schema_authored.specs.Groups.{GroupShape, shape_table};
 
+use crate::Group;
 use crate::composites::{Composite, FieldTables};
-use asn1_schema_additions::Group;
 
 /// A struct whose fields are the components of a group of additions (X.680 25.1).
 pub trait GroupComponents: FieldTables {

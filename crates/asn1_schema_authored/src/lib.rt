@@ -1,15 +1,29 @@
-//! Types around structs and enums of a program's own: SEQUENCE and SET (X.680 25 and 27), groups of additions, and
-//! CHOICE (X.680 29), and newer versions of them.
+//! Additions of sequences and sets behind an extension marker, and groups of them (X.680 25 and 27); types around structs
+//! and enums of a program's own: SEQUENCE and SET, groups of additions, and CHOICE (X.680 29), and newer versions of
+//! them.
 #![tactic(auto)]
 
+pub mod additions;
 pub mod choice_of;
 pub mod composites;
 pub mod counts;
+pub mod decode;
+pub mod encode;
+pub mod group;
 pub mod groups;
 pub mod versions;
+pub mod written;
 
+pub use additions::{
+    AddedDefaultedComponent, AddedGroupComponent, AddedOptionalComponent, AddedRequiredComponent,
+    AdditionsOf, CountOf, MarkedComponents, NoMore,
+};
 pub use choice_of::{ChoiceAlternatives, ChoiceOf};
 pub use composites::{Components, Composite, FieldTables, Heading, Sequence, Set};
 pub use counts::{NoAddition, OneAddition, TwoAdditions};
+pub use decode::{DecodeAdditions, DecodeExtension};
+pub use encode::{EncodeAdditions, EncodeExtension};
+pub use group::Group;
 pub use groups::GroupComponents;
 pub use versions::{ExtendsAlternatives, ExtendsComponents};
+pub use written::{AddedDefaulted, AddedGroup, AddedOptional, AddedRequired, Marked};

@@ -1,7 +1,7 @@
 use Rattle.asn1_schema_presented.proofs.Joined.{raised}
-use Rattle.asn1_schema_additions.proofs.Writing.{writes_more, cannot_more, cannot_more_here}
+use Rattle.asn1_schema_authored.proofs.Writing.{writes_more, cannot_more, cannot_more_here}
 use Rattle.asn1_schema_presented.proofs.Values.{part_required}
-use Rattle.asn1_schema_additions.proofs.Going.{failed_before_addition}
+use Rattle.asn1_schema_authored.proofs.Going.{failed_before_addition}
 use Rattle.asn1_schema_encode.proofs.Going.{passed}
 use Rattle.asn1_relay_vectors_types.proofs.written.AddedRequiredComponentWriteAdditions.write_additions.Goals as goal
 

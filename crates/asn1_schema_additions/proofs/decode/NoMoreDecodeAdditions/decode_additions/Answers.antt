@@ -1,9 +1,0 @@
-use Rattle.asn1_schema_presented.proofs.Joined.{raised}
-use Rattle.asn1_schema_additions.proofs.Reading.{reads_no_more, unread_no_more}
-use Rattle.asn1_schema_additions.proofs.decode.NoMoreDecodeAdditions.decode_additions.Goals as goal
-
-pub returns-in_err-end-clause-only : goal.returns-in_err-end-clause-only
-returns-in_err-end-clause-only g c = raised _ _ _ c.from_residual.ensures.1 (unread_no_more _ c.in_err-end.ensures.only)
-
-pub returns-clause-ok : goal.returns-clause-ok
-returns-clause-ok g c = reads_no_more _ c.in_ok-end.ensures.ok

@@ -1,0 +1,419 @@
+//! The additions of a sequence or set, as they are read.
+ghost use Rattle.std.specs.Prelude.{◌≡◌, ◌+◌, true, OnOk, OnErr, IfErr, IfOk};
+ghost use Rattle.asn1_model.specs.Value.{fields, end, same};
+ghost use Rattle.asn1_model.specs.Schema.{required, optional, by_default};
+ghost use Rattle.asn1_schema_constraints.specs.Terms.{meant};
+ghost use Rattle.asn1_schema_presented.specs.Presents.{there};
+ghost use Rattle.asn1_schema_presented.specs.Tables.{presence_bits, sequence_type};
+ghost use Rattle.asn1_schema_presented.specs.Parts.{part_of, part_unless};
+ghost use Rattle.asn1_schema_decode.specs.Reads.{Reads, Unread};
+ghost use Rattle.asn1_schema_presented.specs.Additions.{group_type, group_part};
+ghost use Rattle.asn1_schema_authored.specs.Reads.{ReadsExtension, UnreadExtension, ReadsExtensionDefault};
+ghost use Rattle.asn1_schema_authored.specs.Reads.{UnreadExtensionDefault, ReadsAddition, UnreadAddition};
+ghost use Rattle.asn1_schema_authored.specs.Reads.{ReadsAdded, UnreadAdded};
+
+use crate::additions::{
+    AddedDefaultedComponent, AddedGroupComponent, AddedOptionalComponent, AddedRequiredComponent,
+    AdditionsOf, CountOf, MarkedComponents, NoMore,
+};
+use crate::group::Group;
+use asn1_schema_constraints::Constraints;
+use asn1_schema_decode::{Decode, DecodeComponents, Decoder};
+use asn1_schema_faults::DecodeError;
+use asn1_schema_tags::Tag;
+use asn1_schema_types::DefaultOf;
+use std::alloc::Global;
+use std::marker::PhantomData;
+
+/// Additions that are read.
+pub trait DecodeAdditions: AdditionsOf + Drop {
+    /// Reads the additions, and the end of the sequence or set.
+    fn decode_additions<D: Decoder>(alloc: Global, decoder: &mut D) -> Result<Self, DecodeError>
+        ensures ok { IfOk result
+            (λ x. ReadsAdded D.step Self.additions (D.levels decoder.old) (Self.parts x) decoder.old decoder.new) }
+        ensures level { OnOk result (D.levels decoder.new ≡ D.levels decoder.old + 1) }
+        ensures only { IfErr result (UnreadAdded D.step Self.additions (D.levels decoder.old) decoder.old) }
+        ensures failed { OnErr result (D.has_failed decoder.new) }
+        ensures already { D.has_failed decoder.old → result ≡ Err DecodeError.AlreadyFailed }
+        ensures after { result ≡ Err DecodeError.AlreadyFailed → D.has_failed decoder.old };
+}
+
+impl DecodeAdditions for NoMore {
+    fn decode_additions<D: Decoder>(_alloc: Global, decoder: &mut D) -> Result<Self, DecodeError> {
+        decoder.end()?;
+        Ok(NoMore)
+    }
+}
+
+impl<T: Decode, R: DecodeAdditions> DecodeAdditions for AddedRequiredComponent<T, R> {
+    fn decode_additions<D: Decoder>(alloc: Global, decoder: &mut D) -> Result<Self, DecodeError> {
+        let value = decoder.decode_required_extension_addition(alloc)?;
+        let rest = R::decode_additions(alloc, decoder)?;
+        Ok(AddedRequiredComponent(value, rest))
+    }
+}
+
+impl<T: Decode, R: DecodeAdditions> DecodeAdditions for AddedOptionalComponent<T, R> {
+    fn decode_additions<D: Decoder>(alloc: Global, decoder: &mut D) -> Result<Self, DecodeError> {
+        let value = decoder.decode_extension_addition(alloc)?;
+        let rest = R::decode_additions(alloc, decoder)?;
+        Ok(AddedOptionalComponent(value, rest))
+    }
+}
+
+impl<V: DefaultOf<T> + Drop, T: Decode, R: DecodeAdditions> DecodeAdditions
+    for AddedDefaultedComponent<V, T, R> {
+    fn decode_additions<D: Decoder>(alloc: Global, decoder: &mut D) -> Result<Self, DecodeError> {
+        let value = decoder.decode_extension_addition_with_default::<V, T>(alloc)?;
+        let rest = R::decode_additions(alloc, decoder)?;
+        Ok(AddedDefaultedComponent(value, PhantomData, rest))
+    }
+}
+
+impl<G: Group, R: DecodeAdditions> DecodeAdditions for AddedGroupComponent<G, R> {
+    fn decode_additions<D: Decoder>(alloc: Global, decoder: &mut D) -> Result<Self, DecodeError> {
+        let value = decoder.decode_extension_addition_group(alloc)?;
+        let rest = R::decode_additions(alloc, decoder)?;
+        Ok(AddedGroupComponent(value, rest))
+    }
+}
+
+impl<M: CountOf<A> + Drop, A: DecodeAdditions> DecodeComponents for MarkedComponents<M, A> {
+    fn decode_components<D: Decoder>(alloc: Global, decoder: &mut D) -> Result<Self, DecodeError> {
+        let count = A::count();
+        decoder.begin_additions(count)?;
+        let additions = A::decode_additions(alloc, decoder)?;
+        Ok(MarkedComponents(additions, PhantomData))
+    }
+}
+
+/// How additions, and sequences that have them, are read.
+pub trait DecodeExtension: Decoder {
+    /// An addition that is there wherever this version of the type wrote the value. One that is absent is refused as
+    /// `RequiredExtensionNotPresent`.
+    final fn decode_required_extension_addition<T: Decode>(
+        &mut self,
+        alloc: Global,
+    ) -> Result<T, DecodeError>
+    where
+        Self: Sized,
+        ensures ok { IfOk result
+            (λ x. ReadsAddition Self.step required T.schema (Self.levels self.old) (there (T.meaning x))
+            self.old self.new) }
+        ensures level { OnOk result (Self.levels self.new ≡ Self.levels self.old) }
+        ensures only { IfErr result (UnreadAddition Self.step required T.schema (Self.levels self.old) self.old) }
+        ensures failed { OnErr result (Self.has_failed self.new) }
+        ensures already { Self.has_failed self.old → result ≡ Err DecodeError.AlreadyFailed }
+        ensures after { result ≡ Err DecodeError.AlreadyFailed → Self.has_failed self.old }
+    {
+        let present = self.get_addition()?;
+        if !present {
+            return Err(self.refuse(DecodeError::RequiredExtensionNotPresent));
+        }
+        let value = T::decode(alloc, self)?;
+        self.end_addition()?;
+        Ok(value)
+    }
+
+    /// An addition that may be absent (X.680 25; X.691 19.7 to 19.9, X.696 16).
+    final fn decode_extension_addition<T: Decode>(
+        &mut self,
+        alloc: Global,
+    ) -> Result<Option<T>, DecodeError>
+    where
+        Self: Sized,
+        ensures ok { IfOk result
+            (λ x. ReadsAddition Self.step optional T.schema (Self.levels self.old) (part_of T.meaning x)
+            self.old self.new) }
+        ensures level { OnOk result (Self.levels self.new ≡ Self.levels self.old) }
+        ensures only { IfErr result (UnreadAddition Self.step optional T.schema (Self.levels self.old) self.old) }
+        ensures failed { OnErr result (Self.has_failed self.new) }
+        ensures already { Self.has_failed self.old → result ≡ Err DecodeError.AlreadyFailed }
+        ensures after { result ≡ Err DecodeError.AlreadyFailed → Self.has_failed self.old }
+    {
+        self.decode_extension_addition_with_tag(alloc, T::TAG)
+    }
+
+    /// The same with another tag.
+    final fn decode_extension_addition_with_tag<T: Decode>(
+        &mut self,
+        alloc: Global,
+        tag: Tag,
+    ) -> Result<Option<T>, DecodeError>
+    where
+        Self: Sized,
+        ensures ok { IfOk result
+            (λ x. ReadsAddition Self.step optional T.schema (Self.levels self.old) (part_of T.meaning x)
+            self.old self.new) }
+        ensures level { OnOk result (Self.levels self.new ≡ Self.levels self.old) }
+        ensures only { IfErr result (UnreadAddition Self.step optional T.schema (Self.levels self.old) self.old) }
+        ensures failed { OnErr result (Self.has_failed self.new) }
+        ensures already { Self.has_failed self.old → result ≡ Err DecodeError.AlreadyFailed }
+        ensures after { result ≡ Err DecodeError.AlreadyFailed → Self.has_failed self.old }
+    {
+        let value = self.decode_extension_addition_with_tag_and_constraints(
+            alloc,
+            tag,
+            T::constraints(),
+        )?;
+        Ok(value)
+    }
+
+    /// The same under these constraints.
+    final fn decode_extension_addition_with_constraints<T: Decode>(
+        &mut self,
+        alloc: Global,
+        constraints: Constraints,
+    ) -> Result<Option<T>, DecodeError>
+    where
+        Self: Sized,
+        ensures ok { IfOk result
+            (λ x. ReadsExtension Self.step (T.under (meant constraints.entry)) (Self.levels self.old)
+            (part_of T.meaning x) self.old self.new) }
+        ensures level { OnOk result (Self.levels self.new ≡ Self.levels self.old) }
+        ensures only { IfErr result
+            (UnreadExtension Self.step (T.under (meant constraints.entry)) (Self.levels self.old) self.old) }
+        ensures failed { OnErr result (Self.has_failed self.new) }
+        ensures already { Self.has_failed self.old → result ≡ Err DecodeError.AlreadyFailed }
+        ensures after { result ≡ Err DecodeError.AlreadyFailed → Self.has_failed self.old }
+    {
+        self.decode_extension_addition_with_tag_and_constraints(alloc, T::TAG, constraints)
+    }
+
+    /// The same with another tag around its own (X.680 31.2.8), which leaves no octet in the packed and the octet
+    /// encoding rules, under these constraints.
+    final fn decode_extension_addition_with_explicit_tag_and_constraints<T: Decode>(
+        &mut self,
+        alloc: Global,
+        _tag: Tag,
+        constraints: Constraints,
+    ) -> Result<Option<T>, DecodeError>
+    where
+        Self: Sized,
+        ensures ok { IfOk result
+            (λ x. ReadsExtension Self.step (T.under (meant constraints.entry)) (Self.levels self.old)
+            (part_of T.meaning x) self.old self.new) }
+        ensures level { OnOk result (Self.levels self.new ≡ Self.levels self.old) }
+        ensures only { IfErr result
+            (UnreadExtension Self.step (T.under (meant constraints.entry)) (Self.levels self.old) self.old) }
+        ensures failed { OnErr result (Self.has_failed self.new) }
+        ensures already { Self.has_failed self.old → result ≡ Err DecodeError.AlreadyFailed }
+        ensures after { result ≡ Err DecodeError.AlreadyFailed → Self.has_failed self.old }
+    {
+        self.decode_extension_addition_with_constraints(alloc, constraints)
+    }
+
+    /// The same with another tag, under these constraints.
+    final fn decode_extension_addition_with_tag_and_constraints<T: Decode>(
+        &mut self,
+        alloc: Global,
+        tag: Tag,
+        constraints: Constraints,
+    ) -> Result<Option<T>, DecodeError>
+    where
+        Self: Sized,
+        ensures ok { IfOk result
+            (λ x. ReadsExtension Self.step (T.under (meant constraints.entry)) (Self.levels self.old)
+            (part_of T.meaning x) self.old self.new) }
+        ensures level { OnOk result (Self.levels self.new ≡ Self.levels self.old) }
+        ensures only { IfErr result
+            (UnreadExtension Self.step (T.under (meant constraints.entry)) (Self.levels self.old) self.old) }
+        ensures failed { OnErr result (Self.has_failed self.new) }
+        ensures already { Self.has_failed self.old → result ≡ Err DecodeError.AlreadyFailed }
+        ensures after { result ≡ Err DecodeError.AlreadyFailed → Self.has_failed self.old }
+    {
+        let present = self.get_addition()?;
+        if !present {
+            return Ok(None);
+        }
+        let value = T::decode_with_tag_and_constraints(alloc, self, tag, constraints)?;
+        self.end_addition()?;
+        Ok(Some(value))
+    }
+
+    /// An addition with a default, which stands for it where it is absent (X.680 25). One that is there and means what
+    /// the default is has a note behind it, which rules with one encoding refuse (X.691 19.5 and X.696 16 in their
+    /// canonical forms).
+    final fn decode_extension_addition_with_default<V: DefaultOf<T>, T: Decode>(
+        &mut self,
+        alloc: Global,
+    ) -> Result<T, DecodeError>
+    where
+        Self: Sized,
+        ensures ok { IfOk result
+            (λ x. ReadsAddition Self.step (by_default V.value) T.schema (Self.levels self.old)
+            (part_unless (same (T.meaning x) V.value) (T.meaning x)) self.old self.new) }
+        ensures level { OnOk result (Self.levels self.new ≡ Self.levels self.old) }
+        ensures only { IfErr result
+            (UnreadAddition Self.step (by_default V.value) T.schema (Self.levels self.old) self.old) }
+        ensures failed { OnErr result (Self.has_failed self.new) }
+        ensures already { Self.has_failed self.old → result ≡ Err DecodeError.AlreadyFailed }
+        ensures after { result ≡ Err DecodeError.AlreadyFailed → Self.has_failed self.old }
+    {
+        self.decode_extension_addition_with_default_and_tag::<V, T>(alloc, T::TAG)
+    }
+
+    /// The same with another tag.
+    final fn decode_extension_addition_with_default_and_tag<V: DefaultOf<T>, T: Decode>(
+        &mut self,
+        alloc: Global,
+        tag: Tag,
+    ) -> Result<T, DecodeError>
+    where
+        Self: Sized,
+        ensures ok { IfOk result
+            (λ x. ReadsAddition Self.step (by_default V.value) T.schema (Self.levels self.old)
+            (part_unless (same (T.meaning x) V.value) (T.meaning x)) self.old self.new) }
+        ensures level { OnOk result (Self.levels self.new ≡ Self.levels self.old) }
+        ensures only { IfErr result
+            (UnreadAddition Self.step (by_default V.value) T.schema (Self.levels self.old) self.old) }
+        ensures failed { OnErr result (Self.has_failed self.new) }
+        ensures already { Self.has_failed self.old → result ≡ Err DecodeError.AlreadyFailed }
+        ensures after { result ≡ Err DecodeError.AlreadyFailed → Self.has_failed self.old }
+    {
+        let value = self.decode_extension_addition_with_default_and_tag_and_constraints::<V, T>(
+            alloc,
+            tag,
+            T::constraints(),
+        )?;
+        Ok(value)
+    }
+
+    /// The same under these constraints.
+    final fn decode_extension_addition_with_default_and_constraints<V: DefaultOf<T>, T: Decode>(
+        &mut self,
+        alloc: Global,
+        constraints: Constraints,
+    ) -> Result<T, DecodeError>
+    where
+        Self: Sized,
+        ensures ok { IfOk result
+            (λ x. ReadsExtensionDefault Self.step (T.under (meant constraints.entry)) (Self.levels self.old)
+            V.value (T.meaning x) self.old self.new) }
+        ensures level { OnOk result (Self.levels self.new ≡ Self.levels self.old) }
+        ensures only { IfErr result
+            (UnreadExtensionDefault Self.step (T.under (meant constraints.entry)) (Self.levels self.old) V.value
+            self.old) }
+        ensures failed { OnErr result (Self.has_failed self.new) }
+        ensures already { Self.has_failed self.old → result ≡ Err DecodeError.AlreadyFailed }
+        ensures after { result ≡ Err DecodeError.AlreadyFailed → Self.has_failed self.old }
+    {
+        self.decode_extension_addition_with_default_and_tag_and_constraints::<V, T>(
+            alloc,
+            T::TAG,
+            constraints,
+        )
+    }
+
+    /// The same with another tag, under these constraints.
+    final fn decode_extension_addition_with_default_and_tag_and_constraints<
+        V: DefaultOf<T>,
+        T: Decode,
+    >(&mut self, alloc: Global, tag: Tag, constraints: Constraints) -> Result<T, DecodeError>
+    where
+        Self: Sized,
+        ensures ok { IfOk result
+            (λ x. ReadsExtensionDefault Self.step (T.under (meant constraints.entry)) (Self.levels self.old)
+            V.value (T.meaning x) self.old self.new) }
+        ensures level { OnOk result (Self.levels self.new ≡ Self.levels self.old) }
+        ensures only { IfErr result
+            (UnreadExtensionDefault Self.step (T.under (meant constraints.entry)) (Self.levels self.old) V.value
+            self.old) }
+        ensures failed { OnErr result (Self.has_failed self.new) }
+        ensures already { Self.has_failed self.old → result ≡ Err DecodeError.AlreadyFailed }
+        ensures after { result ≡ Err DecodeError.AlreadyFailed → Self.has_failed self.old }
+    {
+        let present = self.get_addition()?;
+        if !present {
+            let Ok(default) = V::default_value(alloc) else {
+                return Err(self.refuse(DecodeError::OutOfMemory));
+            };
+            return Ok(default);
+        }
+        let value = T::decode_with_tag_and_constraints(alloc, self, tag, constraints)?;
+        self.end_addition()?;
+        let is_default = V::is_default(&value);
+        if is_default {
+            self.note_default()?;
+        }
+        Ok(value)
+    }
+
+    /// The components of a group of additions (X.680 25.1), and its end.
+    final fn decode_group<G: Group>(&mut self, alloc: Global) -> Result<G, DecodeError>
+    where
+        Self: Sized,
+        ensures ok { IfOk result
+            (λ x. Reads Self.step (group_type G.components) (Self.levels self.old) (fields (G.parts x) end)
+            self.old self.new) }
+        ensures level { OnOk result (Self.levels self.new ≡ Self.levels self.old) }
+        ensures only { IfErr result (Unread Self.step (group_type G.components) (Self.levels self.old) self.old) }
+        ensures failed { OnErr result (Self.has_failed self.new) }
+        ensures already { Self.has_failed self.old → result ≡ Err DecodeError.AlreadyFailed }
+        ensures after { result ≡ Err DecodeError.AlreadyFailed → Self.has_failed self.old }
+    {
+        let optional = G::fields().number_of_optional_and_default_fields();
+        self.begin_group(optional)?;
+        let group = G::read_fields(alloc, self)?;
+        Ok(group)
+    }
+
+    /// A group of additions (X.680 25.1). One none of whose components is there is `None`, with a note behind it, which
+    /// rules with one encoding refuse.
+    final fn decode_extension_addition_group<G: Group>(
+        &mut self,
+        alloc: Global,
+    ) -> Result<Option<G>, DecodeError>
+    where
+        Self: Sized,
+        ensures ok { IfOk result
+            (λ x. ReadsAddition Self.step optional (group_type G.components) (Self.levels self.old)
+            (group_part G.parts x) self.old self.new) }
+        ensures level { OnOk result (Self.levels self.new ≡ Self.levels self.old) }
+        ensures only { IfErr result
+            (UnreadAddition Self.step optional (group_type G.components) (Self.levels self.old) self.old) }
+        ensures failed { OnErr result (Self.has_failed self.new) }
+        ensures already { Self.has_failed self.old → result ≡ Err DecodeError.AlreadyFailed }
+        ensures after { result ≡ Err DecodeError.AlreadyFailed → Self.has_failed self.old }
+    {
+        let present = self.get_addition()?;
+        if !present {
+            return Ok(None);
+        }
+        let group: G = self.decode_group(alloc)?;
+        self.end_addition()?;
+        if group.is_empty() {
+            self.note_empty()?;
+            return Ok(None);
+        }
+        Ok(Some(group))
+    }
+
+    /// SEQUENCE (X.680 25) of these components with an extension marker, of whose root components so many may be
+    /// absent.
+    final fn decode_extensible_sequence<C: DecodeComponents>(
+        &mut self,
+        alloc: Global,
+        tag: Tag,
+        optional: usize,
+    ) -> Result<C, DecodeError>
+    where
+        Self: Sized,
+        requires presence_bits { optional ≡ presence_bits C.table.root }
+        requires extensible { C.table.extensible ≡ true }
+        ensures ok { IfOk result
+            (λ x. Reads Self.step (sequence_type C.table) (Self.levels self.old) (fields (C.root x) (C.added x))
+            self.old self.new) }
+        ensures level { OnOk result (Self.levels self.new ≡ Self.levels self.old) }
+        ensures only { IfErr result (Unread Self.step (sequence_type C.table) (Self.levels self.old) self.old) }
+        ensures failed { OnErr result (Self.has_failed self.new) }
+        ensures already { Self.has_failed self.old → result ≡ Err DecodeError.AlreadyFailed }
+        ensures after { result ≡ Err DecodeError.AlreadyFailed → Self.has_failed self.old }
+    {
+        self.begin_sequence(tag, true, optional)?;
+        let components = C::decode_components(alloc, self)?;
+        Ok(components)
+    }
+}
+
+impl<D: Decoder> DecodeExtension for D {}
