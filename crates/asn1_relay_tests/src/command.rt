@@ -32,12 +32,22 @@ fn arguments_that_cannot_be_had(rt: HostRuntime) {
     );
 }
 
-/// Whether a text names each command.
-fn names_commands(text: &[u8]) -> bool {
-    match str::from_utf8(text) {
-        Ok(text) => text.contains("once") && text.contains("stream") && text.contains("route"),
-        Err(_) => false,
+/// Whether the octets of a word stand in those of a text.
+fn names(text: &[u8], word: &str) -> bool {
+    for place in 0..text.len() {
+        if text[place..].starts_with(word.as_bytes()) {
+            return true;
+        }
     }
+    false
+}
+
+/// Whether octets are a text that names each command.
+fn names_commands(text: &[u8]) -> bool {
+    str::from_utf8(text).is_ok()
+        && names(text, "once")
+        && names(text, "stream")
+        && names(text, "route")
 }
 
 /// Whether the help text of the program names each command.

@@ -97,15 +97,25 @@ impl<'a> Run<'a> {
     }
 }
 
+/// A word, for none of which `''` stands.
+fn word_of(word: &str) -> &str {
+    if word == "''" { "" } else { word }
+}
+
+/// Adds the program's name, and the words behind it.
+fn push_words<'a>(words: &mut Vec<&'a str>, text: &'a str) -> Result<(), AllocError> {
+    words.push("asn1_relay")?;
+    for word in text.split_whitespace() {
+        words.push(word_of(word))?;
+    }
+    Ok(())
+}
+
 /// The words of a command line.
 fn words_of(alloc: Global, text: &str) -> Result<Vec<&str>, AllocError> {
     let mut words = Vec::new(alloc);
-    if text == "-" {
-        return Ok(words);
-    }
-    words.push("asn1_relay")?;
-    for word in text.split_whitespace() {
-        words.push(if word == "''" { "" } else { word })?;
+    if text != "-" {
+        push_words(&mut words, text)?;
     }
     Ok(words)
 }

@@ -70,11 +70,17 @@ const LONG_ROWS: &str = "\
 586 80 FF 02 07 | 7 | 2 | - | 586 | read
 586 80 FF 02 07 | 7 | - | 1 | 585 | write";
 
+/// A number, and the octets behind it.
+fn counted(text: &str) -> (usize, Octets) {
+    let (count, behind) = text.split_once(' ').unwrap_or((text, ""));
+    (count.parse::<usize>().unwrap_or(0), Octets::of(behind))
+}
+
 /// A message so many times, as the first word of a text says, and behind it the octets of the text.
 fn repeated(alloc: Global, message: &[u8], text: &str) -> Result<Vec<u8>, AllocError> {
-    let (count, behind) = text.split_once(' ').unwrap_or((text, ""));
-    let mut octets = message.repeat(alloc, count.parse::<usize>().unwrap_or(0))?;
-    octets.extend_from_slice(Octets::of(behind).all())?;
+    let (count, behind) = counted(text);
+    let mut octets = message.repeat(alloc, count)?;
+    octets.extend_from_slice(behind.all())?;
     Ok(octets)
 }
 

@@ -127,16 +127,19 @@ fn string_of<S: StaticPermittedAlphabet>(
     Ok(string)
 }
 
-/// Whether a string is read by the name of its type as it is written by it.
-fn is_read_by_name<S: Named>(alloc: Global, string: &S) -> bool {
-    let mut kept = encoder(alloc);
-    if string.write(&mut kept).is_err() {
-        return false;
-    }
-    match S::read(alloc, &mut decoder(kept)) {
+/// Whether a decoder finds this string by the name of its type.
+fn is_found<S: Named>(alloc: Global, decoder: &mut RecordDecoder, string: &S) -> bool {
+    match S::read(alloc, decoder) {
         Ok(read) => read == *string,
         Err(_) => false,
     }
+}
+
+/// Whether a string is read by the name of its type as it is written by it.
+fn is_read_by_name<S: Named>(alloc: Global, string: &S) -> bool {
+    let mut kept = encoder(alloc);
+    let is_written = string.write(&mut kept).is_ok();
+    is_found(alloc, &mut decoder(kept), string) && is_written
 }
 
 /// Whether the string of these characters is written and read by the name of its type.

@@ -56,9 +56,9 @@ fn wrong_universal() -> Option<u32> {
 
 /// The name that is not that of its type, if there is one.
 fn wrong_name() -> Option<&'static str> {
-    for (found, name) in NAMED {
-        if found != Identifier(Some(name)) {
-            return Some(name);
+    for (found, name) in &NAMED {
+        if *found != Identifier(Some(*name)) {
+            return Some(*name);
         }
     }
     None

@@ -1,6 +1,6 @@
 //! The native integer types, each by the claims of a text: its ends, octets, sums, conversions and what is shown; and
 //! the common ground of their numbers. Numbers are told as octets of two's complement.
-use crate::common::{Octets, assert_none, has, is_refused};
+use crate::common::{Octets, assert_none, has, is_refused, is_shown, is_told};
 use asn1_values::{
     Integer, IntegerBytes, IntegerError, IntegerType, NativeInteger, TryFromIntegerError, Wide,
 };
@@ -178,22 +178,16 @@ fn is_plain<T: NativeInteger + IntegerType>(number: Wide, octets: &[u8]) -> bool
     }
 }
 
-/// What a generic caller knows of a number.
-fn text_of<T: NativeInteger>(alloc: Global, number: T) -> Result<String, AllocError> {
-    format!(in alloc;
-        "{number} {number:?} {} {}",
-        T::default() < number,
-        <T as NativeInteger>::ZERO
-    )
-}
-
-/// Whether that is this text.
+/// Whether a number other than zero is told and shown as this text, and is above the default if it is above zero; and
+/// whether zero is told.
 fn is_described<T: NativeInteger>(alloc: Global, number: Wide, text: &str) -> bool {
     match T::from_wide(number) {
-        Some(value) => match text_of(alloc, value) {
-            Ok(shown) => shown.as_str() == text,
-            Err(AllocError) => false,
-        },
+        Some(value) => {
+            is_told(alloc, &value, text)
+                && is_shown(alloc, &value, text)
+                && is_told(alloc, &<T as NativeInteger>::ZERO, "0")
+                && (T::default() < value) != number.negative
+        }
         None => false,
     }
 }
@@ -278,10 +272,12 @@ fn is_converted<
 
 /// The ends of a type, which the first of its claims tells.
 fn ends_of(claims: &str) -> (Wide, Wide) {
-    let mut words = claims.lines().next().unwrap_or("").split(' ').skip(1);
-    let least = Octets::of(words.next().unwrap_or(""));
-    let greatest = Octets::of(words.next().unwrap_or(""));
-    (wide(least.all()), wide(greatest.all()))
+    let (ends, _) = claims.split_once('\n').unwrap_or(("", ""));
+    let (_, least, greatest) = words_of(ends);
+    (
+        wide(Octets::of(least).all()),
+        wide(Octets::of(greatest).all()),
+    )
 }
 
 /// Whether all claims on a type are so.
@@ -374,8 +370,7 @@ sum 00FFFFFFFFFFFFFFFFFFFFFFFFFFFFFFFF 01 00
 holds 7FFFFFFFFFFFFFFFFFFFFFFFFFFFFFFF
 lacks FF
 plain 00FFFFFFFFFFFFFFFFFFFFFFFFFFFFFFFF FFFFFFFFFFFFFFFFFFFFFFFFFFFFFFFF
-text 00FFFFFFFFFFFFFFFFFFFFFFFFFFFFFFFF 340282366920938463463374607431768211455 \
-340282366920938463463374607431768211455 true 0";
+text 00FFFFFFFFFFFFFFFFFFFFFFFFFFFFFFFF 340282366920938463463374607431768211455";
 
 const USIZE: &str = "\
 ends 00 00FFFFFFFFFFFFFFFF
@@ -398,7 +393,7 @@ lacks 0080
 own C8 C8
 above C8
 signed 80 80
-text FD -3 -3 false 0";
+text FD -3";
 
 const I16: &str = "\
 ends 8000 7FFF

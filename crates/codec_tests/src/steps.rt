@@ -118,19 +118,30 @@ const ADDITIONS_OF_THREE: [Tag; 1] = [context!(2)];
 /// The tags of a choice's root alternatives and of its additions, and the places of all.
 type Tags<'a> = (&'a [Tag], &'a [Tag], &'a [TagPlace]);
 
+/// So many items, or all if there are no more, and those behind.
+fn parted<T>(items: &[T], count: usize) -> (&[T], &[T]) {
+    items.split_at(count.min(items.len()))
+}
+
+/// The tags of 300 root alternatives, and their places.
+fn tags_of_300(lent: Lent<'_>) -> Tags<'_> {
+    let (roots, _) = parted(lent.tags, 300);
+    let (places, _) = parted(lent.places, 300);
+    (roots, &[], places)
+}
+
+/// Those of one root alternative and 300 additions.
+fn tags_of_additions(lent: Lent<'_>) -> Tags<'_> {
+    let (roots, additions) = parted(lent.tags, 1);
+    (roots, additions, lent.places)
+}
+
 /// Those of a choice.
 fn tags_of(choice: Choice, lent: Lent<'_>) -> Tags<'_> {
     match choice {
         Choice::OfThree => (&ROOTS_OF_THREE, &ADDITIONS_OF_THREE, &PLACES_OF_THREE),
-        Choice::Of300 => (
-            lent.tags.split_at(300.min(lent.tags.len())).0,
-            &[],
-            lent.places.split_at(300.min(lent.places.len())).0,
-        ),
-        Choice::WithAdditions => {
-            let (roots, additions) = lent.tags.split_at(1.min(lent.tags.len()));
-            (roots, additions, lent.places)
-        }
+        Choice::Of300 => tags_of_300(lent),
+        Choice::WithAdditions => tags_of_additions(lent),
     }
 }
 

@@ -201,6 +201,15 @@ fn skip(decoder: &mut Decoder<'_>, count: usize) -> Result<(), DecodeError> {
     Ok(())
 }
 
+/// Reads a value under constraints.
+fn read_under<T: Decode>(
+    alloc: Global,
+    decoder: &mut Decoder<'_>,
+    constraints: Constraints<'_>,
+) -> Result<T, DecodeError> {
+    T::decode_with_constraints(alloc, decoder, constraints)
+}
+
 /// Reads a value.
 fn read<T: Decode>(
     alloc: Global,
@@ -208,7 +217,7 @@ fn read<T: Decode>(
     limit: Limit,
 ) -> Result<T, DecodeError> {
     match constraints_of(limit) {
-        Some(constraints) => T::decode_with_constraints(alloc, decoder, constraints),
+        Some(constraints) => read_under(alloc, decoder, constraints),
         None => T::decode(alloc, decoder),
     }
 }
@@ -360,8 +369,8 @@ fn is_right_text(alloc: Global, value: &Value, row: (Limit, &str)) -> Result<boo
 
 /// The place of the first row of a table that is wrong, if one is.
 fn wrong_row(alloc: Global, rows: &[Row]) -> Result<Option<usize>, Fail> {
-    for (place, row) in rows.iter().enumerate() {
-        if !is_right(alloc, row)? {
+    for place in 0..rows.len() {
+        if !is_right(alloc, &rows[place])? {
             return Ok(Some(place));
         }
     }

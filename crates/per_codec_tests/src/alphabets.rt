@@ -114,12 +114,15 @@ fn has_no_character(alphabet: &EffectiveAlphabet, code: Option<u32>) -> bool {
     }
 }
 
+/// Whether a character has this code, which stands for it.
+fn has_code(alphabet: &EffectiveAlphabet, character: u32, code: u32) -> bool {
+    alphabet.code(character) == Some(u64::from(code)) && alphabet.character(code) == Some(character)
+}
+
 /// Whether each character has its code, and each code stands for its character.
 fn has_codes(alphabet: &EffectiveAlphabet, codes: &[(u32, u32)]) -> bool {
     for (character, code) in codes {
-        if alphabet.code(*character) != Some(u64::from(*code))
-            || alphabet.character(*code) != Some(*character)
-        {
+        if !has_code(alphabet, *character, *code) {
             return false;
         }
     }
