@@ -131,8 +131,12 @@ impl Frames {
         ensures { self.new ≡ [] }
     {
         self.enclosing = None;
-        self.innermost = None;
-        self.outer.clear();
+        if self.innermost.is_some() {
+            self.innermost = None;
+        }
+        if !self.outer.is_empty() {
+            self.outer.clear();
+        }
     }
 
     /// Opens a frame inside all others.

@@ -49,8 +49,12 @@ impl Frames {
     pub(crate) fn clear(&mut self)
         ensures { self.new ≡ [] }
     {
-        self.innermost = None;
-        self.outer.clear();
+        if self.innermost.is_some() {
+            self.innermost = None;
+        }
+        if !self.outer.is_empty() {
+            self.outer.clear();
+        }
     }
 
     /// Opens a frame within what is innermost, which is let go where memory is refused.
