@@ -1,6 +1,6 @@
-//! Tests of both codecs by one call after another of their encoders and decoders, and of OER and COER of what no line of
-//! vectors says: what a call leaves in a buffer that it is lent, values that have no encoding, and readers and writers
-//! of tags and lengths.
+//! Tests of both codecs by one call after another of their encoders and decoders, and of OER and COER of what no line
+//! of vectors says: what a call leaves in a buffer that it is lent, values that have no encoding, and readers and
+//! writers of tags and lengths.
 #![tactic(auto)]
 
 #[cfg(test)]

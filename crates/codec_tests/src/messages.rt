@@ -171,9 +171,9 @@ type Row = (Rules, &'static [Step], &'static str, &'static str);
 
 /// In the packed rules, up to 64 additions are counted in six bits behind a bit that is not set, from 65 on by a length
 /// behind a bit that is set, which has two octets from 128 on. A place of an added alternative is up to 63 six bits;
-/// from 64 on it stands behind its length. From 16384 octets on an open type stands in fragments, behind which comes the
-/// length of the rest, even of none. In the octet rules, a bitmap stands behind its length, which counts the octet of
-/// the unused bits too, and an open type however long it is.
+/// from 64 on it stands behind its length. From 16384 octets on an open type stands in fragments, behind which comes
+/// the length of the rest, even of none. In the octet rules, a bitmap stands behind its length, which counts the octet
+/// of the unused bits too, and an open type however long it is.
 const ROWS: [Row; 62] = [
     (UPER, &OPTIONAL, "", "84 8D 00"),
     (UPER, last_of!(7), "", "C3 01*2 07"),
