@@ -22,12 +22,11 @@ use asn1_relay_types::{Nest, New, NewDefault, Old, OldDefault};
 use asn1_schema::{
     AddedGroupComponent, AddedOptionalComponent, AddedRequiredComponent, AdditionsOf, Components,
     ComponentsOf, DecodeComponents, DecodeError, DecodeExtension, DecodeSequence, Decoder,
-    Described, EncodeError, EncodeExtension, EncodeSequence, Encoder, End, Heading,
-    MarkedComponents, NoAddition, NoMore, OneAddition, OptionalComponent, RequiredComponent, Set,
-    SetOf, Tag, TwoAdditions,
+    Described, EncodeError, EncodeExtension, EncodeSequence, Encoder, End, Extends,
+    ExtendsComponents, Heading, MarkedComponents, NoAddition, NoMore, OneAddition,
+    OptionalComponent, RequiredComponent, Set, SetOf, Tag, TwoAdditions,
 };
 use asn1_schema_example::grown::GrownFields;
-use asn1_schema::{Extends, ExtendsComponents};
 use asn1_values::{Integer, OctetString};
 use std::alloc::Global;
 

@@ -67,9 +67,9 @@ impl<'a> TagTables<'a> {
         places: &'a [TagPlace],
     ) -> Option<Self>
         ensures some { IfSome result (λ t. t ≡ record {
-            roots = map tag_of roots.now;
-            extensible = extensible;
-            additions = map tag_of additions.now
+          roots = map tag_of roots.now;
+          extensible = extensible;
+          additions = map tag_of additions.now;
         }) }
         ensures none { IfNone result
             (is_table_of places.now (map tag_of roots.now ++ map tag_of additions.now) ≡ false) }
