@@ -92,8 +92,8 @@ module _ (below : List ℕ → State → Type 0) (given start content : ℕ) (o 
   same_presence_bits : root_bits ≡ false ∷ h.presence_bits
   same_presence_bits = ap (λ l. false ∷ l) (append-nil h.presence_bits)
 
-  unmarked_text : packed (filled_up (false ∷ h.presence_bits)) ≡ h.preamble
-  unmarked_text = closed_text h.preamble (false ∷ h.presence_bits) (h.bits ∙ ap filled_up same_presence_bits) h.small
+  unextended_text : packed (filled_up (false ∷ h.presence_bits)) ≡ h.preamble
+  unextended_text = closed_text h.preamble (false ∷ h.presence_bits) (h.bits ∙ ap filled_up same_presence_bits) h.small
 
   module _ (p : List ℕ) (x : ℕ) (changed : p ≡ set o start x) (bit : binary 8 x ≡ set (binary 8 (get_or o start 0)) 0 true) (small : x < 256) where
     changed_bits : octet_bits (set h.preamble 0 x) ≡ filled_up (true ∷ h.presence_bits)
@@ -101,11 +101,11 @@ module _ (below : List ℕ → State → Type 0) (given start content : ℕ) (o 
         kept_changed h.preamble root_bits (length root_bits) 0 (get_or o start 0) x true h.bits refl (omega arith) (get_or_any o start starts_within ∙ first_octet (get_or o start 0)) bit
         ∙ ap (λ l. filled_up (true ∷ l)) (append-nil h.presence_bits)
 
-    marked_text : packed (filled_up (true ∷ h.presence_bits)) ≡ set h.preamble 0 x
-    marked_text = closed_text (set h.preamble 0 x) (true ∷ h.presence_bits) changed_bits (set_small h.preamble 0 x small some_preamble h.small)
+    extended_text : packed (filled_up (true ∷ h.presence_bits)) ≡ set h.preamble 0 x
+    extended_text = closed_text (set h.preamble 0 x) (true ∷ h.presence_bits) changed_bits (set_small h.preamble 0 x small some_preamble h.small)
 
-    marked_whole : p ≡ h.front ++ (set h.preamble 0 x ++ h.inner)
-    marked_whole =
+    extended_whole : p ≡ h.front ++ (set h.preamble 0 x ++ h.inner)
+    extended_whole =
         let k : start - start ≡ 0 = omega arith in
         changed ∙ ap (λ l. set l start x) h.text ∙ set-append_right h.front (h.preamble ++ h.inner) start start x h.starts (omega arith)
         ∙ ap (λ j. h.front ++ set (h.preamble ++ h.inner) j x) k ∙ ap (λ l. h.front ++ l) (set-append_left h.preamble h.inner 0 x some_preamble)
@@ -134,26 +134,26 @@ does_end_added fs rest a o p b n x fits = record { after = λ s h. go s (none_du
         let u : State = (i.outer.0 ++ w, i.outer.1) in
         (u, ap (run ends) h.3 ∙ ap (λ t. adds_text t i.outer) e, subst (λ l. Holds rest l u) q (appended rest i.front i.outer w i.under))
 
-    with_some : (s : State) → (h : Holds (Added (none_left a) ∷ rest) o s) → is_any_set a.present ≡ true → (z : HasAdditions a.preamble.start a.present o a.outer.items p) → (c : Option (List ℕ)) → written (Oer.bit_string_form false a.present) 0 ≡ c → Adds c z.marked z.mapped → (t : State) × (run ends s ≡ Some t) × Holds rest p t
+    with_some : (s : State) → (h : Holds (Added (none_left a) ∷ rest) o s) → is_any_set a.present ≡ true → (z : HasAdditions a.preamble.start a.present o a.outer.items p) → (c : Option (List ℕ)) → written (Oer.bit_string_form false a.present) 0 ≡ c → Adds c z.with_extension_bit z.mapped → (t : State) × (run ends s ≡ Some t) × Holds rest p t
     with_some s h t z None e m = cc
     with_some s h t z (Some c) e m =
         let i = h.1 in
-        let y : ℕ = get_or z.marked a.preamble.start 0 in
-        let mapped : z.marked ++ c ≡ z.mapped = cc m in
-        let long : a.preamble.start < length z.marked = omega (arith, ap length z.others, length-set a.outer.items a.preamble.start y, starts_within (λ q t. Holds rest q t) a.preamble.given a.preamble.start a.preamble.content a.outer.items h.0 i) in
-        let small : y < 256 = octet_small z.marked c o p a.preamble.start (z.texts ∙ ap (λ l. l ++ o) (sym mapped)) long fits in
-        let whole = marked_whole (λ q t. Holds rest q t) a.preamble.given a.preamble.start a.preamble.content a.outer.items h.0 i z.marked y z.others z.bit small in
-        let first = marked_text (λ q t. Holds rest q t) a.preamble.given a.preamble.start a.preamble.content a.outer.items h.0 i z.marked y z.others z.bit small in
+        let y : ℕ = get_or z.with_extension_bit a.preamble.start 0 in
+        let mapped : z.with_extension_bit ++ c ≡ z.mapped = cc m in
+        let long : a.preamble.start < length z.with_extension_bit = omega (arith, ap length z.others, length-set a.outer.items a.preamble.start y, starts_within (λ q t. Holds rest q t) a.preamble.given a.preamble.start a.preamble.content a.outer.items h.0 i) in
+        let small : y < 256 = octet_small z.with_extension_bit c o p a.preamble.start (z.texts ∙ ap (λ l. l ++ o) (sym mapped)) long fits in
+        let whole = extended_whole (λ q t. Holds rest q t) a.preamble.given a.preamble.start a.preamble.content a.outer.items h.0 i z.with_extension_bit y z.others z.bit small in
+        let first = extended_text (λ q t. Holds rest q t) a.preamble.given a.preamble.start a.preamble.content a.outer.items h.0 i z.with_extension_bit y z.others z.bit small in
         let pre : List ℕ = set i.preamble 0 y in
         let all : List ℕ = c ++ o in
         closes s h (packed (filled_up (true ∷ i.presence_bits)) ++ (i.inner ++ all)) (some_added i.presence_bits i.inner c a.present o t e)
         (ap (λ l. i.front ++ (l ++ (i.inner ++ all))) first ∙ ap (λ l. i.front ++ l) (sym (append_assoc pre i.inner all)) ∙ sym (append_assoc i.front (pre ++ i.inner) all) ∙ ap (λ l. l ++ all) (sym whole)
-        ∙ sym (append_assoc z.marked c o) ∙ ap (λ l. l ++ o) mapped ∙ sym z.texts)
+        ∙ sym (append_assoc z.with_extension_bit c o) ∙ ap (λ l. l ++ o) mapped ∙ sym z.texts)
 
     go : (s : State) → Holds (Added (none_left a) ∷ rest) o s → (t : Bool) → a.any ≡ t → (u : State) × (run ends s ≡ Some u) × Holds rest p u
     go s h false t =
         let i = h.1 in
-        let first = unmarked_text (λ q t. Holds rest q t) a.preamble.given a.preamble.start a.preamble.content a.outer.items h.0 i in
+        let first = unextended_text (λ q t. Holds rest q t) a.preamble.given a.preamble.start a.preamble.content a.outer.items h.0 i in
         let none : p ≡ a.outer.items = subst (λ b. Completes a.preamble.start b a.present o a.outer.items p) t x in
         closes s h (packed (filled_up (false ∷ i.presence_bits)) ++ i.inner) (none_added i.presence_bits i.inner a.present o (sym h.2 ∙ t)) (ap (λ l. i.front ++ (l ++ i.inner)) first ∙ sym i.text ∙ sym none)
     go s h true t =

@@ -226,8 +226,8 @@ module _ (below : List ℕ → State → Type 0) (e : Bool) (d given start conte
   bits_due : ℕ
   bits_due = length h.presence_bits + cond e 1 0
 
-  unmarked : IsOpen below e d (given + 1) start content o (then_state false)
-  unmarked = record {
+  with_absent : IsOpen below e d (given + 1) start content o (then_state false)
+  with_absent = record {
     front = h.front;
     preamble = h.preamble;
     inner = h.inner;
@@ -262,8 +262,8 @@ module _ (below : List ℕ → State → Type 0) (e : Bool) (d given start conte
       ap (λ l. get_or l (start + i / 8) x) h.text ∙ get_or-append_right h.front (h.preamble ++ h.inner) start (start + i / 8) x h.starts (omega arith)
       ∙ ap (λ j. get_or (h.preamble ++ h.inner) j x) k ∙ get_or_append_left h.preamble h.inner x (i / 8) (within_preamble i n)
 
-  marked_with : (p : List ℕ) (i x y : ℕ) → i ≡ given + cond e 1 0 → p ≡ set o (start + i / 8) x → y ≡ get_or o (start + i / 8) y → binary 8 x ≡ set (binary 8 y) (i % 8) true → x < 256 → IsOpen below e d (given + 1) start content p (then_state true)
-  marked_with p i x y n changed at bit small =
+  with_present : (p : List ℕ) (i x y : ℕ) → i ≡ given + cond e 1 0 → p ≡ set o (start + i / 8) x → y ≡ get_or o (start + i / 8) y → binary 8 x ≡ set (binary 8 y) (i % 8) true → x < 256 → IsOpen below e d (given + 1) start content p (then_state true)
+  with_present p i x y n changed at bit small =
       let q : i / 8 < length h.preamble = within_preamble i n in
       let k : start + i / 8 - start ≡ i / 8 = omega arith in
       let place : i ≡ length h.presence_bits + cond e 1 0 = omega (arith, h.told) in
@@ -301,7 +301,7 @@ module _ (fs rest : List Frame) (c : Preamble) (o : List ℕ) (a : fs ≡ Compon
   next_due s h = subst (λ k. IsOpen (λ q t. Holds rest q t) c.extensible k c.given c.start c.content o s) one (on_top fs rest (Components c) o s a h)
 
   pub does_presence_bit_absent : (gs : List Frame) → gs ≡ Components (told c) ∷ rest → Does (presence_bit false) fs o gs o
-  does_presence_bit_absent gs b = record { after = λ s h. let i = next_due s h in (then_state _ c.extensible (c.due - 1) c.given c.start c.content o s i false, ap (run (presence_bit false)) i.is, put_back gs rest _ o _ b (unmarked _ c.extensible (c.due - 1) c.given c.start c.content o s i)) }
+  does_presence_bit_absent gs b = record { after = λ s h. let i = next_due s h in (then_state _ c.extensible (c.due - 1) c.given c.start c.content o s i false, ap (run (presence_bit false)) i.is, put_back gs rest _ o _ b (with_absent _ c.extensible (c.due - 1) c.given c.start c.content o s i)) }
 
   pub does_presence_bit_present : (gs : List Frame) (p : List ℕ) (i : ℕ) → gs ≡ Components (told c) ∷ rest → i ≡ c.given + cond c.extensible 1 0 → p ≡ set o (c.start + i / 8) (get_or p (c.start + i / 8) 0) → binary 8 (get_or p (c.start + i / 8) 0) ≡ set (binary 8 (get_or o (c.start + i / 8) 0)) (i % 8) true → ((j d : ℕ) → j < length p → get_or p j d < 256) → Does (presence_bit true) fs o gs p
   does_presence_bit_present gs p i b place others bit small = record { after = λ s h. go s (next_due s h) }
@@ -310,10 +310,10 @@ module _ (fs rest : List Frame) (c : Preamble) (o : List ℕ) (a : fs ≡ Compon
       go s h =
           let at : ℕ = c.start + i / 8 in
           let l = within_octets _ c.extensible (c.due - 1) c.given c.start c.content o s h i place in
-          (then_state _ c.extensible (c.due - 1) c.given c.start c.content o s h true, ap (run (presence_bit true)) h.is, put_back gs rest _ p _ b (marked_with _ c.extensible (c.due - 1) c.given c.start c.content o s h p i (get_or p at 0) (get_or o at 0) place others (get_or_any o at l) bit (small at 0 (omega (arith, l, ap length others, length-set o at (get_or p at 0))))))
+          (then_state _ c.extensible (c.due - 1) c.given c.start c.content o s h true, ap (run (presence_bit true)) h.is, put_back gs rest _ p _ b (with_present _ c.extensible (c.due - 1) c.given c.start c.content o s h p i (get_or p at 0) (get_or o at 0) place others (get_or_any o at l) bit (small at 0 (omega (arith, l, ap length others, length-set o at (get_or p at 0))))))
 
-  pub mark_within : (i : ℕ) → AreSound fs o → i ≡ c.given + cond c.extensible 1 0 → c.start + i / 8 < length o
-  mark_within i s place = within_octets _ c.extensible (c.due - 1) c.given c.start c.content o s.state (next_due s.state s.holds) i place
+  pub presence_bit_within : (i : ℕ) → AreSound fs o → i ≡ c.given + cond c.extensible 1 0 → c.start + i / 8 < length o
+  presence_bit_within i s place = within_octets _ c.extensible (c.due - 1) c.given c.start c.content o s.state (next_due s.state s.holds) i place
 
 -- ---- lists, and ends
 
@@ -382,8 +382,8 @@ byte_of : (b : Bool) → bool_byte b ≡ cond b 1 0
 byte_of true = refl
 byte_of false = refl
 
-pub with_mark_byte : (given n : ℕ) (e : Bool) → n ≡ bool_byte e → given + n ≡ given + cond e 1 0
-with_mark_byte given n e h = ap (λ k. given + k) (h ∙ byte_of e)
+pub with_extension_byte : (given n : ℕ) (e : Bool) → n ≡ bool_byte e → given + n ≡ given + cond e 1 0
+with_extension_byte given n e h = ap (λ k. given + k) (h ∙ byte_of e)
 
 pub does_whether_further : (fs rest gs : List Frame) (due next : ℕ) (o : List ℕ) (b : Bool) → fs ≡ Members due ∷ rest → b ≡ ltb 0 due → next ≡ due - cond b 1 0 → gs ≡ Members next ∷ rest → Does (further b) fs o gs o
 does_whether_further fs rest gs due next o true a n d e = does_further fs rest gs due o a (ltb-true _ _ (sym n)) (e ∙ ap (λ (j : ℕ). Members j ∷ rest) d)

@@ -12,53 +12,53 @@ use Rattle.asn1_schema_presented.specs.Chains.{Chain, OneRecord}
 use Rattle.asn1_schema_presented.proofs.Chains.{chain_split}
 use Rattle.asn1_schema_presented.proofs.OneValue.{one_value}
 use Rattle.asn1_schema_presented.proofs.Values.{not_empty}
-use Rattle.asn1_schema_presented.proofs.Joined.{nothing_noted, marked_records}
-use Rattle.asn1_schema_decode.specs.Reads.{NoRecord, Reads, Unread, ReadsPart, UnreadPart, ReadsMarked, ReadsOptional, UnreadOptional, ReadsDefault, omitted, spelled_out, other_value, UnreadDefault}
+use Rattle.asn1_schema_presented.proofs.Joined.{nothing_noted, present_records}
+use Rattle.asn1_schema_decode.specs.Reads.{NoRecord, Reads, Unread, ReadsPart, UnreadPart, ReadsPresent, ReadsOptional, UnreadOptional, ReadsDefault, omitted, spelled_out, other_value, UnreadDefault}
 use Rattle.asn1_schema_decode.proofs.Reading.{reads_left_out, reads_there, reads_default, reads_equal, reads_other, reads_as}
 
 not_omitted : {S : Type 0} {step : S → Record → S → Type 0} → OneRecord step → {a b c : S} → step a (presence_bit true) b → step a (presence_bit false) c → ⊥
 not_omitted one {a} {b} {c} m q = let e : presence_bit false ≡ presence_bit true = (one a (presence_bit false) (presence_bit true) c b refl q m).0 in cc
 
 module _ {S : Type 0} {step : S → Record → S → Type 0} {s : ℕ → Schema} {n : ℕ} where
-  pub reads_marked : {v : Value} {a b c : S} → step a (presence_bit true) b → Reads step s n v b c → ReadsMarked step s n v a c
-  reads_marked {b = b} m r = record { marked = b; presence_bits = m; reads = r }
+  pub reads_present : {v : Value} {a b c : S} → step a (presence_bit true) b → Reads step s n v b c → ReadsPresent step s n v a c
+  reads_present {b = b} m r = record { behind_presence_bit = b; presence_bits = m; reads = r }
 
-  -- ---- nothing is marked
+  -- ---- no presence bit says that it is there
   pub unread_optional_here : {a : S} {x : DecodeError} → NoRecord step asks_presence_bit a x → UnreadOptional step s n a x
-  unread_optional_here {a} h = record { none = λ w p c. elim p as (λ p. ReadsOptional step s n p a c → ⊥) [ left_out ↦ λ q. h.none w (presence_bit false) c refl q | there v ↦ λ q. h.none w (presence_bit true) q.marked refl q.presence_bits ] }
+  unread_optional_here {a} h = record { none = λ w p c. elim p as (λ p. ReadsOptional step s n p a c → ⊥) [ left_out ↦ λ q. h.none w (presence_bit false) c refl q | there v ↦ λ q. h.none w (presence_bit true) q.behind_presence_bit refl q.presence_bits ] }
 
   pub unread_default_here : {d : Value} {a : S} {x : DecodeError} → NoRecord step asks_presence_bit a x → UnreadDefault step s n d a x
   unread_default_here {d} {a} h = record {
     none = λ w v c p. elim p [
       | omitted e q ↦ h.none w (presence_bit false) c refl q
-      | spelled_out e b q z ↦ h.none w (presence_bit true) q.marked refl q.presence_bits
-      | other_value e q ↦ h.none w (presence_bit true) q.marked refl q.presence_bits
+      | spelled_out e b q z ↦ h.none w (presence_bit true) q.behind_presence_bit refl q.presence_bits
+      | other_value e q ↦ h.none w (presence_bit true) q.behind_presence_bit refl q.presence_bits
     ];
   }
 
   module _ (one : OneRecord step) where
-    -- where it is marked as there
-    not_marked : {v : Value} {a b c : S} → step a (presence_bit true) b → ((v : Value) (c : S) → Fits (s n) v → Chain step (presents (s n) v) b c → ⊥) → ReadsMarked step s n v a c → ⊥
-    not_marked {v} {a} {b} {c} m h q =
-        let e = (one a (presence_bit true) (presence_bit true) q.marked b refl q.presence_bits m).1 in
+    -- where the presence bit says that it is there
+    not_present : {v : Value} {a b c : S} → step a (presence_bit true) b → ((v : Value) (c : S) → Fits (s n) v → Chain step (presents (s n) v) b c → ⊥) → ReadsPresent step s n v a c → ⊥
+    not_present {v} {a} {b} {c} m h q =
+        let e = (one a (presence_bit true) (presence_bit true) q.behind_presence_bit b refl q.presence_bits m).1 in
         h q.reads.raw c q.reads.fits (subst (λ (z : S). Chain step (presents (s n) q.reads.raw) z c) e q.reads.chain)
 
     -- what is read there is one value
-    same_marked : {v w : Value} {a b c d : S} → step a (presence_bit true) b → Reads step s n v b c → ReadsMarked step s n w a d → (w ≡ v) × (d ≡ c)
-    same_marked {v} {w} {a} {b} {c} {d} m r q =
-        let e = (one a (presence_bit true) (presence_bit true) q.marked b refl q.presence_bits m).1 in
+    same_present : {v w : Value} {a b c d : S} → step a (presence_bit true) b → Reads step s n v b c → ReadsPresent step s n w a d → (w ≡ v) × (d ≡ c)
+    same_present {v} {w} {a} {b} {c} {d} m r q =
+        let e = (one a (presence_bit true) (presence_bit true) q.behind_presence_bit b refl q.presence_bits m).1 in
         let k = one_value one (s n) q.reads.raw r.raw b d c q.reads.fits r.fits (subst (λ (z : S). Chain step (presents (s n) q.reads.raw) z d) e q.reads.chain) r.chain in
         (sym q.reads.means ∙ ap (λ y. normal (s n) y) k.0 ∙ r.means, k.1)
 
     pub unread_optional : {a b : S} {x : DecodeError} → step a (presence_bit true) b → Unread step s n b x → UnreadOptional step s n a x
-    unread_optional {a} m h = record { none = λ w p c. elim p as (λ p. ReadsOptional step s n p a c → ⊥) [ left_out ↦ λ q. not_omitted one m q | there v ↦ λ q. not_marked m (h.none w) q ] }
+    unread_optional {a} m h = record { none = λ w p c. elim p as (λ p. ReadsOptional step s n p a c → ⊥) [ left_out ↦ λ q. not_omitted one m q | there v ↦ λ q. not_present m (h.none w) q ] }
 
     pub unread_default : {d : Value} {a b : S} {x : DecodeError} → step a (presence_bit true) b → Unread step s n b x → UnreadDefault step s n d a x
     unread_default m h = record {
       none = λ w v c p. elim p [
         | omitted e q ↦ not_omitted one m q
-        | spelled_out e b q z ↦ not_marked m (h.none w) q
-        | other_value e q ↦ not_marked m (h.none w) q
+        | spelled_out e b q z ↦ not_present m (h.none w) q
+        | other_value e q ↦ not_present m (h.none w) q
       ];
     }
 
@@ -66,8 +66,8 @@ module _ {S : Type 0} {step : S → Record → S → Type 0} {s : ℕ → Schema
     unread_noted {d} {v} {c = c} f m r h = record {
       none = λ w u y p. elim p [
         | omitted e q ↦ not_omitted one m q
-        | spelled_out e b q z ↦ h.none w is_default y refl (subst (λ (i : S). step i is_default y) (same_marked m r q).1 z)
-        | other_value e q ↦ let k : same u d ≡ same v d = ap (λ i. same i d) (same_marked m r q).0 in let l : false ≡ true = sym e ∙ k ∙ f in cc
+        | spelled_out e b q z ↦ h.none w is_default y refl (subst (λ (i : S). step i is_default y) (same_present m r q).1 z)
+        | other_value e q ↦ let k : same u d ≡ same v d = ap (λ i. same i d) (same_present m r q).0 in let l : false ≡ true = sym e ∙ k ∙ f in cc
       ];
     }
 
@@ -88,15 +88,15 @@ module _ {S : Type 0} {step : S → Record → S → Type 0} {s : ℕ → Schema
     ]
 
     -- what is of the type under its own constraints
-    of_type : (v : Value) {a : S} (b : S) {c : S} → step a (presence_bit true) b → Fits (t n) v → Chain step (presents (t n) v) b c → ReadsMarked step s n (normal (t n) v) a c
-    of_type v {a} b {c} m f p = reads_marked m (reads_as t s (λ i. sym (e i)) (record { raw = v; fits = f; means = refl; chain = p }))
+    of_type : (v : Value) {a : S} (b : S) {c : S} → step a (presence_bit true) b → Fits (t n) v → Chain step (presents (t n) v) b c → ReadsPresent step s n (normal (t n) v) a c
+    of_type v {a} b {c} m f p = reads_present m (reads_as t s (λ i. sym (e i)) (record { raw = v; fits = f; means = refl; chain = p }))
 
     pub part_optional_unread : {a : S} {x : DecodeError} → UnreadOptional step s n a x → UnreadPart step optional t n a x
     part_optional_unread {a} h = record {
       none = λ w p c. elim p as (λ p. PartFits (λ v. Fits (t n) v) optional p → Chain step (part_records (λ v. presents (t n) v) optional (t n) p) a c → ⊥) [
         | left_out ↦ λ f q. h.none w left_out q.0 q.1
         | there v ↦ λ f q.
-            let z = subst (λ rs. Chain step rs a c) (marked_records optional (t n) v refl (nothing_noted optional (t n) v (not_empty (t n) (normal (t n) v) (k.no_group n)) refl)) q in
+            let z = subst (λ rs. Chain step rs a c) (present_records optional (t n) v refl (nothing_noted optional (t n) v (not_empty (t n) (normal (t n) v) (k.no_group n)) refl)) q in
             h.none w (there (normal (t n) v)) c (of_type v z.0 z.1 f z.2)
       ];
     }
@@ -108,7 +108,7 @@ module _ {S : Type 0} {step : S → Record → S → Type 0} {s : ℕ → Schema
         let z = subst (λ rs. Chain step rs y.0 c) j y.2 in
         spelled_out (rw (i.normal n) at l) y.0 (of_type v q.0 q.1 f y.1) (subst (λ (j : S). step y.0 is_default j) (sym z.2) z.1)
     default_there {d} v {a} {c} false l i f q =
-        let z = subst (λ rs. Chain step rs a c) (marked_records (by_default d) (t n) v refl (nothing_noted (by_default d) (t n) v (not_empty (t n) (normal (t n) v) (k.no_group n)) l)) q in
+        let z = subst (λ rs. Chain step rs a c) (present_records (by_default d) (t n) v refl (nothing_noted (by_default d) (t n) v (not_empty (t n) (normal (t n) v) (k.no_group n)) l)) q in
         other_value (rw (i.normal n) at l) (of_type v z.0 z.1 f z.2)
 
     pub part_default_unread : {d : Value} {a : S} {x : DecodeError} → IsValue t d → UnreadDefault step s n d a x → UnreadPart step (by_default d) t n a x
