@@ -15,7 +15,7 @@ use Rattle.asn1_model.proofs.Forms.{map_parts}
 use Rattle.asn1_laws_values.proofs.Octets.{packed_back, packed_octets, eights_units}
 use Rattle.asn1_laws_values.proofs.Leaves.{numbers_equal}
 use Rattle.asn1_laws_fronts.proofs.Fronts.{Pairwise, agree_exactly, agree_refused, agree_with_refused, agree_map, agree_both, agree_both_apart, agree_varied, agree_if, agree_if_left, agree_if_right, agree_first, agree_nothing}
-use Rattle.asn1_laws_fronts.proofs.PerNumbers.{Alike, at_octet_alike, binary_alike, bits_apart, bits_apart', length_of_map, joined_alike, counted_alike, octet_units_alike, octets_again, semi_alike, constrained_alike, marked_alike}
+use Rattle.asn1_laws_fronts.proofs.PerNumbers.{Alike, at_octet_alike, binary_alike, bits_apart, bits_apart', length_of_map, joined_alike, counted_alike, octet_units_alike, octets_again, semi_alike, constrained_alike, with_extension_bit_alike}
 use Rattle.asn1_laws_fronts.proofs.Complete.{complete_alike}
 
 -- ---- units of a size
@@ -42,7 +42,7 @@ module _ (free : Per.Freedom → Bool) (X : Type 0) (R : X → X → Type 0) (f 
 
   pub sized_alike : (al : Bool) (z : Size) (held : Counts) (pads pads' : Counts → Bool) (xs ys : List X) → (length xs ≡ length ys → pads z.counts ≡ pads' z.counts) → Alike free (Per.sized al z held pads (map f xs)) (Per.sized al z held pads' (map f ys)) (Pairwise R xs ys)
   unfolding Per.sized
-  sized_alike al z held pads pads' xs ys w = agree_if free (is_count_within held (length (map f xs))) (is_count_within held (length (map f ys))) _ _ (λ i j. marked_alike free z.extensible (is_count_within z.counts (length (map f xs))) (is_count_within z.counts (length (map f ys))) _ _ _ _ (Pairwise R xs ys) (λ h k. root_alike al z.counts z.counts.high pads pads' xs ys w (at_least_low z.counts xs h) (at_least_low z.counts ys k)) (counted_alike free X R f one al xs ys))
+  sized_alike al z held pads pads' xs ys w = agree_if free (is_count_within held (length (map f xs))) (is_count_within held (length (map f ys))) _ _ (λ i j. with_extension_bit_alike free z.extensible (is_count_within z.counts (length (map f xs))) (is_count_within z.counts (length (map f ys))) _ _ _ _ (Pairwise R xs ys) (λ h k. root_alike al z.counts z.counts.high pads pads' xs ys w (at_least_low z.counts xs h) (at_least_low z.counts ys k)) (counted_alike free X R f one al xs ys))
 
 -- ---- small numbers, items and bitmaps
 bits_then : (free : Per.Freedom → Bool) (x : Per.BitForm) (m : List Bool) (P : Type 0) → Alike free (both (exactly (true ∷ [])) x) (exactly (false ∷ m)) P

@@ -120,8 +120,8 @@ three true true false = refl
 three true false w = refl
 three false f w = refl
 
-packed_number : (al : Bool) (low high : Option ℤ) (e t : Bool) (v : ℤ) → (is_present low && is_present high && not e) ≡ true → Bits (only_if (t && (not (is_present low || is_present high || e) || fits_128 v)) (Per.marked e (is_from low v && is_to high v) (Per.whole_number al low high v) (Per.unconstrained al v))) (t && fits_128 v && (is_from low v && is_to high v))
-unfolding Per.marked
+packed_number : (al : Bool) (low high : Option ℤ) (e t : Bool) (v : ℤ) → (is_present low && is_present high && not e) ≡ true → Bits (only_if (t && (not (is_present low || is_present high || e) || fits_128 v)) (Per.with_extension_bit e (is_from low v && is_to high v) (Per.whole_number al low high v) (Per.unconstrained al v))) (t && fits_128 v && (is_from low v && is_to high v))
+unfolding Per.with_extension_bit
 packed_number al (Some low) (Some high) false t v h = written_as (three t (fits_128 v) (is_at_most low v && is_at_most v high)) (written_if (t && fits_128 v) _ ((is_at_most low v && is_at_most v high) && true) (λ e. written_if (is_at_most low v && is_at_most v high) _ true (λ k. let k' = and_parts _ _ k in whole_written al low high v k'.0 k'.1)))
 packed_number al (Some low) (Some high) true t v h = cc
 packed_number al (Some low) None e t v h = cc

@@ -36,7 +36,7 @@ pub data Freedom : Type 0 where
   long_tag : Freedom
   -- a component that is equal to its default, spelled out
   default_spelled_out : Freedom
-  -- a group of additions that is marked as present, with none of them there
+  -- a group of additions that the bitmap tells as present, with none of them there
   empty_group : Freedom
   -- a presence bitmap with a bit set, of another width than the type's
   other_bitmap : Freedom

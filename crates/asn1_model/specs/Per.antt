@@ -32,12 +32,12 @@ pub data Freedom : Type 0 where
   -- a number in more octets than it needs
   longer_number : Freedom
   -- a number or a size of the root, told as outside it
-  root_marked_outside : Freedom
+  root_told_outside : Freedom
   -- a normally small number or length in the form of the large ones
   long_small_number : Freedom
   -- a component that is equal to its default, spelled out
   default_spelled_out : Freedom
-  -- a group of additions that is marked as present, with none of them there
+  -- a group of additions that the bitmap tells as present, with none of them there
   empty_group : Freedom
   -- a presence bitmap with a bit set, of another width than the type's
   other_bitmap : Freedom
@@ -54,7 +54,7 @@ Detail any_filling = List Bool
 Detail longer_length = Bool
 Detail other_fragments = List ℕ
 Detail longer_number = ℕ
-Detail root_marked_outside = Bool
+Detail root_told_outside = Bool
 Detail long_small_number = Bool
 Detail default_spelled_out = Bool
 Detail empty_group = Bool
@@ -168,10 +168,11 @@ whole_number al (Some low) None v = given (above low v) (λ d. semi_constrained 
 whole_number al None (Some high) v = only_if (is_at_most v high) (unconstrained al v)
 whole_number al None None v = unconstrained al v
 
--- What may be marked as outside the root, and must be where it is (X.691 13.1, 16.6, 17.3, 20.4 and 30.4).
-unfoldable pub marked : Bool → Bool → BitForm → BitForm → BitForm
-marked false in_root root outside = only_if in_root root
-marked true in_root root outside = varied root_marked_outside (not in_root) (λ out. cond out
+-- What stands behind an extension bit, where there is one: this is set outside the root (X.691 13.1, 16.6, 17.3, 20.4
+-- and 30.4).
+unfoldable pub with_extension_bit : Bool → Bool → BitForm → BitForm → BitForm
+with_extension_bit false in_root root outside = only_if in_root root
+with_extension_bit true in_root root outside = varied root_told_outside (not in_root) (λ out. cond out
     (both (exactly (true ∷ [])) outside)
     (only_if in_root (both (exactly (false ∷ [])) root)))
 
@@ -179,7 +180,8 @@ marked true in_root root outside = varied root_marked_outside (not in_root) (λ 
 -- choice.
 unfoldable pub integer_form : Bool → Bounds → Range → ℤ → BitForm
 integer_form al b held v = only_if (is_within held v && (not (is_bounded b) || fits_128 v))
-    (marked b.extensible (is_within b.range v) (whole_number al b.range.low b.range.high v) (unconstrained al v))
+    (with_extension_bit b.extensible (is_within b.range v) (whole_number al b.range.low b.range.high v)
+    (unconstrained al v))
 
 -- Units of a size: behind their number by its bounds, if the highest is below 65536, else behind a general length
 -- (X.691 11.9.4, 16, 17, 20 and 30).
@@ -192,8 +194,8 @@ sized_root al c (Some high) pads us = cond (ltb high 65536)
 -- Units of a size that may have an extension marker (X.691 16.6, 17.3, 20.4 and 30.4).
 unfoldable pub sized : Bool → Size → Counts → (Counts → Bool) → List BitForm → BitForm
 sized al z held pads us = only_if (is_count_within held (length us))
-    (marked z.extensible (is_count_within z.counts (length us)) (sized_root al z.counts z.counts.high pads us)
-    (counted al us))
+    (with_extension_bit z.extensible (is_count_within z.counts (length us))
+    (sized_root al z.counts z.counts.high pads us) (counted al us))
 
 abbrev pub never : Counts → Bool
 never c = false

@@ -72,7 +72,7 @@ pub enum DecodeError {
     /// A presence bitmap has no octets, or a wrong first octet.
     #[error("a presence bitmap is malformed")]
     InvalidExtensionHeader,
-    /// A required addition is marked as absent, or there is no presence bitmap.
+    /// A required addition is absent in the presence bitmap, or there is no bitmap.
     #[error("a required addition is absent")]
     RequiredExtensionNotPresent,
     /// The canonical octet encoding rules refuse the form.

@@ -113,8 +113,8 @@ fn is_addition_kept(alloc: Global) -> bool {
         )
 }
 
-/// An alternative that is written, the root alternatives, mark, additions and places of a choice that is read, and what
-/// is found.
+/// An alternative that is written, the root alternatives, extension marker, additions and places of a choice that is
+/// read, and what is found.
 type Row = (
     Chosen,
     &'static [Tag],

@@ -449,10 +449,10 @@ impl<'input> asn1_schema_decode::Decoder for Decoder<'input> {
     #[inline(always)]
     fn begin_additions(&mut self, count: usize) -> Result<(), DecodeError> {
         self.begin_record()?;
-        let Some(marked) = self.scopes.extension_bit() else {
+        let Some(is_extended) = self.scopes.extension_bit() else {
             return Err(self.fail(DecodeError::NotValidCanonicalEncoding));
         };
-        match read_additions(&mut self.cursor, self.rules, marked, count) {
+        match read_additions(&mut self.cursor, self.rules, is_extended, count) {
             Ok(additions) => {
                 self.scopes.replace(Frame::Added(additions));
                 Ok(())

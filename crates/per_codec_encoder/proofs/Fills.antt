@@ -172,14 +172,14 @@ whole_number_fills al (Some low) None v = fills_given _ (λ d. semi_constrained_
 whole_number_fills al None (Some high) v = fills_if _ (unconstrained_fills al v)
 whole_number_fills al None None v = unconstrained_fills al v
 
-marked_fills : (e i : Bool) {x y : Per.BitForm} → Fills x → Fills y → Fills (Per.marked e i x y)
-unfolding Per.marked
-marked_fills false i h k = fills_if i h
-marked_fills true i h k = fills_varied (fills_cond _ (fills_both (fills_exactly _) k) (fills_if i (fills_both (fills_exactly _) h)))
+with_extension_bit_fills : (e i : Bool) {x y : Per.BitForm} → Fills x → Fills y → Fills (Per.with_extension_bit e i x y)
+unfolding Per.with_extension_bit
+with_extension_bit_fills false i h k = fills_if i h
+with_extension_bit_fills true i h k = fills_varied (fills_cond _ (fills_both (fills_exactly _) k) (fills_if i (fills_both (fills_exactly _) h)))
 
 integer_fills : (al : Bool) (b : Bounds) (held : Range) (v : ℤ) → Fills (Per.integer_form al b held v)
 unfolding Per.integer_form
-integer_fills al b held v = fills_if _ (marked_fills b.extensible _ (whole_number_fills al b.range.low b.range.high v) (unconstrained_fills al v))
+integer_fills al b held v = fills_if _ (with_extension_bit_fills b.extensible _ (whole_number_fills al b.range.low b.range.high v) (unconstrained_fills al v))
 
 sized_root_fills : (al : Bool) (c : Counts) (high : Option ℕ) (pads : Counts → Bool) (us : List Per.BitForm) → AllFill us → Fills (Per.sized_root al c high pads us)
 unfolding Per.sized_root
@@ -188,7 +188,7 @@ sized_root_fills al c (Some high) pads us h = fills_cond _ (fills_both (constrai
 
 sized_fills : (al : Bool) (z : Size) (held : Counts) (pads : Counts → Bool) (us : List Per.BitForm) → AllFill us → Fills (Per.sized al z held pads us)
 unfolding Per.sized
-sized_fills al z held pads us h = fills_if _ (marked_fills z.extensible _ (sized_root_fills al z.counts z.counts.high pads us h) (counted_fills al us h))
+sized_fills al z held pads us h = fills_if _ (with_extension_bit_fills z.extensible _ (sized_root_fills al z.counts z.counts.high pads us h) (counted_fills al us h))
 
 character_fills : (b : ℕ) (rs : List Run) (c : ℕ) → Fills (Per.character b rs c)
 unfolding Per.character
@@ -207,9 +207,9 @@ string_fills al k z a held cs =
     bits : ℕ
     bits = Per.character_bits al runs
 
-mark_fills : (e m : Bool) → Fills (Per.extension_bit_of e m)
-mark_fills false m = fills_exactly []
-mark_fills true m = fills_exactly (m ∷ [])
+extension_bit_fills : (e m : Bool) → Fills (Per.extension_bit_of e m)
+extension_bit_fills false m = fills_exactly []
+extension_bit_fills true m = fills_exactly (m ∷ [])
 
 added_item_fills : (al e : Bool) (j : Option ℕ) → Fills (Per.added_item al e j)
 unfolding Per.added_item
@@ -219,7 +219,7 @@ added_item_fills al false j = fills_refused
 
 item_fills : (al : Bool) (n : ℕ) (e : Bool) (i j : Option ℕ) → Fills (Per.item_form al n e i j)
 unfolding Per.item_form
-item_fills al n e (Some i) j = fills_both (mark_fills e false) (constrained_fills al _ i)
+item_fills al n e (Some i) j = fills_both (extension_bit_fills e false) (constrained_fills al _ i)
 item_fills al n e None j = added_item_fills al e j
 
 -- ---- open types, sequences and bags
@@ -323,7 +323,7 @@ mutual
   form_fills al (sequence cs e adds) (fields ps qs) = given_fills al e (presence_bits cs ps) _ (Per.addition_forms al adds qs) (component_fills al cs ps) (addition_fills al adds qs)
   form_fills al (set cs e adds) (fields ps qs) = given_fills al e (presence_bits cs ps) _ (Per.addition_forms al adds qs) (component_fills al cs ps) (addition_fills al adds qs)
   form_fills al (group cs) (fields ps end) = fills_both (fills_exactly _) (component_fills al cs ps)
-  form_fills al (choice roots e adds) (chosen false i v) = fills_both (mark_fills e false) (fills_both (constrained_fills al _ i) (alternative_fills al roots i v))
+  form_fills al (choice roots e adds) (chosen false i v) = fills_both (extension_bit_fills e false) (fills_both (constrained_fills al _ i) (alternative_fills al roots i v))
   form_fills al (choice roots true adds) (chosen true i v) = fills_both (fills_exactly _) (fills_both (normally_small_fills al i) (open_fills al _))
   form_fills al s v = fills_refused
 

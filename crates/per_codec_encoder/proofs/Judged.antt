@@ -100,25 +100,25 @@ module _ (al : Bool) where
           mapped (λ w. before_all n w) _ (constrained_there (high - c.low) (n - c.low) q (omega (arith, low, up)) (omega (arith, l)))
       go false t = general_there al n q
 
-marked_there : (e b : Bool) (root outside : Option ℕ → Option Heading) → (b ≡ true → (q : Option ℕ) → IsThere (root q)) → ((q : Option ℕ) → IsThere (outside q)) → (e || b) ≡ true → (q : Option ℕ) → IsThere (extensible_count e b root outside q)
-marked_there false true root outside r o h q = r refl q
-marked_there false false root outside r o h q = cc
-marked_there true true root outside r o h q = mapped (λ (h : Heading). let g : Heading = record { text = bit false ∷ h.text; due = h.due; determinants = h.determinants } in g) (root (moved q 1)) (r refl (moved q 1))
-marked_there true false root outside r o h q = mapped (λ (h : Heading). let g : Heading = record { text = bit true ∷ h.text; due = h.due; determinants = h.determinants } in g) (outside (moved q 1)) (o (moved q 1))
+extensible_there : (e b : Bool) (root outside : Option ℕ → Option Heading) → (b ≡ true → (q : Option ℕ) → IsThere (root q)) → ((q : Option ℕ) → IsThere (outside q)) → (e || b) ≡ true → (q : Option ℕ) → IsThere (extensible_count e b root outside q)
+extensible_there false true root outside r o h q = r refl q
+extensible_there false false root outside r o h q = cc
+extensible_there true true root outside r o h q = mapped (λ (h : Heading). let g : Heading = record { text = bit false ∷ h.text; due = h.due; determinants = h.determinants } in g) (root (moved q 1)) (r refl (moved q 1))
+extensible_there true false root outside r o h q = mapped (λ (h : Heading). let g : Heading = record { text = bit true ∷ h.text; due = h.due; determinants = h.determinants } in g) (outside (moved q 1)) (o (moved q 1))
 
 -- So many members have a heading where the program's type holds them, and they are in the root of the size or this is extensible.
 pub heading_there : (al : Bool) (z : Size) (h : Counts) (n : ℕ) (q : Option ℕ) → true ≡ (is_count_within h n && (z.extensible || is_count_within z.counts n)) → IsThere (list_heading al z h n q)
 heading_there al z h n q w =
     let p = and_parts (is_count_within h n) (z.extensible || is_count_within z.counts n) (sym w) in
     let root : Option ℕ → Option Heading = λ q. sized_count al z.counts z.counts.high false n q in
-    let m = marked_there z.extensible (is_count_within z.counts n) root (λ q. general al n q) (λ b. sized_there al z.counts z.counts.high n b) (general_there al n) p.1 q in
+    let m = extensible_there z.extensible (is_count_within z.counts n) root (λ q. general al n q) (λ b. sized_there al z.counts z.counts.high n b) (general_there al n) p.1 q in
     (m.0, ap (λ t. cond t (extensible_count z.extensible (is_count_within z.counts n) root (λ q. general al n q) q) None) p.0 ∙ m.1)
 
-none_marked : (a e b : Bool) (root outside : Option ℕ → Option Heading) (q : Option ℕ) → (a && (e || b)) ≡ false → cond a (extensible_count e b root outside q) None ≡ None
-none_marked false e b root outside q w = refl
-none_marked true false false root outside q w = refl
-none_marked true false true root outside q w = cc
-none_marked true true b root outside q w = cc
+none_extensible : (a e b : Bool) (root outside : Option ℕ → Option Heading) (q : Option ℕ) → (a && (e || b)) ≡ false → cond a (extensible_count e b root outside q) None ≡ None
+none_extensible false e b root outside q w = refl
+none_extensible true false false root outside q w = refl
+none_extensible true false true root outside q w = cc
+none_extensible true true b root outside q w = cc
 
 -- The counts that a type of the program holds, told by its bounds.
 held_same : (b : Bounded ℕ) (n : ℕ) → n < 2 ^ 64 → is_count_within (members_of b) n ≡ is_count_within (counts_of b) n
@@ -133,4 +133,4 @@ admitted z b n t l e = e ∙ ap (λ x. x && (z.extensible || is_count_within z.c
 
 -- And no others have one.
 pub no_heading : (al : Bool) (z : Size) (h : Counts) (n : ℕ) (q : Option ℕ) → false ≡ (is_count_within h n && (z.extensible || is_count_within z.counts n)) → list_heading al z h n q ≡ None
-no_heading al z h n q w = none_marked (is_count_within h n) z.extensible (is_count_within z.counts n) _ _ q (sym w)
+no_heading al z h n q w = none_extensible (is_count_within h n) z.extensible (is_count_within z.counts n) _ _ q (sym w)

@@ -64,7 +64,7 @@ Found free x a b = Front free x a.0 b.0 × (b.1 ≡ a.1)
 -- the root there.
 abbrev pub InPlace : (Per.Freedom → Bool) → Bool → Bool → Type 0
 InPlace free false t = t ≡ true
-InPlace free true t = (t ≡ false) ⊎ IsTrue (free Per.root_marked_outside)
+InPlace free true t = (t ≡ false) ⊎ IsTrue (free Per.root_told_outside)
 
 -- So many members may there be: the program's type holds the count, and it is where the extension bit says.
 abbrev pub Admits : (Per.Freedom → Bool) → Size → Counts → Bool → ℕ → Type 0

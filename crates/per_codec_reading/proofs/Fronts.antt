@@ -27,9 +27,9 @@ pub longer_number_is_free : (v : Variant) → IsTrue (freedoms v Per.longer_numb
 longer_number_is_free Unaligned = refl
 longer_number_is_free Aligned = refl
 
-pub root_marked_outside_is_free : (v : Variant) → IsTrue (freedoms v Per.root_marked_outside)
-root_marked_outside_is_free Unaligned = refl
-root_marked_outside_is_free Aligned = refl
+pub root_told_outside_is_free : (v : Variant) → IsTrue (freedoms v Per.root_told_outside)
+root_told_outside_is_free Unaligned = refl
+root_told_outside_is_free Aligned = refl
 
 pub other_fragments_are_free : (v : Variant) → IsTrue (freedoms v Per.other_fragments)
 other_fragments_are_free Unaligned = refl

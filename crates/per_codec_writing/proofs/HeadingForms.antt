@@ -139,8 +139,8 @@ unfolding text_at
 if_leads al true f n us x h = h
 if_leads al false f n us x h = record { text = λ p. refl; sound = λ p. tt }
 
-pub extensible_leads : (al e t : Bool) (f g : Option ℕ → Option Heading) (n : ℕ) (us : List Per.BitForm) (x y : Per.BitForm) → Leads al f n us x → Leads al g n us y → Leads al (extensible_count e t f g) n us (Per.marked e t x y)
-unfolding text_at Per.marked
+pub extensible_leads : (al e t : Bool) (f g : Option ℕ → Option Heading) (n : ℕ) (us : List Per.BitForm) (x y : Per.BitForm) → Leads al f n us x → Leads al g n us y → Leads al (extensible_count e t f g) n us (Per.with_extension_bit e t x y)
+unfolding text_at Per.with_extension_bit
 extensible_leads al false t f g n us x y h k = if_leads al t f n us x h
 extensible_leads al true true f g n us x y h k = let l = bit_leads al false f n us x h in record { text = l.text; sound = l.sound }
 extensible_leads al true false f g n us x y h k = let l = bit_leads al true g n us y k in record { text = l.text; sound = l.sound }

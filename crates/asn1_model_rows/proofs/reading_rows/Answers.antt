@@ -48,11 +48,11 @@ choice_7 Per.longer_number p = Some 2
 choice_7 c p = None
 
 abbrev choice_8 : PerChoice
-choice_8 Per.root_marked_outside p = Some true
+choice_8 Per.root_told_outside p = Some true
 choice_8 c p = None
 
 abbrev choice_9 : PerChoice
-choice_9 Per.root_marked_outside p = Some true
+choice_9 Per.root_told_outside p = Some true
 choice_9 c p = None
 
 abbrev choice_10 : PerChoice
