@@ -57,7 +57,7 @@ sized_gives al z held pads us vs h = let l = each_length us vs h in rw l (gives_
 
 complete_gives : (x y : Per.BitForm) → Same x y → Same (Per.complete x) (Per.complete y)
 unfolding Per.complete
-complete_gives x y h = gives_within h (λ w. gives_same (Per.filled_up w))
+complete_gives x y h = gives_within h (λ w. gives_same (Per.padded w))
 
 open_gives : (al : Bool) (x y : Per.BitForm) → Same x y → Same (Per.open_type al x) (Per.open_type al y)
 unfolding Per.open_type

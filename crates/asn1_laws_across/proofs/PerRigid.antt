@@ -26,15 +26,15 @@ bits l = rigid_exactly strict_per l
 no_bits : RigidBits refused
 no_bits = rigid_refused strict_per
 
--- ---- filling, numbers and lengths
-filling_rigid : (n : ℕ) → RigidBits (Per.filling n)
-unfolding Per.filling
-filling_rigid n = rigid_varied strict_per refl (rigid_if strict_per (length (replicate n false) == n) (bits _))
+-- ---- padding, numbers and lengths
+padding_rigid : (n : ℕ) → RigidBits (Per.padding n)
+unfolding Per.padding
+padding_rigid n = rigid_varied strict_per refl (rigid_if strict_per (length (replicate n false) == n) (bits _))
 
 at_octet_rigid : (al : Bool) (x : Per.BitForm) → RigidBits x → RigidBits (Per.at_octet al x)
 unfolding Per.at_octet
 at_octet_rigid false x h = h
-at_octet_rigid true x h = rigid_both strict_per (rigid_placed strict_per (λ p. filling_rigid (Per.missing p))) h
+at_octet_rigid true x h = rigid_both strict_per (rigid_placed strict_per (λ p. padding_rigid (Per.missing p))) h
 
 in_octets_rigid : (whole : ℕ → ℕ → Per.BitForm) (al : Bool) (span d k : ℕ) → ((s c : ℕ) → RigidBits (whole s c)) → RigidBits (Per.in_octets_of whole al span d k)
 unfolding Per.in_octets_of
@@ -135,14 +135,14 @@ item_rigid al roots e (Some i) j = rigid_both strict_per (extension_bit_rigid e 
 item_rigid al roots e None j = added_rigid al e j
 
 -- ---- complete encodings, open types and components
-filled_up_rigid : (w : List Bool) → RigidBits (Per.filled_up w)
-unfolding Per.filled_up
-filled_up_rigid [] = bits _
-filled_up_rigid (b ∷ bs) = rigid_both strict_per (bits _) (filling_rigid (Per.missing (length (b ∷ bs))))
+padded_rigid : (w : List Bool) → RigidBits (Per.padded w)
+unfolding Per.padded
+padded_rigid [] = bits _
+padded_rigid (b ∷ bs) = rigid_both strict_per (bits _) (padding_rigid (Per.missing (length (b ∷ bs))))
 
 complete_rigid : (x : Per.BitForm) → RigidBits x → RigidBits (Per.complete x)
 unfolding Per.complete
-complete_rigid x h = rigid_within strict_per h (λ w. filled_up_rigid w)
+complete_rigid x h = rigid_within strict_per h (λ w. padded_rigid w)
 
 open_rigid : (al : Bool) (x : Per.BitForm) → RigidBits x → RigidBits (Per.open_type al x)
 unfolding Per.open_type

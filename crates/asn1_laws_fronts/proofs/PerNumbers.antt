@@ -78,15 +78,15 @@ different' : false ≡ true → ⊥
 different' e = cc
 
 module _ (free : Per.Freedom → Bool) where
-  -- ---- filling
-  pub filling_alike : (n : ℕ) → Alike free (Per.filling n) (Per.filling n) (Unit {0})
-  unfolding Per.filling
-  filling_alike n = agree_varied free (λ a b. agree_if free (length a == n) (length b == n) (exactly a) (exactly b) (λ h k. agree_map free (λ e. tt) (agree_exactly free a b (eqb-true _ _ h ∙ sym (eqb-true _ _ k)))))
+  -- ---- padding
+  pub padding_alike : (n : ℕ) → Alike free (Per.padding n) (Per.padding n) (Unit {0})
+  unfolding Per.padding
+  padding_alike n = agree_varied free (λ a b. agree_if free (length a == n) (length b == n) (exactly a) (exactly b) (λ h k. agree_map free (λ e. tt) (agree_exactly free a b (eqb-true _ _ h ∙ sym (eqb-true _ _ k)))))
 
   pub at_octet_alike : (al : Bool) {x y : Per.BitForm} {P : Type 0} → Alike free x y P → Alike free (Per.at_octet al x) (Per.at_octet al y) P
   unfolding Per.at_octet
   at_octet_alike false h = h
-  at_octet_alike true h = agree_map free (λ q. q.1) (agree_both free (agree_placed free (λ p. filling_alike (Per.missing p))) (λ u. h))
+  at_octet_alike true h = agree_map free (λ q. q.1) (agree_both free (agree_placed free (λ p. padding_alike (Per.missing p))) (λ u. h))
 
   pub binary_alike : (w n m : ℕ) → n < 2 ^ w → m < 2 ^ w → Alike free (exactly (binary w n)) (exactly (binary w m)) (n ≡ m)
   binary_alike w n m h k = agree_map free (λ e. binary_equal w n m h k e) (agree_exactly free (binary w n) (binary w m) (length-binary w n ∙ sym (length-binary w m)))

@@ -49,14 +49,14 @@ span_there low high v h i =
 abbrev Bits : Per.BitForm → Bool → Type 0
 Bits x b = Written {F = Per.Freedom} {D = Per.Detail} {A = Bool} x b
 
-filling_written : (n : ℕ) → Bits (Per.filling n) true
-unfolding Per.filling
-filling_written n = written_varied (written_when (length (replicate n false) == n) _ true (eq-eqb _ _ (length-replicate n false)) (written_exactly _))
+padding_written : (n : ℕ) → Bits (Per.padding n) true
+unfolding Per.padding
+padding_written n = written_varied (written_when (length (replicate n false) == n) _ true (eq-eqb _ _ (length-replicate n false)) (written_exactly _))
 
 at_octet_written : (al : Bool) (x : Per.BitForm) (b : Bool) → Bits x b → Bits (Per.at_octet al x) b
 unfolding Per.at_octet
 at_octet_written false x b h = h
-at_octet_written true x b h = written_both (written_placed (λ p. filling_written (Per.missing p))) h
+at_octet_written true x b h = written_both (written_placed (λ p. padding_written (Per.missing p))) h
 
 least_within : (span d : ℕ) → d ≤ span → 255 < span → (leb (least_octets d) (least_octets d) && leb (least_octets d) (octet_width span)) ≡ true
 least_within span d h k =
@@ -180,14 +180,14 @@ module _ (al : Bool) where
     packed_parts cs ps h = cc
 
 -- complete encodings
-filled_written : (w : List Bool) → Bits (Per.filled_up w) true
-unfolding Per.filled_up
-filled_written [] = written_exactly _
-filled_written (b ∷ w) = written_both (written_exactly _) (filling_written _)
+padded_written : (w : List Bool) → Bits (Per.padded w) true
+unfolding Per.padded
+padded_written [] = written_exactly _
+padded_written (b ∷ w) = written_both (written_exactly _) (padding_written _)
 
 message_written : (al : Bool) (s : Schema) (v : Value) → is_plain s ≡ true → Bits (Per.message al s v) (fits s v)
 unfolding Per.message Per.complete
-message_written al s v h = written_within (packed_written al s v h) filled_written
+message_written al s v h = written_within (packed_written al s v h) padded_written
 
 -- ---- the octet rules
 abbrev Octets : Oer.OctetForm → Bool → Type 0

@@ -1,5 +1,5 @@
--- The packed encoding rules (X.691), aligned and not: the form of a value of a type, in bits. Where the aligned variant
--- fills up to an octet is the project's own statement: before the fields that say so here, up to the next octet of the
+-- The packed encoding rules (X.691), aligned and not: the form of a value of a type, in bits. Where padding stands in
+-- the aligned variant is the project's own statement: before the fields that say so here, up to the next octet of the
 -- message or open type that holds them, and never before a field of no bits.
 use Rattle.std.specs.Prelude.{ℕ, zero, suc, ◌-◌, ◌*◌, ◌/◌, ◌%◌, ◌^◌, ◌==◌, ltb, leb, not, ℤ, Bool, true, false, cond}
 use Rattle.std.specs.Prelude.{◌&&◌, ◌||◌, List, [], ◌∷◌, ◌++◌, length, take, drop, map, replicate, flat_map, Option}
@@ -23,8 +23,8 @@ use Rattle.asn1_model.specs.Tables.{is_bounded, item_place, is_required, presenc
 
 -- What a reader may take besides the canonical form (the project's choice).
 pub data Freedom : Type 0 where
-  -- bits that fill up an octet, of any value
-  any_filling : Freedom
+  -- padding bits of any value
+  any_padding : Freedom
   -- a length below 128 in two octets
   longer_length : Freedom
   -- a division into fragments that is not the one with the largest first
@@ -50,7 +50,7 @@ pub data Freedom : Type 0 where
 
 -- What tells apart the forms that such a reader takes, the canonical one among them.
 abbrev pub Detail : Freedom → Type 0
-Detail any_filling = List Bool
+Detail any_padding = List Bool
 Detail longer_length = Bool
 Detail other_fragments = List ℕ
 Detail longer_number = ℕ
@@ -67,13 +67,13 @@ abbrev pub BitForm : Type 0
 BitForm = Form Freedom Detail Bool
 
 -- So many zero bits, which a reader may find to be others (X.691 11.1).
-unfoldable pub filling : ℕ → BitForm
-filling n = varied any_filling (replicate n false) (λ fill. only_if (length fill == n) (exactly fill))
+unfoldable pub padding : ℕ → BitForm
+padding n = varied any_padding (replicate n false) (λ bits. only_if (length bits == n) (exactly bits))
 
 -- In the aligned variant, from the next octet on (X.691 11.1).
 unfoldable pub at_octet : Bool → BitForm → BitForm
 at_octet false x = x
-at_octet true x = both (placed (λ p. filling (missing p))) x
+at_octet true x = both (placed (λ p. padding (missing p))) x
 
 -- A number of 0 to span in k octets behind their number, which is a constrained whole number, one of 1 to the octets of
 -- span (X.691 11.5.7.4 and 13.2.6).
@@ -204,12 +204,12 @@ never c = false
 abbrev pub fixed_bits : ℕ → Counts → Option ℕ
 fixed_bits unit c = option_and_then (λ high. cond (high == c.low) (Some (high * unit)) None) c.high
 
--- Contents of no bits take no filling, and nor do fixed ones of at most 16 bits (X.691 16.9 to 16.11, 17.6 to 17.8).
+-- Contents of no bits take no padding, and nor do fixed ones of at most 16 bits (X.691 16.9 to 16.11, 17.6 to 17.8).
 abbrev pub pads_string : ℕ → ℕ → Counts → Bool
 pads_string unit n c = not (n * unit == 0) && elim (fixed_bits unit c) [ None ↦ true | Some all ↦ ltb 16 all ]
 
 -- Characters also take none where as many as there may be have fewer than 16 bits (X.691 30.5.6 and 30.5.7). Where they
--- take filling is the project's choice.
+-- take padding is the project's choice.
 abbrev pub pads_characters : ℕ → ℕ → Counts → Bool
 pads_characters unit n c = pads_string unit n c && elim (c.high) [ None ↦ true | Some high ↦ leb 16 (high * unit) ]
 
@@ -253,14 +253,14 @@ unfoldable pub item_form : Bool → ℕ → Bool → Option ℕ → Option ℕ �
 item_form al roots e (Some i) j = both (extension_bit_of e false) (constrained al (roots - 1) i)
 item_form al roots e None j = added_item al e j
 
--- Filled up with zero bits to whole octets, and one zero octet in place of no bits (X.691 11.1).
-unfoldable pub filled_up : List Bool → BitForm
-filled_up [] = exactly (replicate 8 false)
-filled_up (b ∷ bs) = both (exactly (b ∷ bs)) (filling (missing (length (b ∷ bs))))
+-- Padded with zero bits to whole octets, and one zero octet in place of no bits (X.691 11.1).
+unfoldable pub padded : List Bool → BitForm
+padded [] = exactly (replicate 8 false)
+padded (b ∷ bs) = both (exactly (b ∷ bs)) (padding (missing (length (b ∷ bs))))
 
 -- A complete encoding (X.691 11.1).
 unfoldable pub complete : BitForm → BitForm
-complete x = within x filled_up
+complete x = within x padded
 
 -- Whole octets behind their number.
 abbrev pub counted_eights : Bool → List Bool → BitForm

@@ -66,8 +66,8 @@ pub enum DecodeError {
     /// A bit string has more than seven unused bits, or unused bits and no octet.
     #[error("the unused bits of a bit string are malformed")]
     InvalidBitString,
-    /// A filling bit of a preamble is set.
-    #[error("a filling bit of a preamble is set")]
+    /// An unused bit of a preamble is set.
+    #[error("an unused bit of a preamble is set")]
     InvalidPreamble,
     /// A presence bitmap has no octets, or a wrong first octet.
     #[error("a presence bitmap is malformed")]

@@ -3,7 +3,7 @@ ghost use Rattle.std.specs.Prelude.{◌≡◌, ◌+◌, ◌*◌, ◌%◌, ◌^�
 ghost use Rattle.std.specs.Prelude.{IsSome, IfSome, IfNone, IfOk, IfErr, IsOk, OnErr, IsOkAnd};
 ghost use Rattle.std.specs.Cow.{cow_slice_items, IsBorrowedSlice};
 ghost use Rattle.asn1_model.specs.Numbers.{binary, octet_bits};
-ghost use Rattle.asn1_values_bits.specs.Octets.{filled_up};
+ghost use Rattle.asn1_values_bits.specs.Octets.{padded};
 
 use crate::BitStr;
 use crate::bit_buffer::BitBuffer;
@@ -189,7 +189,7 @@ impl<'a> BitReader<'a> {
     ///
     /// Want of memory, and not where the octets are lent.
     pub fn octets(&self, alloc: Global) -> Result<CowSlice<'a, u8>, AllocError>
-        ensures octets { IfOk result (λ octets. octet_bits (cow_slice_items octets) ≡ filled_up self.now.bits) }
+        ensures octets { IfOk result (λ octets. octet_bits (cow_slice_items octets) ≡ padded self.now.bits) }
         ensures lent { self.now.offset ≡ 0 → length self.now.bits % 8 ≡ 0 → IsOkAnd result IsBorrowedSlice }
     {
         if let Some(octets) = self.rest.aligned_octets() {

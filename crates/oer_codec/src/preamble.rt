@@ -9,7 +9,7 @@ use asn1_schema_faults::DecodeError;
 use asn1_values_bits::BitReader;
 use oer_codec_reading::{Cursor, are_zero};
 
-/// How many octets the preamble has, whose bits fill whole octets.
+/// How many octets the preamble has, unused bits among them.
 #[inline(always)]
 fn preamble_len(extensible: bool, optional: usize) -> usize
     ensures { result * 8 ≡ (cond extensible 1 0 + optional) + missing (cond extensible 1 0 + optional) }
@@ -41,11 +41,11 @@ fn take_presence<'input>(
 }
 
 /// Reads the preamble of a sequence, with or without an extension marker, of which so many components may be
-/// absent: the extension bit, if there is one, the presence bits, and zeros to fill an octet.
+/// absent: the extension bit, if there is one, the presence bits, and unused bits that are zero.
 ///
 /// # Errors
 ///
-/// `Incomplete` if the octets end early, and `InvalidPreamble` if one of the bits that fill an octet is set.
+/// `Incomplete` if the octets end early, and `InvalidPreamble` if an unused bit is set.
 #[inline(always)]
 pub(crate) fn read_preamble<'input>(
     cursor: &mut Cursor<'input>,

@@ -4,7 +4,7 @@ use mir.Val.{bool_byte}
 use Rattle.std.proofs.lemmas.Bool.{cases_eq, ltb-true, ltb-false}
 use Rattle.std.proofs.lemmas.List.{append-nil, get_or-set_same, get_or-set_other, set-append_left, set-append_right, get_or-append_right, get_or_append_left, take_at, drop_at, length-replicate, replicate-append-replicate}
 use Rattle.asn1_model.specs.Numbers.{binary, octet_bits, missing, packed, is_count_within}
-use Rattle.asn1_values_bits.specs.Octets.{filled_up}
+use Rattle.asn1_values_bits.specs.Octets.{padded}
 use Rattle.asn1_values_bits.proofs.Binary.{octet_bits-append, length-octet_bits}
 use Rattle.asn1_values_bits.proofs.Change.{kept_changed}
 use Rattle.asn1_values_bits.proofs.Packed.{packed-octet_bits}
@@ -44,11 +44,11 @@ parts e due given start content o s h =
     let n : length (h.front ++ h.preamble) ≡ content = omega (arith, length-append h.front h.preamble, h.starts, h.begins) in
     let inner : drop content o ≡ h.inner = ap (drop content) whole ∙ drop_at (h.front ++ h.preamble) h.inner content n in
     let zeros : List Bool = replicate due false in
-    let fill : List Bool = replicate (missing (length (presence e (h.presence_bits ++ zeros)))) false in
-    let all : octet_bits (drop start o) ≡ presence e h.presence_bits ++ ((zeros ++ fill) ++ octet_bits h.inner) =
-    ap octet_bits behind ∙ octet_bits-append h.preamble h.inner ∙ ap (λ l. l ++ octet_bits h.inner) (h.bits ∙ presence_behind e h.presence_bits zeros fill)
-    ∙ append_assoc (presence e h.presence_bits) (zeros ++ fill) (octet_bits h.inner) in
-    let presence_bits = ap (λ l. take given (drop (length (presence e [])) l)) all ∙ presence_bits_behind e h.presence_bits ((zeros ++ fill) ++ octet_bits h.inner) given h.told in
+    let unused : List Bool = replicate (missing (length (presence e (h.presence_bits ++ zeros)))) false in
+    let all : octet_bits (drop start o) ≡ presence e h.presence_bits ++ ((zeros ++ unused) ++ octet_bits h.inner) =
+    ap octet_bits behind ∙ octet_bits-append h.preamble h.inner ∙ ap (λ l. l ++ octet_bits h.inner) (h.bits ∙ presence_behind e h.presence_bits zeros unused)
+    ∙ append_assoc (presence e h.presence_bits) (zeros ++ unused) (octet_bits h.inner) in
+    let presence_bits = ap (λ l. take given (drop (length (presence e [])) l)) all ∙ presence_bits_behind e h.presence_bits ((zeros ++ unused) ++ octet_bits h.inner) given h.told in
     (front, inner, presence_bits)
 
 -- the octets in front of an open type, and its own
@@ -146,13 +146,13 @@ zeros_small zero k h = absurd (omega arith)
 zeros_small (suc n) zero h = omega arith
 zeros_small (suc n) (suc k) h = zeros_small n k (omega arith)
 
-pub filled_zeros : (e : Bool) (n k : ℕ) → k * 8 ≡ (n + cond e 1 0) + missing (n + cond e 1 0) → replicate (k * 8) false ≡ filled_up (presence e (replicate n false))
-filled_zeros e n k h = go e refl h
+pub unused_zeros : (e : Bool) (n k : ℕ) → k * 8 ≡ (n + cond e 1 0) + missing (n + cond e 1 0) → replicate (k * 8) false ≡ padded (presence e (replicate n false))
+unused_zeros e n k h = go e refl h
   where
     zeros : (m : ℕ) → k * 8 ≡ m + missing m → replicate (k * 8) false ≡ replicate m false ++ replicate (missing (length (replicate m false))) false
     zeros m h = ap (λ j. replicate j false) h ∙ sym (ap (λ j. replicate m false ++ replicate (missing j) false) (length-replicate m false) ∙ replicate-append-replicate m (missing m) false)
 
-    go : (b : Bool) → e ≡ b → k * 8 ≡ (n + cond b 1 0) + missing (n + cond b 1 0) → replicate (k * 8) false ≡ filled_up (presence b (replicate n false))
+    go : (b : Bool) → e ≡ b → k * 8 ≡ (n + cond b 1 0) + missing (n + cond b 1 0) → replicate (k * 8) false ≡ padded (presence b (replicate n false))
     go true d h = zeros (suc n) (let q : n + 1 ≡ suc n = omega arith in subst (λ j. k * 8 ≡ j + missing j) q h)
     go false d h = zeros n (let q : n + 0 ≡ n = omega arith in subst (λ j. k * 8 ≡ j + missing j) q h)
 
@@ -171,7 +171,7 @@ opened fs o s e n k start content h m d a b = record {
   begins = omega (arith, length-append o (replicate k 0), a, b);
   told = refl;
   counts = omega arith;
-  bits = zero_bits k ∙ filled_zeros e n k d;
+  bits = zero_bits k ∙ unused_zeros e n k d;
   small = zeros_small k;
   under = h;
   is = refl;
@@ -238,7 +238,7 @@ module _ (below : List ℕ → State → Type 0) (e : Bool) (d given start conte
     begins = h.begins;
     told = one_longer h.presence_bits false given h.told;
     counts = omega (arith, h.counts);
-    bits = h.bits ∙ ap filled_up (lowered_bits e h.presence_bits d);
+    bits = h.bits ∙ ap padded (lowered_bits e h.presence_bits d);
     small = h.small;
     under = h.under;
     is = refl;
@@ -332,10 +332,10 @@ does_no_further fs rest gs due o a n c = record { after = λ s h. go s (subst (�
     go : (s : State) → Holds (Members 0 ∷ rest) o s → (t : State) × (run (further false) s ≡ Some t) × Holds gs o t
     go s h = ((h.0.0, members 0 ∷ h.0.1), ap (run (further false)) h.1, put_back gs rest _ o _ c (h.0, refl, h.2))
 
-pub closed_text : (p : List ℕ) (bs : List Bool) → octet_bits p ≡ filled_up bs → ((k : ℕ) → k < length p → get_or p k 0 < 256) → packed (filled_up bs) ≡ p
+pub closed_text : (p : List ℕ) (bs : List Bool) → octet_bits p ≡ padded bs → ((k : ℕ) → k < length p → get_or p k 0 < 256) → packed (padded bs) ≡ p
 closed_text p bs e h = ap packed (sym e) ∙ packed-octet_bits p h
 
-sequence_text : (ms : List Bool) (os : List ℕ) → written (Oer.sequence_form false ms (exactly os) []) 0 ≡ Some (packed (filled_up ms) ++ os)
+sequence_text : (ms : List Bool) (os : List ℕ) → written (Oer.sequence_form false ms (exactly os) []) 0 ≡ Some (packed (padded ms) ++ os)
 unfolding written Oer.sequence_form
 sequence_text ms os = refl
 
@@ -344,9 +344,9 @@ does_end_components fs rest c o a f n = record { after = λ s h. go s (subst (λ
   where
     go : (s : State) → IsOpen (λ q t. Holds rest q t) false 0 c.given c.start c.content o s → (t : State) × (run ends s ≡ Some t) × Holds rest o t
     go s h =
-        let w : List ℕ = packed (filled_up h.presence_bits) ++ h.inner in
+        let w : List ℕ = packed (padded h.presence_bits) ++ h.inner in
         let z : State = (h.outer.0 ++ w, h.outer.1) in
-        let bits : octet_bits h.preamble ≡ filled_up h.presence_bits = h.bits ∙ ap filled_up (append-nil h.presence_bits) in
+        let bits : octet_bits h.preamble ≡ padded h.presence_bits = h.bits ∙ ap padded (append-nil h.presence_bits) in
         let back : o ≡ h.front ++ w = h.text ∙ ap (λ l. h.front ++ (l ++ h.inner)) (sym (closed_text h.preamble h.presence_bits bits h.small)) in
         (z, ap (run ends) h.is ∙ ap (λ x. adds_text x h.outer) (sequence_text h.presence_bits h.inner), subst (λ l. Holds rest l z) (sym back) (appended rest h.front h.outer w h.under))
 

@@ -14,7 +14,7 @@ use asn1_schema_constraints::{Bounded, Constraints};
 use asn1_schema_faults::EncodeError;
 use oer_codec_writing::push_count;
 
-/// How many octets the preamble of a sequence has (X.696 16.2), whose bits fill whole octets.
+/// How many octets the preamble of a sequence has (X.696 16.2), unused bits among them.
 fn preamble_len(extensible: bool, optional: usize) -> usize
     ensures { result * 8 ≡ (optional + cond extensible 1 0) + missing (optional + cond extensible 1 0) }
 {

@@ -17,7 +17,7 @@ use per_codec_reading::padding::missing;
 /// `InvalidPadding` if that octet is not zero, and `Incomplete` if the bits end early.
 #[inline(always)]
 pub(crate) fn read_completion(cursor: &mut Cursor<'_>) -> Result<(), DecodeError>
-    ensures ok { OnOk result ((free : _) → IsTrue (free Per.any_filling)
+    ensures ok { OnOk result ((free : _) → IsTrue (free Per.any_padding)
         → Front free (completion cursor.old.0) cursor.old cursor.new) }
     ensures only { IfErr result (λ _. (free : _) (b : _) → Front free (completion cursor.old.0) cursor.old b → ⊥) }
     ensures fresh { IfErr result IsFresh }

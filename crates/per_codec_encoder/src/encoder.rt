@@ -60,7 +60,7 @@ impl Model for Encoder {
     ghost invariant = { λ e. e.failed ≡ false → Holds (reverse e.frames) e.output (shown (reverse e.frames) e.output) };
 }
 
-/// The octets of a message: its bits, filled up with zero bits to whole octets, and one zero octet in place of no bits
+/// The octets of a message: its bits, padded with zero bits to whole octets, and one zero octet in place of no bits
 /// (X.691 11.1).
 fn message(bits: BitBuffer) -> Result<Vec<u8>, EncodeError>
     ensures { MatchResult result (λ octets. octets_of (as_text bits, []) ≡ Some octets.items)

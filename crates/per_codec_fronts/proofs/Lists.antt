@@ -262,9 +262,9 @@ module _ (free : Per.Freedom → Bool) (al : Bool) where
   unfolding Per.counted
   start_out z h out us a b c f = let q = varied_out free {c = Per.other_fragments} (λ ms. Per.fragments al ms us) a b f in (q.0, omega arith, (c, q.1), behind_none _ a b q.2)
 
-  never_filled : (x : Per.BitForm) → Per.at_octet (al && false) x ≡ x
+  never_padded : (x : Per.BitForm) → Per.at_octet (al && false) x ≡ x
   unfolding Per.at_octet
-  never_filled x = by_variant al
+  never_padded x = by_variant al
     where
       by_variant : (t : Bool) → Per.at_octet (t && false) x ≡ x
       by_variant true = refl
@@ -298,14 +298,14 @@ module _ (free : Per.Freedom → Bool) (al : Bool) where
   bounds_in z h true high us a k m b f g =
       let r = g f.0 None f.3 in
       let e : f.0 ≡ length us = sym r.0 in
-      let x = never_filled (joined us) in
+      let x = never_padded (joined us) in
       (subst (λ n. Admits free z h false n) e f.1, join free (Per.constrained al (high - z.counts.low) (length us - z.counts.low)) (Per.at_octet (al && false) (joined us)) a m.0 b (subst (λ n. Front free (Per.constrained al (high - z.counts.low) (n - z.counts.low)) a m.0) e f.2) (subst (λ y. Front free y m.0 b) (sym x) r.1))
   bounds_in z h false high us a k m b f g = headed_in z h false us a k m b f g
 
   bounds_out : (z : Size) (h : Counts) (t : Bool) (high : ℕ) (us : List Per.BitForm) (a : Place) (k : List Scope) (b : Place) → Admits free z h false (length us) → Front free (cond t (by_number z high us) (Per.counted al us)) a b → (m : State) × (d : ℕ) × (hs : Option Tally) × Counted al free z h false (cond t (Some high) None) a k m × (m.1 ≡ members d hs ∷ k) × Rest d hs us m.0 b
   bounds_out z h true high us a k b c f =
       let q = split free (Per.constrained al (high - z.counts.low) (length us - z.counts.low)) (Per.at_octet (al && false) (joined us)) a b f in
-      let x = never_filled (joined us) in
+      let x = never_padded (joined us) in
       ((q.0, members (length us) None ∷ k), length us, None, (length us, c, q.1, refl), refl, (refl, subst (λ y. Front free y q.0 b) x q.2))
   bounds_out z h false high us a k b c f = headed_out z h false us a k b c f
 

@@ -166,12 +166,12 @@ Opens al free a k b =
     (os : List ℕ) × (rest : Place) × Front free (Per.counted_octets al os) a rest
     × (b ≡ ((0, octet_bits os), open_type rest ∷ k))
 
--- What fills up so many bits to a complete encoding (X.691 11.1).
+-- The padding of so many bits in a complete encoding (X.691 11.1).
 abbrev pub completion : ℕ → Per.BitForm
 completion zero = exactly (replicate 8 false)
-completion (suc n) = Per.filling (missing (suc n))
+completion (suc n) = Per.padding (missing (suc n))
 
--- It ends: the value's bits are filled up, and nothing is left behind them, or the reader takes octets there.
+-- It ends: the value's bits are padded, and nothing is left behind them, or the reader takes octets there.
 abbrev pub Closes : (Per.Freedom → Bool) → Place → Place → List Scope → State → Type 0
 Closes free a rest k b =
     (mid : Place) × (more : List ℕ) × Front free (completion a.0) a mid × (each_is is_octet more ≡ true)

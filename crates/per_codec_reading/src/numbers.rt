@@ -6,7 +6,7 @@ ghost use Rattle.per_codec_reading.specs.Fronts as fronts;
 ghost use Rattle.per_codec_reading.specs.Fronts.{freedoms, Misses};
 ghost use Rattle.per_codec_reading.specs.Lengths.{aligned_within, number_within};
 
-use crate::padding::align;
+use crate::padding::read_padding;
 use crate::{Cursor, Variant};
 use asn1_schema_faults::DecodeError;
 use asn1_values_natives::octets::{bit_count, octet_width};
@@ -51,7 +51,7 @@ fn read_aligned_within(
     ensures only { IfErr result (Misses (freedoms variant)
         (aligned_within (fronts.is_aligned variant) bits most) cursor.old) }
 {
-    align(cursor, variant)?;
+    read_padding(cursor, variant)?;
     read_number_within(cursor, variant, bits, most)
 }
 

@@ -38,7 +38,7 @@ pub fn skip_padding(cursor: &mut Cursor<'_>, variant: Variant) -> Result<(), Dec
 ///
 /// `Incomplete` if there are fewer bits.
 #[inline(always)]
-pub fn align(cursor: &mut Cursor<'_>, variant: Variant) -> Result<(), DecodeError>
+pub fn read_padding(cursor: &mut Cursor<'_>, variant: Variant) -> Result<(), DecodeError>
     ensures ok { OnOk result (Front (freedoms variant)
         (Per.at_octet (fronts.is_aligned variant) nothing_more) cursor.old cursor.new) }
     ensures only { IfErr result (Misses (freedoms variant) (Per.at_octet (fronts.is_aligned variant)) cursor.old) }

@@ -21,7 +21,7 @@ use Rattle.asn1_values_natives.specs.Ranges.{whole_range}
 use Rattle.asn1_values_natives.proofs.Widths.{signed_octets-le}
 use Rattle.per_codec_packing.specs.Texts.{as_text, text_at}
 use Rattle.per_codec_writing.specs.Writing.{Packed, Adds, place, plus}
-use Rattle.per_codec_writing.proofs.FillingTexts.{adds_text, adds_same, adds_both, if_true, if_false}
+use Rattle.per_codec_writing.proofs.PaddingTexts.{adds_text, adds_same, adds_both, if_true, if_false}
 use Rattle.per_codec_writing.proofs.NumberTexts.{Did, did_same, did_behind, is_at_most_le}
 
 -- ---- in the root, or outside it

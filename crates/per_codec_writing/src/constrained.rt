@@ -22,7 +22,7 @@ fn push_fewest_octets(output: &mut Packing, span: u128, value: u128) -> Result<(
     let count = octet_width(value).max(1);
     let further = octet_width(span) - 1;
     output.push_bits((count - 1) as u128, bit_count(further as u128) as u32)?;
-    output.align()?;
+    output.push_padding()?;
     output.push_bits(value, count as u32 * 8)?;
     Ok(())
 }
@@ -40,7 +40,7 @@ fn push_octets(output: &mut Packing, span: u128, value: u128) -> Result<(), Enco
         push_fewest_octets(output, span, value)?;
         return Ok(());
     }
-    output.align()?;
+    output.push_padding()?;
     let width = if span == 255 { 8 } else { 16 };
     output.push_bits(value, width)?;
     Ok(())

@@ -13,7 +13,7 @@ use Rattle.asn1_schema_constraints.specs.declared.parts.Value.{Value}
 use Rattle.asn1_values_natives.specs.Ranges.{whole_range}
 use Rattle.per_codec_packing.specs.Texts.{text_at}
 use Rattle.per_codec_writing.specs.Writing.{Adds, place}
-use Rattle.per_codec_writing.proofs.FillingTexts.{adds_same}
+use Rattle.per_codec_writing.proofs.PaddingTexts.{adds_same}
 use Rattle.per_codec_writing.proofs.NumberTexts.{Did, did_same}
 use Rattle.per_codec_writing.proofs.BoundedTexts.{unbounded_text, bounded_text, wide_none}
 use Rattle.per_codec_limits.specs.Variants.{is_aligned}

@@ -1,7 +1,7 @@
 use Rattle.std.proofs.Common.{refl, arith}
 use Rattle.std.proofs.lemmas.Result.{err_from_is_err_and}
-use Rattle.oer_codec_reading.proofs.BitFronts.{bits_read, short_bits, filled_bits}
-use Rattle.oer_codec_reading.proofs.bit_strings.read_filled.Goals as goal
+use Rattle.oer_codec_reading.proofs.BitFronts.{bits_read, short_bits, no_bits_with_unused}
+use Rattle.oer_codec_reading.proofs.bit_strings.read_bits_of_octets.Goals as goal
 
 pub returns-in_err-octets-clause-only : goal.returns-in_err-octets-clause-only
 returns-in_err-octets-clause-only c =
@@ -12,7 +12,7 @@ returns-in_err-octets-clause-only c =
 pub returns-then-not-is_taken-clause-only : goal.returns-then-not-is_taken-clause-only
 returns-then-not-is_taken-clause-only c =
     let q = c.in_ok-octets.ensures in
-    filled_bits c.args.rules c.args.count c.in_ok-octets.octets.now c.args.cursor.now c.take.new.self (let l = q.count in omega (arith, l)) q.octets (c.if-not-is_taken.ensures.refused refl)
+    no_bits_with_unused c.args.rules c.args.count c.in_ok-octets.octets.now c.args.cursor.now c.take.new.self (let l = q.count in omega (arith, l)) q.octets (c.if-not-is_taken.ensures.refused refl)
 
 pub returns-clause-ok : goal.returns-clause-ok
 returns-clause-ok c =

@@ -1,6 +1,6 @@
 //! Padding up to octets (X.691 11.1).
 ghost use Rattle.std.specs.Prelude.{◌≡◌, MatchResult};
-ghost use Rattle.per_codec_writing.specs.Writing.{fill_at, place, plus};
+ghost use Rattle.per_codec_writing.specs.Writing.{padding_if, place, plus};
 ghost use Rattle.per_codec_limits.specs.Variants.{is_aligned};
 
 use asn1_schema_faults::EncodeError;
@@ -12,12 +12,13 @@ use per_codec_packing::Packing;
 /// # Errors
 ///
 /// `OutOfMemory`, and no other.
-pub fn align(output: &mut Packing, variant: Variant) -> Result<(), EncodeError>
-    ensures { MatchResult result (λ _. output.new ≡ plus output.old (fill_at (is_aligned variant) (place output.old)))
+pub fn push_padding(output: &mut Packing, variant: Variant) -> Result<(), EncodeError>
+    ensures { MatchResult result
+        (λ _. output.new ≡ plus output.old (padding_if (is_aligned variant) (place output.old)))
         (λ e. e ≡ EncodeError.OutOfMemory) }
 {
     if variant.is_aligned() {
-        output.align()?;
+        output.push_padding()?;
     }
     Ok(())
 }
