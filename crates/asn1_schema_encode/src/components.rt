@@ -18,7 +18,7 @@ use asn1_schema_types::{ComponentsOf, DefaultOf, Defaulted, End, Optional, Requi
 
 /// Components that are written.
 pub trait EncodeComponents: ComponentsOf {
-    /// Hands over the records of the components, and the end of the sequence.
+    /// Writes the records of the components, and the end of the sequence.
     fn encode_components<E: Encoder>(&self, encoder: &mut E) -> Result<(), EncodeError>
         ensures ok { OnOk result
             (WritesTail E.step Self.table (Self.root self.now) (Self.added self.now) encoder.old encoder.new) }

@@ -70,7 +70,7 @@ member_records f no_more = further false ∷ ends ∷ []
 member_records f (member v vs) = further true ∷ (f v ++ member_records f vs)
 
 -- What follows the root components: the additions, where there is an extension marker, and the end. Additions without
--- an extension marker, which no lawful type has, are handed over, and no codec takes them.
+-- an extension marker, which no lawful type has, are among the records, and no codec takes them.
 abbrev pub behind_root : Bool → Components → List Record → List Record
 behind_root e adds rs = cond (e || not (are_no_components adds)) (additions_begin (component_count adds) ∷ rs) rs
 

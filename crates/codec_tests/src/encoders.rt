@@ -77,8 +77,8 @@ fn one_worker_for_more_messages(rt: HostRuntime) -> Result<(), Fail> {
     Ok(())
 }
 
-/// Writes true: whether it alone is put out.
-fn puts_out_true(encoder: &mut Encoder<'_>) -> Result<bool, EncodeError> {
+/// Writes true: whether it alone is the output.
+fn outputs_true(encoder: &mut Encoder<'_>) -> Result<bool, EncodeError> {
     true.encode(encoder)?;
     Ok(encoder.output().as_slice() == [0xFF].as_slice())
 }
@@ -91,10 +91,10 @@ fn fails_for_good(encoder: &mut Encoder<'_>) -> bool {
             == Err(EncodeError::AlreadyFailed)
 }
 
-/// Whether values that are written one after the other are each put out alone, until the encoder fails.
-fn puts_out_two(encoder: &mut Encoder<'_>) -> Result<bool, EncodeError> {
-    let first = puts_out_true(encoder)?;
-    let second = puts_out_true(encoder)?;
+/// Whether values that are written one after the other are each the output alone, until the encoder fails.
+fn outputs_two(encoder: &mut Encoder<'_>) -> Result<bool, EncodeError> {
+    let first = outputs_true(encoder)?;
+    let second = outputs_true(encoder)?;
     Ok(first && second && fails_for_good(encoder))
 }
 
@@ -104,7 +104,7 @@ fn two_are_put_out(alloc: Global) -> Result<bool, EncodeError> {
     let mut worker = Vec::new(alloc);
     let options = EncoderOptions::coer();
     let mut encoder = Encoder::from_buffer(alloc, options, &mut buffer, &mut worker);
-    puts_out_two(&mut encoder)
+    outputs_two(&mut encoder)
 }
 
 /// Begins an addition of a choice that is not extensible, and so has none.
