@@ -6,13 +6,10 @@ ghost use Rattle.oer_codec.specs.Encoded.{IsEncoded, NotEncoded};
 
 use asn1_schema_constraints::Constraints;
 use asn1_schema_encode::Encode;
-use asn1_schema_faults::EncodeError;
+use asn1_schema_faults::{EncodeError, within_limit};
 use oer_codec_encoder::{Encoder, EncoderOptions};
 use std::alloc::Global;
 use std::mem;
-
-/// An encoding has fewer octets than this.
-const LENGTH_LIMIT: usize = 1 << 60;
 
 /// How many octets there is room for before the first one is written.
 const FIRST_CAPACITY: usize = 128;
@@ -23,18 +20,6 @@ fn with_room(mut octets: Vec<u8>) -> Result<Vec<u8>, EncodeError>
 {
     octets.clear();
     octets.reserve(FIRST_CAPACITY)?;
-    Ok(octets)
-}
-
-/// The octets, if they are not too many for an encoding.
-fn within_limit(octets: Vec<u8>) -> Result<Vec<u8>, EncodeError>
-    ensures { MatchResult result
-        (λ kept. (kept.items ≡ octets.items) × (length octets.items < 2 ^ 60))
-        (λ e. (e ≡ EncodeError.TooLongValue) × (2 ^ 60 ≤ length octets.items)) }
-{
-    if octets.len() >= LENGTH_LIMIT {
-        return Err(EncodeError::TooLongValue);
-    }
     Ok(octets)
 }
 

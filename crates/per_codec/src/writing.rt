@@ -6,13 +6,10 @@ ghost use Rattle.per_codec.specs.Encoded.{IsEncoded, NotEncoded};
 
 use asn1_schema_constraints::Constraints;
 use asn1_schema_encode::Encode;
-use asn1_schema_faults::EncodeError;
+use asn1_schema_faults::{EncodeError, within_limit};
 use per_codec_encoder::{Encoder, EncoderOptions};
 use std::alloc::Global;
 use std::mem;
-
-/// An encoding has fewer octets than this.
-const LENGTH_LIMIT: usize = 1 << 60;
 
 /// How many octets there is room for before the first one is written.
 const FIRST_CAPACITY: usize = 128;
@@ -22,18 +19,6 @@ fn with_room(alloc: Global) -> Result<Vec<u8>, EncodeError>
     ensures { MatchResult result (λ octets. octets.items ≡ []) (λ e. e ≡ EncodeError.OutOfMemory) }
 {
     let octets = Vec::with_capacity(alloc, FIRST_CAPACITY)?;
-    Ok(octets)
-}
-
-/// The octets, if they are not too many for an encoding.
-fn within_limit(octets: Vec<u8>) -> Result<Vec<u8>, EncodeError>
-    ensures { MatchResult result
-        (λ kept. (kept.items ≡ octets.items) × (length octets.items < 2 ^ 60))
-        (λ e. (e ≡ EncodeError.TooLongValue) × (2 ^ 60 ≤ length octets.items)) }
-{
-    if octets.len() >= LENGTH_LIMIT {
-        return Err(EncodeError::TooLongValue);
-    }
     Ok(octets)
 }
 
