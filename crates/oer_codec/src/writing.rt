@@ -6,7 +6,7 @@ ghost use Rattle.oer_codec.specs.Encoded.{IsEncoded, NotEncoded};
 
 use asn1_schema_constraints::Constraints;
 use asn1_schema_encode::Encode;
-use asn1_schema_faults::{EncodeError, within_limit};
+use asn1_schema_faults::{EncodeError, refusal, within_limit};
 use oer_codec_encoder::{Encoder, EncoderOptions};
 use std::alloc::Global;
 use std::mem;
@@ -21,23 +21,6 @@ fn with_room(mut octets: Vec<u8>) -> Result<Vec<u8>, EncodeError>
     octets.clear();
     octets.reserve(FIRST_CAPACITY)?;
     Ok(octets)
-}
-
-/// How a refusal of the value's type is passed on. That an encoding is too long is found by `within_limit` alone; a
-/// type that says so itself, or that makes a call out of its place, refuses its value, and is taken to refuse a length.
-fn refusal(error: EncodeError) -> EncodeError
-    ensures length { error ≡ EncodeError.TooLongValue → result ≡ EncodeError.SizeConstraintNotSatisfied }
-    ensures place { error ≡ EncodeError.CallOutOfPlace → result ≡ EncodeError.SizeConstraintNotSatisfied }
-    ensures others { ¬ (error ≡ EncodeError.TooLongValue) → ¬ (error ≡ EncodeError.CallOutOfPlace) → result ≡ error }
-    ensures fresh { result ≡ EncodeError.AlreadyFailed → error ≡ EncodeError.AlreadyFailed }
-    ensures in_place { ¬ (result ≡ EncodeError.CallOutOfPlace) }
-{
-    match error {
-        EncodeError::TooLongValue | EncodeError::CallOutOfPlace => {
-            EncodeError::SizeConstraintNotSatisfied
-        }
-        error => error,
-    }
 }
 
 /// The canonical encoding of a value (X.696).

@@ -6,7 +6,7 @@ ghost use Rattle.per_codec.specs.Encoded.{IsEncoded, NotEncoded};
 
 use asn1_schema_constraints::Constraints;
 use asn1_schema_encode::Encode;
-use asn1_schema_faults::{EncodeError, within_limit};
+use asn1_schema_faults::{EncodeError, refusal, within_limit};
 use per_codec_encoder::{Encoder, EncoderOptions};
 use std::alloc::Global;
 use std::mem;
@@ -20,23 +20,6 @@ fn with_room(alloc: Global) -> Result<Vec<u8>, EncodeError>
 {
     let octets = Vec::with_capacity(alloc, FIRST_CAPACITY)?;
     Ok(octets)
-}
-
-/// How a refusal of the value's type is passed on. That an encoding is too long is found by `within_limit` alone; a
-/// type that says so itself, or that makes a call out of its place, refuses its value, and is taken to refuse a length.
-fn refusal(error: EncodeError) -> EncodeError
-    ensures length { error ≡ EncodeError.TooLongValue → result ≡ EncodeError.SizeConstraintNotSatisfied }
-    ensures place { error ≡ EncodeError.CallOutOfPlace → result ≡ EncodeError.SizeConstraintNotSatisfied }
-    ensures others { ¬ (error ≡ EncodeError.TooLongValue) → ¬ (error ≡ EncodeError.CallOutOfPlace) → result ≡ error }
-    ensures fresh { ¬ (error ≡ EncodeError.AlreadyFailed) → ¬ (result ≡ EncodeError.AlreadyFailed) }
-    ensures in_place { ¬ (result ≡ EncodeError.CallOutOfPlace) }
-{
-    match error {
-        EncodeError::TooLongValue | EncodeError::CallOutOfPlace => {
-            EncodeError::SizeConstraintNotSatisfied
-        }
-        error => error,
-    }
 }
 
 /// The canonical encoding of a value (X.691), in the variant that the options name: at least one octet.

@@ -17,4 +17,4 @@ returns-in-Ok-clause-only g c =
     not_encoded (g.T.Described.under (meant c.args.constraints)) (g.T.Described.meaning c.args.value.now) c.encode_with_constraints.new.encoder.state.0 c.output.result.items c.within_limit.result w.2 w.3 (c.output.ensures.octets w.0 w.1) c.within_limit.ensures
 
 pub returns-clause-fresh : goal.returns-clause-fresh
-returns-clause-fresh g c h = not_failed c.from_buffer-encoder.ensures (c.in-Err.ensures.after (ap Err (c.refusal.ensures.fresh h)))
+returns-clause-fresh g c h = c.refusal.ensures.fresh (λ k. not_failed c.from_buffer-encoder.ensures (c.in-Err.ensures.after (ap Err k))) h
