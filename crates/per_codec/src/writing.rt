@@ -26,7 +26,7 @@ fn with_room(alloc: Global) -> Result<Vec<u8>, EncodeError>
 ///
 /// # Errors
 ///
-/// `TooLongValue` for an encoding of 2 to 60 octets or more and for nothing else, `OutOfMemory`, and those of the
+/// `TooLongValue` for an encoding of 2^60 octets or more and for nothing else, `OutOfMemory`, and those of the
 /// value's type, where the value has no encoding of any length; a `TooLongValue` or `CallOutOfPlace` of the type's own
 /// comes as `SizeConstraintNotSatisfied`.
 pub fn encode<T: Encode>(
