@@ -7,9 +7,11 @@ ghost use Rattle.asn1_schema_faults.specs.declared.DecodeError.TheVariants.{OutO
 ghost use Rattle.asn1_schema_faults.specs.declared.EncodeError.TheVariants.{OutOfMemory as NoRoom};
 
 mod bounds;
+mod identifiers;
 mod refusals;
 
 pub use bounds::{MOST_OCTETS, within_limit};
+pub use identifiers::identifier_fault;
 pub use refusals::refusal;
 use std::alloc::{AllocError, AllocFailed};
 use thiserror::Error;
