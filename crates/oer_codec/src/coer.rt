@@ -24,6 +24,7 @@ pub fn encode<T: Encode>(alloc: Global, value: &T) -> Result<Vec<u8>, EncodeErro
     ensures ok { IfOk result (λ octets. IsEncoded T.schema (T.meaning value.now) octets.items) }
     ensures only { IfErr result (NotEncoded T.schema (T.meaning value.now)) }
     ensures fresh { IfErr result (λ e. e ≡ EncodeError.AlreadyFailed → ⊥) }
+    ensures fits { IfErr result (λ e. e ≡ EncodeError.LengthExceedsPlatformSize → ⊥) }
     ensures in_place { IfErr result (λ e. e ≡ EncodeError.CallOutOfPlace → ⊥) }
 {
     let octets = crate::writing::encode(alloc, value)?;
@@ -46,6 +47,7 @@ pub fn encode_buf<T: Encode>(
         × IsEncoded T.schema (T.meaning value.now) octets × (buffer.new.items ≡ buffer.old.items ++ octets)) }
     ensures only { IfErr result (NotEncoded T.schema (T.meaning value.now)) }
     ensures fresh { IfErr result (λ e. e ≡ EncodeError.AlreadyFailed → ⊥) }
+    ensures fits { IfErr result (λ e. e ≡ EncodeError.LengthExceedsPlatformSize → ⊥) }
     ensures in_place { IfErr result (λ e. e ≡ EncodeError.CallOutOfPlace → ⊥) }
     ensures same { OnErr result (buffer.new.items ≡ buffer.old.items) }
 {
@@ -67,6 +69,7 @@ pub fn encode_with_constraints<T: Encode>(
         (λ octets. IsEncoded (T.under (meant constraints.entry)) (T.meaning value.now) octets.items) }
     ensures only { IfErr result (NotEncoded (T.under (meant constraints.entry)) (T.meaning value.now)) }
     ensures fresh { IfErr result (λ e. e ≡ EncodeError.AlreadyFailed → ⊥) }
+    ensures fits { IfErr result (λ e. e ≡ EncodeError.LengthExceedsPlatformSize → ⊥) }
     ensures in_place { IfErr result (λ e. e ≡ EncodeError.CallOutOfPlace → ⊥) }
 {
     let octets = crate::writing::encode_with_constraints(alloc, constraints, value)?;

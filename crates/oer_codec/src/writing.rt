@@ -28,12 +28,13 @@ fn with_room(mut octets: Vec<u8>) -> Result<Vec<u8>, EncodeError>
 /// # Errors
 ///
 /// `TooLongValue` for an encoding of 2^60 octets or more and for nothing else, `OutOfMemory`, and those of the
-/// value's type, where the value has no encoding of any length; a `TooLongValue` or `CallOutOfPlace` of the type's own
-/// comes as `SizeConstraintNotSatisfied`.
+/// value's type, where the value has no encoding of any length; a `TooLongValue`, `LengthExceedsPlatformSize` or
+/// `CallOutOfPlace` of the type's own comes as `SizeConstraintNotSatisfied`.
 pub fn encode<T: Encode>(alloc: Global, value: &T) -> Result<Vec<u8>, EncodeError>
     ensures ok { IfOk result (λ octets. IsEncoded T.schema (T.meaning value.now) octets.items) }
     ensures only { IfErr result (NotEncoded T.schema (T.meaning value.now)) }
     ensures fresh { IfErr result (λ e. e ≡ EncodeError.AlreadyFailed → ⊥) }
+    ensures fits { IfErr result (λ e. e ≡ EncodeError.LengthExceedsPlatformSize → ⊥) }
     ensures in_place { IfErr result (λ e. e ≡ EncodeError.CallOutOfPlace → ⊥) }
 {
     encode_into(alloc, value, Vec::new(alloc))
@@ -44,6 +45,7 @@ fn encode_into<T: Encode>(alloc: Global, value: &T, room: Vec<u8>) -> Result<Vec
     ensures ok { IfOk result (λ octets. IsEncoded T.schema (T.meaning value.now) octets.items) }
     ensures only { IfErr result (NotEncoded T.schema (T.meaning value.now)) }
     ensures fresh { IfErr result (λ e. e ≡ EncodeError.AlreadyFailed → ⊥) }
+    ensures fits { IfErr result (λ e. e ≡ EncodeError.LengthExceedsPlatformSize → ⊥) }
     ensures in_place { IfErr result (λ e. e ≡ EncodeError.CallOutOfPlace → ⊥) }
 {
     let mut output = with_room(room)?;
@@ -70,6 +72,7 @@ pub fn encode_with_constraints<T: Encode>(
         (λ octets. IsEncoded (T.under (meant constraints.entry)) (T.meaning value.now) octets.items) }
     ensures only { IfErr result (NotEncoded (T.under (meant constraints.entry)) (T.meaning value.now)) }
     ensures fresh { IfErr result (λ e. e ≡ EncodeError.AlreadyFailed → ⊥) }
+    ensures fits { IfErr result (λ e. e ≡ EncodeError.LengthExceedsPlatformSize → ⊥) }
     ensures in_place { IfErr result (λ e. e ≡ EncodeError.CallOutOfPlace → ⊥) }
 {
     let mut output = with_room(Vec::new(alloc))?;
@@ -98,6 +101,7 @@ pub fn encode_buf<T: Encode>(
         × IsEncoded T.schema (T.meaning value.now) octets × (buffer.new.items ≡ buffer.old.items ++ octets)) }
     ensures only { IfErr result (NotEncoded T.schema (T.meaning value.now)) }
     ensures fresh { IfErr result (λ e. e ≡ EncodeError.AlreadyFailed → ⊥) }
+    ensures fits { IfErr result (λ e. e ≡ EncodeError.LengthExceedsPlatformSize → ⊥) }
     ensures in_place { IfErr result (λ e. e ≡ EncodeError.CallOutOfPlace → ⊥) }
     ensures same { OnErr result (buffer.new.items ≡ buffer.old.items) }
 {

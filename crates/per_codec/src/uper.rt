@@ -26,6 +26,7 @@ pub fn encode<T: Encode>(alloc: Global, value: &T) -> Result<Vec<u8>, EncodeErro
     ensures ok { IfOk result (λ octets. IsEncoded false T.schema (T.meaning value.now) octets.items) }
     ensures only { IfErr result (NotEncoded false T.schema (T.meaning value.now)) }
     ensures fresh { IfErr result (λ e. e ≡ EncodeError.AlreadyFailed → ⊥) }
+    ensures fits { IfErr result (λ e. e ≡ EncodeError.LengthExceedsPlatformSize → ⊥) }
     ensures in_place { IfErr result (λ e. e ≡ EncodeError.CallOutOfPlace → ⊥) }
 {
     let octets = crate::writing::encode(alloc, EncoderOptions::unaligned(), value)?;
@@ -45,6 +46,7 @@ pub fn encode_buf<T: Encode>(
     ensures ok { OnOk result (IsEncoded false T.schema (T.meaning value.now) buffer.new.items) }
     ensures only { IfErr result (NotEncoded false T.schema (T.meaning value.now)) }
     ensures fresh { IfErr result (λ e. e ≡ EncodeError.AlreadyFailed → ⊥) }
+    ensures fits { IfErr result (λ e. e ≡ EncodeError.LengthExceedsPlatformSize → ⊥) }
     ensures in_place { IfErr result (λ e. e ≡ EncodeError.CallOutOfPlace → ⊥) }
     ensures empty { OnErr result (buffer.new.items ≡ []) }
 {
@@ -66,6 +68,7 @@ pub fn encode_with_constraints<T: Encode>(
         (λ octets. IsEncoded false (T.under (meant constraints.entry)) (T.meaning value.now) octets.items) }
     ensures only { IfErr result (NotEncoded false (T.under (meant constraints.entry)) (T.meaning value.now)) }
     ensures fresh { IfErr result (λ e. e ≡ EncodeError.AlreadyFailed → ⊥) }
+    ensures fits { IfErr result (λ e. e ≡ EncodeError.LengthExceedsPlatformSize → ⊥) }
     ensures in_place { IfErr result (λ e. e ≡ EncodeError.CallOutOfPlace → ⊥) }
 {
     let options = EncoderOptions::unaligned();

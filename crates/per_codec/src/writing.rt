@@ -27,8 +27,8 @@ fn with_room(alloc: Global) -> Result<Vec<u8>, EncodeError>
 /// # Errors
 ///
 /// `TooLongValue` for an encoding of 2^60 octets or more and for nothing else, `OutOfMemory`, and those of the
-/// value's type, where the value has no encoding of any length; a `TooLongValue` or `CallOutOfPlace` of the type's own
-/// comes as `SizeConstraintNotSatisfied`.
+/// value's type, where the value has no encoding of any length; a `TooLongValue`, `LengthExceedsPlatformSize` or
+/// `CallOutOfPlace` of the type's own comes as `SizeConstraintNotSatisfied`.
 pub fn encode<T: Encode>(
     alloc: Global,
     options: EncoderOptions,
@@ -37,6 +37,7 @@ pub fn encode<T: Encode>(
     ensures ok { IfOk result (λ octets. IsEncoded (is_aligned options) T.schema (T.meaning value.now) octets.items) }
     ensures only { IfErr result (NotEncoded (is_aligned options) T.schema (T.meaning value.now)) }
     ensures fresh { IfErr result (λ e. e ≡ EncodeError.AlreadyFailed → ⊥) }
+    ensures fits { IfErr result (λ e. e ≡ EncodeError.LengthExceedsPlatformSize → ⊥) }
     ensures in_place { IfErr result (λ e. e ≡ EncodeError.CallOutOfPlace → ⊥) }
 {
     let room = with_room(alloc)?;
@@ -53,6 +54,7 @@ fn encode_into<T: Encode>(
     ensures ok { IfOk result (λ octets. IsEncoded (is_aligned options) T.schema (T.meaning value.now) octets.items) }
     ensures only { IfErr result (NotEncoded (is_aligned options) T.schema (T.meaning value.now)) }
     ensures fresh { IfErr result (λ e. e ≡ EncodeError.AlreadyFailed → ⊥) }
+    ensures fits { IfErr result (λ e. e ≡ EncodeError.LengthExceedsPlatformSize → ⊥) }
     ensures in_place { IfErr result (λ e. e ≡ EncodeError.CallOutOfPlace → ⊥) }
 {
     let mut encoder = Encoder::new_with_output(alloc, options, room);
@@ -82,6 +84,7 @@ pub fn encode_with_constraints<T: Encode>(
     ensures only { IfErr result
         (NotEncoded (is_aligned options) (T.under (meant constraints.entry)) (T.meaning value.now)) }
     ensures fresh { IfErr result (λ e. e ≡ EncodeError.AlreadyFailed → ⊥) }
+    ensures fits { IfErr result (λ e. e ≡ EncodeError.LengthExceedsPlatformSize → ⊥) }
     ensures in_place { IfErr result (λ e. e ≡ EncodeError.CallOutOfPlace → ⊥) }
 {
     let room = with_room(alloc)?;
@@ -109,6 +112,7 @@ pub fn encode_buf<T: Encode>(
     ensures ok { OnOk result (IsEncoded (is_aligned options) T.schema (T.meaning value.now) buffer.new.items) }
     ensures only { IfErr result (NotEncoded (is_aligned options) T.schema (T.meaning value.now)) }
     ensures fresh { IfErr result (λ e. e ≡ EncodeError.AlreadyFailed → ⊥) }
+    ensures fits { IfErr result (λ e. e ≡ EncodeError.LengthExceedsPlatformSize → ⊥) }
     ensures in_place { IfErr result (λ e. e ≡ EncodeError.CallOutOfPlace → ⊥) }
     ensures none { OnErr result (buffer.new.items ≡ []) }
 {
