@@ -45,6 +45,9 @@ pub enum LineError {
     Memory,
 }
 
+/// Whether a line is right, or why it is wrong.
+pub type Verdict = Result<(), LineError>;
+
 impl From<AllocError> for LineError {
     fn from(_refused: AllocError) -> LineError {
         LineError::Memory

@@ -1,10 +1,18 @@
-//! Why a value has no encoding, why octets are no encoding, and which rules a codec follows.
+//! Why a value has no encoding, why octets are no encoding, how many octets an encoding may have, and which rules a
+//! codec follows.
 #![tactic(auto)]
 
 ghost use Rattle.std.specs.Prelude.{◌≡◌};
 ghost use Rattle.asn1_schema_faults.specs.declared.DecodeError.TheVariants.{OutOfMemory};
 ghost use Rattle.asn1_schema_faults.specs.declared.EncodeError.TheVariants.{OutOfMemory as NoRoom};
 
+mod bounds;
+mod identifiers;
+mod refusals;
+
+pub use bounds::{MOST_OCTETS, within_limit};
+pub use identifiers::identifier_fault;
+pub use refusals::refusal;
 use std::alloc::{AllocError, AllocFailed};
 use thiserror::Error;
 

@@ -504,8 +504,9 @@ impl MadeWith<Global> for BitBuffer {
     }
 }
 
-// How many bits the last octet has left.
-fn free_bits(len: usize) -> u32
+/// How many bits the last octet has left behind so many: the bits that are missing to whole octets.
+#[inline(always)]
+pub fn free_bits(len: usize) -> u32
     ensures { result ≡ missing len }
 {
     ((8 - len % 8) % 8) as u32

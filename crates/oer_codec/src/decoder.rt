@@ -62,7 +62,7 @@ impl<'input> Model for Decoder<'input> {
 }
 
 impl<'input> Decoder<'input> {
-    /// A decoder of this input by the rules of these options, within 128 nested levels. Of an input of 2 to 60 octets
+    /// A decoder of this input by the rules of these options, within 128 nested levels. Of an input of 2^60 octets
     /// or more the first ones are looked at, fewer than so many.
     #[inline(always)]
     pub fn new(alloc: Global, input: &'input [u8], options: DecoderOptions) -> Self

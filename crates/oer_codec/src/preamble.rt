@@ -1,6 +1,5 @@
 //! The preamble of a sequence (X.696 16.2).
 ghost use Rattle.std.specs.Prelude.{◌≡◌, ◌+◌, ◌*◌, ◌^◌, ◌<◌, ◌≤◌, [], ◌∷◌, ◌++◌, cond, length, IfOk, IfErr};
-ghost use Rattle.asn1_model.specs.Numbers.{missing};
 ghost use Rattle.oer_codec.specs.Preamble.{HasBits, HasPreamble};
 ghost use Rattle.oer_codec.specs.Scopes.{scope_of};
 
@@ -8,14 +7,7 @@ use crate::frames::{Frame, first_bit};
 use asn1_schema_faults::DecodeError;
 use asn1_values_bits::BitReader;
 use oer_codec_reading::{Cursor, are_zero};
-
-/// How many octets the preamble has, unused bits among them.
-#[inline(always)]
-fn preamble_len(extensible: bool, optional: usize) -> usize
-    ensures { result * 8 ≡ (cond extensible 1 0 + optional) + missing (cond extensible 1 0 + optional) }
-{
-    optional / 8 + (optional % 8 + usize::from(extensible) + 7) / 8
-}
+use oer_codec_writing::preamble_len;
 
 /// Takes off the extension bit, if there is one, and the presence bits.
 #[inline(always)]

@@ -16,8 +16,8 @@ use crate::{Cursor, EncodingRules};
 use asn1_schema_constraints::{Bounded, Constraints};
 use asn1_schema_faults::DecodeError;
 use asn1_values_bit_strings::BitString;
-use asn1_values_bits::BitStr;
 use asn1_values_bits::bits::read_bits;
+use asn1_values_bits::{BitStr, free_bits};
 use std::alloc::Global;
 
 /// Whether the bits behind so many are zero, up to the end of the octets that hold these.
@@ -26,8 +26,7 @@ fn has_zero_unused_bits(octets: &[u8], count: usize) -> bool
     requires few { length octets.now < 2 ^ 60 }
     ensures { IsTrue result ↔ (drop count (octet_bits octets.now) ≡ replicate (missing count) false) }
 {
-    let missing = (8 - count % 8) % 8;
-    read_bits(octets, count, missing as u32) == 0
+    read_bits(octets, count, free_bits(count)) == 0
 }
 
 /// Whether bits with such unused ones are read: in the canonical rules only if these are zero (X.696 13).

@@ -14,13 +14,13 @@ ghost use Rattle.oer_codec_writing.specs.Writing.{Adds, Refuses};
 use crate::lengths::push_length;
 use asn1_schema_constraints::{Bounded, Constraints};
 use asn1_schema_faults::EncodeError;
-use asn1_values_bits::BitStr;
+use asn1_values_bits::{BitStr, free_bits};
 
-/// How many bits are missing to whole octets.
+/// How many bits are missing to whole octets, as the octet in front of these (X.696 13).
 fn unused_bits(count: usize) -> u8
     ensures { result ≡ missing count }
 {
-    ((8 - count % 8) % 8) as u8
+    free_bits(count) as u8
 }
 
 /// Adds bits as octets, where the unused bits of the last one are zero (X.696 13).

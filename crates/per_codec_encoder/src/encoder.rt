@@ -15,6 +15,7 @@ use crate::members::begin_members;
 use crate::options::EncoderOptions;
 use crate::sequences::{begin_components, put_further, put_presence_bit};
 use asn1_schema_constraints::{Bounded, Constraints};
+use asn1_schema_encode::{begin_record, go_on};
 use asn1_schema_faults::{CodecKind, EncodeError};
 use asn1_schema_tags::{Identifier, Tag};
 use asn1_schema_variants::{Chosen, Enumerated};
@@ -139,10 +140,7 @@ impl Encoder {
 // One call: `AlreadyFailed` after a refusal, else what is written of its record, and after a refusal no more.
 macro_rules! record {
     ($encoder:ident, $written:expr) => {{
-        if $encoder.failed {
-            return Err(EncodeError::AlreadyFailed);
-        }
-        $encoder.failed = true;
+        begin_record(&mut $encoder.failed)?;
         $written?;
         $encoder.failed = false;
         Ok(())
@@ -178,9 +176,7 @@ impl asn1_schema_encode::Encoder for Encoder {
 
     #[inline(always)]
     fn encode_null(&mut self, _tag: Tag, _identifier: Identifier) -> Result<(), EncodeError> {
-        if self.failed {
-            return Err(EncodeError::AlreadyFailed);
-        }
+        go_on(self.failed)?;
         Ok(())
     }
 

@@ -9,7 +9,7 @@ ghost use Rattle.per_codec_packing.specs.Viewed.{text_of};
 
 use crate::text_view::TextView;
 use crate::views::{push_number, push_view};
-use asn1_values_bits::{BitBuffer, BitStr};
+use asn1_values_bits::{BitBuffer, BitStr, free_bits};
 use std::alloc::{AllocError, Global};
 use std::marker::Model;
 
@@ -209,7 +209,7 @@ impl Packing {
     {
         let len = self.bits.len();
         if self.is_placed {
-            self.bits.push_bits(0, ((8 - len % 8) % 8) as u32)?;
+            self.bits.push_bits(0, free_bits(len))?;
             return Ok(());
         }
         self.paddings.push(len)?;

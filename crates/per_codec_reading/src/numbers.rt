@@ -10,6 +10,7 @@ use crate::padding::read_padding;
 use crate::{Cursor, Variant};
 use asn1_schema_faults::DecodeError;
 use asn1_values_natives::octets::{bit_count, octet_width};
+use per_codec_limits::LONG_SPAN;
 
 /// Reads a number in so many bits, if it is not above a highest one.
 ///
@@ -99,7 +100,7 @@ pub fn read_constrained(
     if span == 255 {
         return read_aligned_within(cursor, variant, 8, span);
     }
-    if span < 65536 {
+    if span < LONG_SPAN {
         return read_aligned_within(cursor, variant, 16, span);
     }
     read_octets_within(cursor, variant, span)

@@ -7,7 +7,7 @@ ghost use Rattle.per_codec_limits.specs.Variants.{is_aligned};
 
 use asn1_schema_faults::EncodeError;
 use asn1_values_natives::octets::{bit_count, octet_width};
-use per_codec_limits::Variant;
+use per_codec_limits::{LONG_SPAN, Variant};
 use per_codec_packing::Packing;
 
 /// Adds a number of 0 to `span` in its fewest octets, which stand at an octet behind their number, itself a constrained
@@ -36,7 +36,7 @@ fn push_octets(output: &mut Packing, span: u128, value: u128) -> Result<(), Enco
         (text_at (constrained true span value) (place output.old)) output.old output.new)
         (λ e. e ≡ EncodeError.OutOfMemory) }
 {
-    if span >= 65536 {
+    if span >= LONG_SPAN {
         push_fewest_octets(output, span, value)?;
         return Ok(());
     }

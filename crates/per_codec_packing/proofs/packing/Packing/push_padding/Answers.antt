@@ -1,4 +1,4 @@
-use Rattle.std.proofs.Common.{◌-◌, ◌%◌, ◌++◌, ◌∷◌, [], length, ap, ◌∙◌}
+use Rattle.std.proofs.Common.{◌++◌, ◌∷◌, [], length, ap, ◌∙◌}
 use Rattle.asn1_model.specs.Numbers.{binary, missing}
 use Rattle.asn1_values_bits.proofs.Binary.{binary_zero}
 use Rattle.per_codec_packing.proofs.Kept.{with_padding, padding_added, left_open}
@@ -8,7 +8,7 @@ pub returns-then-self-clause-ok : goal.returns-then-self-clause-ok
 returns-then-self-clause-ok c =
     let bits = c.self.inside.bits in
     padding_added bits c.self.inside.paddings.items c.self.inside.is_placed c.self.invariant c.args.self.now c.self.view_is c.push_bits.new.self c.if-self.true
-    (c.in_ok-push_bits.ensures.ok ∙ ap (λ n. bits ++ binary ((8 - n % 8) % 8) 0) c.len-len.ensures ∙ ap (λ l. bits ++ l) (binary_zero (missing (length bits))))
+    (c.in_ok-push_bits.ensures.ok ∙ ap (λ n. bits ++ binary n 0) (c.free_bits.ensures ∙ ap missing c.len-len.ensures) ∙ ap (λ l. bits ++ l) (binary_zero (missing (length bits))))
 
 pub invariant_of-self-2 : goal.invariant_of-self-2
 invariant_of-self-2 c =
