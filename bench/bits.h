@@ -55,7 +55,7 @@ static int put_run(struct bits *o, const uint8_t *octets, size_t count)
     return 1;
 }
 
-static void align_bits(struct bits *o)
+static void push_padding(struct bits *o)
 {
     if (IS_ALIGNED)
         o->free = 0;
@@ -79,7 +79,7 @@ static int put_constrained(struct bits *o, uint64_t number, unsigned octets)
             return 0;
         octets = count;
     }
-    align_bits(o);
+    push_padding(o);
     if (octets > 4 && !put_bits(o, (uint32_t)(number >> 32), 8 * (octets - 4)))
         return 0;
     return put_bits(o, (uint32_t)number, 8 * (octets < 4 ? octets : 4));
@@ -87,7 +87,7 @@ static int put_constrained(struct bits *o, uint64_t number, unsigned octets)
 
 static int put_length(struct bits *o, size_t length)
 {
-    align_bits(o);
+    push_padding(o);
     if (length < 128)
         return put_bits(o, (uint32_t)length, 8);
     return put_bits(o, (uint32_t)(0x8000 | length), 16);
@@ -95,7 +95,7 @@ static int put_length(struct bits *o, size_t length)
 
 static int put_header(struct bits *o, size_t multiple)
 {
-    align_bits(o);
+    push_padding(o);
     return put_bits(o, (uint32_t)(0xC0 | multiple), 8);
 }
 
@@ -128,7 +128,7 @@ static int get_bits(struct input *in, unsigned width, uint32_t *number)
     return 1;
 }
 
-static int skip_filling(struct input *in)
+static int skip_padding(struct input *in)
 {
     if (in->bits > 0) {
         in->octets++;
@@ -138,9 +138,9 @@ static int skip_filling(struct input *in)
     return 1;
 }
 
-static int align_input(struct input *in)
+static int read_padding(struct input *in)
 {
-    return !IS_ALIGNED || skip_filling(in);
+    return !IS_ALIGNED || skip_padding(in);
 }
 
 static int get_run(struct input *in, uint8_t *octets, size_t count)
@@ -167,7 +167,7 @@ static int get_constrained(struct input *in, unsigned octets, uint64_t *number)
             return 0;
         octets = count + 1;
     }
-    align_input(in);
+    read_padding(in);
     if (octets > 4 && !get_bits(in, 8 * (octets - 4), &high))
         return 0;
     if (!get_bits(in, 8 * (octets < 4 ? octets : 4), &low))
@@ -180,7 +180,7 @@ static int get_constrained(struct input *in, unsigned octets, uint64_t *number)
 static int get_count(struct input *in, size_t *count, int *more)
 {
     uint32_t first, second;
-    align_input(in);
+    read_padding(in);
     if (!get_bits(in, 8, &first))
         return 0;
     *more = first >= 0xC0;

@@ -14,7 +14,7 @@ static int per_put_pick(struct buffer *b, const void *value)
     case 1:
         if (!put_length(&o, p->count))
             return 0;
-        align_bits(&o);
+        push_padding(&o);
         return put_run(&o, p->octets, p->count);
     default:
         return put_bits(&o, (uint32_t)p->truth, 1);
@@ -87,7 +87,7 @@ static int per_get_pick(struct input *in, void *value)
     case 1:
         if (!get_count(in, &p->count, &more) || more)
             return 0;
-        align_input(in);
+        read_padding(in);
         if (!(p->octets = malloc(p->count + 1)) || !get_run(in, p->octets, p->count))
             return 0;
         break;
@@ -96,7 +96,7 @@ static int per_get_pick(struct input *in, void *value)
             return 0;
         p->truth = (int)bits;
     }
-    return skip_filling(in);
+    return skip_padding(in);
 }
 
 /* So many octets of an open type, which the type lacks. */
@@ -165,7 +165,7 @@ static int per_get_grown(struct input *in, void *value)
     g->there = 0;
     if (is_grown && !per_get_additions(in, g))
         return 0;
-    return skip_filling(in);
+    return skip_padding(in);
 }
 
 static int per_get_bag(struct input *in, void *value)
@@ -184,7 +184,7 @@ static int per_get_bag(struct input *in, void *value)
             if (!get_constrained(in, 2, &number) || !put_member(g, &room, (uint16_t)number))
                 return 0;
     } while (more);
-    return skip_filling(in);
+    return skip_padding(in);
 }
 
 static const struct codec PER_PICK = {per_put_pick, per_get_pick, sum_pick, free_pick};

@@ -9,7 +9,7 @@ static int put_sample(struct buffer *b, const struct sample *s)
         return 0;
     if (!put_length(&o, 32))
         return 0;
-    align_bits(&o);
+    push_padding(&o);
     if (!put_run(&o, s->c, 32) || !put_bits(&o, (uint32_t)s->d, 1))
         return 0;
     return !s->has_e || put_constrained(&o, s->e, 2);
@@ -39,7 +39,7 @@ static int put_string(struct buffer *b, const uint8_t *octets, size_t count)
         size_t units = fragment_of(count);
         if (!put_count(&o, units))
             return 0;
-        align_bits(&o);
+        push_padding(&o);
         if (!put_run(&o, octets, units))
             return 0;
         if (units < 16384)
@@ -66,7 +66,7 @@ static int get_sample(struct input *in, struct sample *s)
         return 0;
     if (!get_count(in, &count, &more) || more || count != 32)
         return 0;
-    align_input(in);
+    read_padding(in);
     if (!get_run(in, s->c, 32) || !get_bits(in, 1, &flag))
         return 0;
     s->d = (int)flag;
@@ -75,7 +75,7 @@ static int get_sample(struct input *in, struct sample *s)
             return 0;
         s->e = (uint16_t)number;
     }
-    return skip_filling(in);
+    return skip_padding(in);
 }
 
 static int get_list(struct input *in, struct buffer *members)
@@ -102,7 +102,7 @@ static int get_string(struct input *in, struct buffer *copy)
     do {
         if (!get_count(in, &count, &more))
             return 0;
-        align_input(in);
+        read_padding(in);
         if (!grow(copy, count) || !get_run(in, copy->octets + copy->count, count))
             return 0;
         copy->count += count;

@@ -267,21 +267,21 @@ module _ (F : Type 0) (D : F → Type 0) (A : Type 0) (free : F → Bool) where
         (Some (added o s w) ∷ i.0, ap (λ z. option_map (λ zs. Some (added o s w) ∷ zs) z) i.1, subst (λ l. EachSlot l (Some (added o s w) ∷ i.0)) a.2 (h.0 v w p.0, i.2))
 
   -- behind a bitmap, or without one
-  module _ (unknown : List ℕ → Form F D A) (marked : List Bool → Form F D A) (bits : List (Option (Form F D A)) → Form F D A) (bits_give : (xs ys : List (Option (Form F D A))) → EachSlot xs ys → Gives (bits xs) (bits ys)) (hidden : Form F D A → Form F D A) (hidden_gives : (x y : Form F D A) → Gives x y → Gives (hidden x) (hidden y)) where
+  module _ (unknown : List ℕ → Form F D A) (preamble : List Bool → Form F D A) (bits : List (Option (Form F D A)) → Form F D A) (bits_give : (xs ys : List (Option (Form F D A))) → EachSlot xs ys → Gives (bits xs) (bits ys)) (hidden : Form F D A → Form F D A) (hidden_gives : (x y : Form F D A) → Gives x y → Gives (hidden x) (hidden y)) where
     abbrev pub with_all : List Bool → Form F D A → List (Option (Form F D A)) → Form F D A
-    with_all ms root all = both (marked (true ∷ ms)) (both root (both (bits all) (joined (present_ones all))))
+    with_all ms root all = both (preamble (true ∷ ms)) (both root (both (bits all) (joined (present_ones all))))
 
     abbrev pub bitmapped : List Bool → Form F D A → List (Option (Form F D A)) → Option Bitmap → Form F D A
-    bitmapped ms root xs None = only_if (not (is_any_present xs)) (both (marked (false ∷ ms)) root)
+    bitmapped ms root xs None = only_if (not (is_any_present xs)) (both (preamble (false ∷ ms)) root)
     bitmapped ms root xs (Some b) = given (covered_by unknown b xs) (λ all. cond (is_any_present all) (with_all ms root all) (hidden (with_all ms root all)))
 
     all_give : (ms : List Bool) (x y : Form F D A) (xs ys : List (Option (Form F D A))) → Gives x y → EachSlot xs ys → Gives (with_all ms x xs) (with_all ms y ys)
-    all_give ms x y xs ys h k = gives_both (gives_same (marked (true ∷ ms))) (gives_both h (gives_both (bits_give xs ys k) (gives_joined _ _ (slots_present xs ys k))))
+    all_give ms x y xs ys h k = gives_both (gives_same (preamble (true ∷ ms))) (gives_both h (gives_both (bits_give xs ys k) (gives_joined _ _ (slots_present xs ys k))))
 
     pub bitmapped_gives : (ms : List Bool) (x y : Form F D A) (xs ys : List (Option (Form F D A))) (b : Option Bitmap) → Gives x y → EachSlot xs ys → Gives (bitmapped ms x xs b) (bitmapped ms y ys b)
     bitmapped_gives ms x y xs ys None h k =
         let e = slots_any xs ys k in
-        rw e (gives_if (not (is_any_present ys)) _ _ (gives_both (gives_same (marked (false ∷ ms))) h))
+        rw e (gives_if (not (is_any_present ys)) _ _ (gives_both (gives_same (preamble (false ∷ ms))) h))
     bitmapped_gives ms x y xs ys (Some b) h k = gives_given (covered_by unknown b xs) (covered_by unknown b ys) _ _ (λ all e.
         let q = covered_slots unknown b xs ys all k e in
         let f = slots_any all q.0 q.2 in

@@ -148,8 +148,8 @@ added_is (component t o s cs) end = refl
 added_is (component t o s cs) (absent ps) = ap (λ x. cond (is_required o) None (option_map (λ xs. None ∷ xs) x)) (added_is cs ps)
 added_is (component t o s cs) (present v ps) = ap (λ x. option_map (λ xs. Some (Oer.spelled o s v (Oer.open_type (Oer.form s v))) ∷ xs) x) (added_is cs ps)
 
-marked : List Bool → Oer.OctetForm
-marked ms = Oer.preamble ms
+preamble : List Bool → Oer.OctetForm
+preamble ms = Oer.preamble ms
 
 bits : List (Option Oer.OctetForm) → Oer.OctetForm
 bits xs = Oer.counted_bits (map (λ a. is_present a) xs)
@@ -166,10 +166,10 @@ unfolding hidden
 hidden_gives x y h = gives_varied {c = Oer.empty_bitmap} {c' = Oer.empty_bitmap} (gives_same refused)
 
 abbrev Bitmapped : List Bool → Oer.OctetForm → List (Option Oer.OctetForm) → Option Bitmap → Oer.OctetForm
-Bitmapped ms root xs b = giving.bitmapped Oer.Freedom Oer.Detail ℕ canonically unknown marked bits bits_give hidden hidden_gives ms root xs b
+Bitmapped ms root xs b = giving.bitmapped Oer.Freedom Oer.Detail ℕ canonically unknown preamble bits bits_give hidden hidden_gives ms root xs b
 
 bitmapped_is : (ms : List Bool) (root : Oer.OctetForm) (xs : List (Option Oer.OctetForm)) (b : Option Bitmap) → Bitmapped ms root xs b ≡ Oer.bitmapped ms root xs b
-unfolding Oer.bitmapped Oer.with_additions Oer.additions unknown marked bits hidden
+unfolding Oer.bitmapped Oer.with_additions Oer.additions unknown preamble bits hidden
 bitmapped_is ms root xs None = refl
 bitmapped_is ms root xs (Some b) = refl
 
@@ -180,7 +180,7 @@ tables_give false ms x y [] (b ∷ ys) h k = absurd k
 tables_give false ms x y (a ∷ xs) ys h k = gives_refused _
 tables_give true ms x y xs ys h k =
     let o = slots_own xs ys k in
-    rw o (gives_varied {c = Oer.other_bitmap} {c' = Oer.other_bitmap} (subst (λ u. Same u (Oer.bitmapped ms y ys (own_bitmap ys))) (bitmapped_is ms x xs (own_bitmap ys)) (subst (λ u. Same (Bitmapped ms x xs (own_bitmap ys)) u) (bitmapped_is ms y ys (own_bitmap ys)) (bitmapped_gives Oer.Freedom Oer.Detail ℕ canonically unknown marked bits bits_give hidden hidden_gives ms x y xs ys (own_bitmap ys) h k))))
+    rw o (gives_varied {c = Oer.other_bitmap} {c' = Oer.other_bitmap} (subst (λ u. Same u (Oer.bitmapped ms y ys (own_bitmap ys))) (bitmapped_is ms x xs (own_bitmap ys)) (subst (λ u. Same (Bitmapped ms x xs (own_bitmap ys)) u) (bitmapped_is ms y ys (own_bitmap ys)) (bitmapped_gives Oer.Freedom Oer.Detail ℕ canonically unknown preamble bits bits_give hidden hidden_gives ms x y xs ys (own_bitmap ys) h k))))
 
 fields_give : (cs : Components) (e : Bool) (adds : Components) → EachComponent (λ o s. OneText s) cs → EachComponent (λ o s. OneText s) adds → (ps qs rs ss : Parts) → same_parts ps rs ≡ true → same_parts qs ss ≡ true → Same (given (Oer.addition_forms adds qs) (Oer.sequence_form e (presence_bits cs ps) (Oer.component_forms cs ps))) (given (Oer.addition_forms adds ss) (Oer.sequence_form e (presence_bits cs rs) (Oer.component_forms cs rs)))
 fields_give cs e adds h k ps qs rs ss f g =

@@ -46,18 +46,18 @@ unfolding Per.sized_root
 root_gives al c None pads us vs h = counted_gives al us vs h
 root_gives al c (Some high) pads us vs h = let l = each_length us vs h in rw l (gives_cond (ltb high 65536) _ _ _ _ (gives_both (gives_same (Per.constrained al (high - c.low) (length vs - c.low))) (at_octet_gives (al && pads c) _ _ (gives_joined us vs h))) (counted_gives al us vs h))
 
-marked_gives : (e b : Bool) (x y u v : Per.BitForm) → Same x y → Same u v → Same (Per.marked e b x u) (Per.marked e b y v)
-unfolding Per.marked
-marked_gives false b x y u v h k = gives_if b _ _ h
-marked_gives true b x y u v h k = gives_varied {c = Per.root_marked_outside} {c' = Per.root_marked_outside} (gives_cond (not b) _ _ _ _ (gives_both (gives_same _) k) (gives_if b _ _ (gives_both (gives_same _) h)))
+with_extension_bit_gives : (e b : Bool) (x y u v : Per.BitForm) → Same x y → Same u v → Same (Per.with_extension_bit e b x u) (Per.with_extension_bit e b y v)
+unfolding Per.with_extension_bit
+with_extension_bit_gives false b x y u v h k = gives_if b _ _ h
+with_extension_bit_gives true b x y u v h k = gives_varied {c = Per.root_told_outside} {c' = Per.root_told_outside} (gives_cond (not b) _ _ _ _ (gives_both (gives_same _) k) (gives_if b _ _ (gives_both (gives_same _) h)))
 
 sized_gives : (al : Bool) (z : Size) (held : Counts) (pads : Counts → Bool) (us vs : List Per.BitForm) → EachGives us vs → Same (Per.sized al z held pads us) (Per.sized al z held pads vs)
 unfolding Per.sized
-sized_gives al z held pads us vs h = let l = each_length us vs h in rw l (gives_if (is_count_within held (length vs)) _ _ (marked_gives z.extensible (is_count_within z.counts (length vs)) _ _ _ _ (root_gives al z.counts z.counts.high pads us vs h) (counted_gives al us vs h)))
+sized_gives al z held pads us vs h = let l = each_length us vs h in rw l (gives_if (is_count_within held (length vs)) _ _ (with_extension_bit_gives z.extensible (is_count_within z.counts (length vs)) _ _ _ _ (root_gives al z.counts z.counts.high pads us vs h) (counted_gives al us vs h)))
 
 complete_gives : (x y : Per.BitForm) → Same x y → Same (Per.complete x) (Per.complete y)
 unfolding Per.complete
-complete_gives x y h = gives_within h (λ w. gives_same (Per.filled_up w))
+complete_gives x y h = gives_within h (λ w. gives_same (Per.padded w))
 
 open_gives : (al : Bool) (x y : Per.BitForm) → Same x y → Same (Per.open_type al x) (Per.open_type al y)
 unfolding Per.open_type
@@ -179,8 +179,8 @@ module _ (al : Bool) where
   added_is (component t o s cs) (absent ps) = ap (λ x. cond (is_required o) None (option_map (λ xs. None ∷ xs) x)) (added_is cs ps)
   added_is (component t o s cs) (present v ps) = ap (λ x. option_map (λ xs. Some (Per.spelled o s v (Per.open_type al (Per.form al s v))) ∷ xs) x) (added_is cs ps)
 
-  marked : List Bool → Per.BitForm
-  marked ms = exactly ms
+  preamble : List Bool → Per.BitForm
+  preamble ms = exactly ms
 
   bits : List (Option Per.BitForm) → Per.BitForm
   bits xs = Per.normally_few al (map Per.flag xs)
@@ -203,10 +203,10 @@ module _ (al : Bool) where
   hidden_gives x y h = gives_varied {c = Per.empty_bitmap} {c' = Per.empty_bitmap} (gives_same refused)
 
   abbrev Bitmapped : List Bool → Per.BitForm → List (Option Per.BitForm) → Option Bitmap → Per.BitForm
-  Bitmapped ms root xs b = giving.bitmapped Per.Freedom Per.Detail Bool canonically unknown marked bits bits_give hidden hidden_gives ms root xs b
+  Bitmapped ms root xs b = giving.bitmapped Per.Freedom Per.Detail Bool canonically unknown preamble bits bits_give hidden hidden_gives ms root xs b
 
   bitmapped_is : (ms : List Bool) (root : Per.BitForm) (xs : List (Option Per.BitForm)) (b : Option Bitmap) → Bitmapped ms root xs b ≡ Per.bitmapped al ms root xs b
-  unfolding Per.bitmapped Per.with_additions Per.additions unknown marked bits hidden
+  unfolding Per.bitmapped Per.with_additions Per.additions unknown preamble bits hidden
   bitmapped_is ms root xs None = refl
   bitmapped_is ms root xs (Some b) = refl
 
@@ -217,7 +217,7 @@ module _ (al : Bool) where
   tables_give false ms x y (a ∷ xs) ys h k = gives_refused _
   tables_give true ms x y xs ys h k =
       let o = slots_own xs ys k in
-      rw o (gives_varied {c = Per.other_bitmap} {c' = Per.other_bitmap} (subst (λ u. Same u (Per.bitmapped al ms y ys (own_bitmap ys))) (bitmapped_is ms x xs (own_bitmap ys)) (subst (λ u. Same (Bitmapped ms x xs (own_bitmap ys)) u) (bitmapped_is ms y ys (own_bitmap ys)) (bitmapped_gives Per.Freedom Per.Detail Bool canonically unknown marked bits bits_give hidden hidden_gives ms x y xs ys (own_bitmap ys) h k))))
+      rw o (gives_varied {c = Per.other_bitmap} {c' = Per.other_bitmap} (subst (λ u. Same u (Per.bitmapped al ms y ys (own_bitmap ys))) (bitmapped_is ms x xs (own_bitmap ys)) (subst (λ u. Same (Bitmapped ms x xs (own_bitmap ys)) u) (bitmapped_is ms y ys (own_bitmap ys)) (bitmapped_gives Per.Freedom Per.Detail Bool canonically unknown preamble bits bits_give hidden hidden_gives ms x y xs ys (own_bitmap ys) h k))))
 
   fields_give : (cs : Components) (e : Bool) (adds : Components) → EachComponent (λ o s. OneText s) cs → EachComponent (λ o s. OneText s) adds → (ps qs rs ss : Parts) → same_parts ps rs ≡ true → same_parts qs ss ≡ true → Same (given (Per.addition_forms al adds qs) (Per.sequence_form al e (presence_bits cs ps) (Per.component_forms al cs ps))) (given (Per.addition_forms al adds ss) (Per.sequence_form al e (presence_bits cs rs) (Per.component_forms al cs rs)))
   fields_give cs e adds h k ps qs rs ss f g =

@@ -26,15 +26,15 @@ bits l = rigid_exactly strict_per l
 no_bits : RigidBits refused
 no_bits = rigid_refused strict_per
 
--- ---- filling, numbers and lengths
-filling_rigid : (n : ℕ) → RigidBits (Per.filling n)
-unfolding Per.filling
-filling_rigid n = rigid_varied strict_per refl (rigid_if strict_per (length (replicate n false) == n) (bits _))
+-- ---- padding, numbers and lengths
+padding_rigid : (n : ℕ) → RigidBits (Per.padding n)
+unfolding Per.padding
+padding_rigid n = rigid_varied strict_per refl (rigid_if strict_per (length (replicate n false) == n) (bits _))
 
 at_octet_rigid : (al : Bool) (x : Per.BitForm) → RigidBits x → RigidBits (Per.at_octet al x)
 unfolding Per.at_octet
 at_octet_rigid false x h = h
-at_octet_rigid true x h = rigid_both strict_per (rigid_placed strict_per (λ p. filling_rigid (Per.missing p))) h
+at_octet_rigid true x h = rigid_both strict_per (rigid_placed strict_per (λ p. padding_rigid (Per.missing p))) h
 
 in_octets_rigid : (whole : ℕ → ℕ → Per.BitForm) (al : Bool) (span d k : ℕ) → ((s c : ℕ) → RigidBits (whole s c)) → RigidBits (Per.in_octets_of whole al span d k)
 unfolding Per.in_octets_of
@@ -92,14 +92,14 @@ whole_rigid al (Some low) None v = rigid_given strict_per (above low v) (λ d. s
 whole_rigid al None (Some high) v = rigid_if strict_per (is_at_most v high) (unconstrained_rigid al v)
 whole_rigid al None None v = unconstrained_rigid al v
 
-marked_rigid : (e inside : Bool) (x y : Per.BitForm) → RigidBits x → RigidBits y → RigidBits (Per.marked e inside x y)
-unfolding Per.marked
-marked_rigid false inside x y h k = rigid_if strict_per inside h
-marked_rigid true inside x y h k = rigid_varied strict_per refl (rigid_cond strict_per (not inside) (rigid_both strict_per (bits _) k) (rigid_if strict_per inside (rigid_both strict_per (bits _) h)))
+with_extension_bit_rigid : (e inside : Bool) (x y : Per.BitForm) → RigidBits x → RigidBits y → RigidBits (Per.with_extension_bit e inside x y)
+unfolding Per.with_extension_bit
+with_extension_bit_rigid false inside x y h k = rigid_if strict_per inside h
+with_extension_bit_rigid true inside x y h k = rigid_varied strict_per refl (rigid_cond strict_per (not inside) (rigid_both strict_per (bits _) k) (rigid_if strict_per inside (rigid_both strict_per (bits _) h)))
 
 integer_rigid : (al : Bool) (b : Bounds) (held : Range) (v : ℤ) → RigidBits (Per.integer_form al b held v)
 unfolding Per.integer_form
-integer_rigid al b held v = rigid_if strict_per (is_within held v && (not (is_bounded b) || fits_128 v)) (marked_rigid b.extensible (is_within b.range v) _ _ (whole_rigid al b.range.low b.range.high v) (unconstrained_rigid al v))
+integer_rigid al b held v = rigid_if strict_per (is_within held v && (not (is_bounded b) || fits_128 v)) (with_extension_bit_rigid b.extensible (is_within b.range v) _ _ (whole_rigid al b.range.low b.range.high v) (unconstrained_rigid al v))
 
 -- ---- units of a size, strings and items
 root_rigid : (al : Bool) (c : Counts) (high : Option ℕ) (pads : Counts → Bool) (us : List Per.BitForm) → AllBits us → RigidBits (Per.sized_root al c high pads us)
@@ -109,7 +109,7 @@ root_rigid al c (Some high) pads us h = rigid_cond strict_per (ltb high 65536) (
 
 sized_rigid : (al : Bool) (z : Size) (held : Counts) (pads : Counts → Bool) (us : List Per.BitForm) → AllBits us → RigidBits (Per.sized al z held pads us)
 unfolding Per.sized
-sized_rigid al z held pads us h = rigid_if strict_per (is_count_within held (length us)) (marked_rigid z.extensible (is_count_within z.counts (length us)) _ _ (root_rigid al z.counts z.counts.high pads us h) (counted_rigid al us h))
+sized_rigid al z held pads us h = rigid_if strict_per (is_count_within held (length us)) (with_extension_bit_rigid z.extensible (is_count_within z.counts (length us)) _ _ (root_rigid al z.counts z.counts.high pads us h) (counted_rigid al us h))
 
 character_rigid : (b : ℕ) (rs : List Run) (c : ℕ) → RigidBits (Per.character b rs c)
 unfolding Per.character
@@ -119,9 +119,9 @@ string_rigid : (al : Bool) (k : StringKind) (z : Size) (a : Alphabet) (held : Co
 unfolding Per.string_form Per.characters
 string_rigid al k z a held cs = rigid_if strict_per (may_hold k cs) (rigid_cond strict_per (is_of_octets k) (rigid_if strict_per (is_count_within held (length cs)) (counted_octets_rigid al cs)) (sized_rigid al z held _ _ (rigid_map strict_per _ (character_rigid (Per.character_bits al (permitted k a)) (permitted k a)) cs)))
 
-mark_rigid : (e m : Bool) → RigidBits (Per.extension_bit_of e m)
-mark_rigid false m = bits _
-mark_rigid true m = bits _
+extension_bit_rigid : (e m : Bool) → RigidBits (Per.extension_bit_of e m)
+extension_bit_rigid false m = bits _
+extension_bit_rigid true m = bits _
 
 added_rigid : (al e : Bool) (j : Option ℕ) → RigidBits (Per.added_item al e j)
 unfolding Per.added_item
@@ -131,18 +131,18 @@ added_rigid al false j = no_bits
 
 item_rigid : (al : Bool) (roots : ℕ) (e : Bool) (i j : Option ℕ) → RigidBits (Per.item_form al roots e i j)
 unfolding Per.item_form
-item_rigid al roots e (Some i) j = rigid_both strict_per (mark_rigid e false) (constrained_rigid al (roots - 1) i)
+item_rigid al roots e (Some i) j = rigid_both strict_per (extension_bit_rigid e false) (constrained_rigid al (roots - 1) i)
 item_rigid al roots e None j = added_rigid al e j
 
 -- ---- complete encodings, open types and components
-filled_up_rigid : (w : List Bool) → RigidBits (Per.filled_up w)
-unfolding Per.filled_up
-filled_up_rigid [] = bits _
-filled_up_rigid (b ∷ bs) = rigid_both strict_per (bits _) (filling_rigid (Per.missing (length (b ∷ bs))))
+padded_rigid : (w : List Bool) → RigidBits (Per.padded w)
+unfolding Per.padded
+padded_rigid [] = bits _
+padded_rigid (b ∷ bs) = rigid_both strict_per (bits _) (padding_rigid (Per.missing (length (b ∷ bs))))
 
 complete_rigid : (x : Per.BitForm) → RigidBits x → RigidBits (Per.complete x)
 unfolding Per.complete
-complete_rigid x h = rigid_within strict_per h (λ w. filled_up_rigid w)
+complete_rigid x h = rigid_within strict_per h (λ w. padded_rigid w)
 
 open_rigid : (al : Bool) (x : Per.BitForm) → RigidBits x → RigidBits (Per.open_type al x)
 unfolding Per.open_type
@@ -180,7 +180,7 @@ mutual
   form_rigid al (sequence cs e adds) (fields ps qs) h = let p = and_parts _ _ h in rigid_given strict_per (Per.addition_forms al adds qs) (λ xs. sequence_rigid al e (presence_bits cs ps) _ xs p.0 (components_rigid al cs ps p.1))
   form_rigid al (set cs e adds) (fields ps qs) h = let p = and_parts _ _ h in rigid_given strict_per (Per.addition_forms al adds qs) (λ xs. sequence_rigid al e (presence_bits cs ps) _ xs p.0 (components_rigid al cs ps p.1))
   form_rigid al (group cs) (fields ps end) h = rigid_both strict_per (bits _) (components_rigid al cs ps h)
-  form_rigid al (choice roots e adds) (chosen false i v) h = let p = and_parts _ _ h in rigid_both strict_per (mark_rigid e false) (rigid_both strict_per (constrained_rigid al (alternative_count roots - 1) i) (alternative_rigid al roots i v p.0))
+  form_rigid al (choice roots e adds) (chosen false i v) h = let p = and_parts _ _ h in rigid_both strict_per (extension_bit_rigid e false) (rigid_both strict_per (constrained_rigid al (alternative_count roots - 1) i) (alternative_rigid al roots i v p.0))
   form_rigid al (choice roots true adds) (chosen true i v) h = let p = and_parts _ _ h in rigid_both strict_per (bits _) (rigid_both strict_per (small_rigid al i) (open_rigid al _ (alternative_rigid al adds i v p.1)))
   form_rigid al s v h = no_bits
 

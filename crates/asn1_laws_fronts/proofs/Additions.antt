@@ -190,12 +190,12 @@ module _ (F : Type 0) (D : F → Type 0) (A : Type 0) (free : F → Bool) where
           places_alike (Some (added o s v)) (Some (added o s w)) a.0 b.0 all others _ (subst (λ l. Tells l all) (sym a.2) t) (subst (λ l. Tells l others) (sym b.2) u) m (λ i j. cc) (λ i us vs t' u' m'. agree_map free (λ q. two_parts v w ps qs q.0 q.1) (agree_both free (h.0 v w) (λ r. present_alike cs ps qs a.0 b.0 us vs h.1 a.1 b.1 t' u' m')))
 
       -- ---- behind a bitmap or without one
-      module _ (marked : List Bool → Form F D A) (marked_alike : (ms ns : List Bool) → length ms ≡ length ns → AlikeHere (marked ms) (marked ns) (ms ≡ ns)) (bits : List (Option (Form F D A)) → Form F D A) (bits_alike : (xs ys : List (Option Forms)) → AlikeHere (bits xs) (bits ys) (map (λ a. is_present a) xs ≡ map (λ a. is_present a) ys)) (hidden : Form F D A → Form F D A) (hidden_left : (x y : Forms) (P : Type 0) → AlikeHere x y P → AlikeHere (hidden x) y P) (hidden_right : (x y : Forms) (P : Type 0) → AlikeHere x y P → AlikeHere x (hidden y) P) where
+      module _ (preamble : List Bool → Form F D A) (preambles_alike : (ms ns : List Bool) → length ms ≡ length ns → AlikeHere (preamble ms) (preamble ns) (ms ≡ ns)) (bits : List (Option (Form F D A)) → Form F D A) (bits_alike : (xs ys : List (Option Forms)) → AlikeHere (bits xs) (bits ys) (map (λ a. is_present a) xs ≡ map (λ a. is_present a) ys)) (hidden : Form F D A → Form F D A) (hidden_left : (x y : Forms) (P : Type 0) → AlikeHere x y P → AlikeHere (hidden x) y P) (hidden_right : (x y : Forms) (P : Type 0) → AlikeHere x y P → AlikeHere x (hidden y) P) where
         abbrev pub with_all : List Bool → Form F D A → List (Option Forms) → Form F D A
-        with_all ms root all = both (marked (true ∷ ms)) (both root (both (bits all) (joined (present_ones all))))
+        with_all ms root all = both (preamble (true ∷ ms)) (both root (both (bits all) (joined (present_ones all))))
 
         abbrev pub bitmapped : List Bool → Form F D A → List (Option Forms) → Option Bitmap → Form F D A
-        bitmapped ms root xs None = only_if (not (is_any_present xs)) (both (marked (false ∷ ms)) root)
+        bitmapped ms root xs None = only_if (not (is_any_present xs)) (both (preamble (false ∷ ms)) root)
         bitmapped ms root xs (Some b) = given (covered_by unknown b xs) (λ all. cond (is_any_present all) (with_all ms root all) (hidden (with_all ms root all)))
 
         shown_left : (t : Bool) (x y : Forms) (P : Type 0) → AlikeHere x y P → AlikeHere (cond t x (hidden x)) y P
@@ -210,26 +210,26 @@ module _ (F : Type 0) (D : F → Type 0) (A : Type 0) (free : F → Bool) where
         first_differs ms ns e = cc
 
         module _ (ms ns : List Bool) (long : length ms ≡ length ns) (x y : Form F D A) (P : Type 0) (roots_alike : ms ≡ ns → AlikeHere x y P) where
-          without_and_with : (all : List (Option Forms)) (Q : Type 0) → AlikeHere (both (marked (false ∷ ms)) x) (with_all ns y all) Q
-          without_and_with all Q = agree_both_apart free (agree_map free (λ e. first_differs ms ns e) (marked_alike (false ∷ ms) (true ∷ ns) (ap suc long)))
+          without_and_with : (all : List (Option Forms)) (Q : Type 0) → AlikeHere (both (preamble (false ∷ ms)) x) (with_all ns y all) Q
+          without_and_with all Q = agree_both_apart free (agree_map free (λ e. first_differs ms ns e) (preambles_alike (false ∷ ms) (true ∷ ns) (ap suc long)))
 
-          with_and_without : (all : List (Option Forms)) (Q : Type 0) → AlikeHere (with_all ms x all) (both (marked (false ∷ ns)) y) Q
-          with_and_without all Q = agree_both_apart free (agree_map free (λ e. first_differs ns ms (sym e)) (marked_alike (true ∷ ms) (false ∷ ns) (ap suc long)))
+          with_and_without : (all : List (Option Forms)) (Q : Type 0) → AlikeHere (with_all ms x all) (both (preamble (false ∷ ns)) y) Q
+          with_and_without all Q = agree_both_apart free (agree_map free (λ e. first_differs ns ms (sym e)) (preambles_alike (true ∷ ms) (false ∷ ns) (ap suc long)))
 
-          without_bitmaps : AlikeHere (both (marked (false ∷ ms)) x) (both (marked (false ∷ ns)) y) P
-          without_bitmaps = agree_map free (λ q. q.1) (agree_both free (marked_alike (false ∷ ms) (false ∷ ns) (ap suc long)) (λ e. roots_alike cc))
+          without_bitmaps : AlikeHere (both (preamble (false ∷ ms)) x) (both (preamble (false ∷ ns)) y) P
+          without_bitmaps = agree_map free (λ q. q.1) (agree_both free (preambles_alike (false ∷ ms) (false ∷ ns) (ap suc long)) (λ e. roots_alike cc))
 
           with_bitmaps : (cs : Components) (ps qs : Parts) (xs ys all others : List (Option Forms)) → EachComponent AlikeAdded cs → additions_of cs ps ≡ Some xs → additions_of cs qs ≡ Some ys → Tells xs all → Tells ys others → AlikeHere (with_all ms x all) (with_all ns y others) (P × (same_parts ps qs ≡ true))
-          with_bitmaps cs ps qs xs ys all others h e f t u = agree_map free (λ q. (q.1.0, q.1.1.1)) (agree_both free (marked_alike (true ∷ ms) (true ∷ ns) (ap suc long)) (λ i. agree_both free (roots_alike cc) (λ j. agree_both free (bits_alike all others) (λ m. present_alike cs ps qs xs ys all others h e f t u m))))
+          with_bitmaps cs ps qs xs ys all others h e f t u = agree_map free (λ q. (q.1.0, q.1.1.1)) (agree_both free (preambles_alike (true ∷ ms) (true ∷ ns) (ap suc long)) (λ i. agree_both free (roots_alike cc) (λ j. agree_both free (bits_alike all others) (λ m. present_alike cs ps qs xs ys all others h e f t u m))))
 
           pub bitmapped_alike : (cs : Components) (ps qs : Parts) (xs ys : List (Option Forms)) (b c : Option Bitmap) → EachComponent AlikeAdded cs → additions_of cs ps ≡ Some xs → additions_of cs qs ≡ Some ys → AlikeHere (bitmapped ms x xs b) (bitmapped ns y ys c) (P × (same_parts ps qs ≡ true))
           bitmapped_alike cs ps qs xs ys None None h e f = agree_if free (not (is_any_present xs)) (not (is_any_present ys)) _ _ (λ i j. agree_map free (λ q. (q, none_same cs ps qs xs ys e f (no_any _ i) (no_any _ j))) without_bitmaps)
-          bitmapped_alike cs ps qs xs ys None (Some c) h e f = agree_if_left free (not (is_any_present xs)) {x = both (marked (false ∷ ms)) x} {y = bitmapped ns y ys (Some c)} (λ i. right_given (covered_by unknown c ys) (λ others. shown_right (is_any_present others) _ _ _ (without_and_with others _)))
+          bitmapped_alike cs ps qs xs ys None (Some c) h e f = agree_if_left free (not (is_any_present xs)) {x = both (preamble (false ∷ ms)) x} {y = bitmapped ns y ys (Some c)} (λ i. right_given (covered_by unknown c ys) (λ others. shown_right (is_any_present others) _ _ _ (without_and_with others _)))
             where
               right_given : {Z : Type 0} {u : Forms} {Q : Type 0} (o : Option Z) {f : Z → Form F D A} → ((z : Z) → AlikeHere u (f z) Q) → AlikeHere u (given o f) Q
               right_given None k = agree_with_refused free _ _
               right_given (Some z) k = k z
-          bitmapped_alike cs ps qs xs ys (Some b) None h e f = agree_if_right free (not (is_any_present ys)) {x = bitmapped ms x xs (Some b)} {y = both (marked (false ∷ ns)) y} (λ i. left_given (covered_by unknown b xs) (λ all. shown_left (is_any_present all) _ _ _ (with_and_without all _)))
+          bitmapped_alike cs ps qs xs ys (Some b) None h e f = agree_if_right free (not (is_any_present ys)) {x = bitmapped ms x xs (Some b)} {y = both (preamble (false ∷ ns)) y} (λ i. left_given (covered_by unknown b xs) (λ all. shown_left (is_any_present all) _ _ _ (with_and_without all _)))
             where
               left_given : {Z : Type 0} {u : Forms} {Q : Type 0} (o : Option Z) {f : Z → Form F D A} → ((z : Z) → AlikeHere (f z) u Q) → AlikeHere (given o f) u Q
               left_given None k = agree_refused free _ _

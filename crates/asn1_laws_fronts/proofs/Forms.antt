@@ -111,12 +111,12 @@ module _ (free : Per.Freedom → Bool) (al : Bool) where
   added_is (component t o s cs) (absent ps) = ap (λ x. cond (is_required o) None (option_map (λ xs. None ∷ xs) x)) (added_is cs ps)
   added_is (component t o s cs) (present v ps) = ap (λ x. option_map (λ xs. Some (Per.spelled o s v (Per.open_type al (Per.form al s v))) ∷ xs) x) (added_is cs ps)
 
-  unfoldable pub marked : List Bool → Per.BitForm
-  marked ms = exactly ms
+  unfoldable pub preamble : List Bool → Per.BitForm
+  preamble ms = exactly ms
 
-  pub marked_alike : (ms ns : List Bool) → length ms ≡ length ns → Alike free (marked ms) (marked ns) (ms ≡ ns)
-  unfolding marked
-  marked_alike ms ns l = agree_exactly free ms ns l
+  pub preambles_alike : (ms ns : List Bool) → length ms ≡ length ns → Alike free (preamble ms) (preamble ns) (ms ≡ ns)
+  unfolding preamble
+  preambles_alike ms ns l = agree_exactly free ms ns l
 
   unfoldable pub bits : List (Option Per.BitForm) → Per.BitForm
   bits xs = Per.normally_few al (map Per.flag xs)
@@ -137,10 +137,10 @@ module _ (free : Per.Freedom → Bool) (al : Bool) where
   hidden_right x y P h = agree_varied_right free {c = Per.empty_bitmap} (λ t. agree_if_right free t {x = x} {y = y} (λ e. h))
 
   abbrev pub Bitmapped : List Bool → Per.BitForm → List (Option Per.BitForm) → Option Bitmap → Per.BitForm
-  Bitmapped ms root xs b = adding.bitmapped Per.Freedom Per.Detail Bool free unknown unknown_alike added marked marked_alike bits flags_alike hidden hidden_left hidden_right ms root xs b
+  Bitmapped ms root xs b = adding.bitmapped Per.Freedom Per.Detail Bool free unknown unknown_alike added preamble preambles_alike bits flags_alike hidden hidden_left hidden_right ms root xs b
 
   pub bitmapped_is : (ms : List Bool) (root : Per.BitForm) (xs : List (Option Per.BitForm)) (b : Option Bitmap) → Bitmapped ms root xs b ≡ Per.bitmapped al ms root xs b
-  unfolding Per.bitmapped Per.with_additions Per.additions unknown marked bits hidden
+  unfolding Per.bitmapped Per.with_additions Per.additions unknown preamble bits hidden
   bitmapped_is ms root xs None = refl
   bitmapped_is ms root xs (Some b) = refl
 
@@ -150,7 +150,7 @@ module _ (free : Per.Freedom → Bool) (al : Bool) where
     tables_alike false [] [] f g = agree_map free (λ q. (q.1, adding.none_same Per.Freedom Per.Detail Bool free unknown unknown_alike added adds qs ss [] [] f g refl refl)) (agree_both free (agree_exactly free ms ns long) roots_alike)
     tables_alike false [] (b ∷ ys) f g = agree_with_refused free _ _
     tables_alike false (a ∷ xs) ys f g = agree_refused free _ _
-    tables_alike true xs ys f g = agree_varied free {c = Per.other_bitmap} {c' = Per.other_bitmap} (λ b c. subst (λ u. Alike free u (Per.bitmapped al ns y ys c) (P × (same_parts qs ss ≡ true))) (bitmapped_is ms x xs b) (subst (λ u. Alike free (Bitmapped ms x xs b) u (P × (same_parts qs ss ≡ true))) (bitmapped_is ns y ys c) (adding.bitmapped_alike Per.Freedom Per.Detail Bool free unknown unknown_alike added marked marked_alike bits flags_alike hidden hidden_left hidden_right ms ns long x y P roots_alike adds qs ss xs ys b c (component_map adds (λ o s k. added_alike o s k) each_added) f g)))
+    tables_alike true xs ys f g = agree_varied free {c = Per.other_bitmap} {c' = Per.other_bitmap} (λ b c. subst (λ u. Alike free u (Per.bitmapped al ns y ys c) (P × (same_parts qs ss ≡ true))) (bitmapped_is ms x xs b) (subst (λ u. Alike free (Bitmapped ms x xs b) u (P × (same_parts qs ss ≡ true))) (bitmapped_is ns y ys c) (adding.bitmapped_alike Per.Freedom Per.Detail Bool free unknown unknown_alike added preamble preambles_alike bits flags_alike hidden hidden_left hidden_right ms ns long x y P roots_alike adds qs ss xs ys b c (component_map adds (λ o s k. added_alike o s k) each_added) f g)))
 
   fields_alike : (cs : Components) (e : Bool) (adds : Components) → EachComponent (λ o s. OneWay s) cs → EachComponent (λ o s. OneWay s) adds → (ps qs rs ss : Parts) → Alike free (given (Per.addition_forms al adds qs) (Per.sequence_form al e (presence_bits cs ps) (Per.component_forms al cs ps))) (given (Per.addition_forms al adds ss) (Per.sequence_form al e (presence_bits cs rs) (Per.component_forms al cs rs))) (same (fields ps qs) (fields rs ss) ≡ true)
   unfolding same

@@ -101,12 +101,12 @@ module _ (free : Oer.Freedom → Bool) where
   added_is (component t o s cs) (absent ps) = ap (λ x. cond (is_required o) None (option_map (λ xs. None ∷ xs) x)) (added_is cs ps)
   added_is (component t o s cs) (present v ps) = ap (λ x. option_map (λ xs. Some (Oer.spelled o s v (Oer.open_type (Oer.form s v))) ∷ xs) x) (added_is cs ps)
 
-  unfoldable pub marked : List Bool → Oer.OctetForm
-  marked ms = Oer.preamble ms
+  unfoldable pub preamble : List Bool → Oer.OctetForm
+  preamble ms = Oer.preamble ms
 
-  pub marked_alike : (ms ns : List Bool) → length ms ≡ length ns → OctetsAlike free (marked ms) (marked ns) (ms ≡ ns)
-  unfolding marked
-  marked_alike ms ns l = preamble_alike free ms ns l
+  pub preambles_alike : (ms ns : List Bool) → length ms ≡ length ns → OctetsAlike free (preamble ms) (preamble ns) (ms ≡ ns)
+  unfolding preamble
+  preambles_alike ms ns l = preamble_alike free ms ns l
 
   unfoldable pub bits : List (Option Oer.OctetForm) → Oer.OctetForm
   bits xs = Oer.counted_bits (map (λ a. is_present a) xs)
@@ -127,10 +127,10 @@ module _ (free : Oer.Freedom → Bool) where
   hidden_right x y P h = agree_varied_right free {c = Oer.empty_bitmap} (λ t. agree_if_right free t {x = x} {y = y} (λ e. h))
 
   abbrev pub Bitmapped : List Bool → Oer.OctetForm → List (Option Oer.OctetForm) → Option Bitmap → Oer.OctetForm
-  Bitmapped ms root xs b = adding.bitmapped Oer.Freedom Oer.Detail ℕ free unknown unknown_alike added marked marked_alike bits flags_alike hidden hidden_left hidden_right ms root xs b
+  Bitmapped ms root xs b = adding.bitmapped Oer.Freedom Oer.Detail ℕ free unknown unknown_alike added preamble preambles_alike bits flags_alike hidden hidden_left hidden_right ms root xs b
 
   pub bitmapped_is : (ms : List Bool) (root : Oer.OctetForm) (xs : List (Option Oer.OctetForm)) (b : Option Bitmap) → Bitmapped ms root xs b ≡ Oer.bitmapped ms root xs b
-  unfolding Oer.bitmapped Oer.with_additions Oer.additions unknown marked bits hidden
+  unfolding Oer.bitmapped Oer.with_additions Oer.additions unknown preamble bits hidden
   bitmapped_is ms root xs None = refl
   bitmapped_is ms root xs (Some b) = refl
 
@@ -140,7 +140,7 @@ module _ (free : Oer.Freedom → Bool) where
     tables_alike false [] [] f g = agree_map free (λ q. (q.1, adding.none_same Oer.Freedom Oer.Detail ℕ free unknown unknown_alike added adds qs ss [] [] f g refl refl)) (agree_both free (preamble_alike free ms ns long) roots_alike)
     tables_alike false [] (b ∷ ys) f g = agree_with_refused free _ _
     tables_alike false (a ∷ xs) ys f g = agree_refused free _ _
-    tables_alike true xs ys f g = agree_varied free {c = Oer.other_bitmap} {c' = Oer.other_bitmap} (λ b c. subst (λ u. OctetsAlike free u (Oer.bitmapped ns y ys c) (P × (same_parts qs ss ≡ true))) (bitmapped_is ms x xs b) (subst (λ u. OctetsAlike free (Bitmapped ms x xs b) u (P × (same_parts qs ss ≡ true))) (bitmapped_is ns y ys c) (adding.bitmapped_alike Oer.Freedom Oer.Detail ℕ free unknown unknown_alike added marked marked_alike bits flags_alike hidden hidden_left hidden_right ms ns long x y P roots_alike adds qs ss xs ys b c (component_map adds (λ o s k. added_alike o s k) each_added) f g)))
+    tables_alike true xs ys f g = agree_varied free {c = Oer.other_bitmap} {c' = Oer.other_bitmap} (λ b c. subst (λ u. OctetsAlike free u (Oer.bitmapped ns y ys c) (P × (same_parts qs ss ≡ true))) (bitmapped_is ms x xs b) (subst (λ u. OctetsAlike free (Bitmapped ms x xs b) u (P × (same_parts qs ss ≡ true))) (bitmapped_is ns y ys c) (adding.bitmapped_alike Oer.Freedom Oer.Detail ℕ free unknown unknown_alike added preamble preambles_alike bits flags_alike hidden hidden_left hidden_right ms ns long x y P roots_alike adds qs ss xs ys b c (component_map adds (λ o s k. added_alike o s k) each_added) f g)))
 
   fields_alike : (cs : Components) (e : Bool) (adds : Components) → EachComponent (λ o s. Way s) cs → EachComponent (λ o s. Way s) adds → (ps qs rs ss : Parts) → OctetsAlike free (given (Oer.addition_forms adds qs) (Oer.sequence_form e (presence_bits cs ps) (Oer.component_forms cs ps))) (given (Oer.addition_forms adds ss) (Oer.sequence_form e (presence_bits cs rs) (Oer.component_forms cs rs))) (same (fields ps qs) (fields rs ss) ≡ true)
   unfolding same

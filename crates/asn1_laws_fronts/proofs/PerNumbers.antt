@@ -78,15 +78,15 @@ different' : false ≡ true → ⊥
 different' e = cc
 
 module _ (free : Per.Freedom → Bool) where
-  -- ---- filling
-  pub filling_alike : (n : ℕ) → Alike free (Per.filling n) (Per.filling n) (Unit {0})
-  unfolding Per.filling
-  filling_alike n = agree_varied free (λ a b. agree_if free (length a == n) (length b == n) (exactly a) (exactly b) (λ h k. agree_map free (λ e. tt) (agree_exactly free a b (eqb-true _ _ h ∙ sym (eqb-true _ _ k)))))
+  -- ---- padding
+  pub padding_alike : (n : ℕ) → Alike free (Per.padding n) (Per.padding n) (Unit {0})
+  unfolding Per.padding
+  padding_alike n = agree_varied free (λ a b. agree_if free (length a == n) (length b == n) (exactly a) (exactly b) (λ h k. agree_map free (λ e. tt) (agree_exactly free a b (eqb-true _ _ h ∙ sym (eqb-true _ _ k)))))
 
   pub at_octet_alike : (al : Bool) {x y : Per.BitForm} {P : Type 0} → Alike free x y P → Alike free (Per.at_octet al x) (Per.at_octet al y) P
   unfolding Per.at_octet
   at_octet_alike false h = h
-  at_octet_alike true h = agree_map free (λ q. q.1) (agree_both free (agree_placed free (λ p. filling_alike (Per.missing p))) (λ u. h))
+  at_octet_alike true h = agree_map free (λ q. q.1) (agree_both free (agree_placed free (λ p. padding_alike (Per.missing p))) (λ u. h))
 
   pub binary_alike : (w n m : ℕ) → n < 2 ^ w → m < 2 ^ w → Alike free (exactly (binary w n)) (exactly (binary w m)) (n ≡ m)
   binary_alike w n m h k = agree_map free (λ e. binary_equal w n m h k e) (agree_exactly free (binary w n) (binary w m) (length-binary w n ∙ sym (length-binary w m)))
@@ -307,24 +307,24 @@ module _ (free : Per.Freedom → Bool) where
   whole_alike al None (Some high) v w = agree_if free (is_at_most v high) (is_at_most w high) _ _ (λ h k. unconstrained_alike al v w)
   whole_alike al None None v w = unconstrained_alike al v w
 
-  -- inside the root, marked or not, and outside it
+  -- inside the root, behind an extension bit or not, and outside it
   abbrev inside : Bool → Per.BitForm → Per.BitForm
   inside b x = only_if b (both (exactly (false ∷ [])) x)
 
   abbrev outside : Per.BitForm → Per.BitForm
   outside x = both (exactly (true ∷ [])) x
 
-  mark_cases : (s t b c : Bool) (x y u v : Per.BitForm) (P : Type 0) → (b ≡ true → c ≡ true → Alike free x y P) → Alike free u v P → Alike free (cond s (outside u) (inside b x)) (cond t (outside v) (inside c y)) P
-  mark_cases true true b c x y u v P h k = agree_map free (λ q. q.1) (agree_both free (agree_exactly free _ _ refl) (λ e. k))
-  mark_cases true false b c x y u v P h k = agree_if_right free c {x = outside u} {y = both (exactly (false ∷ [])) y} (λ j. agree_both_apart free (bits_apart free))
-  mark_cases false true b c x y u v P h k = agree_if_left free b {x = both (exactly (false ∷ [])) x} {y = outside v} (λ i. agree_both_apart free (bits_apart' free))
-  mark_cases false false b c x y u v P h k = agree_if free b c _ _ (λ i j. agree_map free (λ q. q.1) (agree_both free (agree_exactly free _ _ refl) (λ e. h i j)))
+  extension_bit_cases : (s t b c : Bool) (x y u v : Per.BitForm) (P : Type 0) → (b ≡ true → c ≡ true → Alike free x y P) → Alike free u v P → Alike free (cond s (outside u) (inside b x)) (cond t (outside v) (inside c y)) P
+  extension_bit_cases true true b c x y u v P h k = agree_map free (λ q. q.1) (agree_both free (agree_exactly free _ _ refl) (λ e. k))
+  extension_bit_cases true false b c x y u v P h k = agree_if_right free c {x = outside u} {y = both (exactly (false ∷ [])) y} (λ j. agree_both_apart free (bits_apart free))
+  extension_bit_cases false true b c x y u v P h k = agree_if_left free b {x = both (exactly (false ∷ [])) x} {y = outside v} (λ i. agree_both_apart free (bits_apart' free))
+  extension_bit_cases false false b c x y u v P h k = agree_if free b c _ _ (λ i j. agree_map free (λ q. q.1) (agree_both free (agree_exactly free _ _ refl) (λ e. h i j)))
 
-  pub marked_alike : (e b c : Bool) (x y u v : Per.BitForm) (P : Type 0) → (b ≡ true → c ≡ true → Alike free x y P) → Alike free u v P → Alike free (Per.marked e b x u) (Per.marked e c y v) P
-  unfolding Per.marked
-  marked_alike false b c x y u v P h k = agree_if free b c x y h
-  marked_alike true b c x y u v P h k = agree_varied free (λ s t. mark_cases s t b c x y u v P h k)
+  pub with_extension_bit_alike : (e b c : Bool) (x y u v : Per.BitForm) (P : Type 0) → (b ≡ true → c ≡ true → Alike free x y P) → Alike free u v P → Alike free (Per.with_extension_bit e b x u) (Per.with_extension_bit e c y v) P
+  unfolding Per.with_extension_bit
+  with_extension_bit_alike false b c x y u v P h k = agree_if free b c x y h
+  with_extension_bit_alike true b c x y u v P h k = agree_varied free (λ s t. extension_bit_cases s t b c x y u v P h k)
 
   pub integer_alike : (al : Bool) (b : Bounds) (held : Range) (v w : ℤ) → Alike free (Per.integer_form al b held v) (Per.integer_form al b held w) (v ≡ w)
   unfolding Per.integer_form
-  integer_alike al b held v w = agree_if free (is_within held v && (not (is_bounded b) || fits_128 v)) (is_within held w && (not (is_bounded b) || fits_128 w)) _ _ (λ h k. marked_alike b.extensible (is_within b.range v) (is_within b.range w) _ _ _ _ (v ≡ w) (λ i j. whole_alike al b.range.low b.range.high v w) (unconstrained_alike al v w))
+  integer_alike al b held v w = agree_if free (is_within held v && (not (is_bounded b) || fits_128 v)) (is_within held w && (not (is_bounded b) || fits_128 w)) _ _ (λ h k. with_extension_bit_alike b.extensible (is_within b.range v) (is_within b.range w) _ _ _ _ (v ≡ w) (λ i j. whole_alike al b.range.low b.range.high v w) (unconstrained_alike al v w))

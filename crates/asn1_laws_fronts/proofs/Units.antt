@@ -15,7 +15,7 @@ use Rattle.asn1_model.proofs.Forms.{map_parts}
 use Rattle.asn1_laws_values.proofs.Octets.{packed_back, packed_octets, eights_units}
 use Rattle.asn1_laws_values.proofs.Leaves.{numbers_equal}
 use Rattle.asn1_laws_fronts.proofs.Fronts.{Pairwise, agree_exactly, agree_refused, agree_with_refused, agree_map, agree_both, agree_both_apart, agree_varied, agree_if, agree_if_left, agree_if_right, agree_first, agree_nothing}
-use Rattle.asn1_laws_fronts.proofs.PerNumbers.{Alike, at_octet_alike, binary_alike, bits_apart, bits_apart', length_of_map, joined_alike, counted_alike, octet_units_alike, octets_again, semi_alike, constrained_alike, marked_alike}
+use Rattle.asn1_laws_fronts.proofs.PerNumbers.{Alike, at_octet_alike, binary_alike, bits_apart, bits_apart', length_of_map, joined_alike, counted_alike, octet_units_alike, octets_again, semi_alike, constrained_alike, with_extension_bit_alike}
 use Rattle.asn1_laws_fronts.proofs.Complete.{complete_alike}
 
 -- ---- units of a size
@@ -42,7 +42,7 @@ module _ (free : Per.Freedom → Bool) (X : Type 0) (R : X → X → Type 0) (f 
 
   pub sized_alike : (al : Bool) (z : Size) (held : Counts) (pads pads' : Counts → Bool) (xs ys : List X) → (length xs ≡ length ys → pads z.counts ≡ pads' z.counts) → Alike free (Per.sized al z held pads (map f xs)) (Per.sized al z held pads' (map f ys)) (Pairwise R xs ys)
   unfolding Per.sized
-  sized_alike al z held pads pads' xs ys w = agree_if free (is_count_within held (length (map f xs))) (is_count_within held (length (map f ys))) _ _ (λ i j. marked_alike free z.extensible (is_count_within z.counts (length (map f xs))) (is_count_within z.counts (length (map f ys))) _ _ _ _ (Pairwise R xs ys) (λ h k. root_alike al z.counts z.counts.high pads pads' xs ys w (at_least_low z.counts xs h) (at_least_low z.counts ys k)) (counted_alike free X R f one al xs ys))
+  sized_alike al z held pads pads' xs ys w = agree_if free (is_count_within held (length (map f xs))) (is_count_within held (length (map f ys))) _ _ (λ i j. with_extension_bit_alike free z.extensible (is_count_within z.counts (length (map f xs))) (is_count_within z.counts (length (map f ys))) _ _ _ _ (Pairwise R xs ys) (λ h k. root_alike al z.counts z.counts.high pads pads' xs ys w (at_least_low z.counts xs h) (at_least_low z.counts ys k)) (counted_alike free X R f one al xs ys))
 
 -- ---- small numbers, items and bitmaps
 bits_then : (free : Per.Freedom → Bool) (x : Per.BitForm) (m : List Bool) (P : Type 0) → Alike free (both (exactly (true ∷ [])) x) (exactly (false ∷ m)) P
@@ -170,20 +170,20 @@ module _ (free : Per.Freedom → Bool) where
 
 -- ---- open types
 module _ (free : Per.Freedom → Bool) where
-  filling_long : (n p : ℕ) (a : List Bool) → Reads free (Per.filling n) p a → length a ≡ n
-  unfolding Per.filling Reads
-  filling_long n p a r = go (length r.0 == n) refl r.2
+  padding_long : (n p : ℕ) (a : List Bool) → Reads free (Per.padding n) p a → length a ≡ n
+  unfolding Per.padding Reads
+  padding_long n p a r = go (length r.0 == n) refl r.2
     where
       go : (t : Bool) → (length r.0 == n) ≡ t → Reads free (only_if {F = Per.Freedom} {D = Per.Detail} t (exactly r.0)) p a → length a ≡ n
       go true e h = ap length (sym h) ∙ eqb-true _ _ e
       go false e h = absurd h
 
-  filled_whole : (w a : List Bool) (p : ℕ) → Reads free (Per.filled_up w) p a → (k : ℕ) × (length a ≡ 8 * k)
-  unfolding Per.filled_up Reads
-  filled_whole [] a p r = (1, ap length (sym r))
-  filled_whole (b ∷ w) a p r =
+  padded_whole : (w a : List Bool) (p : ℕ) → Reads free (Per.padded w) p a → (k : ℕ) × (length a ≡ 8 * k)
+  unfolding Per.padded Reads
+  padded_whole [] a p r = (1, ap length (sym r))
+  padded_whole (b ∷ w) a p r =
       let n = length (b ∷ w) in
-      let f : length r.1 ≡ missing (length (b ∷ w)) = filling_long (missing (length (b ∷ w))) (p + length r.0) r.1 r.3 in
+      let f : length r.1 ≡ missing (length (b ∷ w)) = padding_long (missing (length (b ∷ w))) (p + length r.0) r.1 r.3 in
       let h : length r.0 ≡ length (b ∷ w) = ap length (sym r.2) in
       let l : length a ≡ length r.0 + length r.1 = ap length (sym r.4) ∙ length-append r.0 r.1 in
       ((length (b ∷ w) + 7) / 8, whole (length a) (length (b ∷ w)) (l ∙ ap (λ x. x + length r.1) h ∙ ap (λ x. length (b ∷ w) + x) f))
@@ -193,7 +193,7 @@ module _ (free : Per.Freedom → Bool) where
 
   pub complete_whole : (x : Per.BitForm) (a : List Bool) (p : ℕ) → Reads free (Per.complete x) p a → (k : ℕ) × (length a ≡ 8 * k)
   unfolding Per.complete Reads
-  complete_whole x a p r = filled_whole r.0 a p r.2
+  complete_whole x a p r = padded_whole r.0 a p r.2
 
   eights_alike : (al : Bool) (v w : List Bool) (k j : ℕ) → length v ≡ 8 * k → length w ≡ 8 * j → Alike free (Per.counted_eights al v) (Per.counted_eights al w) (v ≡ w)
   eights_alike al v w k j h i =

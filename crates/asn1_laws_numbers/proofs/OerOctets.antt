@@ -54,10 +54,10 @@ top_octets (o ∷ p ∷ os) h = let q = and_parts (ltb o 128) (each_is (λ d. lt
 groups_octets : (n : ℕ) → AreOctets (groups_of_seven n)
 groups_octets n = top_octets (digits 128 (max 1 (places 128 n)) n) (sevens_small (max 1 (places 128 n)) n)
 
-filled_octets : (bs fill : List Bool) → length fill ≡ missing (length bs) → AreOctets (packed (bs ++ fill))
-filled_octets bs fill h =
-    let a = length-append bs fill in
-    packed_octets ((length bs + 7) / 8) (bs ++ fill) (omega arith)
+octets_with_unused : (bs unused : List Bool) → length unused ≡ missing (length bs) → AreOctets (packed (bs ++ unused))
+octets_with_unused bs unused h =
+    let a = length-append bs unused in
+    packed_octets ((length bs + 7) / 8) (bs ++ unused) (omega arith)
 
 -- ---- forms of which octets alone are read
 record Octal (free : Oer.Freedom → Bool) (x : OerForm) : Type 0 where
@@ -167,7 +167,7 @@ module _ (free : Oer.Freedom → Bool) where
   -- ---- bits and strings
   o_bits : (bs : List Bool) → Octal free (Oer.bits_form bs)
   unfolding Oer.bits_form
-  o_bits bs = o_varied (λ fill. o_if (length fill == missing (length bs)) (λ h. o_exactly (packed (bs ++ fill)) (filled_octets bs fill (eqb-true _ _ h))))
+  o_bits bs = o_varied (λ unused. o_if (length unused == missing (length bs)) (λ h. o_exactly (packed (bs ++ unused)) (octets_with_unused bs unused (eqb-true _ _ h))))
 
   o_counted_bits : (bs : List Bool) → Octal free (Oer.counted_bits bs)
   unfolding Oer.counted_bits
@@ -202,7 +202,7 @@ module _ (free : Oer.Freedom → Bool) where
 
   -- ---- sequences
   o_preamble : (bs : List Bool) → Octal free (Oer.preamble bs)
-  o_preamble bs = o_exactly _ (filled_octets bs (replicate (missing (length bs)) false) (length-replicate (missing (length bs)) false))
+  o_preamble bs = o_exactly _ (octets_with_unused bs (replicate (missing (length bs)) false) (length-replicate (missing (length bs)) false))
 
   abbrev OctalOnes : List (Option OerForm) → Type 0
   OctalOnes [] = Unit {0}

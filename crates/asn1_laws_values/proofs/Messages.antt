@@ -20,27 +20,27 @@ IsWhole w = (k : ℕ) × (length w ≡ 8 * k)
 pub some_parts : {X : Type 0} {x y : X} → Some x ≡ Some y → x ≡ y
 some_parts e = cc
 
-filling_written : (n p : ℕ) → written (Per.filling n) p ≡ Some (replicate n false)
-unfolding Per.filling written
-filling_written n p = let h : (length (replicate n false) == n) ≡ true = eq-eqb _ _ (length-replicate n false) in ap (λ (t : Bool). written (only_if {F = Per.Freedom} {D = Per.Detail} t (exactly (replicate n false))) p) h
+padding_written : (n p : ℕ) → written (Per.padding n) p ≡ Some (replicate n false)
+unfolding Per.padding written
+padding_written n p = let h : (length (replicate n false) == n) ≡ true = eq-eqb _ _ (length-replicate n false) in ap (λ (t : Bool). written (only_if {F = Per.Freedom} {D = Per.Detail} t (exactly (replicate n false))) p) h
 
-pub filled_whole : (a b : List Bool) → written (Per.filled_up a) 0 ≡ Some b → IsWhole b
-unfolding Per.filled_up written
-filled_whole [] b e = let h : replicate 8 false ≡ b = cc in (1, sym (ap length h))
-filled_whole (x ∷ a) b e =
+pub padded_whole : (a b : List Bool) → written (Per.padded a) 0 ≡ Some b → IsWhole b
+unfolding Per.padded written
+padded_whole [] b e = let h : replicate 8 false ≡ b = cc in (1, sym (ap length h))
+padded_whole (x ∷ a) b e =
     let n = length (x ∷ a) in
-    let f = filling_written ((8 - n % 8) % 8) (0 + n) in
+    let f = padding_written ((8 - n % 8) % 8) (0 + n) in
     let h : (x ∷ a) ++ replicate ((8 - n % 8) % 8) false ≡ b = some_parts (sym (ap (λ o. option_map (λ d. (x ∷ a) ++ d) o) f) ∙ e) in
     let l : length b ≡ n + (8 - n % 8) % 8 = sym (ap length h) ∙ length-append (x ∷ a) _ ∙ ap (λ k. n + k) (length-replicate _ _) in
     ((n + 7) / 8, l ∙ omega arith)
 
 pub complete_whole : (x : Per.BitForm) (b : List Bool) → written (Per.complete x) 0 ≡ Some b → IsWhole b
 unfolding Per.complete written
-complete_whole x b e = let q = chain_parts (written x 0) (λ w. written (Per.filled_up w) 0) b e in filled_whole q.0 b q.2
+complete_whole x b e = let q = chain_parts (written x 0) (λ w. written (Per.padded w) 0) b e in padded_whole q.0 b q.2
 
 message_whole : (al : Bool) (s : Schema) (v : Value) (b : List Bool) → written (Per.message al s v) 0 ≡ Some b → IsWhole b
 unfolding Per.message Per.complete written
-message_whole al s v b e = let q = chain_parts (written (Per.form al s v) 0) (λ w. written (Per.filled_up w) 0) b e in filled_whole q.0 b q.2
+message_whole al s v b e = let q = chain_parts (written (Per.form al s v) 0) (λ w. written (Per.padded w) 0) b e in padded_whole q.0 b q.2
 
 moderate : (w u : List ℕ) → of_moderate_length w ≡ Some u → (w ≡ u) × (length u < 2 ^ 60)
 moderate w u e = go (ltb (length w) (2 ^ 60)) refl e

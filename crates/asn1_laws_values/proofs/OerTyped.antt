@@ -57,15 +57,15 @@ module _ (free : Oer.Freedom → Bool) where
   absent_read false x r = (refl, r)
 
   -- ---- the leaves
-  by_mark : (e b : Bool) (x y : OerForm) → Read (cond e x (only_if b y)) → (e || b) ≡ true
-  by_mark true b x y r = refl
-  by_mark false b x y r = (read_if free b r).0
+  by_extension_marker : (e b : Bool) (x y : OerForm) → Read (cond e x (only_if b y)) → (e || b) ≡ true
+  by_extension_marker true b x y r = refl
+  by_extension_marker false b x y r = (read_if free b r).0
 
   integer_of : (b : Bounds) (held : Range) (v : ℤ) → Read (Oer.integer_form b held v) → (is_within held v && (b.extensible || is_within b.range v)) ≡ true
   unfolding Oer.integer_form
   integer_of b held v r =
       let q = read_if free (is_within held v && (not (is_bounded b) || fits_128 v)) r in
-      two_true _ _ ((and_parts (is_within held v) (not (is_bounded b) || fits_128 v) q.0).0) (by_mark b.extensible (is_within b.range v) _ _ q.1)
+      two_true _ _ ((and_parts (is_within held v) (not (is_bounded b) || fits_128 v) q.0).0) (by_extension_marker b.extensible (is_within b.range v) _ _ q.1)
 
   octets_of : (b : Bool) (os : List ℕ) → Read (Oer.octets_form b os) → each_is is_octet os ≡ true
   unfolding Oer.octets_form Oer.counted

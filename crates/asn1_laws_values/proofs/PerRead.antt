@@ -44,16 +44,16 @@ module _ (free : Per.Freedom → Bool) where
   sized_root_read al c None pads xs r = counted_read al xs r
   sized_root_read al c (Some high) pads xs r = cond_read (ltb high 65536) _ _ (ReadEach xs) (λ r. read_joined free xs (at_octet_read (al && pads c) (joined xs) ((read_both free r).1))) (counted_read al xs) r
 
-  pub marked_read : (e b : Bool) (x y : PerForm) (P : Type 0) → (Read x → P) → (Read y → P) → Read (Per.marked e b x y) → P
-  unfolding Per.marked
-  marked_read false b x y P h k r = h ((read_if free b r).1)
-  marked_read true b x y P h k r =
+  pub with_extension_bit_read : (e b : Bool) (x y : PerForm) (P : Type 0) → (Read x → P) → (Read y → P) → Read (Per.with_extension_bit e b x y) → P
+  unfolding Per.with_extension_bit
+  with_extension_bit_read false b x y P h k r = h ((read_if free b r).1)
+  with_extension_bit_read true b x y P h k r =
       let q = read_varied free r in
       cond_read q.0 (both (exactly (true ∷ [])) y) (only_if b (both (exactly (false ∷ [])) x)) P (λ r. k ((read_both free r).1)) (λ r. h ((read_both free ((read_if free b r).1)).1)) q.2
 
   pub sized_read : (al : Bool) (z : Size) (held : Counts) (pads : Counts → Bool) (xs : List PerForm) → Read (Per.sized al z held pads xs) → ReadEach xs
   unfolding Per.sized
-  sized_read al z held pads xs r = marked_read z.extensible _ _ _ (ReadEach xs) (sized_root_read al z.counts z.counts.high pads xs) (counted_read al xs) ((read_if free _ r).1)
+  sized_read al z held pads xs r = with_extension_bit_read z.extensible _ _ _ (ReadEach xs) (sized_root_read al z.counts z.counts.high pads xs) (counted_read al xs) ((read_if free _ r).1)
 
   pub open_read : (al : Bool) (x : PerForm) → Read (Per.open_type al x) → Read x
   unfolding Per.open_type Per.complete

@@ -33,16 +33,16 @@ module _ (free : Per.Freedom → Bool) where
   values_of f test (member v vs) h r = two_true _ _ (h v r.0) (values_of f test vs h r.1)
 
   -- what is marked is in the root, or there is an extension marker
-  marked_in : (e b : Bool) (x y : PerForm) → Read (Per.marked e b x y) → (e || b) ≡ true
-  unfolding Per.marked
-  marked_in false b x y r = (read_if free b r).0
-  marked_in true b x y r = refl
+  with_extension_bit_in : (e b : Bool) (x y : PerForm) → Read (Per.with_extension_bit e b x y) → (e || b) ≡ true
+  unfolding Per.with_extension_bit
+  with_extension_bit_in false b x y r = (read_if free b r).0
+  with_extension_bit_in true b x y r = refl
 
   sized_admits : (al : Bool) (z : Size) (held : Counts) (pads : Counts → Bool) (xs : List PerForm) → Read (Per.sized al z held pads xs) → admits z held (length xs) ≡ true
   unfolding Per.sized
   sized_admits al z held pads xs r =
       let q = read_if free (is_count_within held (length xs)) r in
-      two_true _ _ q.0 (marked_in z.extensible (is_count_within z.counts (length xs)) _ _ q.1)
+      two_true _ _ q.0 (with_extension_bit_in z.extensible (is_count_within z.counts (length xs)) _ _ q.1)
 
   sized_held : (al : Bool) (z : Size) (held : Counts) (pads : Counts → Bool) (xs : List PerForm) → Read (Per.sized al z held pads xs) → is_count_within held (length xs) ≡ true
   unfolding Per.sized
@@ -74,7 +74,7 @@ module _ (free : Per.Freedom → Bool) where
   unfolding Per.integer_form
   integer_of al b held v r =
       let q = read_if free (is_within held v && (not (is_bounded b) || fits_128 v)) r in
-      two_true _ _ ((and_parts (is_within held v) (not (is_bounded b) || fits_128 v) q.0).0) (marked_in b.extensible (is_within b.range v) _ _ q.1)
+      two_true _ _ ((and_parts (is_within held v) (not (is_bounded b) || fits_128 v) q.0).0) (with_extension_bit_in b.extensible (is_within b.range v) _ _ q.1)
 
   added_of : (al : Bool) (e : Bool) (j : Option ℕ) → Read (Per.added_item al e j) → (e && is_present j) ≡ true
   unfolding Per.added_item

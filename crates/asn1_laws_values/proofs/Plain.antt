@@ -1,19 +1,18 @@
 -- Which values of plain types have an encoding.
 use Rattle.std.specs.Prelude.{ℤ, pos, negsuc, ◌-ℤ◌, max}
-use Rattle.std.proofs.Common.{◌≡◌, ℕ, zero, suc, ◌+◌, ◌-◌, ◌*◌, ◌/◌, ◌%◌, ◌^◌, ◌<◌, ◌≤◌, ◌==◌, ltb, leb, not, lit<, Bool, true, false, cond, ◌&&◌, ◌||◌, List, [], ◌∷◌, length, replicate, Option, Some, None, option_map, option_and_then, refl, ap, sym, ◌∙◌, inl, inr, ◌⊎◌, arith}
+use Rattle.std.proofs.Common.{◌≡◌, ℕ, zero, suc, ◌+◌, ◌-◌, ◌*◌, ◌/◌, ◌%◌, ◌^◌, ◌<◌, ◌≤◌, ◌==◌, ltb, leb, not, lit<, Bool, true, false, cond, ◌&&◌, ◌||◌, List, [], ◌∷◌, length, replicate, Option, Some, None, option_map, refl, ap, arith}
 use Rattle.std.proofs.lemmas.List.{length-replicate}
 use Rattle.std.proofs.lemmas.Bool.{ltb-false, lt-ltb, le-leb, leb-true, eq-eqb, and_parts}
 use Rattle.std.proofs.lemmas.Int.{ints}
-use Rattle.asn1_model.specs.Value.{Value, truth, number, fields, Parts, end, absent, present}
+use Rattle.asn1_model.specs.Value.{Value, truth, number, fields, Parts, end, present}
 use Rattle.asn1_model.specs.Schema.{required, Schema, boolean, integer, group, sequence, Components, no_component, component}
-use Rattle.asn1_model.specs.Normal.{normal, normal_parts, is_empty_group}
+use Rattle.asn1_model.specs.Normal.{normal, is_empty_group}
 use Rattle.asn1_model.specs.Numbers.{digits, binary, width, octet_width, least_octets, signed_octets, complement, above, natural, is_at_most, is_from, is_to, is_within, fits_128, packed}
 use Rattle.asn1_model.specs.Form.{exactly, varied, only_if, is_present}
-use Rattle.asn1_model.specs.Rules.{Rules, uper, aper, uper_strict, aper_strict, oer, coer, encoding, per, octet_encoding, canonical, of_moderate_length}
+use Rattle.asn1_model.specs.Rules.{Rules, uper, aper, uper_strict, aper_strict, oer, coer, encoding, per, octet_encoding}
 use Rattle.asn1_model.specs.Strings.{each_is, is_octet}
 use Rattle.asn1_model.specs.Per
 use Rattle.asn1_model.specs.Oer
-use Rattle.asn1_model.proofs.Forms.{chain_parts}
 use Rattle.asn1_laws_values.specs.Plain.{is_plain, are_plain, fits, each_fits}
 use Rattle.asn1_laws_values.proofs.Places.{places_fewest}
 use Rattle.asn1_laws_values.proofs.Numbers.{length-digits, length-complement, not_below, octets_hold, signed_hold}
@@ -49,14 +48,14 @@ span_there low high v h i =
 abbrev Bits : Per.BitForm → Bool → Type 0
 Bits x b = Written {F = Per.Freedom} {D = Per.Detail} {A = Bool} x b
 
-filling_written : (n : ℕ) → Bits (Per.filling n) true
-unfolding Per.filling
-filling_written n = written_varied (written_when (length (replicate n false) == n) _ true (eq-eqb _ _ (length-replicate n false)) (written_exactly _))
+padding_written : (n : ℕ) → Bits (Per.padding n) true
+unfolding Per.padding
+padding_written n = written_varied (written_when (length (replicate n false) == n) _ true (eq-eqb _ _ (length-replicate n false)) (written_exactly _))
 
 at_octet_written : (al : Bool) (x : Per.BitForm) (b : Bool) → Bits x b → Bits (Per.at_octet al x) b
 unfolding Per.at_octet
 at_octet_written false x b h = h
-at_octet_written true x b h = written_both (written_placed (λ p. filling_written (Per.missing p))) h
+at_octet_written true x b h = written_both (written_placed (λ p. padding_written (Per.missing p))) h
 
 least_within : (span d : ℕ) → d ≤ span → 255 < span → (leb (least_octets d) (least_octets d) && leb (least_octets d) (octet_width span)) ≡ true
 least_within span d h k =
@@ -120,14 +119,14 @@ three true true false = refl
 three true false w = refl
 three false f w = refl
 
-packed_number : (al : Bool) (low high : Option ℤ) (e t : Bool) (v : ℤ) → (is_present low && is_present high && not e) ≡ true → Bits (only_if (t && (not (is_present low || is_present high || e) || fits_128 v)) (Per.marked e (is_from low v && is_to high v) (Per.whole_number al low high v) (Per.unconstrained al v))) (t && fits_128 v && (is_from low v && is_to high v))
-unfolding Per.marked
+packed_number : (al : Bool) (low high : Option ℤ) (e t : Bool) (v : ℤ) → (is_present low && is_present high && not e) ≡ true → Bits (only_if (t && (not (is_present low || is_present high || e) || fits_128 v)) (Per.with_extension_bit e (is_from low v && is_to high v) (Per.whole_number al low high v) (Per.unconstrained al v))) (t && fits_128 v && (is_from low v && is_to high v))
+unfolding Per.with_extension_bit
 packed_number al (Some low) (Some high) false t v h = written_as (three t (fits_128 v) (is_at_most low v && is_at_most v high)) (written_if (t && fits_128 v) _ ((is_at_most low v && is_at_most v high) && true) (λ e. written_if (is_at_most low v && is_at_most v high) _ true (λ k. let k' = and_parts _ _ k in whole_written al low high v k'.0 k'.1)))
 packed_number al (Some low) (Some high) true t v h = cc
 packed_number al (Some low) None e t v h = cc
 packed_number al None high e t v h = cc
 
--- ---- components and normal forms
+-- ---- components
 plain_no_group : (s : Schema) (v : Value) → is_plain s ≡ true → is_empty_group s v ≡ false
 unfolding is_plain
 plain_no_group (group cs) v h = cc
@@ -136,28 +135,6 @@ plain_no_group s v h = refl
 packed_spelled : (s : Schema) (v : Value) (x : Per.BitForm) (b : Bool) → is_plain s ≡ true → Bits x b → Bits (Per.spelled required s v x) b
 unfolding Per.spelled
 packed_spelled s v x b h k = let e = plain_no_group s (normal s v) h in rw e k
-
-mutual
-  unfolding normal normal_parts is_plain are_plain
-
-  pub plain_normal : (s : Schema) (v : Value) → is_plain s ≡ true → normal s v ≡ v
-  plain_normal boolean v h = refl
-  plain_normal (integer b held) v h = refl
-  plain_normal (sequence cs false no_component) (fields ps qs) h = ap (λ x. fields x qs) (plain_normal_parts cs ps h)
-  plain_normal (sequence cs false no_component) v h = refl
-  plain_normal s v h = cc
-
-  plain_normal_parts : (cs : Components) (ps : Parts) → are_plain cs ≡ true → normal_parts cs ps ≡ ps
-  plain_normal_parts no_component ps h = refl
-  plain_normal_parts (component t required s cs) (present v ps) h =
-      let h' = and_parts _ _ h in
-      let e = plain_no_group s (normal s v) h'.0 in
-      let i = plain_normal s v h'.0 in
-      let j = plain_normal_parts cs ps h'.1 in
-      rw (e, i, j) refl
-  plain_normal_parts (component t required s cs) (absent ps) h = ap absent (plain_normal_parts cs ps ((and_parts _ _ h).1))
-  plain_normal_parts (component t required s cs) end h = refl
-  plain_normal_parts cs ps h = cc
 
 module _ (al : Bool) where
   mutual
@@ -180,14 +157,14 @@ module _ (al : Bool) where
     packed_parts cs ps h = cc
 
 -- complete encodings
-filled_written : (w : List Bool) → Bits (Per.filled_up w) true
-unfolding Per.filled_up
-filled_written [] = written_exactly _
-filled_written (b ∷ w) = written_both (written_exactly _) (filling_written _)
+padded_written : (w : List Bool) → Bits (Per.padded w) true
+unfolding Per.padded
+padded_written [] = written_exactly _
+padded_written (b ∷ w) = written_both (written_exactly _) (padding_written _)
 
 message_written : (al : Bool) (s : Schema) (v : Value) → is_plain s ≡ true → Bits (Per.message al s v) (fits s v)
 unfolding Per.message Per.complete
-message_written al s v h = written_within (packed_written al s v h) filled_written
+message_written al s v h = written_within (packed_written al s v h) padded_written
 
 -- ---- the octet rules
 abbrev Octets : Oer.OctetForm → Bool → Type 0
@@ -288,24 +265,3 @@ plain_encoded aper s v h = mapped_there packed _ _ ((message_written true s v h)
 plain_encoded aper_strict s v h = mapped_there packed _ _ ((message_written true s v h).there 0)
 plain_encoded oer s v h = (octets_written s v h).there 0
 plain_encoded coer s v h = (octets_written s v h).there 0
-
-there_is : {X : Type 0} (o : Option X) → is_present o ≡ true → (x : X) × (o ≡ Some x)
-there_is None e = cc
-there_is (Some x) e = (x, refl)
-
-moderate_or_long : (o : Option (List ℕ)) (w : List ℕ) → o ≡ Some w → (option_and_then of_moderate_length o ≡ Some w) ⊎ (2 ^ 60 ≤ length w)
-moderate_or_long o w e = go (ltb (length w) (2 ^ 60)) refl
-  where
-    go : (t : Bool) → ltb (length w) (2 ^ 60) ≡ t → (option_and_then of_moderate_length o ≡ Some w) ⊎ (2 ^ 60 ≤ length w)
-    go true f = inl (rw (e, f) refl)
-    go false f = inr (ltb-false _ _ f)
-
-pub same_plain_values : (q r : Rules) (s : Schema) (v : Value) (a : List ℕ) → is_plain s ≡ true → canonical q s v ≡ Some a → (b : List ℕ) × (encoding r s v ≡ Some b) × ((canonical r s v ≡ Some b) ⊎ (2 ^ 60 ≤ length b))
-unfolding canonical
-same_plain_values q r s v a h e =
-    let n = plain_normal s v h in
-    let p = chain_parts (encoding q s (normal s v)) of_moderate_length a e in
-    let t : is_present (encoding q s v) ≡ true = ap (λ x. is_present (encoding q s x)) (sym n) ∙ ap is_present p.1 in
-    let u : is_present (encoding r s v) ≡ true = plain_encoded r s v h ∙ sym (plain_encoded q s v h) ∙ t in
-    let w = there_is (encoding r s v) u in
-    (w.0, w.1, moderate_or_long (encoding r s (normal s v)) w.0 (ap (λ x. encoding r s x) n ∙ w.1))

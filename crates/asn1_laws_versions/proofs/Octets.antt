@@ -170,7 +170,7 @@ module _ (free : Oer.Freedom → Bool) where
         tables_way false [] [] f g = agree_map free (λ q. (q.1, parts.weaken Oer.Freedom Oer.Detail ℕ free m (filing.unknown free) (filing.unknown_alike free) (filing.added free) (unknown_added) e adds adds' qs ss (parts.none_meet Oer.Freedom Oer.Detail ℕ free m (filing.unknown free) (filing.unknown_alike free) (filing.added free) (unknown_added) e adds adds' qs ss [] [] h f g refl refl))) (taken_both free m (Oer.preamble ms) (Oer.preamble ns) x y _ _ (taken_same free m _ _ _ (preamble_alike free ms ns long)) roots_meet)
         tables_way false [] (b ∷ ys) f g = agree_with_refused free _ _
         tables_way false (a ∷ xs) ys f g = taken_refused free m _ _
-        tables_way true xs ys f g = taken_varied free m Oer.other_bitmap (own_bitmap xs) (λ b. Oer.bitmapped ms x xs b) _ _ (λ b q. agree_varied_right free {c = Oer.other_bitmap} (λ c. subst (λ u. Met m u (Oer.bitmapped ns y ys c) (P × PartsCarried m adds adds' qs ss)) (filing.bitmapped_is free ms x xs b) (subst (λ u. Met m (filing.Bitmapped free ms x xs b) u (P × PartsCarried m adds adds' qs ss)) (filing.bitmapped_is free ns y ys c) (parts.bitmapped_meet Oer.Freedom Oer.Detail ℕ free m (filing.unknown free) (filing.unknown_alike free) (filing.added free) (unknown_added) (filing.marked free) (filing.marked_alike free) (filing.bits free) (filing.flags_alike free) (filing.hidden free) (filing.hidden_left free) (filing.hidden_right free) hidden_taken ms ns long x y P roots_meet e adds adds' qs ss xs ys h (pair_map adds adds' (λ o s o' s' w. added_way o s o' s' w) k) f g b c q))))
+        tables_way true xs ys f g = taken_varied free m Oer.other_bitmap (own_bitmap xs) (λ b. Oer.bitmapped ms x xs b) _ _ (λ b q. agree_varied_right free {c = Oer.other_bitmap} (λ c. subst (λ u. Met m u (Oer.bitmapped ns y ys c) (P × PartsCarried m adds adds' qs ss)) (filing.bitmapped_is free ms x xs b) (subst (λ u. Met m (filing.Bitmapped free ms x xs b) u (P × PartsCarried m adds adds' qs ss)) (filing.bitmapped_is free ns y ys c) (parts.bitmapped_meet Oer.Freedom Oer.Detail ℕ free m (filing.unknown free) (filing.unknown_alike free) (filing.added free) (unknown_added) (filing.preamble free) (filing.preambles_alike free) (filing.bits free) (filing.flags_alike free) (filing.hidden free) (filing.hidden_left free) (filing.hidden_right free) hidden_taken ms ns long x y P roots_meet e adds adds' qs ss xs ys h (pair_map adds adds' (λ o s o' s' w. added_way o s o' s' w) k) f g b c q))))
 
       fields_way : (cs cs' : Components) (e : Bool) (adds adds' : Components) → ExtendsEach false cs cs' → ExtendsEach e adds adds' → Ways cs cs' → Ways adds adds' → (ps qs rs ss : Parts) → Met m (given (Oer.addition_forms adds qs) (Oer.sequence_form e (presence_bits cs ps) (Oer.component_forms cs ps))) (given (Oer.addition_forms adds' ss) (Oer.sequence_form e (presence_bits cs' rs) (Oer.component_forms cs' rs))) (PartsCarried m cs cs' ps rs × PartsCarried m adds adds' qs ss)
       fields_way cs cs' e adds adds' h i k l ps qs rs ss = taken_given free m (Oer.addition_forms adds qs) _ _ _ (λ xs f. right_given free (Oer.addition_forms adds' ss) _ _ _ (λ ys g. tables_way (presence_bits cs ps) (presence_bits cs' rs) (presence_bits_meet cs cs' ps rs h) _ _ _ (λ n. components_way cs cs' ps rs h k n) adds adds' qs ss e i l e xs ys (filing.added_is free adds qs ∙ f) (filing.added_is free adds' ss ∙ g)))
@@ -195,12 +195,12 @@ module _ (free : Oer.Freedom → Bool) where
 
       -- ---- items
       place_there : (n k : ℤ) (roots adds : List ℤ) (e : Bool) → n ≡ k → (is_present (item_place n roots) || (e && is_present (item_place n adds))) ≡ true → (is_present (item_place k roots) || is_present (item_place k adds)) ≡ true
-      place_there n k roots adds e q h = subst (λ k. (is_present (item_place k roots) || is_present (item_place k adds)) ≡ true) q (without_mark (is_present (item_place n roots)) e (is_present (item_place n adds)) h)
+      place_there n k roots adds e q h = subst (λ k. (is_present (item_place k roots) || is_present (item_place k adds)) ≡ true) q (without_marker (is_present (item_place n roots)) e (is_present (item_place n adds)) h)
         where
-          without_mark : (a e b : Bool) → (a || (e && b)) ≡ true → (a || b) ≡ true
-          without_mark true e b h = refl
-          without_mark false true b h = h
-          without_mark false false b h = cc
+          without_marker : (a e b : Bool) → (a || (e && b)) ≡ true → (a || b) ≡ true
+          without_marker true e b h = refl
+          without_marker false true b h = h
+          without_marker false false b h = cc
 
       enumerated_way : (roots adds adds' : List ℤ) (e : Bool) → Begins adds adds' → Way (enumerated roots e adds) (enumerated roots e adds')
       unfolding Oer.form

@@ -154,7 +154,7 @@ module _ (free : Per.Freedom → Bool) where
         tables_way false [] [] f g = agree_map free (λ q. (q.1, parts.weaken Per.Freedom Per.Detail Bool free m (packing.unknown free al) (packing.unknown_alike free al) (packing.added free al) (unknown_added al) e adds adds' qs ss (parts.none_meet Per.Freedom Per.Detail Bool free m (packing.unknown free al) (packing.unknown_alike free al) (packing.added free al) (unknown_added al) e adds adds' qs ss [] [] h f g refl refl))) (taken_both free m (exactly ms) (exactly ns) x y _ _ (taken_same free m _ _ _ (agree_exactly free ms ns long)) roots_meet)
         tables_way false [] (b ∷ ys) f g = agree_with_refused free _ _
         tables_way false (a ∷ xs) ys f g = taken_refused free m _ _
-        tables_way true xs ys f g = taken_varied free m Per.other_bitmap (own_bitmap xs) (λ b. Per.bitmapped al ms x xs b) _ _ (λ b q. agree_varied_right free {c = Per.other_bitmap} (λ c. subst (λ u. Met m u (Per.bitmapped al ns y ys c) (P × PartsCarried m adds adds' qs ss)) (packing.bitmapped_is free al ms x xs b) (subst (λ u. Met m (packing.Bitmapped free al ms x xs b) u (P × PartsCarried m adds adds' qs ss)) (packing.bitmapped_is free al ns y ys c) (parts.bitmapped_meet Per.Freedom Per.Detail Bool free m (packing.unknown free al) (packing.unknown_alike free al) (packing.added free al) (unknown_added al) (packing.marked free al) (packing.marked_alike free al) (packing.bits free al) (packing.flags_alike free al) (packing.hidden free al) (packing.hidden_left free al) (packing.hidden_right free al) hidden_taken ms ns long x y P roots_meet e adds adds' qs ss xs ys h (pair_map adds adds' (λ o s o' s' w. added_way o s o' s' w) k) f g b c q))))
+        tables_way true xs ys f g = taken_varied free m Per.other_bitmap (own_bitmap xs) (λ b. Per.bitmapped al ms x xs b) _ _ (λ b q. agree_varied_right free {c = Per.other_bitmap} (λ c. subst (λ u. Met m u (Per.bitmapped al ns y ys c) (P × PartsCarried m adds adds' qs ss)) (packing.bitmapped_is free al ms x xs b) (subst (λ u. Met m (packing.Bitmapped free al ms x xs b) u (P × PartsCarried m adds adds' qs ss)) (packing.bitmapped_is free al ns y ys c) (parts.bitmapped_meet Per.Freedom Per.Detail Bool free m (packing.unknown free al) (packing.unknown_alike free al) (packing.added free al) (unknown_added al) (packing.preamble free al) (packing.preambles_alike free al) (packing.bits free al) (packing.flags_alike free al) (packing.hidden free al) (packing.hidden_left free al) (packing.hidden_right free al) hidden_taken ms ns long x y P roots_meet e adds adds' qs ss xs ys h (pair_map adds adds' (λ o s o' s' w. added_way o s o' s' w) k) f g b c q))))
 
       fields_way : (cs cs' : Components) (e : Bool) (adds adds' : Components) → ExtendsEach false cs cs' → ExtendsEach e adds adds' → Ways cs cs' → Ways adds adds' → (ps qs rs ss : Parts) → Met m (given (Per.addition_forms al adds qs) (Per.sequence_form al e (presence_bits cs ps) (Per.component_forms al cs ps))) (given (Per.addition_forms al adds' ss) (Per.sequence_form al e (presence_bits cs' rs) (Per.component_forms al cs' rs))) (PartsCarried m cs cs' ps rs × PartsCarried m adds adds' qs ss)
       fields_way cs cs' e adds adds' h i k l ps qs rs ss = taken_given free m (Per.addition_forms al adds qs) _ _ _ (λ xs f. right_given free (Per.addition_forms al adds' ss) _ _ _ (λ ys g. tables_way (presence_bits cs ps) (presence_bits cs' rs) (presence_bits_meet cs cs' ps rs h) _ _ _ (λ n. components_way cs cs' ps rs h k n) adds adds' qs ss e i l e xs ys (packing.added_is free al adds qs ∙ f) (packing.added_is free al adds' ss ∙ g)))
@@ -226,14 +226,14 @@ module _ (free : Per.Freedom → Bool) where
       as_many (alternative t s others) no_alternative h = absurd h
       as_many (alternative t s others) (alternative t' s' others') h = ap (λ n. n + 1) (as_many others others' h.2)
 
-      mark_alike : (e b : Bool) → Alike free (Per.extension_bit_of e b) (Per.extension_bit_of e b) (Unit {0})
-      mark_alike false b = agree_nothing free
-      mark_alike true b = agree_map free (λ e. tt) (agree_exactly free (b ∷ []) (b ∷ []) refl)
+      extension_bit_alike : (e b : Bool) → Alike free (Per.extension_bit_of e b) (Per.extension_bit_of e b) (Unit {0})
+      extension_bit_alike false b = agree_nothing free
+      extension_bit_alike true b = agree_map free (λ e. tt) (agree_exactly free (b ∷ []) (b ∷ []) refl)
 
       root_way : (roots roots' adds adds' : Alternatives) (e : Bool) (i j : ℕ) (x v : Value) → ExtendsAlternatives false roots roots' → Others roots roots' → Met m (both (Per.extension_bit_of e false) (both (Per.constrained al (alternative_count roots - 1) i) (Per.alternative_form al roots i x))) (both (Per.extension_bit_of e false) (both (Per.constrained al (alternative_count roots' - 1) j) (Per.alternative_form al roots' j v))) (Carried m (choice roots e adds) (choice roots' e adds') (chosen false i x) (chosen false j v))
       root_way roots roots' adds adds' e i j x v h k =
           let index : Alike free (Per.constrained al (alternative_count roots - 1) i) (Per.constrained al (alternative_count roots' - 1) j) (i ≡ j) = subst (λ n. Alike free (Per.constrained al (alternative_count roots - 1) i) (Per.constrained al (n - 1) j) (i ≡ j)) (sym (as_many roots roots' h)) (constrained_alike free al (alternative_count roots - 1) i j) in
-          agree_map free (λ q. chosen_carried m roots roots' adds adds' e e i j x v q.1.0 q.1.1) (taken_both free m _ _ _ _ _ _ (taken_same free m _ _ _ (mark_alike e false)) (λ u. taken_both free m _ _ _ _ _ _ (taken_same free m _ _ _ index) (λ n. at_way false roots roots' i j x v h k n)))
+          agree_map free (λ q. chosen_carried m roots roots' adds adds' e e i j x v q.1.0 q.1.1) (taken_both free m _ _ _ _ _ _ (taken_same free m _ _ _ (extension_bit_alike e false)) (λ u. taken_both free m _ _ _ _ _ _ (taken_same free m _ _ _ index) (λ n. at_way false roots roots' i j x v h k n)))
 
       added_alternative_way : (roots roots' adds adds' : Alternatives) (i j : ℕ) (x v : Value) → ExtendsAlternatives true adds adds' → Others adds adds' → Met m (both (exactly (true ∷ [])) (both (Per.normally_small al i) (Per.open_type al (Per.alternative_form al adds i x)))) (both (exactly (true ∷ [])) (both (Per.normally_small al j) (Per.open_type al (Per.alternative_form al adds' j v)))) (Carried m (choice roots true adds) (choice roots' true adds') (chosen true i x) (chosen true j v))
       added_alternative_way roots roots' adds adds' i j x v h k =

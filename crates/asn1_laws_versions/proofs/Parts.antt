@@ -329,12 +329,12 @@ module _ (F : Type 0) (D : F → Type 0) (A : Type 0) (free : F → Bool) (m : B
     other_differs : (ms ns : List Bool) → true ∷ ms ≡ false ∷ ns → ⊥
     other_differs ms ns e = cc
 
-    module _ (marked : List Bool → Form F D A) (marked_alike : (ms ns : List Bool) → length ms ≡ length ns → Agree {F = F} {D = D} {A = A} free (marked ms) (marked ns) (ms ≡ ns)) (bits : List (Option (Form F D A)) → Form F D A) (bits_alike : (xs ys : List (Option (Form F D A))) → Agree {F = F} {D = D} {A = A} free (bits xs) (bits ys) (map (λ a. is_present a) xs ≡ map (λ a. is_present a) ys)) (hidden : Form F D A → Form F D A) (hidden_left : (x y : Form F D A) (P : Type 0) → Agree {F = F} {D = D} {A = A} free x y P → Agree {F = F} {D = D} {A = A} free (hidden x) y P) (hidden_right : (x y : Form F D A) (P : Type 0) → Agree {F = F} {D = D} {A = A} free x y P → Agree {F = F} {D = D} {A = A} free x (hidden y) P) (hidden_taken : (x y : Form F D A) (P : Type 0) → Agree {F = F} {D = D} {A = A} free (taken free m x) y P → Agree {F = F} {D = D} {A = A} free (taken free m (hidden x)) y P) where
+    module _ (preamble : List Bool → Form F D A) (preambles_alike : (ms ns : List Bool) → length ms ≡ length ns → Agree {F = F} {D = D} {A = A} free (preamble ms) (preamble ns) (ms ≡ ns)) (bits : List (Option (Form F D A)) → Form F D A) (bits_alike : (xs ys : List (Option (Form F D A))) → Agree {F = F} {D = D} {A = A} free (bits xs) (bits ys) (map (λ a. is_present a) xs ≡ map (λ a. is_present a) ys)) (hidden : Form F D A → Form F D A) (hidden_left : (x y : Form F D A) (P : Type 0) → Agree {F = F} {D = D} {A = A} free x y P → Agree {F = F} {D = D} {A = A} free (hidden x) y P) (hidden_right : (x y : Form F D A) (P : Type 0) → Agree {F = F} {D = D} {A = A} free x y P → Agree {F = F} {D = D} {A = A} free x (hidden y) P) (hidden_taken : (x y : Form F D A) (P : Type 0) → Agree {F = F} {D = D} {A = A} free (taken free m x) y P → Agree {F = F} {D = D} {A = A} free (taken free m (hidden x)) y P) where
       abbrev With : List Bool → Form F D A → List (Option (Form F D A)) → Form F D A
-      With ms root all = adding.with_all F D A free unknown unknown_alike added marked marked_alike bits bits_alike hidden hidden_left hidden_right ms root all
+      With ms root all = adding.with_all F D A free unknown unknown_alike added preamble preambles_alike bits bits_alike hidden hidden_left hidden_right ms root all
 
       abbrev Bitmapped : List Bool → Form F D A → List (Option (Form F D A)) → Option Bitmap → Form F D A
-      Bitmapped ms root xs b = adding.bitmapped F D A free unknown unknown_alike added marked marked_alike bits bits_alike hidden hidden_left hidden_right ms root xs b
+      Bitmapped ms root xs b = adding.bitmapped F D A free unknown unknown_alike added preamble preambles_alike bits bits_alike hidden hidden_left hidden_right ms root xs b
 
       left_shown : (t : Bool) (x y : Forms) (Q : Type 0) → Meets x y Q → Meets (cond t x (hidden x)) y Q
       left_shown true x y Q h = h
@@ -345,21 +345,21 @@ module _ (F : Type 0) (D : F → Type 0) (A : Type 0) (free : F → Bool) (m : B
       right_shown false x y Q h = hidden_right x y Q h
 
       module _ (ms ns : List Bool) (long : length ms ≡ length ns) (x y : Form F D A) (P : Type 0) (roots_meet : ms ≡ ns → Agree {F = F} {D = D} {A = A} free (taken free m x) y P) where
-        without_and_with : (others : List (Option Forms)) (Q : Type 0) → Meets (both (marked (false ∷ ms)) x) (With ns y others) Q
-        without_and_with others Q = agree_map free (λ (q : ⊥ × Q). absurd (q.0)) (taken_both free m _ _ _ _ ⊥ Q (taken_same free m _ _ _ (agree_map free (λ e. first_differs ms ns e) (marked_alike (false ∷ ms) (true ∷ ns) (ap suc long)))) (λ e. absurd e))
+        without_and_with : (others : List (Option Forms)) (Q : Type 0) → Meets (both (preamble (false ∷ ms)) x) (With ns y others) Q
+        without_and_with others Q = agree_map free (λ (q : ⊥ × Q). absurd (q.0)) (taken_both free m _ _ _ _ ⊥ Q (taken_same free m _ _ _ (agree_map free (λ e. first_differs ms ns e) (preambles_alike (false ∷ ms) (true ∷ ns) (ap suc long)))) (λ e. absurd e))
 
-        with_and_without : (all : List (Option Forms)) (Q : Type 0) → Meets (With ms x all) (both (marked (false ∷ ns)) y) Q
-        with_and_without all Q = agree_map free (λ (q : ⊥ × Q). absurd (q.0)) (taken_both free m _ _ _ _ ⊥ Q (taken_same free m _ _ _ (agree_map free (λ e. other_differs ms ns e) (marked_alike (true ∷ ms) (false ∷ ns) (ap suc long)))) (λ e. absurd e))
+        with_and_without : (all : List (Option Forms)) (Q : Type 0) → Meets (With ms x all) (both (preamble (false ∷ ns)) y) Q
+        with_and_without all Q = agree_map free (λ (q : ⊥ × Q). absurd (q.0)) (taken_both free m _ _ _ _ ⊥ Q (taken_same free m _ _ _ (agree_map free (λ e. other_differs ms ns e) (preambles_alike (true ∷ ms) (false ∷ ns) (ap suc long)))) (λ e. absurd e))
 
-        without_bitmaps : Meets (both (marked (false ∷ ms)) x) (both (marked (false ∷ ns)) y) P
-        without_bitmaps = agree_map free (λ q. q.1) (taken_both free m _ _ _ _ _ _ (taken_same free m _ _ _ (marked_alike (false ∷ ms) (false ∷ ns) (ap suc long))) (λ e. roots_meet cc))
+        without_bitmaps : Meets (both (preamble (false ∷ ms)) x) (both (preamble (false ∷ ns)) y) P
+        without_bitmaps = agree_map free (λ q. q.1) (taken_both free m _ _ _ _ _ _ (taken_same free m _ _ _ (preambles_alike (false ∷ ms) (false ∷ ns) (ap suc long))) (λ e. roots_meet cc))
 
         module _ (more : Bool) (cs cs' : Components) (ps qs : Parts) (xs ys : List (Option (Form F D A))) (h : ExtendsEach more cs cs') (k : EachPair AddedMeet cs cs') (e : Added cs ps ≡ Some xs) (f : Added cs' qs ≡ Some ys) where
           with_bitmaps : (all others : List (Option Forms)) → Tells xs all → (m ≡ true → length all ≡ length xs) → Tells ys others → Meets (With ms x all) (With ns y others) (P × PartsCarried m cs cs' ps qs)
-          with_bitmaps all others t l u = agree_map free (λ q. (q.1.0, q.1.1.1)) (taken_both free m _ _ _ _ _ _ (taken_same free m _ _ _ (marked_alike (true ∷ ms) (true ∷ ns) (ap suc long))) (λ i. taken_both free m _ _ _ _ _ _ (roots_meet cc) (λ j. taken_both free m _ _ _ _ _ _ (taken_same free m _ _ _ (bits_alike all others)) (λ w. present_meet more cs cs' ps qs xs ys all others h k e f t l u w))))
+          with_bitmaps all others t l u = agree_map free (λ q. (q.1.0, q.1.1.1)) (taken_both free m _ _ _ _ _ _ (taken_same free m _ _ _ (preambles_alike (true ∷ ms) (true ∷ ns) (ap suc long))) (λ i. taken_both free m _ _ _ _ _ _ (roots_meet cc) (λ j. taken_both free m _ _ _ _ _ _ (taken_same free m _ _ _ (bits_alike all others)) (λ w. present_meet more cs cs' ps qs xs ys all others h k e f t l u w))))
 
           pub bitmapped_meet : (b c : Option Bitmap) → (m ≡ true → b ≡ own_bitmap xs) → Meets (Bitmapped ms x xs b) (Bitmapped ns y ys c) (P × PartsCarried m cs cs' ps qs)
-          bitmapped_meet None None o = taken_if free m (not (is_any_present xs)) (both (marked (false ∷ ms)) x) _ _ (λ i. agree_if_right free (not (is_any_present ys)) (λ j. agree_map free (λ q. (q, weaken more cs cs' ps qs (none_meet more cs cs' ps qs xs ys h e f (no_any _ i) (no_any _ j)))) without_bitmaps))
-          bitmapped_meet None (Some c) o = taken_if free m (not (is_any_present xs)) (both (marked (false ∷ ms)) x) _ _ (λ i. right_given free (covered_by unknown c ys) _ _ _ (λ others j. right_shown (is_any_present others) _ _ _ (without_and_with others _)))
+          bitmapped_meet None None o = taken_if free m (not (is_any_present xs)) (both (preamble (false ∷ ms)) x) _ _ (λ i. agree_if_right free (not (is_any_present ys)) (λ j. agree_map free (λ q. (q, weaken more cs cs' ps qs (none_meet more cs cs' ps qs xs ys h e f (no_any _ i) (no_any _ j)))) without_bitmaps))
+          bitmapped_meet None (Some c) o = taken_if free m (not (is_any_present xs)) (both (preamble (false ∷ ms)) x) _ _ (λ i. right_given free (covered_by unknown c ys) _ _ _ (λ others j. right_shown (is_any_present others) _ _ _ (without_and_with others _)))
           bitmapped_meet (Some b) None o = taken_given free m (covered_by unknown b xs) _ _ _ (λ all i. agree_if_right free (not (is_any_present ys)) (λ j. left_shown (is_any_present all) _ _ _ (with_and_without all _)))
           bitmapped_meet (Some b) (Some c) o = taken_given free m (covered_by unknown b xs) _ _ _ (λ all i. right_given free (covered_by unknown c ys) _ _ _ (λ others j. left_shown (is_any_present all) _ _ _ (right_shown (is_any_present others) _ _ _ (with_bitmaps all others (adding.covered_tells F D A free unknown unknown_alike b xs all i) (λ q. own_length xs all b (o q) i) (adding.covered_tells F D A free unknown unknown_alike c ys others j)))))

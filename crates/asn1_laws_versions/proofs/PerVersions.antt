@@ -58,10 +58,10 @@ module _ (free : Per.Freedom → Bool) (wide : IsTrue (free Per.other_bitmap)) (
   unfolding Per.counted
   sim_counted al xs ys h = covers_varied free (Per.largest_first (length xs)) (inl (ap Per.largest_first (each_length free xs ys h))) (sim_fragments al (Per.largest_first (length xs)) xs ys h)
 
-  sim_marked : (e b : Bool) {r r' o o' : Per.BitForm} → Sim r r' → Sim o o' → Sim (Per.marked e b r o) (Per.marked e b r' o')
-  unfolding Per.marked
-  sim_marked false b {r} {r'} h k = covers_if free b {x = r} {y = r'} (λ t. h)
-  sim_marked true b {r} {r'} {o} {o'} h k = covers_varied free (not b) (inl refl) (covers_cond free (not b) {x = both (exactly (true ∷ [])) o} {x' = both (exactly (true ∷ [])) o'} {y = only_if b (both (exactly (false ∷ [])) r)} {y' = only_if b (both (exactly (false ∷ [])) r')} (sim_both (sim_itself _) k) (covers_if free b {x = both (exactly (false ∷ [])) r} {y = both (exactly (false ∷ [])) r'} (λ t. sim_both (sim_itself _) h)))
+  sim_with_extension_bit : (e b : Bool) {r r' o o' : Per.BitForm} → Sim r r' → Sim o o' → Sim (Per.with_extension_bit e b r o) (Per.with_extension_bit e b r' o')
+  unfolding Per.with_extension_bit
+  sim_with_extension_bit false b {r} {r'} h k = covers_if free b {x = r} {y = r'} (λ t. h)
+  sim_with_extension_bit true b {r} {r'} {o} {o'} h k = covers_varied free (not b) (inl refl) (covers_cond free (not b) {x = both (exactly (true ∷ [])) o} {x' = both (exactly (true ∷ [])) o'} {y = only_if b (both (exactly (false ∷ [])) r)} {y' = only_if b (both (exactly (false ∷ [])) r')} (sim_both (sim_itself _) k) (covers_if free b {x = both (exactly (false ∷ [])) r} {y = both (exactly (false ∷ [])) r'} (λ t. sim_both (sim_itself _) h)))
 
   sim_sized_root : (al : Bool) (c : Counts) (high : Option ℕ) (pads : Counts → Bool) (xs ys : List Per.BitForm) → SimEach xs ys → Sim (Per.sized_root al c high pads xs) (Per.sized_root al c high pads ys)
   unfolding Per.sized_root
@@ -73,9 +73,9 @@ module _ (free : Per.Freedom → Bool) (wide : IsTrue (free Per.other_bitmap)) (
   pub sim_sized : (al : Bool) (z : Size) (held : Counts) (pads : Counts → Bool) (xs ys : List Per.BitForm) → SimEach xs ys → Sim (Per.sized al z held pads xs) (Per.sized al z held pads ys)
   unfolding Per.sized
   sim_sized al z held pads xs ys h =
-      let part : ℕ → List Per.BitForm → Per.BitForm = λ n us. Per.marked z.extensible (is_count_within z.counts n) (Per.sized_root al z.counts z.counts.high pads us) (Per.counted al us) in
+      let part : ℕ → List Per.BitForm → Per.BitForm = λ n us. Per.with_extension_bit z.extensible (is_count_within z.counts n) (Per.sized_root al z.counts z.counts.high pads us) (Per.counted al us) in
       let P : ℕ → Type 0 = λ n. Sim (Per.sized al z held pads xs) (only_if (is_count_within held n) (part n ys)) in
-      subst P (each_length free xs ys h) (covers_if free (is_count_within held (length xs)) {x = part (length xs) xs} {y = part (length xs) ys} (λ t. sim_marked z.extensible (is_count_within z.counts (length xs)) (sim_sized_root al z.counts z.counts.high pads xs ys h) (sim_counted al xs ys h)))
+      subst P (each_length free xs ys h) (covers_if free (is_count_within held (length xs)) {x = part (length xs) xs} {y = part (length xs) ys} (λ t. sim_with_extension_bit z.extensible (is_count_within z.counts (length xs)) (sim_sized_root al z.counts z.counts.high pads xs ys h) (sim_counted al xs ys h)))
 
   -- ---- bags
   abbrev key : Per.BitForm → Option (List Bool)

@@ -31,12 +31,12 @@ pub data Freedom : Type 0 where
   -- an empty bit string as a length of zero
   empty_bit_string : Freedom
   -- unused bits of any value
-  any_filling : Freedom
+  any_unused_bits : Freedom
   -- a tag whose number is below 63 in the form of the large ones
   long_tag : Freedom
   -- a component that is equal to its default, spelled out
   default_spelled_out : Freedom
-  -- a group of additions that is marked as present, with none of them there
+  -- a group of additions that the bitmap tells as present, with none of them there
   empty_group : Freedom
   -- a presence bitmap with a bit set, of another width than the type's
   other_bitmap : Freedom
@@ -54,7 +54,7 @@ Detail longer_number = ℕ
 Detail any_truth = ℕ
 Detail longer_item = Option ℕ
 Detail empty_bit_string = Bool
-Detail any_filling = List Bool
+Detail any_unused_bits = List Bool
 Detail long_tag = Bool
 Detail default_spelled_out = Bool
 Detail empty_group = Bool
@@ -149,11 +149,11 @@ is_fixed z = not z.extensible && is_fixed_at z.counts z.counts.high
 abbrev pub admits : Size → Counts → ℕ → Bool
 admits z held n = is_count_within held n && (z.extensible || is_count_within z.counts n)
 
--- Bits as octets, the last filled with zero bits (X.696 13).
+-- Bits as octets, where the unused bits of the last one are zero (X.696 13).
 unfoldable pub bits_form : List Bool → OctetForm
 bits_form bs =
-    varied any_filling (replicate (missing (length bs)) false)
-    (λ fill. only_if (length fill == missing (length bs)) (exactly (packed (bs ++ fill))))
+    varied any_unused_bits (replicate (missing (length bs)) false)
+    (λ unused. only_if (length unused == missing (length bs)) (exactly (packed (bs ++ unused))))
 
 -- The same behind a length and the number of unused bits (X.696 13).
 unfoldable pub counted_bits : List Bool → OctetForm
@@ -197,7 +197,7 @@ spelled o s v x = cond (is_at_default o s v)
     (varied default_spelled_out false (λ b. only_if b x))
     (cond (is_group_left_out s v) (varied empty_group false (λ b. only_if b x)) x)
 
--- Presence bits filled up with zeros, in which no reader takes others (X.696 16.2).
+-- Presence bits, and unused bits that are zero, in which no reader takes others (X.696 16.2).
 abbrev pub preamble : List Bool → OctetForm
 preamble bs = exactly (packed (bs ++ replicate (missing (length bs)) false))
 

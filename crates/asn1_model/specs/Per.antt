@@ -1,5 +1,5 @@
--- The packed encoding rules (X.691), aligned and not: the form of a value of a type, in bits. Where the aligned variant
--- fills up to an octet is the project's own statement: before the fields that say so here, up to the next octet of the
+-- The packed encoding rules (X.691), aligned and not: the form of a value of a type, in bits. Where padding stands in
+-- the aligned variant is the project's own statement: before the fields that say so here, up to the next octet of the
 -- message or open type that holds them, and never before a field of no bits.
 use Rattle.std.specs.Prelude.{ℕ, zero, suc, ◌-◌, ◌*◌, ◌/◌, ◌%◌, ◌^◌, ◌==◌, ltb, leb, not, ℤ, Bool, true, false, cond}
 use Rattle.std.specs.Prelude.{◌&&◌, ◌||◌, List, [], ◌∷◌, ◌++◌, length, take, drop, map, replicate, flat_map, Option}
@@ -23,8 +23,8 @@ use Rattle.asn1_model.specs.Tables.{is_bounded, item_place, is_required, presenc
 
 -- What a reader may take besides the canonical form (the project's choice).
 pub data Freedom : Type 0 where
-  -- bits that fill up an octet, of any value
-  any_filling : Freedom
+  -- padding bits of any value
+  any_padding : Freedom
   -- a length below 128 in two octets
   longer_length : Freedom
   -- a division into fragments that is not the one with the largest first
@@ -32,12 +32,12 @@ pub data Freedom : Type 0 where
   -- a number in more octets than it needs
   longer_number : Freedom
   -- a number or a size of the root, told as outside it
-  root_marked_outside : Freedom
+  root_told_outside : Freedom
   -- a normally small number or length in the form of the large ones
   long_small_number : Freedom
   -- a component that is equal to its default, spelled out
   default_spelled_out : Freedom
-  -- a group of additions that is marked as present, with none of them there
+  -- a group of additions that the bitmap tells as present, with none of them there
   empty_group : Freedom
   -- a presence bitmap with a bit set, of another width than the type's
   other_bitmap : Freedom
@@ -50,11 +50,11 @@ pub data Freedom : Type 0 where
 
 -- What tells apart the forms that such a reader takes, the canonical one among them.
 abbrev pub Detail : Freedom → Type 0
-Detail any_filling = List Bool
+Detail any_padding = List Bool
 Detail longer_length = Bool
 Detail other_fragments = List ℕ
 Detail longer_number = ℕ
-Detail root_marked_outside = Bool
+Detail root_told_outside = Bool
 Detail long_small_number = Bool
 Detail default_spelled_out = Bool
 Detail empty_group = Bool
@@ -67,13 +67,13 @@ abbrev pub BitForm : Type 0
 BitForm = Form Freedom Detail Bool
 
 -- So many zero bits, which a reader may find to be others (X.691 11.1).
-unfoldable pub filling : ℕ → BitForm
-filling n = varied any_filling (replicate n false) (λ fill. only_if (length fill == n) (exactly fill))
+unfoldable pub padding : ℕ → BitForm
+padding n = varied any_padding (replicate n false) (λ bits. only_if (length bits == n) (exactly bits))
 
 -- In the aligned variant, from the next octet on (X.691 11.1).
 unfoldable pub at_octet : Bool → BitForm → BitForm
 at_octet false x = x
-at_octet true x = both (placed (λ p. filling (missing p))) x
+at_octet true x = both (placed (λ p. padding (missing p))) x
 
 -- A number of 0 to span in k octets behind their number, which is a constrained whole number, one of 1 to the octets of
 -- span (X.691 11.5.7.4 and 13.2.6).
@@ -168,10 +168,11 @@ whole_number al (Some low) None v = given (above low v) (λ d. semi_constrained 
 whole_number al None (Some high) v = only_if (is_at_most v high) (unconstrained al v)
 whole_number al None None v = unconstrained al v
 
--- What may be marked as outside the root, and must be where it is (X.691 13.1, 16.6, 17.3, 20.4 and 30.4).
-unfoldable pub marked : Bool → Bool → BitForm → BitForm → BitForm
-marked false in_root root outside = only_if in_root root
-marked true in_root root outside = varied root_marked_outside (not in_root) (λ out. cond out
+-- What stands behind an extension bit, where there is one: this is set outside the root (X.691 13.1, 16.6, 17.3, 20.4
+-- and 30.4).
+unfoldable pub with_extension_bit : Bool → Bool → BitForm → BitForm → BitForm
+with_extension_bit false in_root root outside = only_if in_root root
+with_extension_bit true in_root root outside = varied root_told_outside (not in_root) (λ out. cond out
     (both (exactly (true ∷ [])) outside)
     (only_if in_root (both (exactly (false ∷ [])) root)))
 
@@ -179,7 +180,8 @@ marked true in_root root outside = varied root_marked_outside (not in_root) (λ 
 -- choice.
 unfoldable pub integer_form : Bool → Bounds → Range → ℤ → BitForm
 integer_form al b held v = only_if (is_within held v && (not (is_bounded b) || fits_128 v))
-    (marked b.extensible (is_within b.range v) (whole_number al b.range.low b.range.high v) (unconstrained al v))
+    (with_extension_bit b.extensible (is_within b.range v) (whole_number al b.range.low b.range.high v)
+    (unconstrained al v))
 
 -- Units of a size: behind their number by its bounds, if the highest is below 65536, else behind a general length
 -- (X.691 11.9.4, 16, 17, 20 and 30).
@@ -192,8 +194,8 @@ sized_root al c (Some high) pads us = cond (ltb high 65536)
 -- Units of a size that may have an extension marker (X.691 16.6, 17.3, 20.4 and 30.4).
 unfoldable pub sized : Bool → Size → Counts → (Counts → Bool) → List BitForm → BitForm
 sized al z held pads us = only_if (is_count_within held (length us))
-    (marked z.extensible (is_count_within z.counts (length us)) (sized_root al z.counts z.counts.high pads us)
-    (counted al us))
+    (with_extension_bit z.extensible (is_count_within z.counts (length us))
+    (sized_root al z.counts z.counts.high pads us) (counted al us))
 
 abbrev pub never : Counts → Bool
 never c = false
@@ -202,12 +204,12 @@ never c = false
 abbrev pub fixed_bits : ℕ → Counts → Option ℕ
 fixed_bits unit c = option_and_then (λ high. cond (high == c.low) (Some (high * unit)) None) c.high
 
--- Contents of no bits take no filling, and nor do fixed ones of at most 16 bits (X.691 16.9 to 16.11, 17.6 to 17.8).
+-- Contents of no bits take no padding, and nor do fixed ones of at most 16 bits (X.691 16.9 to 16.11, 17.6 to 17.8).
 abbrev pub pads_string : ℕ → ℕ → Counts → Bool
 pads_string unit n c = not (n * unit == 0) && elim (fixed_bits unit c) [ None ↦ true | Some all ↦ ltb 16 all ]
 
 -- Characters also take none where as many as there may be have fewer than 16 bits (X.691 30.5.6 and 30.5.7). Where they
--- take filling is the project's choice.
+-- take padding is the project's choice.
 abbrev pub pads_characters : ℕ → ℕ → Counts → Bool
 pads_characters unit n c = pads_string unit n c && elim (c.high) [ None ↦ true | Some high ↦ leb 16 (high * unit) ]
 
@@ -251,14 +253,14 @@ unfoldable pub item_form : Bool → ℕ → Bool → Option ℕ → Option ℕ �
 item_form al roots e (Some i) j = both (extension_bit_of e false) (constrained al (roots - 1) i)
 item_form al roots e None j = added_item al e j
 
--- Filled up with zero bits to whole octets, and one zero octet in place of no bits (X.691 11.1).
-unfoldable pub filled_up : List Bool → BitForm
-filled_up [] = exactly (replicate 8 false)
-filled_up (b ∷ bs) = both (exactly (b ∷ bs)) (filling (missing (length (b ∷ bs))))
+-- Padded with zero bits to whole octets, and one zero octet in place of no bits (X.691 11.1).
+unfoldable pub padded : List Bool → BitForm
+padded [] = exactly (replicate 8 false)
+padded (b ∷ bs) = both (exactly (b ∷ bs)) (padding (missing (length (b ∷ bs))))
 
 -- A complete encoding (X.691 11.1).
 unfoldable pub complete : BitForm → BitForm
-complete x = within x filled_up
+complete x = within x padded
 
 -- Whole octets behind their number.
 abbrev pub counted_eights : Bool → List Bool → BitForm

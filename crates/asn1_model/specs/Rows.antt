@@ -241,7 +241,7 @@ SizeRows =
     (0xC0 ∷ 0x04 ∷ 0x01 ∷ 0x02 ∷ 0x03 ∷ 0x04 ∷ [])
     × WritesNothing coer (bit_text (sizes 16 16)) (set_bits 17)
     × WritesNothing uper (bit_text (sizes 16 16)) (set_bits 17)
-    -- a size of nothing, and contents of no bits, which take no filling
+    -- a size of nothing, and contents of no bits, which take no padding
     × Writes uper (octet_text (sizes 0 0)) (octets []) (0x00 ∷ [])
     × Writes aper (octet_text (sizes 0 0)) (octets []) (0x00 ∷ [])
     × Writes coer (octet_text (sizes 0 0)) (octets []) []

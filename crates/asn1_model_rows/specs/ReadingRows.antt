@@ -159,11 +159,11 @@ abbrev pub FreedomRows : Type 0
 FreedomRows =
     (map strict_oer (Oer.longer_length ∷ Oer.longer_number ∷ Oer.any_truth ∷ Oer.longer_item ∷ Oer.empty_bit_string
     ∷ []) ≡ replicate 5 false)
-    × (map strict_oer (Oer.any_filling ∷ Oer.long_tag ∷ Oer.default_spelled_out ∷ Oer.empty_group ∷ Oer.octets_behind
-    ∷ []) ≡ replicate 5 false)
+    × (map strict_oer (Oer.any_unused_bits ∷ Oer.long_tag ∷ Oer.default_spelled_out ∷ Oer.empty_group
+    ∷ Oer.octets_behind ∷ []) ≡ replicate 5 false)
     × (map strict_oer (Oer.other_bitmap ∷ Oer.empty_bitmap ∷ Oer.other_order ∷ []) ≡ replicate 3 true)
-    × (map strict_per (Per.any_filling ∷ Per.longer_length ∷ Per.other_fragments ∷ Per.longer_number
-    ∷ Per.root_marked_outside ∷ []) ≡ replicate 5 false)
+    × (map strict_per (Per.any_padding ∷ Per.longer_length ∷ Per.other_fragments ∷ Per.longer_number
+    ∷ Per.root_told_outside ∷ []) ≡ replicate 5 false)
     × (map strict_per (Per.long_small_number ∷ Per.default_spelled_out ∷ Per.empty_group ∷ Per.empty_bitmap
     ∷ Per.octets_behind ∷ []) ≡ replicate 5 false)
     × (map strict_per (Per.other_bitmap ∷ Per.other_order ∷ []) ≡ replicate 2 true)
@@ -179,9 +179,9 @@ FormRows =
     × (written (Per.in_octets_of (Per.constrained true) true 1234311 0 0) 0 ≡ None)
     × (written (Per.in_octets_of (Per.constrained true) true 1234311 0 4) 0 ≡ None)
     × (written (Per.in_octets_of (Per.constrained true) true 1234311 256 1) 0 ≡ None)
-    -- a number or a size marked as inside the root that is not
-    × (written (Per.marked true false nothing_more nothing_more) 0 ≡ Some (true ∷ []))
-    × (written (Per.marked false false nothing_more nothing_more) 0 ≡ None)
+    -- a number or a size told as inside the root that is not
+    × (written (Per.with_extension_bit true false nothing_more nothing_more) 0 ≡ Some (true ∷ []))
+    × (written (Per.with_extension_bit false false nothing_more nothing_more) 0 ≡ None)
     -- an OER length in no octets, in 128, and in fewer than it needs; one past 64 bits
     × (written (Oer.long_length 5 0) 0 ≡ None)
     × (written (Oer.long_length 5 128) 0 ≡ None)
@@ -202,10 +202,10 @@ FormRows =
     × (arranged {X = ℕ} (1 ∷ 0 ∷ []) (7 ∷ 8 ∷ []) ≡ Some (8 ∷ 7 ∷ []))
 
 -- no PER reader takes what is outside the root behind an extension bit that says inside, whatever follows
-abbrev pub OutsideIsMarked : Type 0
-OutsideIsMarked =
+abbrev pub OutsideIsTold : Type 0
+OutsideIsTold =
     (root outside : Per.BitForm) (p : ℕ) (w : List Bool)
-    → Reads lenient (Per.marked true false root outside) p (false ∷ w) → ⊥
+    → Reads lenient (Per.with_extension_bit true false root outside) p (false ∷ w) → ⊥
 
 -- octets that are an encoding of no value at all
 abbrev pub NoValueRows : Type 0

@@ -295,7 +295,7 @@ CharacterRows =
     × Writes uper (string bmp any_size) (text (0x61 ∷ 0xFFFF ∷ [])) (0x02 ∷ 0x00 ∷ 0x61 ∷ 0xFF ∷ 0xFF ∷ [])
     × Writes aper (string bmp any_size) (text (0x61 ∷ 0xFFFF ∷ [])) (0x02 ∷ 0x00 ∷ 0x61 ∷ 0xFF ∷ 0xFF ∷ [])
     × Writes coer (string bmp any_size) (text (0x61 ∷ 0xFFFF ∷ [])) (0x04 ∷ 0x00 ∷ 0x61 ∷ 0xFF ∷ 0xFF ∷ [])
-    -- filling before the characters: fixed sizes of 16 and of 20 bits, sizes up to 12 and up to 16 bits, and none
+    -- padding before the characters: fixed sizes of 16 and of 20 bits, sizes up to 12 and up to 16 bits, and none
     × Writes uper (flagged (string numeric (sizes 4 4))) (yes_and (text (0x31 ∷ 0x32 ∷ 0x33 ∷ 0x34 ∷ [])))
     (0x91 ∷ 0xA2 ∷ 0x80 ∷ [])
     × Writes aper (flagged (string numeric (sizes 4 4))) (yes_and (text (0x31 ∷ 0x32 ∷ 0x33 ∷ 0x34 ∷ [])))
@@ -439,7 +439,7 @@ OpenRows =
     × WritesNothing coer (flagged boolean) (roots (present yes (absent end)))
     × WritesNothing uper (flagged boolean) (roots (present yes end))
     × WritesNothing coer (flagged boolean) (roots (present yes end))
-    -- a bag stands in the order of its complete encodings in the same rules, which ends in filling bits
+    -- a bag stands in the order of its complete encodings in the same rules, which ends in padding bits
     × Writes uper (bag_of boolean) (bag_with (yes ∷ no ∷ [])) (0x02 ∷ 0x40 ∷ [])
     × Writes aper (bag_of (octet_text (sizes 0 2))) (bag_with (octets (1 ∷ 2 ∷ []) ∷ octets (3 ∷ []) ∷ []))
     (0x02 ∷ 0x40 ∷ 0x03 ∷ 0x80 ∷ 0x01 ∷ 0x02 ∷ [])

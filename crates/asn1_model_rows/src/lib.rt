@@ -1,7 +1,7 @@
 //! More rows of the model: worked encodings, and octets that are none, computed from the definitions.
 #![tactic(auto)]
 
-ghost use Rattle.asn1_model_rows.specs.ReadingRows.{FormRows, FreedomRows, NoValueRows, OutsideIsMarked, ReadingRows};
+ghost use Rattle.asn1_model_rows.specs.ReadingRows.{FormRows, FreedomRows, NoValueRows, OutsideIsTold, ReadingRows};
 ghost use Rattle.asn1_model_rows.specs.ReadingRows.{RefusedRows};
 ghost use Rattle.asn1_model_rows.specs.Rows.{NumberRows, StringRows, StructureRows, AdditionRows, LongRows};
 ghost use Rattle.asn1_model_rows.specs.Rows.{CharacterRows, OpenRows, LengthRows, FragmentRows, WholeSizeRows};
@@ -77,8 +77,8 @@ pub fn no_value_rows()
 {}
 
 /// No PER reader takes what is outside the root behind an extension bit that says inside, whatever follows.
-pub fn outside_is_marked()
-    ensures { OutsideIsMarked }
+pub fn outside_is_told()
+    ensures { OutsideIsTold }
 {}
 
 /// Which freedoms the strict readers have: of thirteen in OER three, of twelve in PER two.

@@ -40,7 +40,7 @@ impl Codec {
     ///
     /// # Errors
     ///
-    /// Want of memory aside, only where the value has none, or, and then `TooLongValue`, one of 2 to 60 octets or more.
+    /// Want of memory aside, only where the value has none, or, and then `TooLongValue`, one of 2^60 octets or more.
     pub fn encode<T: Encode>(self, alloc: Global, value: &T) -> Result<Vec<u8>, EncodeError>
         ensures ok { IfOk result
             (λ octets. IsWritten (rules_of self) T.schema (T.meaning value.now) (Some octets.items)) }
@@ -61,7 +61,7 @@ impl Codec {
     ///
     /// # Errors
     ///
-    /// Want of memory aside, only where no octets in front, fewer than 2 to 60, are an encoding of a value that nests
+    /// Want of memory aside, only where no octets in front, fewer than 2^60, are an encoding of a value that nests
     /// at most 128 levels.
     pub fn decode<T: Decode>(self, alloc: Global, input: &[u8]) -> Result<T, DecodeError>
         ensures ok { IfOk result (λ x. (rest : List ℕ) × Tells (rules_of self) T.schema (T.meaning x) input.now rest) }

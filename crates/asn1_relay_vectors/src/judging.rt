@@ -1,7 +1,7 @@
 //! Whether a type's octets are translated, or refused, as a line says.
 use crate::judged::{Judged, Rules, Translated};
 use crate::limits::Limits;
-use crate::line::{Claim, Line, LineError, Spelled};
+use crate::line::{Claim, Line, LineError, Spelled, Verdict};
 use crate::octets::shown;
 use crate::streams::{judge_repeated, judge_stream};
 use asn1_relay_core::{Codec, DecodeError, RecodeFault};
@@ -26,7 +26,7 @@ struct Subject<'a> {
 /// # Errors
 ///
 /// `Otherwise` where the library does not do what is said, and `Memory` for want of memory.
-pub fn judge(alloc: Global, of: &dyn Judged, line: &Line<'_>) -> Result<(), LineError> {
+pub fn judge(alloc: Global, of: &dyn Judged, line: &Line<'_>) -> Verdict {
     let limits = &line.limits;
     let subject = Subject { alloc, limits };
     match &line.claim {
@@ -55,7 +55,7 @@ pub fn judge(alloc: Global, of: &dyn Judged, line: &Line<'_>) -> Result<(), Line
 
 impl<'a> Subject<'a> {
     /// Each encoding of a value becomes each other one, alone and in streams.
-    fn are_same(&self, of: &dyn Judged, encodings: &[Spelled]) -> Result<(), LineError> {
+    fn are_same(&self, of: &dyn Judged, encodings: &[Spelled]) -> Verdict {
         for source in encodings {
             for target in encodings {
                 self.becomes(of, source, target)?;
@@ -69,12 +69,7 @@ impl<'a> Subject<'a> {
 
     /// Octets become others in each set of rules that is named, by any way, and are refused cut or with an octet
     /// behind them.
-    fn becomes(
-        &self,
-        of: &dyn Judged,
-        source: &Spelled,
-        target: &Spelled,
-    ) -> Result<(), LineError> {
+    fn becomes(&self, of: &dyn Judged, source: &Spelled, target: &Spelled) -> Verdict {
         let octets = source.octets.as_slice();
         for from in source.rules.iter() {
             for to in target.rules.iter() {
@@ -99,13 +94,13 @@ impl<'a> Subject<'a> {
         octets: &[u8],
         to: Codec,
         wanted: &[u8],
-    ) -> Result<(), LineError> {
+    ) -> Verdict {
         self.gives(of, from, octets, to, Ok(wanted))?;
         for through in CODECS {
             match self.translate(of, from, through, octets) {
                 Ok(halfway) => self.gives(of, through, halfway.as_slice(), to, Ok(wanted))?,
                 Err(RecodeFault::NoTarget(_)) => {}
-                Err(fault) => return Err(translated(self.alloc, from, through, &Err(fault))?),
+                Err(fault) => return translated(self.alloc, from, through, &Err(fault)),
             }
         }
         Ok(())
@@ -113,12 +108,7 @@ impl<'a> Subject<'a> {
 
     /// The octets are refused for this reason, whatever they are to become. No reader finds an encoding in a part of
     /// them.
-    fn is_refused(
-        &self,
-        of: &dyn Judged,
-        source: &Spelled,
-        fault: RecodeFault,
-    ) -> Result<(), LineError> {
+    fn is_refused(&self, of: &dyn Judged, source: &Spelled, fault: RecodeFault) -> Verdict {
         let octets = source.octets.as_slice();
         for from in source.rules.iter() {
             for to in CODECS {
@@ -138,7 +128,7 @@ impl<'a> Subject<'a> {
         source: &Spelled,
         rules: &[Codec],
         fault: RecodeFault,
-    ) -> Result<(), LineError> {
+    ) -> Verdict {
         for from in source.rules.iter() {
             for to in rules {
                 self.gives(of, *from, source.octets.as_slice(), *to, Err(fault))?;
@@ -155,7 +145,7 @@ impl<'a> Subject<'a> {
         octets: &[u8],
         to: Codec,
         wanted: Result<&[u8], RecodeFault>,
-    ) -> Result<(), LineError> {
+    ) -> Verdict {
         let found = self.translate(of, from, to, octets);
         let is_wanted = match (&found, wanted) {
             (Ok(found), Ok(wanted)) => found.as_slice() == wanted,
@@ -165,7 +155,7 @@ impl<'a> Subject<'a> {
         if is_wanted {
             return Ok(());
         }
-        Err(translated(self.alloc, from, to, &found)?)
+        translated(self.alloc, from, to, &found)
     }
 
     /// Each beginning of the octets is refused for this reason, or as it ends early.
@@ -175,7 +165,7 @@ impl<'a> Subject<'a> {
         from: Codec,
         octets: &[u8],
         error: DecodeError,
-    ) -> Result<(), LineError> {
+    ) -> Verdict {
         for length in 0..octets.len() {
             if length >= CUTS && octets.len() - length > CUTS {
                 continue;
@@ -188,19 +178,14 @@ impl<'a> Subject<'a> {
                 _ => false,
             };
             if !is_wanted {
-                return Err(cut(self.alloc, from, length, &found)?);
+                return cut(self.alloc, from, length, &found);
             }
         }
         Ok(())
     }
 
     /// An octet behind the octets is surplus. (Readers that are given constraints pass over it.)
-    fn is_not_read_to_its_end(
-        &self,
-        of: &dyn Judged,
-        from: Codec,
-        octets: &[u8],
-    ) -> Result<(), LineError> {
+    fn is_not_read_to_its_end(&self, of: &dyn Judged, from: Codec, octets: &[u8]) -> Verdict {
         if !self.limits.is_none() {
             return Ok(());
         }
@@ -210,28 +195,18 @@ impl<'a> Subject<'a> {
     }
 }
 
-/// The error that tells what a translation gave.
-fn translated(
-    alloc: Global,
-    from: Codec,
-    to: Codec,
-    found: &Translated,
-) -> Result<LineError, LineError> {
+/// A line is wrong: the error tells what a translation gave.
+fn translated(alloc: Global, from: Codec, to: Codec, found: &Translated) -> Verdict {
     let found = answer_shown(alloc, found)?;
     let found = format!(in alloc; "{from:?} to {to:?} gives {found}")?;
-    Ok(LineError::Otherwise(found))
+    Err(LineError::Otherwise(found))
 }
 
-/// The error that tells what the beginning of octets gave.
-fn cut(
-    alloc: Global,
-    from: Codec,
-    length: usize,
-    found: &Translated,
-) -> Result<LineError, LineError> {
+/// A line is wrong: the error tells what the beginning of octets gave.
+fn cut(alloc: Global, from: Codec, length: usize, found: &Translated) -> Verdict {
     let found = answer_shown(alloc, found)?;
     let found = format!(in alloc; "{from:?} reads the first {length} octets: {found}")?;
-    Ok(LineError::Otherwise(found))
+    Err(LineError::Otherwise(found))
 }
 
 /// What a translation gave: octets, or a fault.

@@ -46,18 +46,18 @@ impl Limits {
     /// Adds one constraint.
     fn push(&mut self, alloc: Global, text: &str) -> Result<(), LineError> {
         if let Some(size) = inside(text, "SIZE(", ")") {
-            let (range, extensible) = without_mark(size);
+            let (range, extensible) = without_marker(size);
             let size = Size::new(read_counts(range)?);
             self.size = Some(Extensible::new(size).set_extensible(extensible));
         } else if let Some(alphabet) = inside(text, "FROM(", ")") {
-            let (characters, extensible) = without_mark(alphabet);
+            let (characters, extensible) = without_marker(alphabet);
             let characters = read_characters(alloc, characters)?;
             self.alphabet = Some(Alphabet {
                 characters,
                 extensible,
             });
         } else {
-            let (range, extensible) = without_mark(text);
+            let (range, extensible) = without_marker(text);
             let value = Value::new(read_range(range)?);
             self.value = Some(Extensible::new(value).set_extensible(extensible));
         }
@@ -93,7 +93,7 @@ fn inside<'a>(text: &'a str, front: &str, back: &str) -> Option<&'a str> {
 }
 
 /// A constraint without its extension marker, and whether it has one.
-fn without_mark(text: &str) -> (&str, bool) {
+fn without_marker(text: &str) -> (&str, bool) {
     match text.strip_suffix(",...") {
         Some(root) => (root, true),
         None => (text, false),

@@ -20,7 +20,7 @@ pub enum LineError {
     #[error("rules are uper, aper, oer and coer, with a comma between two of them")]
     Rules,
     /// What stands behind the name of a type is no constraint.
-    #[error("constraints are (0..255), (SIZE(1..3)) and (FROM(\"01\")), each with ,... at its end for a mark")]
+    #[error("constraints are (0..255), (SIZE(1..3)) and (FROM(\"01\")), with ,... at the end for an extension marker")]
     Limits,
     /// A word is no limit of a stream.
     #[error("a limit is a number of octets, at least 1")]
@@ -44,6 +44,9 @@ pub enum LineError {
     #[error("out of memory")]
     Memory,
 }
+
+/// Whether a line is right, or why it is wrong.
+pub type Verdict = Result<(), LineError>;
 
 impl From<AllocError> for LineError {
     fn from(_refused: AllocError) -> LineError {

@@ -12,7 +12,7 @@ mod octets;
 mod routes;
 mod streams;
 
-use crate::line::{Line, LineError};
+use crate::line::{Line, Verdict};
 use crate::named::judge_named;
 use crate::routes::judge_routes;
 use std::alloc::Global;
@@ -58,7 +58,7 @@ fn judge_line(rt: &impl Print, alloc: Global, text: &str, count: &mut Count) -> 
 }
 
 /// Judges what a line says.
-fn judge(alloc: Global, said: &str) -> Result<(), LineError> {
+fn judge(alloc: Global, said: &str) -> Verdict {
     if let Some(judged) = judge_routes(alloc, said) {
         return judged;
     }

@@ -1,7 +1,7 @@
 //! Types by their names, one group behind the other.
 use crate::judged::{Of, Special};
 use crate::judging::judge;
-use crate::line::{Line, LineError};
+use crate::line::{Line, LineError, Verdict};
 use asn1_relay_types::{
     Bag, Group, Nest, New, NewColour, NewRequired, Octets, Old, Pair, Set, Small,
 };
@@ -34,7 +34,7 @@ use std::marker::PhantomData;
 /// # Errors
 ///
 /// `NoType` where there is no type of that name, and those of `judge`.
-pub fn judge_named(alloc: Global, line: &Line<'_>) -> Result<(), LineError> {
+pub fn judge_named(alloc: Global, line: &Line<'_>) -> Verdict {
     match line.kind {
         "bool" => judge(alloc, &Of::<bool>(PhantomData), line),
         "null" => judge(alloc, &Of::<()>(PhantomData), line),
@@ -57,7 +57,7 @@ pub fn judge_named(alloc: Global, line: &Line<'_>) -> Result<(), LineError> {
 }
 
 /// Judges a line of a character string.
-fn judge_string(alloc: Global, line: &Line<'_>) -> Result<(), LineError> {
+fn judge_string(alloc: Global, line: &Line<'_>) -> Verdict {
     match line.kind {
         "utf8" => judge(alloc, &Of::<String>(PhantomData), line),
         "numeric" => judge(alloc, &Of::<NumericString>(PhantomData), line),
@@ -71,7 +71,7 @@ fn judge_string(alloc: Global, line: &Line<'_>) -> Result<(), LineError> {
 }
 
 /// Judges a line of a list or a bag of a built-in type.
-fn judge_list(alloc: Global, line: &Line<'_>) -> Result<(), LineError> {
+fn judge_list(alloc: Global, line: &Line<'_>) -> Verdict {
     match line.kind {
         "nulls" => judge(alloc, &Of::<Vec<()>>(PhantomData), line),
         "bools" => judge(alloc, &Of::<Vec<bool>>(PhantomData), line),
@@ -85,7 +85,7 @@ fn judge_list(alloc: Global, line: &Line<'_>) -> Result<(), LineError> {
 }
 
 /// Judges a line of an enumeration or a choice.
-fn judge_choice(alloc: Global, line: &Line<'_>) -> Result<(), LineError> {
+fn judge_choice(alloc: Global, line: &Line<'_>) -> Verdict {
     match line.kind {
         "answer" => judge(alloc, &Of::<Answer>(PhantomData), line),
         "scale" => judge(alloc, &Of::<Scale>(PhantomData), line),
@@ -104,7 +104,7 @@ fn judge_choice(alloc: Global, line: &Line<'_>) -> Result<(), LineError> {
 type Wide = ConstrainedInteger<256, 1234567>;
 
 /// Judges a line of a sequence or a set, or of what stands in one.
-fn judge_components(alloc: Global, line: &Line<'_>) -> Result<(), LineError> {
+fn judge_components(alloc: Global, line: &Line<'_>) -> Verdict {
     match line.kind {
         "wide" => judge(alloc, &Of::<Wide>(PhantomData), line),
         "marked" => judge(alloc, &Of::<Marked>(PhantomData), line),
@@ -128,7 +128,7 @@ fn judge_components(alloc: Global, line: &Line<'_>) -> Result<(), LineError> {
 }
 
 /// Judges a line of a type of the program `asn1_relay` that is not built in; there are no others.
-fn judge_program(alloc: Global, line: &Line<'_>) -> Result<(), LineError> {
+fn judge_program(alloc: Global, line: &Line<'_>) -> Verdict {
     match line.kind {
         "small" => judge(alloc, &Of::<Small>(PhantomData), line),
         "octets" => judge(alloc, &Of::<Octets>(PhantomData), line),

@@ -3,7 +3,7 @@ mod every;
 mod foretold;
 mod pairs;
 
-use crate::line::{LineError, READING_ERRORS, Spelled, WRITING_ERRORS, named, read_rules};
+use crate::line::{LineError, READING_ERRORS, Spelled, Verdict, WRITING_ERRORS, named, read_rules};
 use crate::octets::{push_octets, shown};
 use crate::routes::foretold::{Arrival, Versions, Way};
 use asn1_relay_core::{Codec, Hop, RouteFault, RouteFaultKind, Version};
@@ -20,7 +20,7 @@ pub enum Claim {
 }
 
 /// Judges a line of routes, which begins with `route` or `routes`; none where it begins with another word.
-pub fn judge_routes(alloc: Global, said: &str) -> Option<Result<(), LineError>> {
+pub fn judge_routes(alloc: Global, said: &str) -> Option<Verdict> {
     match said.split_once(' ') {
         Some(("route", text)) => Some(judge_one(alloc, text)),
         Some(("routes", name)) => Some(pairs::judge_pair(alloc, name, &Claim::Every)),
@@ -29,7 +29,7 @@ pub fn judge_routes(alloc: Global, said: &str) -> Option<Result<(), LineError>> 
 }
 
 /// Judges what is said of one route.
-fn judge_one(alloc: Global, text: &str) -> Result<(), LineError> {
+fn judge_one(alloc: Global, text: &str) -> Verdict {
     let (name, text) = text.split_once(' ').ok_or(LineError::Form)?;
     let (sent, arrival) = text.split_once("->").ok_or(LineError::Form)?;
     let (source, hops) = read_sent(alloc, sent)?;
@@ -43,7 +43,7 @@ fn judge_one(alloc: Global, text: &str) -> Result<(), LineError> {
 ///
 /// `Otherwise` where the library does not do what is said, `Form` where a route has no hop, and `Memory` for want of
 /// memory.
-fn judge(alloc: Global, of: &dyn Versions, claim: &Claim) -> Result<(), LineError> {
+fn judge(alloc: Global, of: &dyn Versions, claim: &Claim) -> Verdict {
     match claim {
         Claim::One(source, hops, arrival) => {
             let hops = hops.as_slice();
@@ -64,7 +64,7 @@ fn arrives(
     way: Way<'_>,
     octets: &[u8],
     wanted: &Arrival,
-) -> Result<(), LineError> {
+) -> Verdict {
     let found = of.send(alloc, way, octets).ok_or(LineError::Form)?;
     let is_wanted = match (&found, wanted) {
         (Ok(found), Ok(wanted)) => found.as_slice() == wanted.as_slice(),

@@ -2,7 +2,7 @@
 ghost use Rattle.std.specs.Prelude.{◌≤◌};
 
 use crate::judged::Judged;
-use crate::line::{LineError, Spelled};
+use crate::line::{LineError, Spelled, Verdict};
 use crate::octets::shown;
 use asn1_relay_core::{Codec, RelayFault, RelayFaultKind, RunFault};
 use std::alloc::{AllocError, Global};
@@ -113,7 +113,7 @@ pub fn judge_stream(
     source: &Spelled,
     target: &Spelled,
     answer: Result<(), RelayFault>,
-) -> Result<(), LineError> {
+) -> Verdict {
     for from in source.rules.iter() {
         for to in target.rules.iter() {
             let stream = Stream {
@@ -145,7 +145,7 @@ pub fn judge_repeated(
     of: &dyn Judged,
     source: &Spelled,
     target: &Spelled,
-) -> Result<(), LineError> {
+) -> Verdict {
     let Some(limit) = Limit::new(source.octets.len()) else {
         return Ok(());
     };
@@ -188,7 +188,7 @@ fn twice(alloc: Global, octets: &[u8]) -> Result<Vec<u8>, LineError> {
 
 impl<'a> Stream<'a> {
     /// A stream of one message twice over becomes what is wanted; where this may have an octet less, none is in front.
-    fn is_repeated(&self, of: &dyn Judged) -> Result<(), LineError> {
+    fn is_repeated(&self, of: &dyn Judged) -> Verdict {
         self.relays_by_single_cuttings(of)?;
         self.runs(of)?;
         let Some(limit) = Limit::new(self.way.limit.octets - 1) else {
@@ -205,7 +205,7 @@ impl<'a> Stream<'a> {
     }
 
     /// A stream becomes what is wanted, in every cutting if it is short.
-    fn relays_by_all_cuttings(&self, of: &dyn Judged) -> Result<(), LineError> {
+    fn relays_by_all_cuttings(&self, of: &dyn Judged) -> Verdict {
         if self.octets.len() > ALL_CUTTINGS {
             return self.relays_by_single_cuttings(of);
         }
@@ -216,7 +216,7 @@ impl<'a> Stream<'a> {
     }
 
     /// A stream becomes what is wanted, as a whole, cut at one place, and octet by octet.
-    fn relays_by_single_cuttings(&self, of: &dyn Judged) -> Result<(), LineError> {
+    fn relays_by_single_cuttings(&self, of: &dyn Judged) -> Verdict {
         let count = self.octets.len();
         if count <= LONG {
             self.relays(of, Cutting::Each)?;
@@ -231,7 +231,7 @@ impl<'a> Stream<'a> {
     }
 
     /// A relay that is fed the pieces of a stream, behind a piece of no octets, gives what is wanted.
-    fn relays(&self, of: &dyn Judged, cutting: Cutting) -> Result<(), LineError> {
+    fn relays(&self, of: &dyn Judged, cutting: Cutting) -> Verdict {
         let pieces = pieces(self.alloc, self.octets, cutting)?;
         let mut out = Vec::new(self.alloc);
         let found = of.relay(self.alloc, self.way, pieces.as_slice(), &mut out);
@@ -239,28 +239,25 @@ impl<'a> Stream<'a> {
             return Ok(());
         }
         let octets = shown(self.alloc, out.as_slice())?;
-        Err(self.streamed(format!(in self.alloc; "{cutting:?} gives {octets}; {found:?}")?)?)
+        self.streamed(format!(in self.alloc; "{cutting:?} gives {octets}; {found:?}")?)
     }
 
     /// A run from memory to memory gives what is wanted.
-    fn runs(&self, of: &dyn Judged) -> Result<(), LineError> {
-        let (found, sink) = of.run(
-            self.alloc,
-            self.way,
-            Vec::from_slice(self.alloc, self.octets)?,
-        );
+    fn runs(&self, of: &dyn Judged) -> Verdict {
+        let input = Vec::from_slice(self.alloc, self.octets)?;
+        let (found, sink) = of.run(self.alloc, self.way, input);
         if sink.octets() == self.wanted && found == self.answer.map_err(RunFault::Relay) {
             return Ok(());
         }
         let octets = shown(self.alloc, sink.octets())?;
-        Err(self.streamed(format!(in self.alloc; "a run gives {octets}; {found:?}")?)?)
+        self.streamed(format!(in self.alloc; "a run gives {octets}; {found:?}")?)
     }
 
-    /// The error that tells what came of a stream.
-    fn streamed(&self, found: String) -> Result<LineError, LineError> {
+    /// A line is wrong: the error tells what came of a stream.
+    fn streamed(&self, found: String) -> Verdict {
         let Way { from, to, .. } = self.way;
         let found = format!(in self.alloc; "a stream from {from:?} to {to:?}: {found}")?;
-        Ok(LineError::Otherwise(found))
+        Err(LineError::Otherwise(found))
     }
 }
 

@@ -12,7 +12,7 @@ use asn1_schema::{
 
 /// Components that are written as they were read.
 pub trait WriteComponents: ComponentsOf {
-    /// Hands over the records of the components, and the end of the sequence or set.
+    /// Writes the records of the components, and the end of the sequence or set.
     fn write_components<E: Encoder>(&self, encoder: &mut E) -> Result<(), EncodeError>
         ensures ok { OnOk result
             (WritesTail E.step Self.table (Self.root self.now) (Self.added self.now) encoder.old encoder.new) }
@@ -25,7 +25,7 @@ pub trait WriteComponents: ComponentsOf {
 
 /// Additions that are written as they were read.
 pub trait WriteAdditions: AdditionsOf {
-    /// Hands over the records of the additions, and the end of the sequence or set.
+    /// Writes the records of the additions, and the end of the sequence or set.
     fn write_additions<E: Encoder>(&self, encoder: &mut E) -> Result<(), EncodeError>
         ensures ok { OnOk result (WritesAdded E.step Self.additions (Self.parts self.now) encoder.old encoder.new) }
         ensures only { IfErr result (CannotWriteAdded E.step Self.additions (Self.parts self.now) encoder.old) }

@@ -19,7 +19,7 @@ pub use Rattle.asn1_schema_decode.proofs.Listing.{ReadsFrom, from_close, from_en
 pub use Rattle.asn1_schema_decode.proofs.Listing.{from_start, from_stuck, reads_list, unread_list, unread_list_here}
 pub use Rattle.asn1_schema_decode.proofs.Reading.{reads_as, reads_end, reads_field, reads_left_out, reads_required}
 pub use Rattle.asn1_schema_decode.proofs.Reading.{reads_sequence, reads_there, unread_as, unread_end, unread_field}
-pub use Rattle.asn1_schema_decode.proofs.Reading.{unread_field_here, unread_presence_bit, unread_marked, unread_required}
+pub use Rattle.asn1_schema_decode.proofs.Reading.{unread_field_here, unread_presence_bit, unread_present, unread_required}
 pub use Rattle.asn1_schema_decode.proofs.Reading.{unread_sequence, unread_sequence_here}
 pub use Rattle.asn1_schema_encode.proofs.Going.{failed_before_part, failed_before_value, passed}
 pub use Rattle.asn1_schema_encode.proofs.Writing.{cannot_as, cannot_end, cannot_field, cannot_field_here}

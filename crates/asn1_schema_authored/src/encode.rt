@@ -22,7 +22,7 @@ use asn1_schema_types::DefaultOf;
 
 /// Additions that are written.
 pub trait EncodeAdditions: AdditionsOf {
-    /// Hands over the records of the additions, and the end of the sequence or set.
+    /// Writes the records of the additions, and the end of the sequence or set.
     fn encode_additions<E: Encoder>(&self, encoder: &mut E) -> Result<(), EncodeError>
         ensures ok { OnOk result (WritesAdded E.step Self.additions (Self.parts self.now) encoder.old encoder.new) }
         ensures only { IfErr result (CannotWriteAdded E.step Self.additions (Self.parts self.now) encoder.old) }

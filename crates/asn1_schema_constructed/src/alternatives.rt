@@ -53,7 +53,7 @@ pub trait Choice: Alternatives {
     fn chosen(&self) -> Chosen
         ensures { result ≡ place self.now };
 
-    /// Hands over the records of the chosen alternative's value, each once, and answers the tag of the alternative.
+    /// Writes the records of the chosen alternative's value, each once, and answers the tag of the alternative.
     fn write_chosen<E: Encoder>(&self, encoder: &mut E) -> Result<Tag, EncodeError>
         ensures ok { IfOk result
             (λ _. Writes E.step (chosen_type Self.table (place self.now)) (inner self.now) encoder.old encoder.new) }

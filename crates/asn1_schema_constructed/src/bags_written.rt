@@ -12,7 +12,7 @@ use asn1_schema_tags::Tag;
 
 /// How a bag is written.
 pub trait EncodeBag: Encoder {
-    /// SET OF (X.680 28) under a size constraint, in a type of the program that holds so many members, handed over in
+    /// SET OF (X.680 28) under a size constraint, in a type of the program that holds so many members, written in
     /// any order.
     final fn encode_set_of<T: Encode>(
         &mut self,

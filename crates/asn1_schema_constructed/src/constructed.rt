@@ -41,7 +41,7 @@ pub trait Constructed: AsnType + Drop {
     fn is_extensible() -> bool
         ensures { result ≡ table.extensible };
 
-    /// Hands over the records of the components, each once, and the end.
+    /// Writes the records of the components, each once, and the end.
     fn write_fields<E: Encoder>(&self, encoder: &mut E) -> Result<(), EncodeError>
         ensures ok { OnOk result (WritesTail E.step table (root self.now) (added self.now) encoder.old encoder.new) }
         ensures only { IfErr result (CannotWriteTail E.step table (root self.now) (added self.now) encoder.old) }

@@ -15,7 +15,7 @@ use Rattle.asn1_schema_presented.proofs.OneValue.{one_value, one_part}
 use Rattle.asn1_schema_presented.proofs.Values.{not_empty, normal_field, fits_field}
 use Rattle.asn1_schema_presented.proofs.Same.{same_self}
 use Rattle.asn1_schema_decode.specs.Reads.{NoRecord, NoLevel, Reads, Unread, ReadsPart, UnreadPart, ReadsTail, UnreadTail}
-use Rattle.asn1_schema_presented.proofs.Joined.{presence_bits_at, tail_field, nothing_noted, there_records, marked_records}
+use Rattle.asn1_schema_presented.proofs.Joined.{presence_bits_at, tail_field, nothing_noted, there_records, present_records}
 
 not_at_end : {S : Type 0} (step : S → Record → S → Type 0) (n : ℕ) (ps qs : Parts) (a b : S) → TailFits n no_table ps qs → Chain step (tail_records n no_table ps qs) a b → (c : S) × step a ends c
 unfolding components_at PartsFit root_records added_records
@@ -50,7 +50,7 @@ module _ {S : Type 0} {step : S → Record → S → Type 0} where
         raw = there h.raw;
         fits = h.fits;
         means = rw (d, g) (ap there h.means);
-        chain = subst (λ rs. Chain step rs a c) (sym (marked_records o (s n) h.raw q (nothing_noted o (s n) h.raw g d))) (b, m, h.chain);
+        chain = subst (λ rs. Chain step rs a c) (sym (present_records o (s n) h.raw q (nothing_noted o (s n) h.raw g d))) (b, m, h.chain);
       }
 
   -- a default that is spelled out
@@ -113,8 +113,8 @@ module _ {S : Type 0} {step : S → Record → S → Type 0} where
 
   module _ (one : OneRecord step) where
     -- where a component ends
-    pub unread_marked : (o : Presence) {s : ℕ → Schema} {n : ℕ} {a b : S} {x : DecodeError} → is_required o ≡ false → step a (presence_bit true) b → Unread step s n b x → UnreadPart step o s n a x
-    unread_marked o {s} {n} {a} {b} r m h = record {
+    pub unread_present : (o : Presence) {s : ℕ → Schema} {n : ℕ} {a b : S} {x : DecodeError} → is_required o ≡ false → step a (presence_bit true) b → Unread step s n b x → UnreadPart step o s n a x
+    unread_present o {s} {n} {a} {b} r m h = record {
       none = λ w p c. elim p as (λ p. PartFits (λ v. Fits (s n) v) o p → Chain step (part_records (λ v. presents (s n) v) o (s n) p) a c → ⊥) [
         | left_out ↦ λ f q. let q' : Chain step (presence_bit false ∷ []) a c = rw r at q in let e : presence_bit false ≡ presence_bit true = (one a (presence_bit false) (presence_bit true) q'.0 b refl q'.1 m).0 in cc
         | there v ↦ λ f q. let q' : Chain step (presence_bit true ∷ (presents (s n) v ++ noted o (s n) v)) a c = rw r at q in

@@ -50,17 +50,17 @@ pub record UnreadPart {S : Type 0} (step : S → Record → S → Type 0) (o : P
   pub none : ¬ (x ≡ OutOfMemory) → (p : Part) (new : S) → PartFits (λ v. Fits (schema n) v) o p
       → Chain step (part_records (λ v. presents (schema n) v) o (schema n) p) old new → ⊥
 
--- One that may be absent is marked as there, and the records of its value follow.
-pub record ReadsMarked {S : Type 0} (step : S → Record → S → Type 0) (schema : ℕ → Schema) (n : ℕ) (v : Value)
+-- One that may be absent: a presence bit says that it is there, and the records of its value follow.
+pub record ReadsPresent {S : Type 0} (step : S → Record → S → Type 0) (schema : ℕ → Schema) (n : ℕ) (v : Value)
     (old new : S) : Type 0 where
-  pub marked : S
-  pub presence_bits : step old (presence_bit true) marked
-  pub reads : Reads step schema n v marked new
+  pub behind_presence_bit : S
+  pub presence_bits : step old (presence_bit true) behind_presence_bit
+  pub reads : Reads step schema n v behind_presence_bit new
 
 -- One that may be absent, there or not.
 abbrev pub ReadsOptional : {S : Type 0} → (S → Record → S → Type 0) → (ℕ → Schema) → ℕ → Part → S → S → Type 0
 ReadsOptional step schema n left_out old new = step old (presence_bit false) new
-ReadsOptional step schema n (there v) old new = ReadsMarked step schema n v old new
+ReadsOptional step schema n (there v) old new = ReadsPresent step schema n v old new
 
 pub record UnreadOptional {S : Type 0} (step : S → Record → S → Type 0) (schema : ℕ → Schema) (n : ℕ) (old : S)
     (x : DecodeError) : Type 0 where
@@ -70,9 +70,9 @@ pub record UnreadOptional {S : Type 0} (step : S → Record → S → Type 0) (s
 pub data ReadsDefault {S : Type 0} (step : S → Record → S → Type 0) (schema : ℕ → Schema) (n : ℕ) (d v : Value)
     (old new : S) : Type 0 where
   omitted : v ≡ d → step old (presence_bit false) new → ReadsDefault step schema n d v old new
-  spelled_out : same v d ≡ true → (behind : S) → ReadsMarked step schema n v old behind → step behind is_default new
+  spelled_out : same v d ≡ true → (behind : S) → ReadsPresent step schema n v old behind → step behind is_default new
       → ReadsDefault step schema n d v old new
-  other_value : same v d ≡ false → ReadsMarked step schema n v old new → ReadsDefault step schema n d v old new
+  other_value : same v d ≡ false → ReadsPresent step schema n v old new → ReadsDefault step schema n d v old new
 
 pub record UnreadDefault {S : Type 0} (step : S → Record → S → Type 0) (schema : ℕ → Schema) (n : ℕ) (d : Value)
     (old : S) (x : DecodeError) : Type 0 where

@@ -16,7 +16,7 @@ pub trait FrontReader<T: Decode> {
     ///
     /// # Errors
     ///
-    /// Want of memory aside, only where no octets in front, fewer than 2 to 60, are an encoding of a value that nests
+    /// Want of memory aside, only where no octets in front, fewer than 2^60, are an encoding of a value that nests
     /// at most 128 levels. Each call begins anew, and none answers `AlreadyFailed`.
     fn read_front(&self, alloc: Global, input: &[u8]) -> Result<(T, usize), DecodeError>
         ensures within { IfOk result (λ x. x.1 ≤ length input.now) }

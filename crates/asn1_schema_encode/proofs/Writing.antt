@@ -11,9 +11,9 @@ use Rattle.asn1_schema_presented.specs.Tables.{Table, no_table, with_field, comp
 use Rattle.asn1_schema_presented.specs.Chains.{Chain, OneAfter}
 use Rattle.asn1_schema_presented.proofs.Chains.{chain_append, chain_split, chain_rest}
 use Rattle.asn1_schema_presented.specs.Parts.{part_unless, tail_records}
-use Rattle.asn1_schema_encode.specs.Writes.{Refused, Writes, CannotWrite, WritesPart, CannotWritePart, WritesMarked, CannotWriteMarked, WritesUnless, CannotWriteUnless, WritesTail, CannotWriteTail}
+use Rattle.asn1_schema_encode.specs.Writes.{Refused, Writes, CannotWrite, WritesPart, CannotWritePart, WritesPresent, CannotWritePresent, WritesUnless, CannotWriteUnless, WritesTail, CannotWriteTail}
 use Rattle.asn1_schema_presented.proofs.Values.{not_empty}
-use Rattle.asn1_schema_presented.proofs.Joined.{is_there, presence_bits_at, nothing_noted, tail_field, tail_fits, there_records, marked_records}
+use Rattle.asn1_schema_presented.proofs.Joined.{is_there, presence_bits_at, nothing_noted, tail_field, tail_fits, there_records, present_records}
 
 module _ {S : Type 0} {step : S → Record → S → Type 0} where
   pub writes_required : {ts : List Tag} {s : ℕ → Schema} {v : Value} {a b : S} → IsType ts s → Writes step s v a b → WritesPart step required s (there v) a b
@@ -83,7 +83,7 @@ module _ {S : Type 0} {step : S → Record → S → Type 0} where
   cannot_presence_bit (by_default d) s (there v) b r h k = record { none = λ w n c f p. k.none w p.0 (rw h p.1) }
 
   pub writes_there : {ts : List Tag} (o : Presence) {s : ℕ → Schema} {v : Value} {a b c : S} → is_required o ≡ false → IsType ts s → ((n : ℕ) → is_at_default o (s n) v ≡ false) → step a (presence_bit true) b → Writes step s v b c → WritesPart step o s (there v) a c
-  writes_there o {s} {v} {a} {b} {c} r t d m h = record { chain = λ n f. subst (λ rs. Chain step rs a c) (sym (marked_records o (s n) v r (nothing_noted o (s n) v (not_empty (s n) (normal (s n) v) (t.no_group n)) (d n)))) (b, m, h.chain n f) }
+  writes_there o {s} {v} {a} {b} {c} r t d m h = record { chain = λ n f. subst (λ rs. Chain step rs a c) (sym (present_records o (s n) v r (nothing_noted o (s n) v (not_empty (s n) (normal (s n) v) (t.no_group n)) (d n)))) (b, m, h.chain n f) }
 
 -- sequences, by what their tables have
 module _ {S : Type 0} (step : S → Record → S → Type 0) (t : Table) {x : Bool} {k : ℕ} (e : k ≡ presence_bits t.root) (f : t.extensible ≡ x) where
@@ -109,32 +109,32 @@ writes_as {step = step} s t {v} {a} {b} e h = record { chain = λ n. subst (λ (
 pub cannot_as : {S : Type 0} {step : S → Record → S → Type 0} (s t : ℕ → Schema) {v : Value} {a : S} {x : EncodeError} → ((n : ℕ) → t n ≡ s n) → CannotWrite step s v a x → CannotWrite step t v a x
 cannot_as {step = step} s t {v} {a} e h = record { none = λ m n c. subst (λ (x : Schema). Fits x v → Chain step (presents x v) a c → ⊥) (sym (e n)) (h.none m n c) }
 
--- components that are marked, under constraints that are handed over
+-- components behind a presence bit, under constraints that are handed over
 module _ {S : Type 0} {step : S → Record → S → Type 0} {s : ℕ → Schema} {v : Value} where
-  pub writes_marked : {a b c : S} → step a (presence_bit true) b → Writes step s v b c → WritesMarked step s v a c
-  writes_marked {b = b} m h = record { marked = b; presence_bits = m; writes = h }
+  pub writes_present : {a b c : S} → step a (presence_bit true) b → Writes step s v b c → WritesPresent step s v a c
+  writes_present {b = b} m h = record { behind_presence_bit = b; presence_bits = m; writes = h }
 
-  pub cannot_marked_here : {a : S} {x : EncodeError} → Refused step (presence_bit true) a x → CannotWriteMarked step s v a x
-  cannot_marked_here h = record { none = λ w n b c m f p. h.none w b m }
+  pub cannot_present_here : {a : S} {x : EncodeError} → Refused step (presence_bit true) a x → CannotWritePresent step s v a x
+  cannot_present_here h = record { none = λ w n b c m f p. h.none w b m }
 
-  pub cannot_marked : OneAfter step → {a b : S} {x : EncodeError} → step a (presence_bit true) b → CannotWrite step s v b x → CannotWriteMarked step s v a x
-  cannot_marked one {a} {b} m h = record { none = λ w n y c k f p. h.none w n c f (subst (λ (z : S). Chain step (presents (s n) v) z c) (one a (presence_bit true) y b k m) p) }
+  pub cannot_present : OneAfter step → {a b : S} {x : EncodeError} → step a (presence_bit true) b → CannotWrite step s v b x → CannotWritePresent step s v a x
+  cannot_present one {a} {b} m h = record { none = λ w n y c k f p. h.none w n c f (subst (λ (z : S). Chain step (presents (s n) v) z c) (one a (presence_bit true) y b k m) p) }
 
-  -- what is marked under a type's own constraints is a component of the type
-  pub part_marked : {ts : List Tag} (o : Presence) {t : ℕ → Schema} {a c : S} → is_required o ≡ false → IsType ts t → ((n : ℕ) → is_at_default o (t n) v ≡ false) → ((n : ℕ) → t n ≡ s n) → WritesMarked step s v a c → WritesPart step o t (there v) a c
-  part_marked o {t} r k d e h = writes_there o r k d h.presence_bits (writes_as s t e h.writes)
+  -- what stands behind a presence bit under a type's own constraints is a component of the type
+  pub part_present : {ts : List Tag} (o : Presence) {t : ℕ → Schema} {a c : S} → is_required o ≡ false → IsType ts t → ((n : ℕ) → is_at_default o (t n) v ≡ false) → ((n : ℕ) → t n ≡ s n) → WritesPresent step s v a c → WritesPart step o t (there v) a c
+  part_present o {t} r k d e h = writes_there o r k d h.presence_bits (writes_as s t e h.writes)
 
-  pub cannot_part_marked : {ts : List Tag} (o : Presence) {t : ℕ → Schema} {a : S} {x : EncodeError} → is_required o ≡ false → IsType ts t → ((n : ℕ) → is_at_default o (t n) v ≡ false) → ((n : ℕ) → t n ≡ s n) → CannotWriteMarked step s v a x → CannotWritePart step o t (there v) a x
-  cannot_part_marked o {t} {a} r k d e h = record {
+  pub cannot_part_present : {ts : List Tag} (o : Presence) {t : ℕ → Schema} {a : S} {x : EncodeError} → is_required o ≡ false → IsType ts t → ((n : ℕ) → is_at_default o (t n) v ≡ false) → ((n : ℕ) → t n ≡ s n) → CannotWritePresent step s v a x → CannotWritePart step o t (there v) a x
+  cannot_part_present o {t} {a} r k d e h = record {
     none = λ w n c f p.
-        let q = subst (λ rs. Chain step rs a c) (marked_records o (t n) v r (nothing_noted o (t n) v (not_empty (t n) (normal (t n) v) (k.no_group n)) (d n))) p in
+        let q = subst (λ rs. Chain step rs a c) (present_records o (t n) v r (nothing_noted o (t n) v (not_empty (t n) (normal (t n) v) (k.no_group n)) (d n))) p in
         h.none w n q.0 c q.1 (subst (λ (y : Schema). Fits y v) (e n) f) (subst (λ (y : Schema). Chain step (presents y v) q.0 c) (e n) q.2);
   }
 
   pub part_unless_equal : {ts : List Tag} {d : Value} (b : Bool) {t : ℕ → Schema} {a c : S} → IsType ts t → IsValue t v → IsValue t d → b ≡ same v d → ((n : ℕ) → t n ≡ s n) → WritesUnless b step s v a c → WritesPart step (by_default d) t (part_unless b v) a c
   part_unless_equal {d = d} true {t} k i j q e h = writes_left_out (by_default d) t h
-  part_unless_equal {d = d} false k i j q e h = part_marked (by_default d) refl k (λ n. rw (i.normal n, j.normal n) (sym q)) e h
+  part_unless_equal {d = d} false k i j q e h = part_present (by_default d) refl k (λ n. rw (i.normal n, j.normal n) (sym q)) e h
 
   pub cannot_part_unless_equal : {ts : List Tag} {d : Value} (b : Bool) {t : ℕ → Schema} {a : S} {x : EncodeError} → IsType ts t → IsValue t v → IsValue t d → b ≡ same v d → ((n : ℕ) → t n ≡ s n) → CannotWriteUnless b step s v a x → CannotWritePart step (by_default d) t (part_unless b v) a x
   cannot_part_unless_equal {d = d} true {t} k i j q e h = cannot_presence_bit (by_default d) t left_out false refl refl h
-  cannot_part_unless_equal {d = d} false k i j q e h = cannot_part_marked (by_default d) refl k (λ n. rw (i.normal n, j.normal n) (sym q)) e h
+  cannot_part_unless_equal {d = d} false k i j q e h = cannot_part_present (by_default d) refl k (λ n. rw (i.normal n, j.normal n) (sym q)) e h

@@ -36,27 +36,27 @@ pub record CannotWritePart {S : Type 0} (step : S → Record → S → Type 0) (
   pub none : ¬ (e ≡ OutOfMemory) → (n : ℕ) (new : S) → PartFits (λ v. Fits (schema n) v) o x
       → Chain step (part_records (λ v. presents (schema n) v) o (schema n) x) old new → ⊥
 
--- One that may be absent is marked as there, and the records of its value follow.
-pub record WritesMarked {S : Type 0} (step : S → Record → S → Type 0) (schema : ℕ → Schema) (v : Value)
+-- One that may be absent: a presence bit says that it is there, and the records of its value follow.
+pub record WritesPresent {S : Type 0} (step : S → Record → S → Type 0) (schema : ℕ → Schema) (v : Value)
     (old new : S) : Type 0 where
-  pub marked : S
-  pub presence_bits : step old (presence_bit true) marked
-  pub writes : Writes step schema v marked new
+  pub behind_presence_bit : S
+  pub presence_bits : step old (presence_bit true) behind_presence_bit
+  pub writes : Writes step schema v behind_presence_bit new
 
-pub record CannotWriteMarked {S : Type 0} (step : S → Record → S → Type 0) (schema : ℕ → Schema) (v : Value) (old : S)
+pub record CannotWritePresent {S : Type 0} (step : S → Record → S → Type 0) (schema : ℕ → Schema) (v : Value) (old : S)
     (x : EncodeError) : Type 0 where
-  pub none : ¬ (x ≡ OutOfMemory) → (n : ℕ) (marked new : S) → step old (presence_bit true) marked → Fits (schema n) v
-      → Chain step (presents (schema n) v) marked new → ⊥
+  pub none : ¬ (x ≡ OutOfMemory) → (n : ℕ) (mid new : S) → step old (presence_bit true) mid → Fits (schema n) v
+      → Chain step (presents (schema n) v) mid new → ⊥
 
 -- One with a default is left out where it is equal to this.
 abbrev pub WritesUnless : Bool → {S : Type 0} → (S → Record → S → Type 0) → (ℕ → Schema) → Value → S → S → Type 0
 WritesUnless true step schema v old new = step old (presence_bit false) new
-WritesUnless false step schema v old new = WritesMarked step schema v old new
+WritesUnless false step schema v old new = WritesPresent step schema v old new
 
 abbrev pub CannotWriteUnless : Bool → {S : Type 0} → (S → Record → S → Type 0) → (ℕ → Schema) → Value → S
     → EncodeError → Type 0
 CannotWriteUnless true step schema v old x = Refused step (presence_bit false) old x
-CannotWriteUnless false step schema v old x = CannotWriteMarked step schema v old x
+CannotWriteUnless false step schema v old x = CannotWritePresent step schema v old x
 
 -- The same of what is left of a sequence.
 pub record WritesTail {S : Type 0} (step : S → Record → S → Type 0) (t : Table) (ps qs : Parts) (old new : S) : Type 0

@@ -6,8 +6,8 @@ ghost use Rattle.asn1_schema_presented.specs.Presents.{there, left_out};
 ghost use Rattle.asn1_schema_presented.specs.Tables.{presence_bits, sequence_type};
 ghost use Rattle.asn1_schema_presented.specs.Parts.{part_of, part_unless};
 ghost use Rattle.asn1_schema_constraints.specs.Terms.{meant};
-ghost use Rattle.asn1_schema_encode.specs.Writes.{Writes, CannotWrite, WritesPart, CannotWritePart, WritesMarked};
-ghost use Rattle.asn1_schema_encode.specs.Writes.{CannotWriteMarked, WritesUnless, CannotWriteUnless, WritesTail};
+ghost use Rattle.asn1_schema_encode.specs.Writes.{Writes, CannotWrite, WritesPart, CannotWritePart, WritesPresent};
+ghost use Rattle.asn1_schema_encode.specs.Writes.{CannotWritePresent, WritesUnless, CannotWriteUnless, WritesTail};
 ghost use Rattle.asn1_schema_encode.specs.Writes.{CannotWriteTail};
 
 use crate::encode::{Encode, Encoder};
@@ -18,7 +18,7 @@ use asn1_schema_types::{ComponentsOf, DefaultOf, Defaulted, End, Optional, Requi
 
 /// Components that are written.
 pub trait EncodeComponents: ComponentsOf {
-    /// Hands over the records of the components, and the end of the sequence.
+    /// Writes the records of the components, and the end of the sequence.
     fn encode_components<E: Encoder>(&self, encoder: &mut E) -> Result<(), EncodeError>
         ensures ok { OnOk result
             (WritesTail E.step Self.table (Self.root self.now) (Self.added self.now) encoder.old encoder.new) }
@@ -108,9 +108,9 @@ pub trait EncodeSequence: Encoder {
     where
         Self: Sized,
         ensures ok { OnOk result
-            (WritesMarked Self.step (T.under (meant constraints.entry)) (T.meaning value.now) self.old self.new) }
+            (WritesPresent Self.step (T.under (meant constraints.entry)) (T.meaning value.now) self.old self.new) }
         ensures only { IfErr result
-            (CannotWriteMarked Self.step (T.under (meant constraints.entry)) (T.meaning value.now) self.old) }
+            (CannotWritePresent Self.step (T.under (meant constraints.entry)) (T.meaning value.now) self.old) }
         ensures failed { OnErr result (Self.has_failed self.new) }
         ensures already { Self.has_failed self.old → result ≡ Err EncodeError.AlreadyFailed }
         ensures after { result ≡ Err EncodeError.AlreadyFailed → Self.has_failed self.old }

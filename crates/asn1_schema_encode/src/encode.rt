@@ -180,7 +180,7 @@ pub trait Encoder {
         ensures after { result ≡ Err EncodeError.AlreadyFailed → has_failed self.old };
 
     /// A SET OF begins (X.680 28) under a size constraint, in a type of the program that holds so many members,
-    /// with so many members. They are handed over in any order; the encoder puts them in the order that its rules
+    /// with so many members. They are written in any order; the encoder puts them in the order that its rules
     /// ask for (X.691 22 and X.696 19, in the ascending order of their complete encodings).
     fn begin_bag(
         &mut self,
@@ -218,7 +218,7 @@ pub trait Encoder {
         ensures after { result ≡ Err EncodeError.AlreadyFailed → has_failed self.old };
 
     /// A SET begins (X.680 27), with or without an extension marker, of whose root components so many may be
-    /// absent. They are handed over in the ascending order of their tags.
+    /// absent. They are written in the ascending order of their tags.
     fn begin_set(&mut self, tag: Tag, extensible: bool, optional: usize) -> Result<(), EncodeError>
         ensures ok { OnOk result (step self.old (set_begins extensible optional) self.new) }
         ensures only { IfErr result (Refused step (set_begins extensible optional) self.old) }
@@ -306,7 +306,7 @@ pub trait Encoder {
 
 /// A type whose values are written.
 pub trait Encode: AsnType {
-    /// Hands over the records of the value by its type under these constraints, each once.
+    /// Writes the records of the value by its type under these constraints, each once.
     fn encode_with_tag_and_constraints<E: Encoder>(
         &self,
         encoder: &mut E,
@@ -321,7 +321,7 @@ pub trait Encode: AsnType {
         ensures already { E.has_failed encoder.old → result ≡ Err EncodeError.AlreadyFailed }
         ensures after { result ≡ Err EncodeError.AlreadyFailed → E.has_failed encoder.old };
 
-    /// Hands over the records of the value by its type, each once.
+    /// Writes the records of the value by its type, each once.
     #[inline(always)]
     final fn encode<E: Encoder>(&self, encoder: &mut E) -> Result<(), EncodeError>
     where
@@ -354,7 +354,7 @@ pub trait Encode: AsnType {
         Ok(())
     }
 
-    /// Hands over the records of the value by its type under these constraints, each once.
+    /// Writes the records of the value by its type under these constraints, each once.
     #[inline(always)]
     final fn encode_with_constraints<E: Encoder>(
         &self,

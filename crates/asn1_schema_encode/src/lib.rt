@@ -2,6 +2,7 @@
 #![tactic(auto)]
 
 pub mod bmp;
+pub mod calls;
 pub mod characters;
 pub mod components;
 pub mod constrained;
@@ -18,6 +19,7 @@ pub mod sequences;
 pub mod strings;
 pub mod wide;
 
+pub use calls::{begin_record, go_on};
 pub use components::{EncodeComponents, EncodeSequence};
 pub use encode::{Encode, Encoder};
 pub use lists::EncodeList;

@@ -1,10 +1,18 @@
-//! Why a value has no encoding, why octets are no encoding, and which rules a codec follows.
+//! Why a value has no encoding, why octets are no encoding, how many octets an encoding may have, and which rules a
+//! codec follows.
 #![tactic(auto)]
 
 ghost use Rattle.std.specs.Prelude.{◌≡◌};
 ghost use Rattle.asn1_schema_faults.specs.declared.DecodeError.TheVariants.{OutOfMemory};
 ghost use Rattle.asn1_schema_faults.specs.declared.EncodeError.TheVariants.{OutOfMemory as NoRoom};
 
+mod bounds;
+mod identifiers;
+mod refusals;
+
+pub use bounds::{MOST_OCTETS, within_limit};
+pub use identifiers::identifier_fault;
+pub use refusals::refusal;
 use std::alloc::{AllocError, AllocFailed};
 use thiserror::Error;
 
@@ -66,13 +74,13 @@ pub enum DecodeError {
     /// A bit string has more than seven unused bits, or unused bits and no octet.
     #[error("the unused bits of a bit string are malformed")]
     InvalidBitString,
-    /// A filling bit of a preamble is set.
-    #[error("a filling bit of a preamble is set")]
+    /// An unused bit of a preamble is set.
+    #[error("an unused bit of a preamble is set")]
     InvalidPreamble,
     /// A presence bitmap has no octets, or a wrong first octet.
     #[error("a presence bitmap is malformed")]
     InvalidExtensionHeader,
-    /// A required addition is marked as absent, or there is no presence bitmap.
+    /// A required addition is absent in the presence bitmap, or there is no bitmap.
     #[error("a required addition is absent")]
     RequiredExtensionNotPresent,
     /// The canonical octet encoding rules refuse the form.

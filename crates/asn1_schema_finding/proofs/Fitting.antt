@@ -5,7 +5,7 @@ use Rattle.asn1_model.specs.Schema.{Schema, cut, boolean, null, integer, enumera
 use Rattle.asn1_model.specs.Lawful.{are_no_components}
 use Rattle.asn1_model.specs.Tables.{is_required}
 use Rattle.asn1_schema_presented.specs.Records.{Record, presence_bit, additions_begin, addition, addition_ends, ends, mismatch}
-use Rattle.asn1_schema_presented.specs.Presents.{presents, root_records, added_records, chosen_records, member_records, marked, noted, component_count, Fits, PartsFit, ChosenFits, AllFit}
+use Rattle.asn1_schema_presented.specs.Presents.{presents, root_records, added_records, chosen_records, member_records, with_presence_bit, noted, component_count, Fits, PartsFit, ChosenFits, AllFit}
 use Rattle.asn1_schema_presented.specs.Chains.{Chain}
 use Rattle.asn1_schema_presented.proofs.Chains.{chain_split}
 
@@ -16,7 +16,7 @@ module _ (S : Type 0) (step : S → Record → S → Type 0) (refused : (a b : S
   abbrev From : List Record → S → Type 0
   From rs b = (m : S) × Goes rs m b
 
-  behind_extension_bit : (q : Bool) (xs rest : List Record) (a b : S) → Goes (marked q xs ++ rest) a b → From (xs ++ rest) b
+  behind_extension_bit : (q : Bool) (xs rest : List Record) (a b : S) → Goes (with_presence_bit q xs ++ rest) a b → From (xs ++ rest) b
   behind_extension_bit true xs rest a b c = (a, c)
   behind_extension_bit false xs rest a b c = (c.0, c.2)
 

@@ -51,8 +51,8 @@ there_records optional s v e = rw e (ap (λ rs. presence_bit true ∷ rs) (appen
 there_records (by_default d) s v e = rw e (ap (λ rs. presence_bit true ∷ rs) (append_nothing (presents s v)))
 
 -- a value behind its extension marker
-pub marked_records : (o : Presence) (s : Schema) (v : Value) → is_required o ≡ false → noted o s v ≡ [] → part_records (λ w. presents s w) o s (there v) ≡ presence_bit true ∷ presents s v
-marked_records o s v r e = there_records o s v e ∙ rw r refl
+pub present_records : (o : Presence) (s : Schema) (v : Value) → is_required o ≡ false → noted o s v ≡ [] → part_records (λ w. presents s w) o s (there v) ≡ presence_bit true ∷ presents s v
+present_records o s v r e = there_records o s v e ∙ rw r refl
 
 -- a value that is not equal to its default
 pub not_default : {s : ℕ → Schema} {v d : Value} → IsValue s v → IsValue s d → same v d ≡ false → (n : ℕ) → is_at_default (by_default d) (s n) v ≡ false

@@ -10,7 +10,7 @@ use Rattle.asn1_model.specs.Normal.{is_at_default, is_group_left_out}
 use Rattle.asn1_model.specs.Tables.{is_required}
 use Rattle.asn1_model.specs.Lawful.{are_no_components}
 use Rattle.asn1_schema_presented.specs.Records.{Record, presence_bit, addition, addition_ends, additions_begin, is_default, is_empty, ends}
-use Rattle.asn1_schema_presented.specs.Presents.{presents, root_records, added_records, chosen_records, member_records, behind_root, component_count, marked, Fits, PartsFit, ChosenFits, AllFit}
+use Rattle.asn1_schema_presented.specs.Presents.{presents, root_records, added_records, chosen_records, member_records, behind_root, component_count, with_presence_bit, Fits, PartsFit, ChosenFits, AllFit}
 use Rattle.asn1_schema_presented.specs.Chains.{Chain}
 use Rattle.asn1_schema_presented.specs.Levels.{level, levels, inside, Level, LowersAt, Lowers, Nests, Both}
 
@@ -81,9 +81,9 @@ noted_level true g most l rest = refl
 noted_level false true most l rest = refl
 noted_level false false most l rest = refl
 
-marked_level : (r : Bool) (rs rest : List Record) (most l : ℕ) → levels most (marked r rs ++ rest) l ≡ levels most (rs ++ rest) l
-marked_level true rs rest most l = refl
-marked_level false rs rest most l = refl
+presence_bit_level : (r : Bool) (rs rest : List Record) (most l : ℕ) → levels most (with_presence_bit r rs ++ rest) l ≡ levels most (rs ++ rest) l
+presence_bit_level true rs rest most l = refl
+presence_bit_level false rs rest most l = refl
 
 -- a value that is there, what is noted behind it, and further records
 value_there : (s : Schema) (v : Value) → LowersAt s v → (d g : Bool) (rest : List Record) (most l : ℕ) → l ≤ most → levels most ((presents s v ++ noted_by d g) ++ rest) l ≡ cond (leb (depth v) l) (levels most rest l) None
@@ -95,10 +95,10 @@ value_there s v ih d g rest most l h =
 abbrev pub Root : Components → Type 0
 Root cs = (ps : Parts) → PartsFit cs ps → (rs more : List Record) (most l : ℕ) → l ≤ most → levels most (root_records cs ps rs ++ more) l ≡ cond (leb (depth_of_parts ps) l) (levels most (rs ++ more) l) None
 
-it_and_others : (cs : Components) (s : Schema) (v : Value) → LowersAt s v → Root cs → (r d g : Bool) (ps : Parts) → PartsFit cs ps → (rs more : List Record) (most l : ℕ) → l ≤ most → levels most ((marked r (presents s v ++ noted_by d g) ++ root_records cs ps rs) ++ more) l ≡ cond (leb (max (depth v) (depth_of_parts ps)) l) (levels most (rs ++ more) l) None
+it_and_others : (cs : Components) (s : Schema) (v : Value) → LowersAt s v → Root cs → (r d g : Bool) (ps : Parts) → PartsFit cs ps → (rs more : List Record) (most l : ℕ) → l ≤ most → levels most ((with_presence_bit r (presents s v ++ noted_by d g) ++ root_records cs ps rs) ++ more) l ≡ cond (leb (max (depth v) (depth_of_parts ps)) l) (levels most (rs ++ more) l) None
 it_and_others cs s v ih others r d g ps f rs more most l h =
-    ap (λ xs. levels most xs l) (append_assoc (marked r (presents s v ++ noted_by d g)) (root_records cs ps rs) more)
-    ∙ marked_level r (presents s v ++ noted_by d g) (root_records cs ps rs ++ more) most l
+    ap (λ xs. levels most xs l) (append_assoc (with_presence_bit r (presents s v ++ noted_by d g)) (root_records cs ps rs) more)
+    ∙ presence_bit_level r (presents s v ++ noted_by d g) (root_records cs ps rs ++ more) most l
     ∙ value_there s v ih d g (root_records cs ps rs ++ more) most l h
     ∙ behind (leb (depth v) l) _ _ (others ps f rs more most l h)
     ∙ both_within (depth v) (depth_of_parts ps) l (levels most (rs ++ more) l)

@@ -46,9 +46,9 @@ with_part (there v) ps = present v ps
 -- ---- records
 
 -- The presence bit before a component that is there, if there is one.
-abbrev pub marked : Bool → List Record → List Record
-marked true rs = rs
-marked false rs = presence_bit true ∷ rs
+abbrev pub with_presence_bit : Bool → List Record → List Record
+with_presence_bit true rs = rs
+with_presence_bit false rs = presence_bit true ∷ rs
 
 -- What follows a component that the normal form leaves out.
 abbrev pub noted : Presence → Schema → Value → List Record
@@ -57,7 +57,7 @@ noted o s v = cond (is_at_default o s v) (is_default ∷ []) (cond (is_group_lef
 -- The records of one root component, by those of its value (X.691 19.2 and 19.6, X.696 16).
 abbrev pub part_records : (Value → List Record) → Presence → Schema → Part → List Record
 part_records f o s left_out = cond (is_required o) (mismatch ∷ []) (presence_bit false ∷ [])
-part_records f o s (there v) = marked (is_required o) (f v ++ noted o s v)
+part_records f o s (there v) = with_presence_bit (is_required o) (f v ++ noted o s v)
 
 -- The records of one addition (X.691 19.7 to 19.9, X.696 16).
 abbrev pub addition_records : (Value → List Record) → Presence → Schema → Part → List Record
@@ -70,7 +70,7 @@ member_records f no_more = further false ∷ ends ∷ []
 member_records f (member v vs) = further true ∷ (f v ++ member_records f vs)
 
 -- What follows the root components: the additions, where there is an extension marker, and the end. Additions without
--- an extension marker, which no lawful type has, are handed over, and no codec takes them.
+-- an extension marker, which no lawful type has, are among the records, and no codec takes them.
 abbrev pub behind_root : Bool → Components → List Record → List Record
 behind_root e adds rs = cond (e || not (are_no_components adds)) (additions_begin (component_count adds) ∷ rs) rs
 

@@ -35,7 +35,7 @@ pub data Record : Type 0 where
   group_begins : ℕ → Record
   -- whether the next component is there, of those that may be absent
   presence_bit : Bool → Record
-  -- the component that was handed over is equal to its default, or a group in which nothing is left: no writer takes it
+  -- the component that was written is equal to its default, or a group in which nothing is left: no writer takes it
   is_default : Record
   is_empty : Record
   -- behind the root components of a type with an extension marker: how many additions it has

@@ -178,7 +178,7 @@ pub fn decoder(encoder: RecordEncoder) -> RecordDecoder {
     RecordDecoder::new(encoder.into_items(), CodecKind::Coer)
 }
 
-/// Hands a value to an encoder, through its bound.
+/// Writes a value to an encoder, through its bound.
 pub fn write<T: Encode, E: Encoder>(encoder: &mut E, value: &T) -> Result<(), EncodeError> {
     value.encode(encoder)
 }

@@ -20,7 +20,7 @@ use std::alloc::{AllocError, Global};
 
 /// A type of strings with calls of its name.
 trait Named: Encode + Decode + StaticPermittedAlphabet + PartialEq {
-    /// Hands the string to an encoder by the name of its type.
+    /// Writes the string to an encoder by the name of its type.
     fn write<E: EncodeNamed>(&self, encoder: &mut E) -> Result<(), EncodeError>;
 
     /// The string that a decoder finds by the name of its type.
@@ -169,7 +169,7 @@ fn are_strings(alloc: Global) -> Result<bool, PermittedAlphabetError> {
     )
 }
 
-/// Hands any value to an encoder, and a number with this tag around its own.
+/// Writes any value to an encoder, and a number with this tag around its own.
 fn write_any<E: EncodeNamed>(encoder: &mut E, any: &Any, tag: Tag) -> Result<(), EncodeError> {
     encoder.encode_any(Tag::OCTET_STRING, any, Identifier::OCTET_STRING)?;
     encoder.encode_explicit_prefix(tag, &7_u8, Identifier::INTEGER)
@@ -203,7 +203,7 @@ fn is_any_kept(alloc: Global) -> Result<bool, DecodeError> {
     is_read_as_written(alloc, &any)
 }
 
-/// Hands components that may be absent to an encoder: 1, 2, none and 4.
+/// Writes components that may be absent to an encoder: 1, 2, none and 4.
 fn write_optional<E: EncodeSequence>(encoder: &mut E, tag: Tag) -> Result<(), EncodeError> {
     encoder.encode_some_with_tag(tag, &1_u8)?;
     encoder.encode_some_with_tag_and_constraints(tag, &2_u8, Constraints::NONE)?;
@@ -254,7 +254,7 @@ impl DefaultOf<Integer> for Zero {
     ghost lawful = { integer_default _ _ _ refl };
 }
 
-/// Hands components with the default 0 to an encoder: the first number, and the second twice.
+/// Writes components with the default 0 to an encoder: the first number, and the second twice.
 fn write_defaults<E: EncodeSequence>(
     encoder: &mut E,
     tag: Tag,

@@ -8,7 +8,7 @@ use asn1_schema::{
 };
 use std::alloc::{AllocError, Global};
 
-/// Hands SET {.., OPTIONAL, ..., [[..]], .., ..} with nothing in its group to an encoder.
+/// Writes SET {.., OPTIONAL, ..., [[..]], .., ..} with nothing in its group to an encoder.
 fn write_group<E: Encoder>(encoder: &mut E) -> Result<(), EncodeError> {
     encoder.begin_set(Tag::SET, true, 1)?;
     encoder.begin_additions(3)?;
@@ -56,7 +56,7 @@ fn is_group_kept(alloc: Global) -> bool {
         && levels_of_group(&mut RecordDecoder::new(items, CodecKind::Oer)) == Ok((126, 128))
 }
 
-/// Hands the beginning of a set to an encoder, up to the end of an addition, whose group has not ended.
+/// Writes the beginning of a set to an encoder, up to the end of an addition, whose group has not ended.
 fn write_open_group<E: Encoder>(encoder: &mut E) -> Result<(), EncodeError> {
     encoder.begin_set(Tag::SET, true, 1)?;
     encoder.begin_additions(3)?;
@@ -113,8 +113,8 @@ fn is_addition_kept(alloc: Global) -> bool {
         )
 }
 
-/// An alternative that is written, the root alternatives, mark, additions and places of a choice that is read, and what
-/// is found.
+/// An alternative that is written, the root alternatives, extension marker, additions and places of a choice that is
+/// read, and what is found.
 type Row = (
     Chosen,
     &'static [Tag],
@@ -206,7 +206,7 @@ fn sets_and_choices(rt: HostRuntime) {
     assert!(rt; Chosen::addition(0).added && Chosen::addition(0) != Chosen::root(0));
 }
 
-/// Hands a colour to an encoder.
+/// Writes a colour to an encoder.
 fn write_colour<E: Encoder>(encoder: &mut E, colour: Colour) -> Result<(), EncodeError> {
     encoder.encode_enumerated(Tag::ENUMERATED, &colour, Identifier::EMPTY)
 }

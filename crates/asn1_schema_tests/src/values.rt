@@ -335,7 +335,7 @@ fn chain(alloc: Global) -> Result<Chain, AllocError> {
     })
 }
 
-/// Hands a chain of 1 and 2 to an encoder.
+/// Writes a chain of 1 and 2 to an encoder.
 fn write_chain<E: Encoder>(alloc: Global, encoder: &mut E) -> Result<(), EncodeError> {
     let chain = chain(alloc)?;
     write(encoder, &chain)

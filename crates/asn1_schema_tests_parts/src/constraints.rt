@@ -164,7 +164,7 @@ fn kinds_are_told() -> bool {
 }
 
 /// Whether an extension marker of either of two constraints stands, with what stands behind it.
-fn a_mark_stands() -> bool {
+fn a_marker_stands() -> bool {
     let further = [Value::new(Bounded::single_value(20))];
     let open = Extensible::new_extensible(from_to(0, 10), &further);
     let closed = open.extensible_with_constraints(None);
@@ -180,7 +180,7 @@ fn a_mark_stands() -> bool {
 #[test]
 fn constraints(rt: HostRuntime) {
     assert!(rt; are_met() && are_sizes() && lists_are_made());
-    assert!(rt; kinds_are_told() && a_mark_stands());
+    assert!(rt; kinds_are_told() && a_marker_stands());
 }
 
 /// Whether bounds of native numbers are those of whole numbers.

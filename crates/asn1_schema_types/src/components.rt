@@ -1,4 +1,4 @@
-//! The components of a sequence, one inside another, so that a type hands them over in one call.
+//! The components of a sequence, one inside another, so that a type writes them in one call.
 ghost use Rattle.std.specs.Prelude.{refl};
 ghost use Rattle.asn1_model.specs.Value.{Parts, end, same};
 ghost use Rattle.asn1_model.specs.Schema.{required, optional, by_default};

@@ -51,7 +51,7 @@ impl<T: AsnType> AsnType for SetOf<T> {
     }
 }
 
-/// The members are handed over as they stand; the encoder puts them in the order that its rules ask for.
+/// The members are written as they stand; the encoder puts them in the order that its rules ask for.
 impl<T: Encode> Encode for SetOf<T> {
     fn encode_with_tag_and_constraints<E: Encoder>(
         &self,

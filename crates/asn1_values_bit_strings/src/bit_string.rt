@@ -1,7 +1,7 @@
 //! Bit strings that own their bits.
 ghost use Rattle.std.specs.Prelude.{◌≡◌, ◌++◌, ◌∷◌, [], length, IsTrue, ◌↔◌, IfOk, OnOk, OnErr, slice_get};
 ghost use Rattle.asn1_model.specs.Numbers.{octet_bits, packed};
-ghost use Rattle.asn1_values_bits.specs.Octets.{filled_up};
+ghost use Rattle.asn1_values_bits.specs.Octets.{padded};
 
 use asn1_values_bits::{BitBuffer, BitStr};
 use std::alloc::{AllocError, Global};
@@ -118,8 +118,8 @@ impl BitString {
 
     /// The bits in octets, the first bit highest, and zero bits behind the last one.
     pub fn as_bytes(&self) -> &[u8]
-        ensures octets { result.now ≡ packed (filled_up self.now) }
-        ensures bits { octet_bits result.now ≡ filled_up self.now }
+        ensures octets { result.now ≡ packed (padded self.now) }
+        ensures bits { octet_bits result.now ≡ padded self.now }
     {
         self.buffer.as_bytes()
     }

@@ -4,7 +4,7 @@ use Rattle.std.proofs.lemmas.Nat.{shr_split, or_shifted, pow-add, shl-shr, shl_w
 use Rattle.std.proofs.Math.Nat.{mul_assoc}
 use Rattle.std.proofs.lemmas.List.{take_at, drop_at, append-nil, length-replicate, set_at, take_more, take_all, take-append-drop, take-take, take-append-le, length-take-le, length-take}
 use Rattle.asn1_model.specs.Numbers.{binary, octet_bits, missing}
-use Rattle.asn1_values_bits.specs.Octets.{filled_up}
+use Rattle.asn1_values_bits.specs.Octets.{padded}
 use Rattle.asn1_values_bits.specs.Kept.{IsKept}
 use Rattle.asn1_values_bits.proofs.Binary.{length-binary, binary_split, binary_cut, binary_low, binary_below, binary_shifted, binary_join, low_zeros, same_fronts, same_backs, length-octet_bits, octet_bits_push, octet_bits-take}
 
@@ -143,8 +143,8 @@ low_half old w v h =
     let all : (64 - w) + w ≡ 64 = omega arith in
     ap (λ l. old ++ l) (ap (λ k. binary w (v % 2 ^ k)) (sym all) ∙ binary_below w (64 - w) v)
 
-pub kept_filled : (len : ℕ) (os : List ℕ) (v : List Bool) → IsKept len os → take len (octet_bits os) ≡ v → octet_bits os ≡ filled_up v
-kept_filled len os v k e = kept_bits len os v k e ∙ ap (λ n. v ++ replicate (missing n) false) (sym (kept_length len os v k e))
+pub kept_padded : (len : ℕ) (os : List ℕ) (v : List Bool) → IsKept len os → take len (octet_bits os) ≡ v → octet_bits os ≡ padded v
+kept_padded len os v k e = kept_bits len os v k e ∙ ap (λ n. v ++ replicate (missing n) false) (sym (kept_length len os v k e))
 
 -- how long a list is that grew by digits
 pub grown : (new old : List Bool) (w n : ℕ) → new ≡ old ++ binary w n → length new ≡ length old + w

@@ -1,5 +1,5 @@
 pub mod Kept
-pub mod Filled
+pub mod Padded
 pub mod Refused
 pub mod Change
 pub mod Putting

@@ -8,7 +8,7 @@ use Rattle.std.specs.Cmp.{IsTotalOrder, IsEquivalence, IsPartialOrder, bool_cmp_
 use Rattle.std.specs.Cmp.{booleans_Decides, partial_order_from_agreeing_total}
 use Rattle.std.specs.Cmp.Lexicographic.{slice_cmp, pointwise, pointwise_decides, lists_total, lists_equiv, lists_ties}
 use Rattle.asn1_model.specs.Numbers.{packed}
-use Rattle.asn1_values_bits.specs.Octets.{filled_up}
+use Rattle.asn1_values_bits.specs.Octets.{padded}
 
 pub bits_total : IsTotalOrder (slice_cmp bool_cmp)
 bits_total = lists_total bool_cmp_total
@@ -33,7 +33,7 @@ bits_decides = pointwise_decides booleans_Decides
 
 -- what a hasher is fed: the number of bits, and their octets
 abbrev pub bits_fed : List Bool → fed.HashWrites
-bits_fed s = fed.usize (length s) ++ flat_map fed.u8 (packed (filled_up s))
+bits_fed s = fed.usize (length s) ++ flat_map fed.u8 (packed (padded s))
 
 pub bits_fed_alike : (xs ys : List Bool) → IsTrue (pointwise beq xs ys) → bits_fed xs ≡ bits_fed ys
 bits_fed_alike = (fed.same_Alike bits_fed bits_decides).fed

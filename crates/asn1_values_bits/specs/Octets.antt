@@ -3,8 +3,8 @@ use Rattle.std.specs.Prelude.{ℕ, ◌+◌, ◌-◌, ◌++◌, Bool, false, ◌|
 use Rattle.asn1_model.specs.Numbers.{missing}
 
 -- bits with zero bits behind them, up to whole octets
-abbrev pub filled_up : List Bool → List Bool
-filled_up bs = bs ++ replicate (missing (length bs)) false
+abbrev pub padded : List Bool → List Bool
+padded bs = bs ++ replicate (missing (length bs)) false
 
 -- two lists of bits ORed one by one, as far as both go
 abbrev pub ored : List Bool → List Bool → List Bool

@@ -1,9 +1,9 @@
-//! Bits that grow at their end, in whole octets of which the last is filled with zero bits.
+//! Bits that grow at their end, in whole octets of which the last is padded with zero bits.
 ghost use Rattle.std.specs.Prelude.{◌≡◌, ℕ, ◌+◌, ◌-◌, ◌*◌, ◌/◌, ◌%◌, ◌^◌, ◌<◌, ◌≤◌, Bool, List, [], ◌∷◌, ◌++◌};
 ghost use Rattle.std.specs.Prelude.{length, set, take, drop, replicate, false, IsTrue, ◌↔◌, IfOk, OnOk, OnErr};
 ghost use Rattle.std.specs.Prelude.{vec_len, slice_set};
 ghost use Rattle.asn1_model.specs.Numbers.{binary, missing, octet_bits, packed};
-ghost use Rattle.asn1_values_bits.specs.Octets.{filled_up};
+ghost use Rattle.asn1_values_bits.specs.Octets.{padded};
 
 use crate::BitStr;
 use std::alloc::{AllocError, Global};
@@ -62,8 +62,8 @@ impl BitBuffer {
 
     /// The bits in octets, the first bit highest, and zero bits behind the last one.
     pub fn as_bytes(&self) -> &[u8]
-        ensures octets { result.now ≡ packed (filled_up self.now) }
-        ensures bits { octet_bits result.now ≡ filled_up self.now }
+        ensures octets { result.now ≡ packed (padded self.now) }
+        ensures bits { octet_bits result.now ≡ padded self.now }
     {
         let octets = self.octets.as_slice();
         octets
@@ -71,8 +71,8 @@ impl BitBuffer {
 
     /// The octets themselves, as `as_bytes` shows them.
     pub fn into_vec(self) -> Vec<u8>
-        ensures octets { result.items ≡ packed (filled_up self) }
-        ensures bits { octet_bits result.items ≡ filled_up self }
+        ensures octets { result.items ≡ packed (padded self) }
+        ensures bits { octet_bits result.items ≡ padded self }
     {
         let BitBuffer { octets, len: _ } = self;
         octets
@@ -504,8 +504,9 @@ impl MadeWith<Global> for BitBuffer {
     }
 }
 
-// How many bits the last octet has left.
-fn free_bits(len: usize) -> u32
+/// How many bits the last octet has left behind so many: the bits that are missing to whole octets.
+#[inline(always)]
+pub fn free_bits(len: usize) -> u32
     ensures { result ≡ missing len }
 {
     ((8 - len % 8) % 8) as u32

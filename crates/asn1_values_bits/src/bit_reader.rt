@@ -3,7 +3,7 @@ ghost use Rattle.std.specs.Prelude.{◌≡◌, ◌+◌, ◌*◌, ◌%◌, ◌^�
 ghost use Rattle.std.specs.Prelude.{IsSome, IfSome, IfNone, IfOk, IfErr, IsOk, OnErr, IsOkAnd};
 ghost use Rattle.std.specs.Cow.{cow_slice_items, IsBorrowedSlice};
 ghost use Rattle.asn1_model.specs.Numbers.{binary, octet_bits};
-ghost use Rattle.asn1_values_bits.specs.Octets.{filled_up};
+ghost use Rattle.asn1_values_bits.specs.Octets.{padded};
 
 use crate::BitStr;
 use crate::bit_buffer::BitBuffer;
@@ -13,7 +13,8 @@ use std::borrow::CowSlice;
 use std::marker::Model;
 
 /// Bits that are still to be read, in octets that stand elsewhere. The first of them, up to 128, stand in a window as
-/// one number as well, from which they are answered.
+/// one number as well, from which they are answered: it is filled where bits are taken off as numbers (`take_bits`),
+/// and empty before.
 #[derive(Drop)]
 pub struct BitReader<'a> {
     rest: BitStr<'a>,
@@ -40,8 +41,10 @@ impl<'a> BitReader<'a> {
         ensures bits { result.bits ≡ bits_of bits.entry }
         ensures offset { result.offset ≡ offset_of bits.entry }
     {
-        let window = BitWindow::new(bits);
-        BitReader { rest: bits, window }
+        BitReader {
+            rest: bits,
+            window: BitWindow::empty(),
+        }
     }
 
     /// Reads all bits of the octets.
@@ -101,7 +104,7 @@ impl<'a> BitReader<'a> {
         Ok(BitReader { rest, window })
     }
 
-    // Takes the first bits off: off the window, or a new one is filled where it has no more.
+    // Takes the first bits off, off the window too, which is empty where it has no more.
     #[inline(always)]
     fn pass(&mut self, count: usize)
         requires { count ≤ length self.old.bits }
@@ -113,7 +116,7 @@ impl<'a> BitReader<'a> {
         if count < self.window.width() as usize {
             self.window.pass(count as u32);
         } else {
-            self.window = BitWindow::new(rest);
+            self.window = BitWindow::empty();
         }
     }
 
@@ -123,7 +126,7 @@ impl<'a> BitReader<'a> {
         requires { 0 < length self.now.bits }
         ensures { take 1 self.now.bits ≡ result ∷ [] }
     {
-        self.window.first_bits(1) == 1
+        self.first_bits(1) == 1
     }
 
     /// The number whose binary digits are the first bits, at most 64.
@@ -166,8 +169,11 @@ impl<'a> BitReader<'a> {
         ensures rest_offset { IfSome result (λ _. self.new.offset ≡ (self.old.offset + width) % 8) }
         ensures unchanged { IfNone result (self.new ≡ self.old) }
     {
-        if width > self.window.width() && width as usize > self.rest.len() {
-            return None;
+        if width > self.window.width() {
+            if width as usize > self.rest.len() {
+                return None;
+            }
+            self.window = BitWindow::new(self.rest);
         }
         let number = self.first_bits(width);
         self.pass(width as usize);
@@ -189,7 +195,7 @@ impl<'a> BitReader<'a> {
     ///
     /// Want of memory, and not where the octets are lent.
     pub fn octets(&self, alloc: Global) -> Result<CowSlice<'a, u8>, AllocError>
-        ensures octets { IfOk result (λ octets. octet_bits (cow_slice_items octets) ≡ filled_up self.now.bits) }
+        ensures octets { IfOk result (λ octets. octet_bits (cow_slice_items octets) ≡ padded self.now.bits) }
         ensures lent { self.now.offset ≡ 0 → length self.now.bits % 8 ≡ 0 → IsOkAnd result IsBorrowedSlice }
     {
         if let Some(octets) = self.rest.aligned_octets() {

@@ -17,7 +17,7 @@ impl<'a> BitStr<'a> {
     ghost use Rattle.std.specs.Prelude.{take, drop, [], ◌∷◌, slice_get};
     ghost use Rattle.asn1_model.specs.Numbers.{binary, octet_bits, packed};
     ghost use Rattle.asn1_values_bits.specs.BitStr.{bits_of, offset_of};
-    ghost use Rattle.asn1_values_bits.specs.Octets.{filled_up};
+    ghost use Rattle.asn1_values_bits.specs.Octets.{padded};
 
     /// No bits.
     pub fn new() -> Self
@@ -143,7 +143,7 @@ impl<'a> BitStr<'a> {
     // The first eight bits as an octet, with zero bits behind them where there are fewer, and the bits behind them.
     pub(crate) fn split_octet(&self) -> (u8, BitStr<'a>)
         requires { 0 < length (bits_of self.now) }
-        ensures octets { packed (filled_up (bits_of self.now)) ≡ result.0 ∷ packed (filled_up (bits_of result.1)) }
+        ensures octets { packed (padded (bits_of self.now)) ≡ result.0 ∷ packed (padded (bits_of result.1)) }
         ensures fewer { length (bits_of result.1) < length (bits_of self.now) }
     {
         let few = self.len().min(8);

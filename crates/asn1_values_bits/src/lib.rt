@@ -13,6 +13,6 @@ mod order;
 mod traits;
 
 pub use bit_appender::BitAppender;
-pub use bit_buffer::BitBuffer;
+pub use bit_buffer::{BitBuffer, free_bits};
 pub use bit_reader::BitReader;
 pub use bit_str::BitStr;

@@ -2,7 +2,7 @@
 use Rattle.std.proofs.Common.{◌≡◌, ℕ, ℤ, zero, suc, ◌+◌, ◌*◌, ◌<◌, ◌≤◌, pos, negsuc, Bool, true, false, not, IsTrue, List, [], ◌∷◌, length, take, replicate, get_or, refl, ap, sym, ◌∙◌, arith, Fits, w8}
 use Rattle.std.proofs.lemmas.List.{length-append, length-replicate, length-take-le}
 use Rattle.asn1_model.specs.Numbers.{octet_bits, packed, missing, complement, signed_octets}
-use Rattle.asn1_values_bits.specs.Octets.{filled_up}
+use Rattle.asn1_values_bits.specs.Octets.{padded}
 use Rattle.asn1_values_bits.proofs.Binary.{length-octet_bits}
 use Rattle.asn1_values_bits.proofs.Packed.{packed-octet_bits}
 use Rattle.asn1_values_natives.specs.Octets.{signed_number, signed_octets_of, is_padded}
@@ -14,7 +14,7 @@ none_missing : (n : ℕ) → missing (n * 8) ≡ 0
 none_missing n = omega arith
 
 -- as many octets as bits by eights
-pub octets_taken : (count : ℕ) (bits front : List Bool) (os items : List ℕ) → front ≡ take (count * 8) bits → count * 8 ≤ length bits → octet_bits os ≡ filled_up front → items ≡ os → length items ≡ count
+pub octets_taken : (count : ℕ) (bits front : List Bool) (os items : List ℕ) → front ≡ take (count * 8) bits → count * 8 ≤ length bits → octet_bits os ≡ padded front → items ≡ os → length items ≡ count
 octets_taken count bits front os items f h e i =
     let l : length front ≡ count * 8 = ap length f ∙ length-take-le (count * 8) bits h in
     let m : missing (length front) ≡ 0 = ap missing l ∙ none_missing count in
@@ -42,9 +42,9 @@ pub bare : (r p : Bool) → r ≡ p → IsTrue (not r) → p ≡ false
 bare true p e h = cc h
 bare false p e h = sym e
 
-pub padded : (r p : Bool) → r ≡ p → not r ≡ false → p ≡ true
-padded true p e h = sym e
-padded false p e h = cc h
+pub leading_padding : (r p : Bool) → r ≡ p → not r ≡ false → p ≡ true
+leading_padding true p e h = sym e
+leading_padding false p e h = cc h
 
 -- how many octets a number has
 pub fewest_count : (os : List ℕ) (n : ℤ) → ((i : ℕ) → Fits w8 (get_or os i 0)) → n ≡ signed_number os → is_padded os ≡ false → 0 < length os → signed_octets n ≡ length os

@@ -40,7 +40,7 @@ impl<K: TextKind> RestrictedString<K> {
     }
 }
 
-/// Shown as its characters, cut and filled as a text is.
+/// Shown as its characters, cut and padded as a text is.
 impl<K: TextKind> fmt::Display for RestrictedString<K> {
     ghost output = { λ s. Some s };
 

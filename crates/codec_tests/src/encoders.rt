@@ -77,8 +77,8 @@ fn one_worker_for_more_messages(rt: HostRuntime) -> Result<(), Fail> {
     Ok(())
 }
 
-/// Writes true: whether it alone is put out.
-fn puts_out_true(encoder: &mut Encoder<'_>) -> Result<bool, EncodeError> {
+/// Writes true: whether it alone is the output.
+fn outputs_true(encoder: &mut Encoder<'_>) -> Result<bool, EncodeError> {
     true.encode(encoder)?;
     Ok(encoder.output().as_slice() == [0xFF].as_slice())
 }
@@ -91,10 +91,10 @@ fn fails_for_good(encoder: &mut Encoder<'_>) -> bool {
             == Err(EncodeError::AlreadyFailed)
 }
 
-/// Whether values that are written one after the other are each put out alone, until the encoder fails.
-fn puts_out_two(encoder: &mut Encoder<'_>) -> Result<bool, EncodeError> {
-    let first = puts_out_true(encoder)?;
-    let second = puts_out_true(encoder)?;
+/// Whether values that are written one after the other are each the output alone, until the encoder fails.
+fn outputs_two(encoder: &mut Encoder<'_>) -> Result<bool, EncodeError> {
+    let first = outputs_true(encoder)?;
+    let second = outputs_true(encoder)?;
     Ok(first && second && fails_for_good(encoder))
 }
 
@@ -104,22 +104,22 @@ fn two_are_put_out(alloc: Global) -> Result<bool, EncodeError> {
     let mut worker = Vec::new(alloc);
     let options = EncoderOptions::coer();
     let mut encoder = Encoder::from_buffer(alloc, options, &mut buffer, &mut worker);
-    puts_out_two(&mut encoder)
+    outputs_two(&mut encoder)
 }
 
 /// Begins an addition of a choice that is not extensible, and so has none.
-fn begin_without_mark<E: Writing>(encoder: &mut E, additions: &[Tag]) -> Result<(), EncodeError> {
+fn begin_without_marker<E: Writing>(encoder: &mut E, additions: &[Tag]) -> Result<(), EncodeError> {
     let roots = [Tag::new_context(0), Tag::new_context(1)];
     encoder.begin_choice(Tag::CHOICE, &roots, false, additions, Chosen::addition(0))
 }
 
 /// Whether an encoder of octets refuses that.
-fn refuses_without_mark(alloc: Global) -> bool {
+fn refuses_without_marker(alloc: Global) -> bool {
     let mut buffer = Vec::new(alloc);
     let mut worker = Vec::new(alloc);
     let options = EncoderOptions::coer();
     let mut encoder = Encoder::from_buffer(alloc, options, &mut buffer, &mut worker);
-    let answer = begin_without_mark(&mut encoder, &[Tag::new_context(2)]);
+    let answer = begin_without_marker(&mut encoder, &[Tag::new_context(2)]);
     answer == Err(EncodeError::ValueConstraintNotSatisfied)
 }
 
@@ -127,7 +127,7 @@ fn refuses_without_mark(alloc: Global) -> bool {
 fn encoders_that_have_failed(rt: HostRuntime) {
     let alloc = rt.alloc();
     assert!(rt; two_are_put_out(alloc) == Ok(true));
-    assert!(rt; refuses_without_mark(alloc));
+    assert!(rt; refuses_without_marker(alloc));
 }
 
 /// Whether the octet of TRUE is taken from an encoder once, and of what is left then, which is nothing, the octet of no
@@ -163,5 +163,5 @@ fn what_is_held_is_taken_once(rt: HostRuntime) -> Result<(), Fail> {
 #[test]
 fn an_added_alternative_without_an_extension_marker(rt: HostRuntime) {
     let mut encoder = uper::Encoder::new(rt.alloc(), uper::EncoderOptions::aligned());
-    assert!(rt; begin_without_mark(&mut encoder, &[]).is_err());
+    assert!(rt; begin_without_marker(&mut encoder, &[]).is_err());
 }

@@ -480,7 +480,7 @@ const OF_TWO: &[Step] = bag!(2, (true, 1), (false, 2));
 
 const OF_THREE: &[Step] = bag!(3, (true, 1), (false, 2), (false, 3));
 
-/// The members of a bag stand in their order, also behind other bits, and are filled where they stand. Three are too
+/// The members of a bag stand in their order, also behind other bits, and are padded where they stand. Three are too
 /// many here.
 #[test]
 fn bags_behind_a_bit(rt: HostRuntime) -> Result<(), Fail> {

@@ -6,7 +6,8 @@ use Rattle.asn1_model.specs.Value.{Value, depth}
 use Rattle.asn1_model.specs.Normal.{normal}
 use Rattle.asn1_model.specs.Rules.{octet_encoding, encoding, of_moderate_length}
 use Rattle.asn1_schema_faults.specs.declared.EncodeError.{EncodeError}
-use Rattle.asn1_schema_faults.specs.declared.EncodeError.TheVariants.{SizeConstraintNotSatisfied, TooLongValue, CallOutOfPlace, OutOfMemory}
+use Rattle.asn1_schema_faults.specs.declared.EncodeError.TheVariants.{TooLongValue, OutOfMemory}
+use Rattle.asn1_schema_faults.proofs.Passing.{PassedOn, never_long, no_memory_before}
 use Rattle.asn1_schema_encode.specs.Writes.{Writes, CannotWrite}
 use Rattle.asn1_schema_presented.specs.Records.{Record}
 use Rattle.asn1_schema_presented.specs.Presents.{presents, Fits}
@@ -79,20 +80,6 @@ written_all schema v start new os e f i w =
     let x : Writes Puts schema v nothing_held new = subst (λ s. Writes Puts schema v s new) (begins start os e f) w in
     let t = writes_the_octets is_writer schema v nothing_held new i refl x in
     (still_ready _ nothing_held new (x.chain (depth v) (i.fits (depth v) (omega arith))) refl, t.0, t.1, text_written schema v new i x)
-
--- how a refusal is passed on
-pub record PassedOn (x e : EncodeError) : Type 0 where
-  pub length : x ≡ TooLongValue → e ≡ SizeConstraintNotSatisfied
-  pub place : x ≡ CallOutOfPlace → e ≡ SizeConstraintNotSatisfied
-  pub others : ¬ (x ≡ TooLongValue) → ¬ (x ≡ CallOutOfPlace) → e ≡ x
-
-never_long : (x e : EncodeError) → PassedOn x e → ¬ (e ≡ TooLongValue)
-never_long TooLongValue e p h = let q : SizeConstraintNotSatisfied ≡ TooLongValue = sym (p.length refl) ∙ h in cc
-never_long CallOutOfPlace e p h = let q : SizeConstraintNotSatisfied ≡ TooLongValue = sym (p.place refl) ∙ h in cc
-never_long x e p h = let q : x ≡ TooLongValue = sym (p.others (λ z. cc) (λ z. cc)) ∙ h in cc
-
-no_memory_before : (x e : EncodeError) → PassedOn x e → ¬ (e ≡ OutOfMemory) → ¬ (x ≡ OutOfMemory)
-no_memory_before x e p n h = n (p.others (λ z. let q : OutOfMemory ≡ TooLongValue = sym h ∙ z in cc) (λ z. let q : OutOfMemory ≡ CallOutOfPlace = sym h ∙ z in cc) ∙ h)
 
 -- a value whose records are refused has none
 pub refused_all : (schema : ℕ → Schema) (v : Value) (start : Written) (os : List ℕ) (x e : EncodeError) → start ≡ record { state = (os, []); failed = false } → os ≡ [] → IsValue schema v → CannotWrite Puts schema v start x → PassedOn x e → NotEncoded schema v e

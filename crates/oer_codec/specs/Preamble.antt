@@ -5,9 +5,9 @@ use Rattle.asn1_model.specs.Form.{is_present}
 use Rattle.oer_codec_fronts.specs.Takes.{Scope, components}
 use Rattle.asn1_schema_finding.specs.PresenceBits.{preamble_bits}
 
--- Bits, filled up with zeros to octets, stand in front.
-abbrev pub FilledBits : List Bool → List ℕ → List ℕ → Type 0
-FilledBits bs os rest = (w : List ℕ) × (packed (bs ++ replicate (missing (length bs)) false) ≡ w) × (w ++ rest ≡ os)
+-- Bits, and unused ones that are zero up to whole octets, stand in front.
+abbrev pub WithUnusedBits : List Bool → List ℕ → List ℕ → Type 0
+WithUnusedBits bs os rest = (w : List ℕ) × (packed (bs ++ replicate (missing (length bs)) false) ≡ w) × (w ++ rest ≡ os)
 
 -- The extension bit, if there is one, and so many presence bits, in front of further bits, and the scope that they
 -- open.
@@ -19,5 +19,5 @@ HasBits e n s bs more = ⊥
 -- scope that it opens.
 abbrev pub HasPreamble : Bool → ℕ → Scope → List ℕ → List ℕ → Type 0
 HasPreamble e n (components x ms) os rest = (is_present x ≡ e) × (length ms ≡ n)
-    × FilledBits (preamble_bits x ms) os rest
+    × WithUnusedBits (preamble_bits x ms) os rest
 HasPreamble e n s os rest = ⊥

@@ -10,10 +10,10 @@ use Rattle.oer_codec_fronts.specs.Takes.{Scope, State, components, AdditionsBegi
 use Rattle.oer_codec_fronts.specs.Takes.{Enters, Chooses, Ends}
 
 -- No bitmap of additions (X.696 16.4).
-pub record NoAdditions (free : Oer.Freedom → Bool) (marked : Bool) (n : ℕ) (os : List ℕ) (e : DecodeError) : Type 0
+pub record NoAdditions (free : Oer.Freedom → Bool) (is_extended : Bool) (n : ℕ) (os : List ℕ) (e : DecodeError) : Type 0
   where
     pub none : ¬ (e ≡ OutOfMemory) → (k : List Scope) (b : State)
-        → AdditionsBegin free n os (components (Some marked) [] ∷ k) b → ⊥
+        → AdditionsBegin free n os (components (Some is_extended) [] ∷ k) b → ⊥
     pub fresh : ¬ (e ≡ AlreadyFailed)
 
 -- No open type (X.696 30).

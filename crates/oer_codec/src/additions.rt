@@ -70,7 +70,7 @@ fn among<'input>(bitmap: BitReader<'input>, count: usize) -> Additions<'input>
 }
 
 /// Reads what stands in front of the additions of a sequence, of which the type has so many: nothing where the
-/// extension marker is not set, else a presence bitmap of any width.
+/// extension bit is not set, else a presence bitmap of any width.
 ///
 /// # Errors
 ///
@@ -79,14 +79,14 @@ fn among<'input>(bitmap: BitReader<'input>, count: usize) -> Additions<'input>
 pub(crate) fn read_additions<'input>(
     cursor: &mut Cursor<'input>,
     rules: EncodingRules,
-    marked: bool,
+    is_extended: bool,
     count: usize,
 ) -> Result<Additions<'input>, DecodeError>
     ensures ok { IfOk result (λ a. (k : _) → AdditionsBegin (freedoms rules) count cursor.old
-        (components (Some marked) [] ∷ k) (cursor.new, added (bits_due a) a.unknown.bits ∷ k)) }
-    ensures only { IfErr result (NoAdditions (freedoms rules) marked count cursor.old) }
+        (components (Some is_extended) [] ∷ k) (cursor.new, added (bits_due a) a.unknown.bits ∷ k)) }
+    ensures only { IfErr result (NoAdditions (freedoms rules) is_extended count cursor.old) }
 {
-    if !marked {
+    if !is_extended {
         return Ok(among(BitReader::new(BitStr::new()), count));
     }
     let bitmap = read_bitmap(cursor, rules)?;

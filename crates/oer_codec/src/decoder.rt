@@ -62,7 +62,7 @@ impl<'input> Model for Decoder<'input> {
 }
 
 impl<'input> Decoder<'input> {
-    /// A decoder of this input by the rules of these options, within 128 nested levels. Of an input of 2 to 60 octets
+    /// A decoder of this input by the rules of these options, within 128 nested levels. Of an input of 2^60 octets
     /// or more the first ones are looked at, fewer than so many.
     #[inline(always)]
     pub fn new(alloc: Global, input: &'input [u8], options: DecoderOptions) -> Self
@@ -449,10 +449,10 @@ impl<'input> asn1_schema_decode::Decoder for Decoder<'input> {
     #[inline(always)]
     fn begin_additions(&mut self, count: usize) -> Result<(), DecodeError> {
         self.begin_record()?;
-        let Some(marked) = self.scopes.extension_bit() else {
+        let Some(is_extended) = self.scopes.extension_bit() else {
             return Err(self.fail(DecodeError::NotValidCanonicalEncoding));
         };
-        match read_additions(&mut self.cursor, self.rules, marked, count) {
+        match read_additions(&mut self.cursor, self.rules, is_extended, count) {
             Ok(additions) => {
                 self.scopes.replace(Frame::Added(additions));
                 Ok(())

@@ -22,11 +22,12 @@ use std::alloc::Global;
 ///
 /// Want of memory aside, only where the value has no encoding: `ValueConstraintNotSatisfied`,
 /// `SizeConstraintNotSatisfied`, or
-/// `TooLongValue` for 2 to 60 octets and more and for nothing else.
+/// `TooLongValue` for 2^60 octets and more and for nothing else.
 pub fn encode<T: Encode>(alloc: Global, value: &T) -> Result<Vec<u8>, EncodeError>
     ensures ok { IfOk result (λ octets. IsEncoded T.schema (T.meaning value.now) octets.items) }
     ensures only { IfErr result (NotEncoded T.schema (T.meaning value.now)) }
     ensures fresh { IfErr result (λ e. e ≡ EncodeError.AlreadyFailed → ⊥) }
+    ensures fits { IfErr result (λ e. e ≡ EncodeError.LengthExceedsPlatformSize → ⊥) }
     ensures in_place { IfErr result (λ e. e ≡ EncodeError.CallOutOfPlace → ⊥) }
 {
     let octets = crate::writing::encode(alloc, value)?;
@@ -49,6 +50,7 @@ pub fn encode_buf<T: Encode>(
         × IsEncoded T.schema (T.meaning value.now) octets × (buffer.new.items ≡ buffer.old.items ++ octets)) }
     ensures only { IfErr result (NotEncoded T.schema (T.meaning value.now)) }
     ensures fresh { IfErr result (λ e. e ≡ EncodeError.AlreadyFailed → ⊥) }
+    ensures fits { IfErr result (λ e. e ≡ EncodeError.LengthExceedsPlatformSize → ⊥) }
     ensures in_place { IfErr result (λ e. e ≡ EncodeError.CallOutOfPlace → ⊥) }
     ensures same { OnErr result (buffer.new.items ≡ buffer.old.items) }
 {
@@ -70,6 +72,7 @@ pub fn encode_with_constraints<T: Encode>(
         (λ octets. IsEncoded (T.under (meant constraints.entry)) (T.meaning value.now) octets.items) }
     ensures only { IfErr result (NotEncoded (T.under (meant constraints.entry)) (T.meaning value.now)) }
     ensures fresh { IfErr result (λ e. e ≡ EncodeError.AlreadyFailed → ⊥) }
+    ensures fits { IfErr result (λ e. e ≡ EncodeError.LengthExceedsPlatformSize → ⊥) }
     ensures in_place { IfErr result (λ e. e ≡ EncodeError.CallOutOfPlace → ⊥) }
 {
     let octets = crate::writing::encode_with_constraints(alloc, constraints, value)?;
@@ -80,7 +83,7 @@ pub fn encode_with_constraints<T: Encode>(
 ///
 /// # Errors
 ///
-/// Want of memory aside, only where no octets in front, fewer than 2 to 60, are an encoding of a value that nests at
+/// Want of memory aside, only where no octets in front, fewer than 2^60, are an encoding of a value that nests at
 /// most 128 levels.
 pub fn decode<T: Decode>(alloc: Global, input: &[u8]) -> Result<T, DecodeError>
     ensures ok { IfOk result (λ x. (rest : List ℕ) × Tells oer T.schema (T.meaning x) input.now rest) }

@@ -1,6 +1,5 @@
 //! The preamble of a sequence (X.696 16.2).
 ghost use Rattle.std.specs.Prelude.{◌≡◌, ◌+◌, ◌*◌, ◌^◌, ◌<◌, ◌≤◌, [], ◌∷◌, ◌++◌, cond, length, IfOk, IfErr};
-ghost use Rattle.asn1_model.specs.Numbers.{missing};
 ghost use Rattle.oer_codec.specs.Preamble.{HasBits, HasPreamble};
 ghost use Rattle.oer_codec.specs.Scopes.{scope_of};
 
@@ -8,14 +7,7 @@ use crate::frames::{Frame, first_bit};
 use asn1_schema_faults::DecodeError;
 use asn1_values_bits::BitReader;
 use oer_codec_reading::{Cursor, are_zero};
-
-/// How many octets the preamble has, whose bits fill whole octets.
-#[inline(always)]
-fn preamble_len(extensible: bool, optional: usize) -> usize
-    ensures { result * 8 ≡ (cond extensible 1 0 + optional) + missing (cond extensible 1 0 + optional) }
-{
-    optional / 8 + (optional % 8 + usize::from(extensible) + 7) / 8
-}
+use oer_codec_writing::preamble_len;
 
 /// Takes off the extension bit, if there is one, and the presence bits.
 #[inline(always)]
@@ -41,11 +33,11 @@ fn take_presence<'input>(
 }
 
 /// Reads the preamble of a sequence, with or without an extension marker, of which so many components may be
-/// absent: the extension bit, if there is one, the presence bits, and zeros to fill an octet.
+/// absent: the extension bit, if there is one, the presence bits, and unused bits that are zero.
 ///
 /// # Errors
 ///
-/// `Incomplete` if the octets end early, and `InvalidPreamble` if one of the bits that fill an octet is set.
+/// `Incomplete` if the octets end early, and `InvalidPreamble` if an unused bit is set.
 #[inline(always)]
 pub(crate) fn read_preamble<'input>(
     cursor: &mut Cursor<'input>,

@@ -9,7 +9,7 @@ use Rattle.asn1_model.specs.Numbers.{missing}
 use Rattle.asn1_model.specs.Form.{refused, both, varied, only_if, written}
 use Rattle.asn1_model.specs.Oer
 use Rattle.asn1_schema_presented.specs.Records.{Record, presence_bit, is_default, is_empty, ends, mismatch}
-use Rattle.asn1_schema_presented.specs.Presents.{presents, root_records, optional_count, marked}
+use Rattle.asn1_schema_presented.specs.Presents.{presents, root_records, optional_count, with_presence_bit}
 use Rattle.oer_codec_encoder.proofs.Still.{OctetsStill, still_if, counted_still, integer_still, item_still, bit_string_still, octets_still}
 use Rattle.oer_codec_encoder.specs.Steps.{Scope, components, State, adds_text, runs}
 use Rattle.oer_codec_encoder.specs.Ties.{BridgesAt, Bridges}
@@ -121,7 +121,7 @@ it_and_others e cs s v h others d g ps p ms front os k rs more =
     ∙ chain_same (written (spelled_by d g (Oer.form s v)) p) _ (λ a. option_and_then (λ b. runs (rs ++ more) ((os ++ a) ++ b, components e 0 (ms ++ presence_bits cs ps) front ∷ k)) (written (Oer.component_forms cs ps) (p + length a))) (λ a. others ps (p + length a) ms front (os ++ a) k rs more)
     ∙ two_texts (written (spelled_by d g (Oer.form s v)) p) (λ a. written (Oer.component_forms cs ps) (p + length a)) os (λ w. runs (rs ++ more) (w, components e 0 (ms ++ presence_bits cs ps) front ∷ k))
 
-one_there : (e r : Bool) (cs : Components) (s : Schema) (v : Value) → BridgesAt s v → Root e cs → (d g : Bool) (ps : Parts) (p : ℕ) (ms : List Bool) (front os : List ℕ) (k : List Scope) (rs more : List Record) → runs ((marked r (presents s v ++ noted_by d g) ++ root_records cs ps rs) ++ more) (os, components e (cond r (optional_count cs) (suc (optional_count cs))) ms front ∷ k) ≡ option_and_then (λ w. runs (rs ++ more) (os ++ w, components e 0 (ms ++ presence_bit_unless r true (presence_bits cs ps)) front ∷ k)) (written (both (spelled_by d g (Oer.form s v)) (Oer.component_forms cs ps)) p)
+one_there : (e r : Bool) (cs : Components) (s : Schema) (v : Value) → BridgesAt s v → Root e cs → (d g : Bool) (ps : Parts) (p : ℕ) (ms : List Bool) (front os : List ℕ) (k : List Scope) (rs more : List Record) → runs ((with_presence_bit r (presents s v ++ noted_by d g) ++ root_records cs ps rs) ++ more) (os, components e (cond r (optional_count cs) (suc (optional_count cs))) ms front ∷ k) ≡ option_and_then (λ w. runs (rs ++ more) (os ++ w, components e 0 (ms ++ presence_bit_unless r true (presence_bits cs ps)) front ∷ k)) (written (both (spelled_by d g (Oer.form s v)) (Oer.component_forms cs ps)) p)
 one_there e true cs s v h others d g ps p ms front os k rs more = it_and_others e cs s v h others d g ps p ms front os k rs more
 one_there e false cs s v h others d g ps p ms front os k rs more =
     it_and_others e cs s v h others d g ps p (ms ++ true ∷ []) front os k rs more

@@ -4,7 +4,7 @@ use Rattle.std.proofs.lemmas.List.{append-nil, set-append_left, set-append_right
 use Rattle.asn1_model.specs.Form.{written, exactly, both}
 use Rattle.asn1_model.specs.Numbers.{binary, octet_bits, packed, missing}
 use Rattle.asn1_model.specs.Oer
-use Rattle.asn1_values_bits.specs.Octets.{filled_up}
+use Rattle.asn1_values_bits.specs.Octets.{padded}
 use Rattle.asn1_values_bits.proofs.Binary.{length-octet_bits}
 use Rattle.asn1_values_bits.proofs.Change.{kept_changed}
 use Rattle.asn1_schema_faults.specs.declared.EncodeError.{EncodeError}
@@ -50,25 +50,25 @@ ends_around fs rest f o p (Err e) a m = subst (λ l. Cannot ends l o e) (sym a) 
 
 -- ---- the form of a sequence by the octets of its additions
 
-plain_text : (ms : List Bool) (os : List ℕ) → written (both (Oer.preamble (false ∷ ms)) (exactly os)) 0 ≡ Some (packed (filled_up (false ∷ ms)) ++ os)
+plain_text : (ms : List Bool) (os : List ℕ) → written (both (Oer.preamble (false ∷ ms)) (exactly os)) 0 ≡ Some (packed (padded (false ∷ ms)) ++ os)
 unfolding written
 plain_text ms os = refl
 
-none_added : (ms : List Bool) (root : List ℕ) (bs : List Bool) (all : List ℕ) → is_any_set bs ≡ false → with_added ms root bs all ≡ Some (packed (filled_up (false ∷ ms)) ++ root)
+none_added : (ms : List Bool) (root : List ℕ) (bs : List Bool) (all : List ℕ) → is_any_set bs ≡ false → with_added ms root bs all ≡ Some (packed (padded (false ∷ ms)) ++ root)
 none_added ms root bs all h = ap (λ t. cond t (written (both (Oer.preamble (true ∷ ms)) (both (exactly root) (both (Oer.counted_bits bs) (exactly all)))) 0) (written (both (Oer.preamble (false ∷ ms)) (exactly root)) 0)) h ∙ plain_text ms root
 
 bitmap_text : (bs : List Bool) → written (Oer.bit_string_form false bs) 0 ≡ written (Oer.counted_bits bs) 0
 unfolding written Oer.bit_string_form
 bitmap_text bs = refl
 
-after_root : (ms bs : List Bool) (os c all : List ℕ) → ((p : ℕ) → written (Oer.counted_bits bs) p ≡ Some c) → written (both (Oer.preamble (true ∷ ms)) (both (exactly os) (both (Oer.counted_bits bs) (exactly all)))) 0 ≡ Some (packed (filled_up (true ∷ ms)) ++ (os ++ (c ++ all)))
+after_root : (ms bs : List Bool) (os c all : List ℕ) → ((p : ℕ) → written (Oer.counted_bits bs) p ≡ Some c) → written (both (Oer.preamble (true ∷ ms)) (both (exactly os) (both (Oer.counted_bits bs) (exactly all)))) 0 ≡ Some (packed (padded (true ∷ ms)) ++ (os ++ (c ++ all)))
 unfolding written
 after_root ms bs os c all h =
-    let front : List ℕ = packed (filled_up (true ∷ ms)) in
+    let front : List ℕ = packed (padded (true ∷ ms)) in
     let p : ℕ = 0 + length front + length os in
     ap (λ o. option_map (λ b. front ++ b) (option_map (λ b. os ++ b) (option_and_then (λ a. option_map (λ b. a ++ b) (Some all)) o))) (h p)
 
-some_added : (ms : List Bool) (root c : List ℕ) (bs : List Bool) (all : List ℕ) → is_any_set bs ≡ true → written (Oer.bit_string_form false bs) 0 ≡ Some c → with_added ms root bs all ≡ Some (packed (filled_up (true ∷ ms)) ++ (root ++ (c ++ all)))
+some_added : (ms : List Bool) (root c : List ℕ) (bs : List Bool) (all : List ℕ) → is_any_set bs ≡ true → written (Oer.bit_string_form false bs) 0 ≡ Some c → with_added ms root bs all ≡ Some (packed (padded (true ∷ ms)) ++ (root ++ (c ++ all)))
 some_added ms root c bs all h k = ap (λ t. cond t (written (both (Oer.preamble (true ∷ ms)) (both (exactly root) (both (Oer.counted_bits bs) (exactly all)))) 0) (written (both (Oer.preamble (false ∷ ms)) (exactly root)) 0)) h ∙ after_root ms bs root c all (λ p. (counted_bits_still bs).at p ∙ sym (bitmap_text bs) ∙ k)
 
 -- ---- the extension marker is set
@@ -92,20 +92,20 @@ module _ (below : List ℕ → State → Type 0) (given start content : ℕ) (o 
   same_presence_bits : root_bits ≡ false ∷ h.presence_bits
   same_presence_bits = ap (λ l. false ∷ l) (append-nil h.presence_bits)
 
-  unmarked_text : packed (filled_up (false ∷ h.presence_bits)) ≡ h.preamble
-  unmarked_text = closed_text h.preamble (false ∷ h.presence_bits) (h.bits ∙ ap filled_up same_presence_bits) h.small
+  unextended_text : packed (padded (false ∷ h.presence_bits)) ≡ h.preamble
+  unextended_text = closed_text h.preamble (false ∷ h.presence_bits) (h.bits ∙ ap padded same_presence_bits) h.small
 
   module _ (p : List ℕ) (x : ℕ) (changed : p ≡ set o start x) (bit : binary 8 x ≡ set (binary 8 (get_or o start 0)) 0 true) (small : x < 256) where
-    changed_bits : octet_bits (set h.preamble 0 x) ≡ filled_up (true ∷ h.presence_bits)
+    changed_bits : octet_bits (set h.preamble 0 x) ≡ padded (true ∷ h.presence_bits)
     changed_bits =
         kept_changed h.preamble root_bits (length root_bits) 0 (get_or o start 0) x true h.bits refl (omega arith) (get_or_any o start starts_within ∙ first_octet (get_or o start 0)) bit
-        ∙ ap (λ l. filled_up (true ∷ l)) (append-nil h.presence_bits)
+        ∙ ap (λ l. padded (true ∷ l)) (append-nil h.presence_bits)
 
-    marked_text : packed (filled_up (true ∷ h.presence_bits)) ≡ set h.preamble 0 x
-    marked_text = closed_text (set h.preamble 0 x) (true ∷ h.presence_bits) changed_bits (set_small h.preamble 0 x small some_preamble h.small)
+    extended_text : packed (padded (true ∷ h.presence_bits)) ≡ set h.preamble 0 x
+    extended_text = closed_text (set h.preamble 0 x) (true ∷ h.presence_bits) changed_bits (set_small h.preamble 0 x small some_preamble h.small)
 
-    marked_whole : p ≡ h.front ++ (set h.preamble 0 x ++ h.inner)
-    marked_whole =
+    extended_whole : p ≡ h.front ++ (set h.preamble 0 x ++ h.inner)
+    extended_whole =
         let k : start - start ≡ 0 = omega arith in
         changed ∙ ap (λ l. set l start x) h.text ∙ set-append_right h.front (h.preamble ++ h.inner) start start x h.starts (omega arith)
         ∙ ap (λ j. h.front ++ set (h.preamble ++ h.inner) j x) k ∙ ap (λ l. h.front ++ l) (set-append_left h.preamble h.inner 0 x some_preamble)
@@ -134,28 +134,28 @@ does_end_added fs rest a o p b n x fits = record { after = λ s h. go s (none_du
         let u : State = (i.outer.0 ++ w, i.outer.1) in
         (u, ap (run ends) h.3 ∙ ap (λ t. adds_text t i.outer) e, subst (λ l. Holds rest l u) q (appended rest i.front i.outer w i.under))
 
-    with_some : (s : State) → (h : Holds (Added (none_left a) ∷ rest) o s) → is_any_set a.present ≡ true → (z : HasAdditions a.preamble.start a.present o a.outer.items p) → (c : Option (List ℕ)) → written (Oer.bit_string_form false a.present) 0 ≡ c → Adds c z.marked z.mapped → (t : State) × (run ends s ≡ Some t) × Holds rest p t
+    with_some : (s : State) → (h : Holds (Added (none_left a) ∷ rest) o s) → is_any_set a.present ≡ true → (z : HasAdditions a.preamble.start a.present o a.outer.items p) → (c : Option (List ℕ)) → written (Oer.bit_string_form false a.present) 0 ≡ c → Adds c z.with_extension_bit z.mapped → (t : State) × (run ends s ≡ Some t) × Holds rest p t
     with_some s h t z None e m = cc
     with_some s h t z (Some c) e m =
         let i = h.1 in
-        let y : ℕ = get_or z.marked a.preamble.start 0 in
-        let mapped : z.marked ++ c ≡ z.mapped = cc m in
-        let long : a.preamble.start < length z.marked = omega (arith, ap length z.others, length-set a.outer.items a.preamble.start y, starts_within (λ q t. Holds rest q t) a.preamble.given a.preamble.start a.preamble.content a.outer.items h.0 i) in
-        let small : y < 256 = octet_small z.marked c o p a.preamble.start (z.texts ∙ ap (λ l. l ++ o) (sym mapped)) long fits in
-        let whole = marked_whole (λ q t. Holds rest q t) a.preamble.given a.preamble.start a.preamble.content a.outer.items h.0 i z.marked y z.others z.bit small in
-        let first = marked_text (λ q t. Holds rest q t) a.preamble.given a.preamble.start a.preamble.content a.outer.items h.0 i z.marked y z.others z.bit small in
+        let y : ℕ = get_or z.with_extension_bit a.preamble.start 0 in
+        let mapped : z.with_extension_bit ++ c ≡ z.mapped = cc m in
+        let long : a.preamble.start < length z.with_extension_bit = omega (arith, ap length z.others, length-set a.outer.items a.preamble.start y, starts_within (λ q t. Holds rest q t) a.preamble.given a.preamble.start a.preamble.content a.outer.items h.0 i) in
+        let small : y < 256 = octet_small z.with_extension_bit c o p a.preamble.start (z.texts ∙ ap (λ l. l ++ o) (sym mapped)) long fits in
+        let whole = extended_whole (λ q t. Holds rest q t) a.preamble.given a.preamble.start a.preamble.content a.outer.items h.0 i z.with_extension_bit y z.others z.bit small in
+        let first = extended_text (λ q t. Holds rest q t) a.preamble.given a.preamble.start a.preamble.content a.outer.items h.0 i z.with_extension_bit y z.others z.bit small in
         let pre : List ℕ = set i.preamble 0 y in
         let all : List ℕ = c ++ o in
-        closes s h (packed (filled_up (true ∷ i.presence_bits)) ++ (i.inner ++ all)) (some_added i.presence_bits i.inner c a.present o t e)
+        closes s h (packed (padded (true ∷ i.presence_bits)) ++ (i.inner ++ all)) (some_added i.presence_bits i.inner c a.present o t e)
         (ap (λ l. i.front ++ (l ++ (i.inner ++ all))) first ∙ ap (λ l. i.front ++ l) (sym (append_assoc pre i.inner all)) ∙ sym (append_assoc i.front (pre ++ i.inner) all) ∙ ap (λ l. l ++ all) (sym whole)
-        ∙ sym (append_assoc z.marked c o) ∙ ap (λ l. l ++ o) mapped ∙ sym z.texts)
+        ∙ sym (append_assoc z.with_extension_bit c o) ∙ ap (λ l. l ++ o) mapped ∙ sym z.texts)
 
     go : (s : State) → Holds (Added (none_left a) ∷ rest) o s → (t : Bool) → a.any ≡ t → (u : State) × (run ends s ≡ Some u) × Holds rest p u
     go s h false t =
         let i = h.1 in
-        let first = unmarked_text (λ q t. Holds rest q t) a.preamble.given a.preamble.start a.preamble.content a.outer.items h.0 i in
+        let first = unextended_text (λ q t. Holds rest q t) a.preamble.given a.preamble.start a.preamble.content a.outer.items h.0 i in
         let none : p ≡ a.outer.items = subst (λ b. Completes a.preamble.start b a.present o a.outer.items p) t x in
-        closes s h (packed (filled_up (false ∷ i.presence_bits)) ++ i.inner) (none_added i.presence_bits i.inner a.present o (sym h.2 ∙ t)) (ap (λ l. i.front ++ (l ++ i.inner)) first ∙ sym i.text ∙ sym none)
+        closes s h (packed (padded (false ∷ i.presence_bits)) ++ i.inner) (none_added i.presence_bits i.inner a.present o (sym h.2 ∙ t)) (ap (λ l. i.front ++ (l ++ i.inner)) first ∙ sym i.text ∙ sym none)
     go s h true t =
         let z : HasAdditions a.preamble.start a.present o a.outer.items p = subst (λ b. Completes a.preamble.start b a.present o a.outer.items p) t x in
         with_some s h (sym h.2 ∙ t) z (written (Oer.bit_string_form false a.present) 0) refl z.bitmap

@@ -4,7 +4,7 @@ use mir.Val.{bool_byte}
 use Rattle.std.proofs.lemmas.Bool.{cases_eq, ltb-true, ltb-false}
 use Rattle.std.proofs.lemmas.List.{append-nil, get_or-set_same, get_or-set_other, set-append_left, set-append_right, get_or-append_right, get_or_append_left, take_at, drop_at, length-replicate, replicate-append-replicate}
 use Rattle.asn1_model.specs.Numbers.{binary, octet_bits, missing, packed, is_count_within}
-use Rattle.asn1_values_bits.specs.Octets.{filled_up}
+use Rattle.asn1_values_bits.specs.Octets.{padded}
 use Rattle.asn1_values_bits.proofs.Binary.{octet_bits-append, length-octet_bits}
 use Rattle.asn1_values_bits.proofs.Change.{kept_changed}
 use Rattle.asn1_values_bits.proofs.Packed.{packed-octet_bits}
@@ -44,11 +44,11 @@ parts e due given start content o s h =
     let n : length (h.front ++ h.preamble) ≡ content = omega (arith, length-append h.front h.preamble, h.starts, h.begins) in
     let inner : drop content o ≡ h.inner = ap (drop content) whole ∙ drop_at (h.front ++ h.preamble) h.inner content n in
     let zeros : List Bool = replicate due false in
-    let fill : List Bool = replicate (missing (length (presence e (h.presence_bits ++ zeros)))) false in
-    let all : octet_bits (drop start o) ≡ presence e h.presence_bits ++ ((zeros ++ fill) ++ octet_bits h.inner) =
-    ap octet_bits behind ∙ octet_bits-append h.preamble h.inner ∙ ap (λ l. l ++ octet_bits h.inner) (h.bits ∙ presence_behind e h.presence_bits zeros fill)
-    ∙ append_assoc (presence e h.presence_bits) (zeros ++ fill) (octet_bits h.inner) in
-    let presence_bits = ap (λ l. take given (drop (length (presence e [])) l)) all ∙ presence_bits_behind e h.presence_bits ((zeros ++ fill) ++ octet_bits h.inner) given h.told in
+    let unused : List Bool = replicate (missing (length (presence e (h.presence_bits ++ zeros)))) false in
+    let all : octet_bits (drop start o) ≡ presence e h.presence_bits ++ ((zeros ++ unused) ++ octet_bits h.inner) =
+    ap octet_bits behind ∙ octet_bits-append h.preamble h.inner ∙ ap (λ l. l ++ octet_bits h.inner) (h.bits ∙ presence_behind e h.presence_bits zeros unused)
+    ∙ append_assoc (presence e h.presence_bits) (zeros ++ unused) (octet_bits h.inner) in
+    let presence_bits = ap (λ l. take given (drop (length (presence e [])) l)) all ∙ presence_bits_behind e h.presence_bits ((zeros ++ unused) ++ octet_bits h.inner) given h.told in
     (front, inner, presence_bits)
 
 -- the octets in front of an open type, and its own
@@ -146,13 +146,13 @@ zeros_small zero k h = absurd (omega arith)
 zeros_small (suc n) zero h = omega arith
 zeros_small (suc n) (suc k) h = zeros_small n k (omega arith)
 
-pub filled_zeros : (e : Bool) (n k : ℕ) → k * 8 ≡ (n + cond e 1 0) + missing (n + cond e 1 0) → replicate (k * 8) false ≡ filled_up (presence e (replicate n false))
-filled_zeros e n k h = go e refl h
+pub unused_zeros : (e : Bool) (n k : ℕ) → k * 8 ≡ (n + cond e 1 0) + missing (n + cond e 1 0) → replicate (k * 8) false ≡ padded (presence e (replicate n false))
+unused_zeros e n k h = go e refl h
   where
     zeros : (m : ℕ) → k * 8 ≡ m + missing m → replicate (k * 8) false ≡ replicate m false ++ replicate (missing (length (replicate m false))) false
     zeros m h = ap (λ j. replicate j false) h ∙ sym (ap (λ j. replicate m false ++ replicate (missing j) false) (length-replicate m false) ∙ replicate-append-replicate m (missing m) false)
 
-    go : (b : Bool) → e ≡ b → k * 8 ≡ (n + cond b 1 0) + missing (n + cond b 1 0) → replicate (k * 8) false ≡ filled_up (presence b (replicate n false))
+    go : (b : Bool) → e ≡ b → k * 8 ≡ (n + cond b 1 0) + missing (n + cond b 1 0) → replicate (k * 8) false ≡ padded (presence b (replicate n false))
     go true d h = zeros (suc n) (let q : n + 1 ≡ suc n = omega arith in subst (λ j. k * 8 ≡ j + missing j) q h)
     go false d h = zeros n (let q : n + 0 ≡ n = omega arith in subst (λ j. k * 8 ≡ j + missing j) q h)
 
@@ -171,7 +171,7 @@ opened fs o s e n k start content h m d a b = record {
   begins = omega (arith, length-append o (replicate k 0), a, b);
   told = refl;
   counts = omega arith;
-  bits = zero_bits k ∙ filled_zeros e n k d;
+  bits = zero_bits k ∙ unused_zeros e n k d;
   small = zeros_small k;
   under = h;
   is = refl;
@@ -226,8 +226,8 @@ module _ (below : List ℕ → State → Type 0) (e : Bool) (d given start conte
   bits_due : ℕ
   bits_due = length h.presence_bits + cond e 1 0
 
-  unmarked : IsOpen below e d (given + 1) start content o (then_state false)
-  unmarked = record {
+  with_absent : IsOpen below e d (given + 1) start content o (then_state false)
+  with_absent = record {
     front = h.front;
     preamble = h.preamble;
     inner = h.inner;
@@ -238,7 +238,7 @@ module _ (below : List ℕ → State → Type 0) (e : Bool) (d given start conte
     begins = h.begins;
     told = one_longer h.presence_bits false given h.told;
     counts = omega (arith, h.counts);
-    bits = h.bits ∙ ap filled_up (lowered_bits e h.presence_bits d);
+    bits = h.bits ∙ ap padded (lowered_bits e h.presence_bits d);
     small = h.small;
     under = h.under;
     is = refl;
@@ -262,8 +262,8 @@ module _ (below : List ℕ → State → Type 0) (e : Bool) (d given start conte
       ap (λ l. get_or l (start + i / 8) x) h.text ∙ get_or-append_right h.front (h.preamble ++ h.inner) start (start + i / 8) x h.starts (omega arith)
       ∙ ap (λ j. get_or (h.preamble ++ h.inner) j x) k ∙ get_or_append_left h.preamble h.inner x (i / 8) (within_preamble i n)
 
-  marked_with : (p : List ℕ) (i x y : ℕ) → i ≡ given + cond e 1 0 → p ≡ set o (start + i / 8) x → y ≡ get_or o (start + i / 8) y → binary 8 x ≡ set (binary 8 y) (i % 8) true → x < 256 → IsOpen below e d (given + 1) start content p (then_state true)
-  marked_with p i x y n changed at bit small =
+  with_present : (p : List ℕ) (i x y : ℕ) → i ≡ given + cond e 1 0 → p ≡ set o (start + i / 8) x → y ≡ get_or o (start + i / 8) y → binary 8 x ≡ set (binary 8 y) (i % 8) true → x < 256 → IsOpen below e d (given + 1) start content p (then_state true)
+  with_present p i x y n changed at bit small =
       let q : i / 8 < length h.preamble = within_preamble i n in
       let k : start + i / 8 - start ≡ i / 8 = omega arith in
       let place : i ≡ length h.presence_bits + cond e 1 0 = omega (arith, h.told) in
@@ -301,7 +301,7 @@ module _ (fs rest : List Frame) (c : Preamble) (o : List ℕ) (a : fs ≡ Compon
   next_due s h = subst (λ k. IsOpen (λ q t. Holds rest q t) c.extensible k c.given c.start c.content o s) one (on_top fs rest (Components c) o s a h)
 
   pub does_presence_bit_absent : (gs : List Frame) → gs ≡ Components (told c) ∷ rest → Does (presence_bit false) fs o gs o
-  does_presence_bit_absent gs b = record { after = λ s h. let i = next_due s h in (then_state _ c.extensible (c.due - 1) c.given c.start c.content o s i false, ap (run (presence_bit false)) i.is, put_back gs rest _ o _ b (unmarked _ c.extensible (c.due - 1) c.given c.start c.content o s i)) }
+  does_presence_bit_absent gs b = record { after = λ s h. let i = next_due s h in (then_state _ c.extensible (c.due - 1) c.given c.start c.content o s i false, ap (run (presence_bit false)) i.is, put_back gs rest _ o _ b (with_absent _ c.extensible (c.due - 1) c.given c.start c.content o s i)) }
 
   pub does_presence_bit_present : (gs : List Frame) (p : List ℕ) (i : ℕ) → gs ≡ Components (told c) ∷ rest → i ≡ c.given + cond c.extensible 1 0 → p ≡ set o (c.start + i / 8) (get_or p (c.start + i / 8) 0) → binary 8 (get_or p (c.start + i / 8) 0) ≡ set (binary 8 (get_or o (c.start + i / 8) 0)) (i % 8) true → ((j d : ℕ) → j < length p → get_or p j d < 256) → Does (presence_bit true) fs o gs p
   does_presence_bit_present gs p i b place others bit small = record { after = λ s h. go s (next_due s h) }
@@ -310,10 +310,10 @@ module _ (fs rest : List Frame) (c : Preamble) (o : List ℕ) (a : fs ≡ Compon
       go s h =
           let at : ℕ = c.start + i / 8 in
           let l = within_octets _ c.extensible (c.due - 1) c.given c.start c.content o s h i place in
-          (then_state _ c.extensible (c.due - 1) c.given c.start c.content o s h true, ap (run (presence_bit true)) h.is, put_back gs rest _ p _ b (marked_with _ c.extensible (c.due - 1) c.given c.start c.content o s h p i (get_or p at 0) (get_or o at 0) place others (get_or_any o at l) bit (small at 0 (omega (arith, l, ap length others, length-set o at (get_or p at 0))))))
+          (then_state _ c.extensible (c.due - 1) c.given c.start c.content o s h true, ap (run (presence_bit true)) h.is, put_back gs rest _ p _ b (with_present _ c.extensible (c.due - 1) c.given c.start c.content o s h p i (get_or p at 0) (get_or o at 0) place others (get_or_any o at l) bit (small at 0 (omega (arith, l, ap length others, length-set o at (get_or p at 0))))))
 
-  pub mark_within : (i : ℕ) → AreSound fs o → i ≡ c.given + cond c.extensible 1 0 → c.start + i / 8 < length o
-  mark_within i s place = within_octets _ c.extensible (c.due - 1) c.given c.start c.content o s.state (next_due s.state s.holds) i place
+  pub presence_bit_within : (i : ℕ) → AreSound fs o → i ≡ c.given + cond c.extensible 1 0 → c.start + i / 8 < length o
+  presence_bit_within i s place = within_octets _ c.extensible (c.due - 1) c.given c.start c.content o s.state (next_due s.state s.holds) i place
 
 -- ---- lists, and ends
 
@@ -332,10 +332,10 @@ does_no_further fs rest gs due o a n c = record { after = λ s h. go s (subst (�
     go : (s : State) → Holds (Members 0 ∷ rest) o s → (t : State) × (run (further false) s ≡ Some t) × Holds gs o t
     go s h = ((h.0.0, members 0 ∷ h.0.1), ap (run (further false)) h.1, put_back gs rest _ o _ c (h.0, refl, h.2))
 
-pub closed_text : (p : List ℕ) (bs : List Bool) → octet_bits p ≡ filled_up bs → ((k : ℕ) → k < length p → get_or p k 0 < 256) → packed (filled_up bs) ≡ p
+pub closed_text : (p : List ℕ) (bs : List Bool) → octet_bits p ≡ padded bs → ((k : ℕ) → k < length p → get_or p k 0 < 256) → packed (padded bs) ≡ p
 closed_text p bs e h = ap packed (sym e) ∙ packed-octet_bits p h
 
-sequence_text : (ms : List Bool) (os : List ℕ) → written (Oer.sequence_form false ms (exactly os) []) 0 ≡ Some (packed (filled_up ms) ++ os)
+sequence_text : (ms : List Bool) (os : List ℕ) → written (Oer.sequence_form false ms (exactly os) []) 0 ≡ Some (packed (padded ms) ++ os)
 unfolding written Oer.sequence_form
 sequence_text ms os = refl
 
@@ -344,9 +344,9 @@ does_end_components fs rest c o a f n = record { after = λ s h. go s (subst (λ
   where
     go : (s : State) → IsOpen (λ q t. Holds rest q t) false 0 c.given c.start c.content o s → (t : State) × (run ends s ≡ Some t) × Holds rest o t
     go s h =
-        let w : List ℕ = packed (filled_up h.presence_bits) ++ h.inner in
+        let w : List ℕ = packed (padded h.presence_bits) ++ h.inner in
         let z : State = (h.outer.0 ++ w, h.outer.1) in
-        let bits : octet_bits h.preamble ≡ filled_up h.presence_bits = h.bits ∙ ap filled_up (append-nil h.presence_bits) in
+        let bits : octet_bits h.preamble ≡ padded h.presence_bits = h.bits ∙ ap padded (append-nil h.presence_bits) in
         let back : o ≡ h.front ++ w = h.text ∙ ap (λ l. h.front ++ (l ++ h.inner)) (sym (closed_text h.preamble h.presence_bits bits h.small)) in
         (z, ap (run ends) h.is ∙ ap (λ x. adds_text x h.outer) (sequence_text h.presence_bits h.inner), subst (λ l. Holds rest l z) (sym back) (appended rest h.front h.outer w h.under))
 
@@ -382,8 +382,8 @@ byte_of : (b : Bool) → bool_byte b ≡ cond b 1 0
 byte_of true = refl
 byte_of false = refl
 
-pub with_mark_byte : (given n : ℕ) (e : Bool) → n ≡ bool_byte e → given + n ≡ given + cond e 1 0
-with_mark_byte given n e h = ap (λ k. given + k) (h ∙ byte_of e)
+pub with_extension_byte : (given n : ℕ) (e : Bool) → n ≡ bool_byte e → given + n ≡ given + cond e 1 0
+with_extension_byte given n e h = ap (λ k. given + k) (h ∙ byte_of e)
 
 pub does_whether_further : (fs rest gs : List Frame) (due next : ℕ) (o : List ℕ) (b : Bool) → fs ≡ Members due ∷ rest → b ≡ ltb 0 due → next ≡ due - cond b 1 0 → gs ≡ Members next ∷ rest → Does (further b) fs o gs o
 does_whether_further fs rest gs due next o true a n d e = does_further fs rest gs due o a (ltb-true _ _ (sym n)) (e ∙ ap (λ (j : ℕ). Members j ∷ rest) d)

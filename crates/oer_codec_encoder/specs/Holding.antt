@@ -2,7 +2,7 @@
 use Rattle.std.specs.Prelude.{◌≡◌, ℕ, ◌+◌, ◌-◌, ◌^◌, ◌<◌, Bool, true, false, List, [], ◌∷◌, ◌++◌, length, take, drop}
 use Rattle.std.specs.Prelude.{replicate, Some, None, slice_index}
 use Rattle.asn1_model.specs.Numbers.{octet_bits}
-use Rattle.asn1_values_bits.specs.Octets.{filled_up}
+use Rattle.asn1_values_bits.specs.Octets.{padded}
 use Rattle.asn1_schema_faults.specs.declared.EncodeError.{EncodeError}
 use Rattle.asn1_schema_faults.specs.declared.EncodeError.TheVariants.{AlreadyFailed, OutOfMemory}
 use Rattle.asn1_schema_presented.specs.Records.{Record}
@@ -61,7 +61,7 @@ pub record IsOpen (below : List ℕ → State → Type 0) (e : Bool) (due given 
   pub begins : start + length preamble ≡ content
   pub told : length presence_bits ≡ given
   pub counts : given + due < 2 ^ 64
-  pub bits : octet_bits preamble ≡ filled_up (presence e (presence_bits ++ replicate due false))
+  pub bits : octet_bits preamble ≡ padded (presence e (presence_bits ++ replicate due false))
   pub small : (k : ℕ) → k < length preamble → slice_index preamble k < 256
   pub under : below front outer
   pub is : s ≡ (inner, components e due presence_bits outer.0 ∷ outer.1)

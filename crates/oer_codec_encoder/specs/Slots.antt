@@ -12,11 +12,11 @@ texts_joined (w ∷ ws) = w ++ texts_joined ws
 
 -- The first bit of an octet is set, and the bitmap and the additions stand behind all (X.696 16.2, 16.4 and 16.5).
 pub record HasAdditions (start : ℕ) (bs : List Bool) (all old new : List ℕ) : Type 0 where
-  pub marked : List ℕ
+  pub with_extension_bit : List ℕ
   pub mapped : List ℕ
-  pub others : marked ≡ slice_set old start (slice_index marked start)
-  pub bit : binary 8 (slice_index marked start) ≡ slice_set (binary 8 (slice_index old start)) 0 true
-  pub bitmap : Adds (written (Oer.bit_string_form false bs) 0) marked mapped
+  pub others : with_extension_bit ≡ slice_set old start (slice_index with_extension_bit start)
+  pub bit : binary 8 (slice_index with_extension_bit start) ≡ slice_set (binary 8 (slice_index old start)) 0 true
+  pub bitmap : Adds (written (Oer.bit_string_form false bs) 0) with_extension_bit mapped
   pub texts : new ≡ mapped ++ all
 
 -- The additions are added, if one is there.

@@ -39,13 +39,13 @@ State = List ℕ × List Scope
 abbrev pub adds_text : Option (List ℕ) → State → Option State
 adds_text o s = option_map (λ w. (s.0 ++ w, s.1)) o
 
-abbrev pub marked_on : Bool → ℕ → List Bool → List ℕ → List ℕ → List Scope → Bool → Option State
-marked_on e zero ms front os k b = None
-marked_on e (suc n) ms front os k b = Some (os, components e n (ms ++ b ∷ []) front ∷ k)
+abbrev pub presence_told_in : Bool → ℕ → List Bool → List ℕ → List ℕ → List Scope → Bool → Option State
+presence_told_in e zero ms front os k b = None
+presence_told_in e (suc n) ms front os k b = Some (os, components e n (ms ++ b ∷ []) front ∷ k)
 
-abbrev pub marked : Bool → List ℕ → List Scope → Option State
-marked b os (components e n ms front ∷ k) = marked_on e n ms front os k b
-marked b os k = None
+abbrev pub presence_told : Bool → List ℕ → List Scope → Option State
+presence_told b os (components e n ms front ∷ k) = presence_told_in e n ms front os k b
+presence_told b os k = None
 
 abbrev pub counted_on : ℕ → List ℕ → List Scope → Bool → Option State
 counted_on zero os k true = None
@@ -166,7 +166,7 @@ run (further b) s = goes_on b s.0 s.1
 run (sequence_begins e n) s = Some ([], components e n [] s.0 ∷ s.1)
 run (set_begins e n) s = Some ([], components e n [] s.0 ∷ s.1)
 run (group_begins n) s = Some ([], components false n [] s.0 ∷ s.1)
-run (presence_bit b) s = marked b s.0 s.1
+run (presence_bit b) s = presence_told b s.0 s.1
 run (additions_begin n) s = extended n s.0 s.1
 run (addition b) s = adds b s.0 s.1
 run addition_ends s = added_one s.0 s.1

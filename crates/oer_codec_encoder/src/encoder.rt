@@ -12,6 +12,7 @@ use crate::frames::Frames;
 use crate::options::EncoderOptions;
 use crate::sequences::{begin_components, begin_members, put_presence_bit};
 use asn1_schema_constraints::{Bounded, Constraints};
+use asn1_schema_encode::{begin_record, go_on};
 use asn1_schema_faults::{CodecKind, EncodeError};
 use asn1_schema_tags::{Identifier, Tag};
 use asn1_schema_variants::{Chosen, Enumerated};
@@ -52,20 +53,6 @@ impl<'buffer> Model for Encoder<'buffer> {
     ghost view = { λ e. record { state = shown e.frames e.output.now.items; failed = e.failed } };
 
     ghost invariant = { λ e. e.failed ≡ false → Holds e.frames e.output.now.items (shown e.frames e.output.now.items) };
-}
-
-/// Begins a record, unless an earlier call was refused. The encoder counts as failed until the record is written.
-#[inline(always)]
-fn begin_record(failed: &mut bool) -> Result<(), EncodeError>
-    ensures ok { OnOk result (failed.old ≡ false) }
-    ensures only { IfErr result (λ e. (e ≡ EncodeError.AlreadyFailed) × (failed.old ≡ true)) }
-    ensures failed { failed.new ≡ true }
-{
-    if *failed {
-        return Err(EncodeError::AlreadyFailed);
-    }
-    *failed = true;
-    Ok(())
 }
 
 impl<'buffer> Encoder<'buffer> {
@@ -138,9 +125,7 @@ impl<'buffer> asn1_schema_encode::Encoder for Encoder<'buffer> {
 
     #[inline(always)]
     fn encode_null(&mut self, _tag: Tag, _identifier: Identifier) -> Result<(), EncodeError> {
-        if self.failed {
-            return Err(EncodeError::AlreadyFailed);
-        }
+        go_on(self.failed)?;
         Ok(())
     }
 

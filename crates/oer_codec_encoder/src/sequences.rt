@@ -1,7 +1,7 @@
 //! Sequences, sets, groups and lists.
 ghost use Rattle.std.specs.Prelude.{◌≡◌, ℕ, List, ltb, ◌-◌, ◌+◌, ◌*◌, ◌/◌, ◌%◌, ◌<◌, ◌++◌, ◌∷◌, [], cond, replicate};
 ghost use Rattle.std.specs.Prelude.{MatchResult, vec_len, true, slice_set, slice_index};
-ghost use Rattle.asn1_model.specs.Numbers.{binary, missing};
+ghost use Rattle.asn1_model.specs.Numbers.{binary};
 ghost use Rattle.asn1_schema_presented.specs.Records.{sequence_begins, presence_bit, list_begins};
 ghost use Rattle.asn1_schema_constraints.specs.Bounds.{members_of};
 ghost use Rattle.asn1_schema_constraints.specs.Terms.{sizes_of};
@@ -12,14 +12,7 @@ use crate::frame::{Frame, Preamble};
 use crate::frames::Frames;
 use asn1_schema_constraints::{Bounded, Constraints};
 use asn1_schema_faults::EncodeError;
-use oer_codec_writing::push_count;
-
-/// How many octets the preamble of a sequence has (X.696 16.2), whose bits fill whole octets.
-fn preamble_len(extensible: bool, optional: usize) -> usize
-    ensures { result * 8 ≡ (optional + cond extensible 1 0) + missing (optional + cond extensible 1 0) }
-{
-    optional / 8 + (optional % 8 + usize::from(extensible) + 7) / 8
-}
+use oer_codec_writing::{preamble_len, push_count};
 
 /// Adds so many octets of zero bits.
 fn push_zeros(octets: &mut Vec<u8>, count: usize) -> Result<(), EncodeError>

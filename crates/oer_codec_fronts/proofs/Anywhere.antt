@@ -109,7 +109,7 @@ module _ (free : Oer.Freedom → Bool) where
 
   bits_move : (bs : List Bool) → Moves (Oer.bits_form bs)
   unfolding Oer.bits_form
-  bits_move bs = moves_varied {c = Oer.any_filling} (λ fill. moves_if _ (moves_exactly _))
+  bits_move bs = moves_varied {c = Oer.any_unused_bits} (λ unused. moves_if _ (moves_exactly _))
 
   pub counted_bits_move : (bs : List Bool) → Moves (Oer.counted_bits bs)
   unfolding Oer.counted_bits

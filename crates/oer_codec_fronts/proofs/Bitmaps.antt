@@ -158,15 +158,15 @@ module _ (free : Oer.Freedom → Bool) where
   all_move o h xs e = let t : AllMove free (Some xs) = subst (λ p. AllMove free p) e h in t
 
   -- the form of a sequence with an extension marker, by its presence bits and its root
-  abbrev pub Marked : Components → Parts → List Bool → Oer.OctetForm → Oer.OctetForm
-  Marked adds qs ms y = given (Oer.addition_forms adds qs) (Oer.sequence_form true ms y)
+  abbrev pub Extensible : Components → Parts → List Bool → Oer.OctetForm → Oer.OctetForm
+  Extensible adds qs ms y = given (Oer.addition_forms adds qs) (Oer.sequence_form true ms y)
 
   module _ (other : IsTrue (free Oer.other_bitmap)) (adds : Components) (ha : EachFinds free adds) (qs : Parts) where
-    marked_in : (ms : List Bool) (y : Oer.OctetForm) → Moves free y → (x : Option Bool) (more : List Bool) (os mid o2 : List ℕ) (k : List Scope) (b : State) → is_present x ≡ true → Front free (Oer.preamble (preamble_bits x (ms ++ more))) os mid → Front free y mid o2 → Chain (Step free) (additions_begin (component_count adds) ∷ added_records adds qs) (o2, components x more ∷ k) b → Front free (Marked adds qs ms y) os b.0 × (b.1 ≡ k)
-    marked_in ms y moves None more os mid o2 k b e f g c = cc
-    marked_in ms y moves (Some true) (z ∷ more) os mid o2 k b e f g c = absurd c.1
-    marked_in ms y moves (Some false) (z ∷ more) os mid o2 k b e f g c = absurd c.1
-    marked_in ms y moves (Some false) [] os mid o2 k b e f g c =
+    extensible_in : (ms : List Bool) (y : Oer.OctetForm) → Moves free y → (x : Option Bool) (more : List Bool) (os mid o2 : List ℕ) (k : List Scope) (b : State) → is_present x ≡ true → Front free (Oer.preamble (preamble_bits x (ms ++ more))) os mid → Front free y mid o2 → Chain (Step free) (additions_begin (component_count adds) ∷ added_records adds qs) (o2, components x more ∷ k) b → Front free (Extensible adds qs ms y) os b.0 × (b.1 ≡ k)
+    extensible_in ms y moves None more os mid o2 k b e f g c = cc
+    extensible_in ms y moves (Some true) (z ∷ more) os mid o2 k b e f g c = absurd c.1
+    extensible_in ms y moves (Some false) (z ∷ more) os mid o2 k b e f g c = absurd c.1
+    extensible_in ms y moves (Some false) [] os mid o2 k b e f g c =
         let n : ℕ = component_count adds in
         let r = (added_in free adds ha qs [] k b (first_bits n []) o2) (from_state free (added_records adds qs) c.0 b o2 (added (first_bits n []) [] ∷ k) c.1 c.2) in
         let none : is_any_present r.0 ≡ false = flags_none r.0 n r.3 in
@@ -178,7 +178,7 @@ module _ (free : Oer.Freedom → Bool) where
         let f' : Front free (Oer.preamble (false ∷ ms)) os mid = subst (λ l. Front free (Oer.preamble (false ∷ l)) os mid) (append-nil ms) f in
         let g' : Front free y mid b.0 = subst (λ l. Front free y mid l) (sym (a2 ∙ a1)) g in
         (given_in free (Oer.addition_forms adds qs) (Oer.sequence_form true ms y) r.0 r.2 os b.0 (without_in ms y moves other r.0 none os mid b.0 f' g'), r.6)
-    marked_in ms y moves (Some true) [] os mid o2 k b e f g c =
+    extensible_in ms y moves (Some true) [] os mid o2 k b e f g c =
         let n : ℕ = component_count adds in
         let bs : List Bool = c.1.0 in
         let m : State = c.0 in
@@ -190,21 +190,21 @@ module _ (free : Oer.Freedom → Bool) where
         let h : EachMoves free r.0 = all_move (Oer.addition_forms adds qs) (additions_move free adds qs) r.0 r.2 in
         (given_in free (Oer.addition_forms adds qs) (Oer.sequence_form true ms y) r.0 r.2 os b.0 (with_in ms y moves other r.0 h r.5.0 bs e1 e2 c.1.1 os mid o2 m.0 r.1 b.0 f' g c.1.2 r.4 r.5.2), r.6)
 
-    pub extended_in : (cs : Components) → EachFinds free cs → (ps : Parts) (a m b : State) → Begins free true (optional_count cs) a m → Chain (Step free) (root_records cs ps (additions_begin (component_count adds) ∷ added_records adds qs)) m b → Found free (Marked adds qs (presence_bits cs ps) (Oer.component_forms cs ps)) a b
+    pub extended_in : (cs : Components) → EachFinds free cs → (ps : Parts) (a m b : State) → Begins free true (optional_count cs) a m → Chain (Step free) (root_records cs ps (additions_begin (component_count adds) ∷ added_records adds qs)) m b → Found free (Extensible adds qs (presence_bits cs ps) (Oer.component_forms cs ps)) a b
     extended_in cs h ps a m b t c =
         let o = begun_in free true cs h ps (additions_begin (component_count adds) ∷ added_records adds qs) a m b t c in
-        marked_in (presence_bits cs ps) (Oer.component_forms cs ps) (components_move free cs ps) o.0 o.1 a.0 o.2 o.3 a.1 b o.4 o.5 o.6 o.7
+        extensible_in (presence_bits cs ps) (Oer.component_forms cs ps) (components_move free cs ps) o.0 o.1 a.0 o.2 o.3 a.1 b o.4 o.5 o.6 o.7
 
   module _ (other : IsTrue (free Oer.other_bitmap)) (adds : Components) (ha : EachShows free adds) (qs : Parts) where
     -- what is held at the extension marker, with additions like these
-    abbrev AtMark : List Bool → Oer.OctetForm → List ℕ → List Scope → State → Type 0
-    AtMark ms y os k b = (ss : Parts) × (x : Option Bool) × (mid : List ℕ) × (o2 : List ℕ) × LikeParts adds qs ss × (is_present x ≡ true) × Front free (Oer.preamble (preamble_bits x ms)) os mid × Front free y mid o2 × Chain (Step free) (additions_begin (component_count adds) ∷ added_records adds ss) (o2, components x [] ∷ k) b
+    abbrev AtExtensionBit : List Bool → Oer.OctetForm → List ℕ → List Scope → State → Type 0
+    AtExtensionBit ms y os k b = (ss : Parts) × (x : Option Bool) × (mid : List ℕ) × (o2 : List ℕ) × LikeParts adds qs ss × (is_present x ≡ true) × Front free (Oer.preamble (preamble_bits x ms)) os mid × Front free y mid o2 × Chain (Step free) (additions_begin (component_count adds) ∷ added_records adds ss) (o2, components x [] ∷ k) b
 
     no_unknown : (os : List ℕ) → Skips free [] os os
     no_unknown os = ([], refl, nothing_front free os)
 
-    at_mark : (ms : List Bool) (y : Oer.OctetForm) (xs : Forms) → Oer.addition_forms adds qs ≡ Some xs → (os : List ℕ) (k : List Scope) (b : State) → b.1 ≡ k → Without ms y xs os b.0 ⊎ With ms y xs os b.0 → AtMark ms y os k b
-    at_mark ms y xs e os k b scopes (inl w) =
+    at_extension_bit : (ms : List Bool) (y : Oer.OctetForm) (xs : Forms) → Oer.addition_forms adds qs ≡ Some xs → (os : List ℕ) (k : List Scope) (b : State) → b.1 ≡ k → Without ms y xs os b.0 ⊎ With ms y xs os b.0 → AtExtensionBit ms y os k b
+    at_extension_bit ms y xs e os k b scopes (inl w) =
         let n : ℕ = component_count adds in
         let l : length xs ≡ n = additions_long adds qs xs e in
         let p = none_flags xs w.1 in
@@ -212,7 +212,7 @@ module _ (free : Oer.Freedom → Bool) where
         let texts : Front free (joined (present_ones xs)) b.0 b.0 = subst (λ l. Front free (joined l) b.0 b.0) (sym p.1) (nothing_front free b.0) in
         let r = added_out free adds ha qs (first_bits n []) [] b.0 k b (xs, b.0, e, fl, texts, no_unknown b.0, scopes) in
         (r.0, Some false, w.0, b.0, r.1, refl, w.2, w.3, ((b.0, added (first_bits n []) [] ∷ k), refl, r.2))
-    at_mark ms y xs e os k b scopes (inr w) =
+    at_extension_bit ms y xs e os k b scopes (inr w) =
         let n : ℕ = component_count adds in
         let bs : List Bool = w.1 in
         let l : length xs ≡ n = additions_long adds qs xs e in
@@ -221,13 +221,13 @@ module _ (free : Oer.Freedom → Bool) where
         let r = added_out free adds ha qs (first_bits n bs) (drop n bs) w.4 k b (xs, w.5, e, e1, w.12, (w.0, e2, w.13), scopes) in
         (r.0, Some true, w.2, w.3, r.1, refl, w.9, w.10, ((w.4, added (first_bits n bs) (drop n bs) ∷ k), (bs, w.8, w.11, refl), r.2))
 
-    marked_out : (ms : List Bool) (y : Oer.OctetForm) → Moves free y → (os : List ℕ) (k : List Scope) (b : State) → Front free (Marked adds qs ms y) os b.0 → b.1 ≡ k → AtMark ms y os k b
-    marked_out ms y moves os k b f scopes =
+    extensible_out : (ms : List Bool) (y : Oer.OctetForm) → Moves free y → (os : List ℕ) (k : List Scope) (b : State) → Front free (Extensible adds qs ms y) os b.0 → b.1 ≡ k → AtExtensionBit ms y os k b
+    extensible_out ms y moves os k b f scopes =
         let t = given_out free (Oer.addition_forms adds qs) (Oer.sequence_form true ms y) os b.0 f in
-        at_mark ms y t.0 t.1 os k b scopes (read_out ms y moves other t.0 (all_move (Oer.addition_forms adds qs) (additions_move free adds qs) t.0 t.1) os b.0 t.2)
+        at_extension_bit ms y t.0 t.1 os k b scopes (read_out ms y moves other t.0 (all_move (Oer.addition_forms adds qs) (additions_move free adds qs) t.0 t.1) os b.0 t.2)
 
     -- ---- SEQUENCE and SET with an extension marker
-    pub extended_out : (cs : Components) → EachShows free cs → (ps : Parts) (a b : State) → Found free (Marked adds qs (presence_bits cs ps) (Oer.component_forms cs ps)) a b → (ss : Parts) × LikeParts adds qs ss × Closed free true cs ps (additions_begin (component_count adds) ∷ added_records adds ss) a b
+    pub extended_out : (cs : Components) → EachShows free cs → (ps : Parts) (a b : State) → Found free (Extensible adds qs (presence_bits cs ps) (Oer.component_forms cs ps)) a b → (ss : Parts) × LikeParts adds qs ss × Closed free true cs ps (additions_begin (component_count adds) ∷ added_records adds ss) a b
     extended_out cs h ps a b f =
-        let t = marked_out (presence_bits cs ps) (Oer.component_forms cs ps) (components_move free cs ps) a.0 a.1 b f.0 f.1 in
+        let t = extensible_out (presence_bits cs ps) (Oer.component_forms cs ps) (components_move free cs ps) a.0 a.1 b f.0 f.1 in
         (t.0, t.4, begun_out free true cs h ps (additions_begin (component_count adds) ∷ added_records adds t.0) a b t.1 t.2 t.3 t.5 t.6 t.7 t.8)

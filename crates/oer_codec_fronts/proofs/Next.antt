@@ -107,9 +107,9 @@ module _ (free : Oer.Freedom → Bool) where
       let t = s.1 q.0 in
       state_same b c q.1 (f.5 ∙ ap (λ x. components x f.1 ∷ a.1) t.0 ∙ ap (λ ms. components g.0 ms ∷ a.1) t.1 ∙ sym g.5)
 
-  same_mark : (v w : Bool) (os : List ℕ) (k : List Scope) (b c : State) → NextPresenceBit v os k b → NextPresenceBit w os k c → (v ≡ w) × (b ≡ c)
-  same_mark v w os (components x (m ∷ ms) ∷ k) b c f g = (f.0 ∙ sym g.0, f.1 ∙ sym g.1)
-  same_mark v w os k b c f g = absurd f
+  same_presence_bit : (v w : Bool) (os : List ℕ) (k : List Scope) (b c : State) → NextPresenceBit v os k b → NextPresenceBit w os k c → (v ≡ w) × (b ≡ c)
+  same_presence_bit v w os (components x (m ∷ ms) ∷ k) b c f g = (f.0 ∙ sym g.0, f.1 ∙ sym g.1)
+  same_presence_bit v w os k b c f g = absurd f
 
   -- ---- additions
   same_additions : (n : ℕ) (os : List ℕ) (k : List Scope) (b c : State) → AdditionsBegin free n os k b → AdditionsBegin free n os k c → b ≡ c
@@ -206,7 +206,7 @@ module _ (free : Oer.Freedom → Bool) where
   one_taken a (group_begins n) (group_begins m) b c q f g =
       let e : group_begins m ≡ group_begins n = cc q in
       (sym e, same_begin false n a b c f (as_record a (group_begins m) (group_begins n) c e g))
-  one_taken a (presence_bit v) (presence_bit w) b c q f g = let t = same_mark v w a.0 a.1 b c f g in (ap presence_bit t.0, t.1)
+  one_taken a (presence_bit v) (presence_bit w) b c q f g = let t = same_presence_bit v w a.0 a.1 b c f g in (ap presence_bit t.0, t.1)
   one_taken a is_default is_default b c q f g = (refl, f.1 ∙ sym g.1)
   one_taken a is_empty is_empty b c q f g = (refl, f.1 ∙ sym g.1)
   one_taken a (additions_begin n) (additions_begin m) b c q f g =

@@ -9,7 +9,7 @@ use Rattle.asn1_model.specs.Form.{refused, both, given, joined, exactly, in_orde
 use Rattle.asn1_model.specs.Oer
 use Rattle.asn1_laws_values.proofs.Listed.{EachComponent}
 use Rattle.asn1_schema_presented.specs.Records.{Record, flag, nil, whole, one_of, bits, octets, characters, identifier, presence_bit, ends, mismatch}
-use Rattle.asn1_schema_presented.specs.Presents.{presents, member_records, member_count, root_records, marked}
+use Rattle.asn1_schema_presented.specs.Presents.{presents, member_records, member_count, root_records, with_presence_bit}
 use Rattle.asn1_schema_presented.specs.Chains.{Chain}
 use Rattle.asn1_schema_presented.proofs.Chains.{chain_split, chain_append}
 use Rattle.oer_codec_fronts.specs.Takes.{State, Scope, components, members, Front, Found, Counted}
@@ -188,7 +188,7 @@ module _ (free : Oer.Freedom → Bool) where
       let r = others ms os (from_state free tail c.0 b os (components x ms ∷ k) c.1.1 c.2) in
       (r.0, r.1, ap (λ n. n ∷ ms) (sym c.1.0) ∙ ap (λ l. t ∷ l) r.2, r.3, r.4)
 
-  one_there : (q : Bool) (s : Schema) (v : Value) → Finds free s → (d g : Bool) (bs : List Bool) (y : Oer.OctetForm) → Moves free y → (rs tail : List Record) (x : Option Bool) (k : List Scope) (b : State) → Goes bs y rs tail x k b → Goes (presence_bit_unless q true bs) (both (spelled_by d g (Oer.form s v)) y) rs (marked q (presents s v ++ noted_by d g) ++ tail) x k b
+  one_there : (q : Bool) (s : Schema) (v : Value) → Finds free s → (d g : Bool) (bs : List Bool) (y : Oer.OctetForm) → Moves free y → (rs tail : List Record) (x : Option Bool) (k : List Scope) (b : State) → Goes bs y rs tail x k b → Goes (presence_bit_unless q true bs) (both (spelled_by d g (Oer.form s v)) y) rs (with_presence_bit q (presents s v ++ noted_by d g) ++ tail) x k b
   one_there true s v h d g bs y moves rs tail x k b others = behind_it s v h d g bs y moves rs tail x k b others
   one_there false s v h d g bs y moves rs tail x k b others = behind_presence_bit true bs _ rs _ x k b (behind_it s v h d g bs y moves rs tail x k b others)
 
@@ -212,9 +212,9 @@ module _ (free : Oer.Freedom → Bool) where
   abbrev RootOut : Components → Parts → List Record → Option Bool → List Bool → List ℕ → List Scope → State → Type 0
   RootOut cs ps rs x more os k b = (qs : Parts) × LikeParts cs ps qs × (presence_bits cs qs ≡ presence_bits cs ps) × Chain (Step free) (root_records cs qs rs) (os, components x (presence_bits cs qs ++ more) ∷ k) b
 
-  marked_out : (q : Bool) (rs tail : List Record) (x : Option Bool) (bs more : List Bool) (os : List ℕ) (k : List Scope) (b : State) → Chain (Step free) (rs ++ tail) (os, components x (bs ++ more) ∷ k) b → Chain (Step free) (marked q rs ++ tail) (os, components x (presence_bit_unless q true bs ++ more) ∷ k) b
-  marked_out true rs tail x bs more os k b c = c
-  marked_out false rs tail x bs more os k b c = ((os, components x (bs ++ more) ∷ k), (refl, refl), c)
+  presence_bit_out : (q : Bool) (rs tail : List Record) (x : Option Bool) (bs more : List Bool) (os : List ℕ) (k : List Scope) (b : State) → Chain (Step free) (rs ++ tail) (os, components x (bs ++ more) ∷ k) b → Chain (Step free) (with_presence_bit q rs ++ tail) (os, components x (presence_bit_unless q true bs ++ more) ∷ k) b
+  presence_bit_out true rs tail x bs more os k b c = c
+  presence_bit_out false rs tail x bs more os k b c = ((os, components x (bs ++ more) ∷ k), (refl, refl), c)
 
   pub root_out : (cs : Components) → EachShows free cs → (ps : Parts) (rs : List Record) (x : Option Bool) (more : List Bool) (os mid : List ℕ) (k : List Scope) (b : State) → Front free (Oer.component_forms cs ps) os mid → Chain (Step free) rs (mid, components x more ∷ k) b → RootOut cs ps rs x more os k b
   unfolding root_records Oer.component_forms Oer.spelled
@@ -228,7 +228,7 @@ module _ (free : Oer.Freedom → Bool) where
       let there : State = (q.0, components x (presence_bits cs r.0 ++ more) ∷ k) in
       let w = there_out free s h.0 o v here there (q.1, refl) in
       let its : List Record = presents s w.0 ++ noted_by (is_at_default o s w.0) (is_group_left_out s w.0) in
-      (present w.0 r.0, like_present t o s cs v w.0 ps r.0 w.1 r.1, ap (λ l. presence_bit_unless (is_required o) true l) r.2, marked_out (is_required o) its (root_records cs r.0 rs) x (presence_bits cs r.0) more os k b (chain_append (Step free) its (root_records cs r.0 rs) here there b w.2 r.3))
+      (present w.0 r.0, like_present t o s cs v w.0 ps r.0 w.1 r.1, ap (λ l. presence_bit_unless (is_required o) true l) r.2, presence_bit_out (is_required o) its (root_records cs r.0 rs) x (presence_bits cs r.0) more os k b (chain_append (Step free) its (root_records cs r.0 rs) here there b w.2 r.3))
   root_out (component t o s cs) h (absent ps) rs x more os mid k b f c =
       let d = left_in (is_required o) (Oer.component_forms cs ps) os mid f in
       let r = root_out cs h.1 ps rs x more os mid k b d.1 c in

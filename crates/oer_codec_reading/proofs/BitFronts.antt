@@ -5,14 +5,14 @@ use Rattle.std.proofs.Math.Nat.{mod-eq_of_lt}
 use Rattle.std.proofs.lemmas.Bool.{false≢true, eqb-true, eq-eqb}
 use Rattle.asn1_model.specs.Numbers.{binary, number_after, missing, octet_bits, packed}
 use Rattle.asn1_model.specs.Form.{exactly, only_if}
-use Rattle.asn1_model.specs.Oer.{any_filling, bits_form}
+use Rattle.asn1_model.specs.Oer.{any_unused_bits, bits_form}
 use Rattle.asn1_values_bits.proofs.Binary.{binary_join, binary_zero, low_zeros, length-octet_bits, same_fronts, same_backs}
 use Rattle.asn1_values_bits.proofs.Packed.{packed-octet_bits}
 use Rattle.asn1_values_natives.proofs.OctetLaws.{AreOctets}
 use Rattle.oer_codec_reading.specs.Bits.{bits_in}
 use Rattle.oer_codec_reading_lengths.specs.Fronts.{freedoms, is_basic, Stands, NoneStands}
 use Rattle.oer_codec_reading_lengths.proofs.Fronts.{fronts_equal, exactly_stands, exactly_front, if_stands, if_front, varied_stands, varied_front}
-use Rattle.oer_codec_reading_lengths.proofs.Freedoms.{any_filling_is_basic}
+use Rattle.oer_codec_reading_lengths.proofs.Freedoms.{any_unused_bits_is_basic}
 use Rattle.oer_codec_reading_lengths.specs.declared.rules.EncodingRules.{EncodingRules}
 
 -- ---- octets of bits, and back
@@ -56,24 +56,24 @@ packed_octets os a = packed-octet_bits os (small_at os a)
 
 -- ---- bits with others behind them, up to whole octets
 
-filled_length : (bs fill : List Bool) → length fill ≡ missing (length bs) → length (bs ++ fill) ≡ 8 * ((length bs + 7) / 8)
-filled_length bs fill e = length-append bs fill ∙ whole_octets (length bs) (length fill) e
+length_with_unused : (bs unused : List Bool) → length unused ≡ missing (length bs) → length (bs ++ unused) ≡ 8 * ((length bs + 7) / 8)
+length_with_unused bs unused e = length-append bs unused ∙ whole_octets (length bs) (length unused) e
 
-packed_length : (bs fill : List Bool) → length fill ≡ missing (length bs) → length (packed (bs ++ fill)) * 8 ≡ length bs + missing (length bs)
-packed_length bs fill e =
-    let b = packed_back ((length bs + 7) / 8) (bs ++ fill) (filled_length bs fill e) in
-    sym (length-octet_bits (packed (bs ++ fill))) ∙ ap length b ∙ length-append bs fill ∙ ap (λ m. length bs + m) e
+packed_length : (bs unused : List Bool) → length unused ≡ missing (length bs) → length (packed (bs ++ unused)) * 8 ≡ length bs + missing (length bs)
+packed_length bs unused e =
+    let b = packed_back ((length bs + 7) / 8) (bs ++ unused) (length_with_unused bs unused e) in
+    sym (length-octet_bits (packed (bs ++ unused))) ∙ ap length b ∙ length-append bs unused ∙ ap (λ m. length bs + m) e
 
 -- Bits that stand in front are those of the octets that were taken.
-pub filled_front : (bs fill : List Bool) (os w new rest : List ℕ) → length fill ≡ missing (length bs) → packed (bs ++ fill) ++ rest ≡ w → os ++ new ≡ w → length os * 8 ≡ length bs + missing (length bs)
-    → (take (length bs) (octet_bits os) ≡ bs) × (drop (length bs) (octet_bits os) ≡ fill) × (rest ≡ new)
-filled_front bs fill os w new rest e h i l =
-    let p = packed_length bs fill e in
-    let f = fronts_equal (packed (bs ++ fill)) os rest new (omega (arith, p, l)) (h ∙ sym i) in
-    let b : octet_bits os ≡ bs ++ fill = ap octet_bits (sym f.0) ∙ packed_back ((length bs + 7) / 8) (bs ++ fill) (filled_length bs fill e) in
-    let t : take (length bs) (octet_bits os) ++ drop (length bs) (octet_bits os) ≡ bs ++ fill = take-append-drop (length bs) (octet_bits os) ∙ b in
-    let d : length (drop (length bs) (octet_bits os)) ≡ length fill = (let x = length-drop (length bs) (octet_bits os) in let y = length-octet_bits os in omega (arith, x, y, l, e)) in
-    (same_fronts (take (length bs) (octet_bits os)) (drop (length bs) (octet_bits os)) bs fill d t, same_backs (take (length bs) (octet_bits os)) (drop (length bs) (octet_bits os)) bs fill d t, f.1)
+pub front_with_unused : (bs unused : List Bool) (os w new rest : List ℕ) → length unused ≡ missing (length bs) → packed (bs ++ unused) ++ rest ≡ w → os ++ new ≡ w → length os * 8 ≡ length bs + missing (length bs)
+    → (take (length bs) (octet_bits os) ≡ bs) × (drop (length bs) (octet_bits os) ≡ unused) × (rest ≡ new)
+front_with_unused bs unused os w new rest e h i l =
+    let p = packed_length bs unused e in
+    let f = fronts_equal (packed (bs ++ unused)) os rest new (omega (arith, p, l)) (h ∙ sym i) in
+    let b : octet_bits os ≡ bs ++ unused = ap octet_bits (sym f.0) ∙ packed_back ((length bs + 7) / 8) (bs ++ unused) (length_with_unused bs unused e) in
+    let t : take (length bs) (octet_bits os) ++ drop (length bs) (octet_bits os) ≡ bs ++ unused = take-append-drop (length bs) (octet_bits os) ∙ b in
+    let d : length (drop (length bs) (octet_bits os)) ≡ length unused = (let x = length-drop (length bs) (octet_bits os) in let y = length-octet_bits os in omega (arith, x, y, l, e)) in
+    (same_fronts (take (length bs) (octet_bits os)) (drop (length bs) (octet_bits os)) bs unused d t, same_backs (take (length bs) (octet_bits os)) (drop (length bs) (octet_bits os)) bs unused d t, f.1)
 
 taken_length : (n : ℕ) (os : List ℕ) → length os * 8 ≡ n + missing n → length (take n (octet_bits os)) ≡ n
 taken_length n os l = let y = length-octet_bits os in length-take-le n (octet_bits os) (omega (arith, y, l))
@@ -84,10 +84,10 @@ dropped_length n os l = let x = length-drop n (octet_bits os) in let y = length-
 taken_text : (n : ℕ) (os w new : List ℕ) → AreOctets os → os ++ new ≡ w → packed (take n (octet_bits os) ++ drop n (octet_bits os)) ++ new ≡ w
 taken_text n os w new a e = ap (λ b. packed b ++ new) (take-append-drop n (octet_bits os)) ∙ ap (λ o. o ++ new) (packed_octets os a) ∙ e
 
--- ---- the filling
+-- ---- the unused bits
 
-pub zero_filling : (n m x : ℕ) (os : List ℕ) → length os * 8 ≡ n + missing n → m ≡ missing n → binary m x ≡ take m (drop n (octet_bits os)) → x < 2 ^ m → ((x == 0) ≡ true → drop n (octet_bits os) ≡ replicate (missing n) false) × (drop n (octet_bits os) ≡ replicate (missing n) false → (x == 0) ≡ true)
-zero_filling n m x os l e b h =
+pub zero_unused_bits : (n m x : ℕ) (os : List ℕ) → length os * 8 ≡ n + missing n → m ≡ missing n → binary m x ≡ take m (drop n (octet_bits os)) → x < 2 ^ m → ((x == 0) ≡ true → drop n (octet_bits os) ≡ replicate (missing n) false) × (drop n (octet_bits os) ≡ replicate (missing n) false → (x == 0) ≡ true)
+zero_unused_bits n m x os l e b h =
     let d = dropped_length n os l in
     let t : binary m x ≡ drop n (octet_bits os) = b ∙ take_all m (drop n (octet_bits os)) (omega (arith, d)) in (
       λ z. sym t ∙ ap (binary m) (eqb-true x 0 z) ∙ binary_zero m ∙ ap (λ k. replicate k false) e,
@@ -101,42 +101,42 @@ module _ (r : EncodingRules) where
   unfolding bits_form
   bits_read n os w new bs l a e z b =
       let m : length bs ≡ n = ap length b ∙ taken_length n os l in
-      let fill : List Bool = drop n (octet_bits os) in
-      let k : length fill ≡ missing (length bs) = dropped_length n os l ∙ ap missing (sym m) in
+      let unused : List Bool = drop n (octet_bits os) in
+      let k : length unused ≡ missing (length bs) = dropped_length n os l ∙ ap missing (sym m) in
       if_stands (freedoms r) (length bs == n) (bits_form bs) w new (eq-eqb _ _ m)
-      (varied_stands (freedoms r) any_filling (replicate (missing (length bs)) false) fill (λ f. only_if (length f == missing (length bs)) (exactly (packed (bs ++ f)))) w new
-      (elim z [ inl t ↦ inr (any_filling_is_basic r ∙ t) | inr t ↦ inl (t ∙ ap (λ j. replicate (missing j) false) (sym m)) ])
-      (if_stands (freedoms r) (length fill == missing (length bs)) (exactly (packed (bs ++ fill))) w new (eq-eqb _ _ k)
-      (exactly_stands (freedoms r) (packed (bs ++ fill)) w new (ap (λ c. packed (c ++ fill) ++ new) b ∙ taken_text n os w new a e))))
+      (varied_stands (freedoms r) any_unused_bits (replicate (missing (length bs)) false) unused (λ f. only_if (length f == missing (length bs)) (exactly (packed (bs ++ f)))) w new
+      (elim z [ inl t ↦ inr (any_unused_bits_is_basic r ∙ t) | inr t ↦ inl (t ∙ ap (λ j. replicate (missing j) false) (sym m)) ])
+      (if_stands (freedoms r) (length unused == missing (length bs)) (exactly (packed (bs ++ unused))) w new (eq-eqb _ _ k)
+      (exactly_stands (freedoms r) (packed (bs ++ unused)) w new (ap (λ c. packed (c ++ unused) ++ new) b ∙ taken_text n os w new a e))))
 
-  -- the text of bits, and their filling
-  record Filled (bs : List Bool) (w rest : List ℕ) : Type 0 where
-    pub fill : List Bool
-    pub count : length fill ≡ missing (length bs)
-    pub text : packed (bs ++ fill) ++ rest ≡ w
-    pub zeros : (fill ≡ replicate (missing (length bs)) false) ⊎ (is_basic r ≡ true)
+  -- the text of bits, and the unused ones
+  record WithUnused (bs : List Bool) (w rest : List ℕ) : Type 0 where
+    pub unused : List Bool
+    pub count : length unused ≡ missing (length bs)
+    pub text : packed (bs ++ unused) ++ rest ≡ w
+    pub zeros : (unused ≡ replicate (missing (length bs)) false) ⊎ (is_basic r ≡ true)
 
-  bits_front : (n : ℕ) (bs : List Bool) (w rest : List ℕ) → Stands (freedoms r) (bits_in n bs) w rest → (length bs ≡ n) × Filled bs w rest
+  bits_front : (n : ℕ) (bs : List Bool) (w rest : List ℕ) → Stands (freedoms r) (bits_in n bs) w rest → (length bs ≡ n) × WithUnused bs w rest
   unfolding bits_form
   bits_front n bs w rest h =
       let i = if_front (freedoms r) (length bs == n) (bits_form bs) w rest h in
-      let v = varied_front (freedoms r) any_filling (replicate (missing (length bs)) false) (λ f. only_if (length f == missing (length bs)) (exactly (packed (bs ++ f)))) w rest i.1 in
+      let v = varied_front (freedoms r) any_unused_bits (replicate (missing (length bs)) false) (λ f. only_if (length f == missing (length bs)) (exactly (packed (bs ++ f)))) w rest i.1 in
       let j = if_front (freedoms r) (length v.0 == missing (length bs)) (exactly (packed (bs ++ v.0))) w rest v.2 in
-      (eqb-true _ _ i.0, record { fill = v.0; count = eqb-true _ _ j.0; text = exactly_front (freedoms r) (packed (bs ++ v.0)) w rest j.1; zeros = elim v.1 [ inl e ↦ inl e | inr t ↦ inr (sym (any_filling_is_basic r) ∙ t) ] })
+      (eqb-true _ _ i.0, record { unused = v.0; count = eqb-true _ _ j.0; text = exactly_front (freedoms r) (packed (bs ++ v.0)) w rest j.1; zeros = elim v.1 [ inl e ↦ inl e | inr t ↦ inr (sym (any_unused_bits_is_basic r) ∙ t) ] })
 
   pub short_bits : (n m : ℕ) (w : List ℕ) → m * 8 ≡ n + missing n → length w < m → NoneStands (freedoms r) (bits_in n) w
   short_bits n m w e l bs rest h =
       let f = bits_front n bs w rest h in
-      let p = packed_length bs f.1.fill f.1.count in
-      let q = length-append (packed (bs ++ f.1.fill)) rest in
+      let p = packed_length bs f.1.unused f.1.count in
+      let q = length-append (packed (bs ++ f.1.unused)) rest in
       let u = ap length f.1.text in
       let s : length bs + missing (length bs) ≡ n + missing n = ap (λ k. k + missing k) f.0 in
       absurd (omega (arith, p, q, u, s, e, l))
 
-  pub filled_bits : (n : ℕ) (os w new : List ℕ) → length os * 8 ≡ n + missing n → os ++ new ≡ w → (is_basic r ≡ false) × (drop n (octet_bits os) ≡ replicate (missing n) false → ⊥) → NoneStands (freedoms r) (bits_in n) w
-  filled_bits n os w new l e z bs rest h =
+  pub no_bits_with_unused : (n : ℕ) (os w new : List ℕ) → length os * 8 ≡ n + missing n → os ++ new ≡ w → (is_basic r ≡ false) × (drop n (octet_bits os) ≡ replicate (missing n) false → ⊥) → NoneStands (freedoms r) (bits_in n) w
+  no_bits_with_unused n os w new l e z bs rest h =
       let f = bits_front n bs w rest h in
-      let g = filled_front bs f.1.fill os w new rest f.1.count f.1.text e (l ∙ ap (λ k. k + missing k) (sym f.0)) in
+      let g = front_with_unused bs f.1.unused os w new rest f.1.count f.1.text e (l ∙ ap (λ k. k + missing k) (sym f.0)) in
       elim f.1.zeros [
         | inl t ↦ z.1 (ap (λ k. drop k (octet_bits os)) (sym f.0) ∙ g.1 ∙ t ∙ ap (λ k. replicate (missing k) false) f.0)
         | inr t ↦ false≢true (sym z.0 ∙ t)
@@ -146,8 +146,8 @@ module _ (r : EncodingRules) where
   pub bits_long : (bs : List Bool) (w rest : List ℕ) → Stands (freedoms r) (bits_form bs) w rest → (length bs + 7) / 8 ≤ length w
   bits_long bs w rest h =
       let f = bits_front (length bs) bs w rest (if_stands (freedoms r) (length bs == length bs) (bits_form bs) w rest (eq-eqb _ _ refl) h) in
-      let p = packed_length bs f.1.fill f.1.count in
-      let q = length-append (packed (bs ++ f.1.fill)) rest in
+      let p = packed_length bs f.1.unused f.1.count in
+      let q = length-append (packed (bs ++ f.1.unused)) rest in
       let u = ap length f.1.text in
       omega (arith, p, q, u)
 
@@ -156,9 +156,9 @@ module _ (r : EncodingRules) where
   bits_one n a b w x y s t =
       let f = bits_front n a w x s in
       let g = bits_front n b w y t in
-      let os : List ℕ = packed (b ++ g.1.fill) in
-      let l = packed_length b g.1.fill g.1.count in
+      let os : List ℕ = packed (b ++ g.1.unused) in
+      let l = packed_length b g.1.unused g.1.count in
       let m : length os * 8 ≡ length a + missing (length a) = l ∙ ap (λ k. k + missing k) (g.0 ∙ sym f.0) in
-      let p = filled_front a f.1.fill os w y x f.1.count f.1.text g.1.text m in
-      let q = filled_front b g.1.fill os w y y g.1.count g.1.text g.1.text l in
+      let p = front_with_unused a f.1.unused os w y x f.1.count f.1.text g.1.text m in
+      let q = front_with_unused b g.1.unused os w y y g.1.count g.1.text g.1.text l in
       (sym p.0 ∙ ap (λ k. take k (octet_bits os)) (f.0 ∙ sym g.0) ∙ q.0, p.2)

@@ -4,7 +4,7 @@ use Rattle.std.proofs.Math.Nat.{mod-eq_of_lt}
 use Rattle.std.proofs.lemmas.Bool.{eqb-true}
 use Rattle.asn1_model.specs.Form.{Reads}
 use Rattle.asn1_model.specs.Numbers.{binary, missing}
-use Rattle.asn1_model.specs.Oer.{Freedom, any_filling, bit_string_form, bits_form, counted_bits, empty_bit_string, length_form}
+use Rattle.asn1_model.specs.Oer.{Freedom, any_unused_bits, bit_string_form, bits_form, counted_bits, empty_bit_string, length_form}
 use Rattle.asn1_schema_faults.specs.declared.DecodeError.{DecodeError}
 use Rattle.asn1_values_bits.proofs.Binary.{low_zeros}
 use Rattle.oer_codec_fronts.proofs.Anywhere.{Anywhere, moves_exactly, moves_if, moves_varied}
@@ -30,7 +30,7 @@ counted_length free bs w rest h = let u = h.2 in (u.1 ++ rest, (u.0, sym (append
 -- bits have one text at each place
 bits_move : (free : Freedom → Bool) (bs : List Bool) → Anywhere free (bits_form bs)
 unfolding bits_form
-bits_move free bs = moves_varied free {c = any_filling} (λ fill. moves_if free _ (moves_exactly free _))
+bits_move free bs = moves_varied free {c = any_unused_bits} (λ unused. moves_if free _ (moves_exactly free _))
 
 counted_stands : (free : Freedom → Bool) (bs : List Bool) (w mid rest : List ℕ) → Stands free (length_form (octets_of (length bs))) w (missing (length bs) ∷ mid) → Stands free (bits_form bs) mid rest → Stands free (counted_bits bs) w rest
 unfolding Reads counted_bits

@@ -3,7 +3,7 @@ use Rattle.std.specs.Prelude.{ℕ, ◌==◌, Bool, false, List, length, Option, 
 use Rattle.asn1_model.specs.Form.{only_if}
 use Rattle.asn1_model.specs.Oer.{OctetForm, bit_string_form, bits_form}
 
--- So many bits, filled up to whole octets (X.696 13).
+-- So many bits, and unused ones up to whole octets (X.696 13).
 abbrev pub bits_in : ℕ → List Bool → OctetForm
 bits_in n bs = only_if (length bs == n) (bits_form bs)
 

@@ -16,21 +16,20 @@ use crate::{Cursor, EncodingRules};
 use asn1_schema_constraints::{Bounded, Constraints};
 use asn1_schema_faults::DecodeError;
 use asn1_values_bit_strings::BitString;
-use asn1_values_bits::BitStr;
 use asn1_values_bits::bits::read_bits;
+use asn1_values_bits::{BitStr, free_bits};
 use std::alloc::Global;
 
 /// Whether the bits behind so many are zero, up to the end of the octets that hold these.
-fn has_zero_filling(octets: &[u8], count: usize) -> bool
+fn has_zero_unused_bits(octets: &[u8], count: usize) -> bool
     requires whole { length octets.now * 8 ≡ count + missing count }
     requires few { length octets.now < 2 ^ 60 }
     ensures { IsTrue result ↔ (drop count (octet_bits octets.now) ≡ replicate (missing count) false) }
 {
-    let missing = (8 - count % 8) % 8;
-    read_bits(octets, count, missing as u32) == 0
+    read_bits(octets, count, free_bits(count)) == 0
 }
 
-/// Whether bits with such a filling are read: in the canonical rules only if it is zero (X.696 13).
+/// Whether bits with such unused ones are read: in the canonical rules only if these are zero (X.696 13).
 fn is_taken(rules: EncodingRules, octets: &[u8], count: usize) -> bool
     requires whole { length octets.now * 8 ≡ count + missing count }
     requires few { length octets.now < 2 ^ 60 }
@@ -42,17 +41,17 @@ fn is_taken(rules: EncodingRules, octets: &[u8], count: usize) -> bool
     if rules.is_oer() {
         return true;
     }
-    has_zero_filling(octets, count)
+    has_zero_unused_bits(octets, count)
 }
 
-/// Reads so many bits, filled up to whole octets (X.696 13), and lends them.
+/// Reads so many bits, and unused ones up to whole octets (X.696 13), and lends the former.
 ///
 /// # Errors
 ///
-/// `Incomplete` if the octets end early, and `NotValidCanonicalEncoding` if a filling bit is set in the canonical
+/// `Incomplete` if the octets end early, and `NotValidCanonicalEncoding` if an unused bit is set in the canonical
 /// rules.
 #[inline(always)]
-pub(crate) fn read_filled<'input>(
+pub(crate) fn read_bits_of_octets<'input>(
     cursor: &mut Cursor<'input>,
     rules: EncodingRules,
     count: usize,
@@ -88,7 +87,7 @@ pub(crate) fn bit_count(length: usize, unused: u8) -> Option<usize>
 ///
 /// `Incomplete` if the octets end early, `InvalidBitString` if there are more than seven unused bits, or unused bits
 /// and no octet,
-/// `NotValidCanonicalEncoding` if a filling bit is set or the length is zero in the canonical rules, and the errors
+/// `NotValidCanonicalEncoding` if an unused bit is set or the length is zero in the canonical rules, and the errors
 /// of a length.
 fn read_varying<'input>(
     cursor: &mut Cursor<'input>,
@@ -112,7 +111,7 @@ fn read_varying<'input>(
     let Some(count) = bit_count(length, unused) else {
         return Err(DecodeError::InvalidBitString);
     };
-    read_filled(cursor, rules, count)
+    read_bits_of_octets(cursor, rules, count)
 }
 
 /// Reads bits of one size, or behind their length if there is not one size alone, and lends them.
@@ -126,7 +125,7 @@ fn read_sized_bits<'input>(
 {
     match size {
         Some(count) => {
-            let bits = read_filled(cursor, rules, count)?;
+            let bits = read_bits_of_octets(cursor, rules, count)?;
             Ok(bits)
         }
         None => {
@@ -143,7 +142,7 @@ fn read_sized_bits<'input>(
 /// `SizeConstraintNotSatisfied` if the size or the program's type does not admit as many, `Incomplete` if the octets
 /// end early,
 /// `InvalidBitString` if there are more than seven unused bits, or unused bits and no octet,
-/// `NotValidCanonicalEncoding` if a filling bit is
+/// `NotValidCanonicalEncoding` if an unused bit is
 /// set or the length is zero in the canonical rules, the errors of a length, and `OutOfMemory`.
 pub fn read_bit_string(
     alloc: Global,

@@ -3,7 +3,7 @@ ghost use Rattle.std.specs.Prelude.{◌≡◌, ◌<◌, replicate, length, false
 ghost use Rattle.asn1_model.specs.Oer.{counted_bits};
 ghost use Rattle.oer_codec_reading.specs.Fronts.{freedoms, Misses, Stands};
 
-use crate::bit_strings::{bit_count, read_filled};
+use crate::bit_strings::{bit_count, read_bits_of_octets};
 use crate::lengths::read_length;
 use crate::{Cursor, EncodingRules};
 use asn1_schema_faults::DecodeError;
@@ -44,6 +44,6 @@ pub fn read_bitmap<'input>(
     let Some(count) = bit_count(length, unused) else {
         return Err(DecodeError::InvalidExtensionHeader);
     };
-    let bits = read_filled(cursor, rules, count)?;
+    let bits = read_bits_of_octets(cursor, rules, count)?;
     Ok(BitReader::new(bits))
 }

@@ -6,22 +6,9 @@ ghost use Rattle.oer_codec_reading_lengths.specs.Fronts.{freedoms, Front, NoFron
 
 use crate::lengths::read_counted;
 use crate::{Cursor, EncodingRules};
-use asn1_schema_faults::DecodeError;
-use asn1_values_identifiers::{IdentifierError, ObjectIdentifier, oid_from_octets};
+use asn1_schema_faults::{DecodeError, identifier_fault};
+use asn1_values_identifiers::{ObjectIdentifier, oid_from_octets};
 use std::alloc::Global;
-
-/// Why octets are not read as an identifier.
-fn fault_of(error: IdentifierError) -> DecodeError
-    ensures memory { error ≡ IdentifierError.Memory → result ≡ DecodeError.OutOfMemory }
-    ensures fresh { result ≡ DecodeError.AlreadyFailed → ⊥ }
-{
-    match error {
-        IdentifierError::Memory => DecodeError::OutOfMemory,
-        IdentifierError::Truncated | IdentifierError::Padded | IdentifierError::ArcTooLarge => {
-            DecodeError::InvalidObjectIdentifier
-        }
-    }
-}
 
 /// Reads an object identifier (X.696 21): its contents (X.690 8.19) behind their number.
 ///
@@ -42,6 +29,6 @@ pub fn read_object_identifier(
     let octets = read_counted(cursor, rules)?;
     match oid_from_octets(alloc, octets) {
         Ok(identifier) => Ok(identifier),
-        Err(error) => Err(fault_of(error)),
+        Err(error) => Err(identifier_fault(error)),
     }
 }

@@ -1,6 +1,6 @@
 -- What the rules leave to a reader.
 use Rattle.std.proofs.Common.{◌≡◌, Bool, true, false, ◌&&◌, not, refl}
-use Rattle.asn1_model.specs.Oer.{longer_length, longer_number, any_truth, empty_bit_string, any_filling}
+use Rattle.asn1_model.specs.Oer.{longer_length, longer_number, any_truth, empty_bit_string, any_unused_bits}
 use Rattle.oer_codec_reading_lengths.specs.declared.rules.EncodingRules.{EncodingRules}
 use Rattle.oer_codec_reading_lengths.specs.declared.rules.EncodingRules.TheVariants.{Oer, Coer}
 use Rattle.oer_codec_reading_lengths.specs.Fronts.{freedoms, is_basic}
@@ -34,6 +34,6 @@ pub empty_bit_string_is_basic : (r : EncodingRules) → freedoms r empty_bit_str
 empty_bit_string_is_basic Oer = refl
 empty_bit_string_is_basic Coer = refl
 
-pub any_filling_is_basic : (r : EncodingRules) → freedoms r any_filling ≡ is_basic r
-any_filling_is_basic Oer = refl
-any_filling_is_basic Coer = refl
+pub any_unused_bits_is_basic : (r : EncodingRules) → freedoms r any_unused_bits ≡ is_basic r
+any_unused_bits_is_basic Oer = refl
+any_unused_bits_is_basic Coer = refl

@@ -2,11 +2,8 @@
 ghost use Rattle.std.specs.Prelude.{◌≡◌, ◌-◌, ◌^◌, ◌<◌, take, ◌++◌, ◌∷◌, [], length, IsTrue, ◌↔◌, IfOk, IfErr};
 ghost use Rattle.std.specs.List.{AllByRecursion};
 
-use asn1_schema_faults::DecodeError;
+use asn1_schema_faults::{DecodeError, MOST_OCTETS};
 use std::marker::Model;
-
-/// An encoding has no more octets.
-const MOST_OCTETS: usize = (1 << 60) - 1;
 
 /// A place in the input: the octets behind it are unread, and lent.
 #[derive(Drop)]

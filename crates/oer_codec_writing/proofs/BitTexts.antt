@@ -7,7 +7,7 @@ use Rattle.asn1_model.specs.Schema.{Size, Counts, bit_string}
 use Rattle.asn1_model.specs.Value.{bit_list}
 use Rattle.asn1_model.specs.Numbers.{binary, missing, packed}
 use Rattle.asn1_model.specs.Oer
-use Rattle.asn1_values_bits.specs.Octets.{filled_up}
+use Rattle.asn1_values_bits.specs.Octets.{padded}
 use Rattle.asn1_values_bits.proofs.Leading.{octet_leads}
 use Rattle.oer_codec_writing.specs.Writing.{Adds}
 use Rattle.oer_codec_writing.proofs.ScalarTexts.{if_true, if_false}
@@ -17,15 +17,15 @@ unfolding written
 if_it_is true os p e = refl
 if_it_is false os p e = cc
 
-pub bits_text : (bs : List Bool) (p : ℕ) → written (Oer.bits_form bs) p ≡ Some (packed (filled_up bs))
+pub bits_text : (bs : List Bool) (p : ℕ) → written (Oer.bits_form bs) p ≡ Some (packed (padded bs))
 unfolding written Oer.bits_form
-bits_text bs p = if_it_is (length (replicate (missing (length bs)) false) == missing (length bs)) (packed (filled_up bs)) p (eq-eqb _ _ (length-replicate (missing (length bs)) false))
+bits_text bs p = if_it_is (length (replicate (missing (length bs)) false) == missing (length bs)) (packed (padded bs)) p (eq-eqb _ _ (length-replicate (missing (length bs)) false))
 
-pub adds_fixed_bits : (bs : List Bool) (old new : List ℕ) → new ≡ old ++ packed (filled_up bs) → Adds (written (Oer.bit_string_form true bs) 0) old new
+pub adds_fixed_bits : (bs : List Bool) (old new : List ℕ) → new ≡ old ++ packed (padded bs) → Adds (written (Oer.bit_string_form true bs) 0) old new
 unfolding Oer.bit_string_form
 adds_fixed_bits bs old new e = ap (option_map (λ w. old ++ w)) (bits_text bs 0) ∙ ap Some (sym e)
 
-counted_bits_text : (bs : List Bool) (w : List ℕ) → written (Oer.length_form ((length bs + 7) / 8 + 1)) 0 ≡ Some w → written (Oer.bit_string_form false bs) 0 ≡ Some (w ++ (missing (length bs) ∷ packed (filled_up bs)))
+counted_bits_text : (bs : List Bool) (w : List ℕ) → written (Oer.length_form ((length bs + 7) / 8 + 1)) 0 ≡ Some w → written (Oer.bit_string_form false bs) 0 ≡ Some (w ++ (missing (length bs) ∷ packed (padded bs)))
 unfolding written Oer.bit_string_form Oer.counted_bits
 counted_bits_text bs w e =
     ap (λ o. option_and_then (λ a. option_map (λ b. a ++ b) (option_and_then (λ c. option_map (λ d. c ++ d) (written (Oer.bits_form bs) (0 + length a + length c))) (Some (missing (length bs) ∷ [])))) o) e ∙ ap (λ o. option_map (λ b. w ++ b) (option_map (λ d. (missing (length bs) ∷ []) ++ d) o)) (bits_text bs (0 + length w + 1))
@@ -38,7 +38,7 @@ pub bit_string_none : (z : Size) (h : Counts) (bs : List Bool) → Oer.admits z 
 unfolding Oer.form
 bit_string_none z h bs e = if_false (Oer.admits z h (length bs)) (Oer.bit_string_form (Oer.is_fixed z) bs) e
 
-pub adds_counted_bits : (bs : List Bool) (old mid next new : List ℕ) (n u : ℕ) → n ≡ (length bs + 7) / 8 + 1 → u ≡ missing (length bs) → Adds (written (Oer.length_form n) 0) old mid → next ≡ mid ++ u ∷ [] → new ≡ next ++ packed (filled_up bs) → Adds (written (Oer.bit_string_form false bs) 0) old new
+pub adds_counted_bits : (bs : List Bool) (old mid next new : List ℕ) (n u : ℕ) → n ≡ (length bs + 7) / 8 + 1 → u ≡ missing (length bs) → Adds (written (Oer.length_form n) 0) old mid → next ≡ mid ++ u ∷ [] → new ≡ next ++ packed (padded bs) → Adds (written (Oer.bit_string_form false bs) 0) old new
 adds_counted_bits bs old mid next new n u e f a b c = go (written (Oer.length_form n) 0) refl a
   where
     go : (o : Option (List ℕ)) → written (Oer.length_form n) 0 ≡ o → Adds o old mid → Adds (written (Oer.bit_string_form false bs) 0) old new
@@ -46,15 +46,15 @@ adds_counted_bits bs old mid next new n u e f a b c = go (written (Oer.length_fo
     go (Some w) d x =
         let m : old ++ w ≡ mid = cc x in
         let t = counted_bits_text bs w (ap (λ k. written (Oer.length_form k) 0) (sym e) ∙ d) in
-        let p : List ℕ = packed (filled_up bs) in
+        let p : List ℕ = packed (padded bs) in
         ap (option_map (λ l. old ++ l)) t
         ∙ ap Some (sym (c ∙ ap (λ l. l ++ p) b ∙ append_assoc mid (u ∷ []) p ∙ ap (λ l. l ++ (u ∷ p)) (sym m) ∙ append_assoc old w (u ∷ p) ∙ ap (λ k. old ++ (w ++ k ∷ p)) f))
 
-pub bits_moved : (old octets new : List ℕ) (bs rest : List Bool) (few v x : ℕ) → octets ++ packed (filled_up bs) ≡ old → 0 < length bs → few ≡ min (length bs) 8 → binary few v ≡ take few bs → v < 2 ^ few → x ≡ v * 2 ^ (8 - few) → new ≡ octets ++ x ∷ [] → rest ≡ drop few bs → new ++ packed (filled_up rest) ≡ old
+pub bits_moved : (old octets new : List ℕ) (bs rest : List Bool) (few v x : ℕ) → octets ++ packed (padded bs) ≡ old → 0 < length bs → few ≡ min (length bs) 8 → binary few v ≡ take few bs → v < 2 ^ few → x ≡ v * 2 ^ (8 - few) → new ≡ octets ++ x ∷ [] → rest ≡ drop few bs → new ++ packed (padded rest) ≡ old
 bits_moved old octets new bs rest few v x h some e d b y n r =
-    let front : packed (filled_up bs) ≡ x ∷ packed (filled_up rest) = octet_leads bs few v some e d b ∙ ap (λ k. k ∷ packed (filled_up (drop few bs))) (sym y) ∙ ap (λ l. x ∷ packed (filled_up l)) (sym r) in
-    ap (λ l. l ++ packed (filled_up rest)) n ∙ append_assoc octets (x ∷ []) (packed (filled_up rest)) ∙ ap (λ l. octets ++ l) (sym front) ∙ h
+    let front : packed (padded bs) ≡ x ∷ packed (padded rest) = octet_leads bs few v some e d b ∙ ap (λ k. k ∷ packed (padded (drop few bs))) (sym y) ∙ ap (λ l. x ∷ packed (padded l)) (sym r) in
+    ap (λ l. l ++ packed (padded rest)) n ∙ append_assoc octets (x ∷ []) (packed (padded rest)) ∙ ap (λ l. octets ++ l) (sym front) ∙ h
 
-pub none_left : (octets old : List ℕ) (rest : List Bool) → length rest ≤ 0 → octets ++ packed (filled_up rest) ≡ old → octets ≡ old
+pub none_left : (octets old : List ℕ) (rest : List Bool) → length rest ≤ 0 → octets ++ packed (padded rest) ≡ old → octets ≡ old
 none_left octets old [] h e = sym (append-nil octets) ∙ e
 none_left octets old (b ∷ bs) h e = absurd (omega arith)

@@ -8,25 +8,25 @@ ghost use Rattle.asn1_model.specs.Value.{bit_list};
 ghost use Rattle.asn1_schema_constraints.specs.Bounds.{counts_of};
 ghost use Rattle.asn1_schema_constraints.specs.Terms.{sizes_of};
 ghost use Rattle.asn1_values_bits.specs.BitStr.{bits_of};
-ghost use Rattle.asn1_values_bits.specs.Octets.{filled_up};
+ghost use Rattle.asn1_values_bits.specs.Octets.{padded};
 ghost use Rattle.oer_codec_writing.specs.Writing.{Adds, Refuses};
 
 use crate::lengths::push_length;
 use asn1_schema_constraints::{Bounded, Constraints};
 use asn1_schema_faults::EncodeError;
-use asn1_values_bits::BitStr;
+use asn1_values_bits::{BitStr, free_bits};
 
-/// How many bits are missing to whole octets.
+/// How many bits are missing to whole octets, as the octet in front of these (X.696 13).
 fn unused_bits(count: usize) -> u8
     ensures { result ≡ missing count }
 {
-    ((8 - count % 8) % 8) as u8
+    free_bits(count) as u8
 }
 
-/// Adds bits as octets, the last filled with zero bits (X.696 13).
+/// Adds bits as octets, where the unused bits of the last one are zero (X.696 13).
 fn push_bits(octets: &mut Vec<u8>, value: BitStr) -> Result<(), EncodeError>
     ensures { MatchResult result (λ _. octets.new.items ≡ octets.old.items
-        ++ packed (filled_up (bits_of value.entry))) (λ e. e ≡ EncodeError.OutOfMemory) }
+        ++ packed (padded (bits_of value.entry))) (λ e. e ≡ EncodeError.OutOfMemory) }
 {
     let mut rest = value;
     while rest.len() > 0 {

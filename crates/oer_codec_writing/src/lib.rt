@@ -1,4 +1,5 @@
-//! Writers of the scalar types, of tags and of the items of enumerations in the octet encoding rules (X.696).
+//! Writers of the scalar types, of tags and of the items of enumerations in the octet encoding rules (X.696), and how
+//! many octets a preamble has.
 #![tactic(auto)]
 
 mod bits;
@@ -9,6 +10,7 @@ mod item_numbers;
 mod items;
 mod lengths;
 mod octet_strings;
+mod preambles;
 mod scalars;
 mod strings;
 mod tags;
@@ -20,6 +22,7 @@ pub use item_numbers::push_item;
 pub use items::push_enumerated;
 pub use lengths::{push_count, push_counted, short_length};
 pub use octet_strings::push_octet_string;
+pub use preambles::preamble_len;
 pub use scalars::push_boolean;
 pub use strings::{push_characters, push_utf8};
 pub use tags::push_tag;

@@ -23,7 +23,7 @@ use Rattle.asn1_schema_finding.proofs.Fitting.{records_fit}
 use Rattle.per_codec_decoder.specs.Held.{Held, Finds, IsReady}
 use Rattle.per_codec_decoder.specs.Laws.{finds_one}
 use Rattle.per_codec_fronts.specs.Takes.{Place, Front, completion}
-use Rattle.per_codec_fronts.proofs.Opened.{filled_in, filled_out}
+use Rattle.per_codec_fronts.proofs.Opened.{padded_in, padded_out}
 use Rattle.per_codec_fronts.proofs.Whole.{records_read, forms_show}
 use Rattle.per_codec_reading.specs.Fronts.{freedoms, is_aligned}
 use Rattle.per_codec_reading.specs.Runs.{Storage}
@@ -69,7 +69,7 @@ front_octets k input h =
     let d : drop k input ≡ rest = ap (drop k) (sym i) ∙ ap (λ j. drop j (text ++ rest)) (sym n) ∙ drop-append_seam text rest in
     ap (λ l. text ++ l) d ∙ i
 
--- the bits of a value and what fills them up are those of whole octets
+-- the bits of a value and their padding are those of whole octets
 record Whole (r : Variant) (s : Schema) (v : Value) (input : List ℕ) (after : Place) : Type 0 where
   count : ℕ
   within : count ≤ length (first input)
@@ -83,7 +83,7 @@ whole r s v input left after f g =
     let os = first input in
     let text = f.text ++ g.text in
     let all : text ++ after.1 ≡ octet_bits os = append_assoc f.text g.text after.1 ∙ ap (λ l. f.text ++ l) g.in_front ∙ f.in_front in
-    let reads : Reads free (Per.complete (Per.form (is_aligned r) s v)) 0 text = (f.text, f.has_form, filled_in free f.text g.text left.0 f.moved g.has_form) in
+    let reads : Reads free (Per.complete (Per.form (is_aligned r) s v)) 0 text = (f.text, f.has_form, padded_in free f.text g.text left.0 f.moved g.has_form) in
     let k = complete_whole free (Per.form (is_aligned r) s v) text 0 reads in
     let n : length text ≡ k.0 * 8 = let e = k.1 in omega (arith, e) in
     let m = sym (length-append text after.1) ∙ ap length all in
@@ -152,7 +152,7 @@ front_of text rest input h e =
     sym (take-append-add text rest (2 ^ 60 - 1 - length text)) ∙ ap (λ k. take k (text ++ rest)) n ∙ ap first e
 
 module _ (r : Variant) (schema : ℕ → Schema) (input : List ℕ) (lawful : IsLawful (schema 128)) where
-  -- a message in front has records that are found, and what fills it up behind them
+  -- a message in front has records that are found, and its padding behind them
   record Again : Type 0 where
     value : Value
     left : Place
@@ -160,7 +160,7 @@ module _ (r : Variant) (schema : ℕ → Schema) (input : List ℕ) (lawful : Is
     stands : List Storage
     fits : Fits (schema 128) value
     chain : Chain Finds (presents (schema 128) value) (begun r input) (held_at (begun r input) (left, []) 128 stands)
-    filled : Front (freedoms r) (completion left.0) left after
+    padded : Front (freedoms r) (completion left.0) left after
 
   found_again : (v : Value) (rest : List ℕ) → HasMessage (rules_of r) (schema 128) v input rest → Again
   unfolding Per.message Per.complete Reads
@@ -170,7 +170,7 @@ module _ (r : Variant) (schema : ℕ → Schema) (input : List ℕ) (lawful : Is
       let free = freedoms r in
       let q = form_of r s v m.message m.encoding in
       let bits = q.1.0 in
-      let z = filled_out free bits (octet_bits m.message) q.1.2 in
+      let z = padded_out free bits (octet_bits m.message) q.1.2 in
       let others = octet_bits (take (2 ^ 60 - 1 - length m.message) rest) in
       let left : Place = (length bits, z.0 ++ others) in
       let after : Place = (length bits + length z.0, others) in
@@ -189,7 +189,7 @@ module _ (r : Variant) (schema : ℕ → Schema) (input : List ℕ) (lawful : Is
         stands = chain.0;
         fits = fits;
         chain = chain.1;
-        filled = g;
+        padded = g;
       }
 
   pub none_told : (e : DecodeError) → Unread Finds schema 128 (begun r input) e → NoMessage (rules_of r) schema input e
@@ -200,7 +200,7 @@ module _ (r : Variant) (schema : ℕ → Schema) (input : List ℕ) (lawful : Is
     none = λ n v rest m.
         let f = found_again v rest m in
         let k = one_value finds_one (schema 128) t.raw f.value (begun r input) new (held_at (begun r input) (f.left, []) 128 f.stands) t.fits f.fits t.chain f.chain in
-        none f.after (subst (λ (h : Held). Front (freedoms r) (completion h.place.0) h.place f.after) (sym k.1) f.filled);
+        none f.after (subst (λ (h : Held). Front (freedoms r) (completion h.place.0) h.place f.after) (sym k.1) f.padded);
   }
 
 pub none_told_from : (r : Variant) (schema : ℕ → Schema) (input : List ℕ) (old : Held) (e : DecodeError) → IsLawful (schema 128) → old ≡ begun r input → Unread Finds schema old.levels old e → NoMessage (rules_of r) schema input e

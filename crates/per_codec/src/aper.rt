@@ -20,12 +20,13 @@ use std::alloc::Global;
 /// # Errors
 ///
 /// Want of memory aside, only where the value has no encoding: `ValueConstraintNotSatisfied`,
-/// `SizeConstraintNotSatisfied`, `AlphabetConstraintNotSatisfied`, or `TooLongValue` for 2 to 60 octets and more and
+/// `SizeConstraintNotSatisfied`, `AlphabetConstraintNotSatisfied`, or `TooLongValue` for 2^60 octets and more and
 /// for nothing else.
 pub fn encode<T: Encode>(alloc: Global, value: &T) -> Result<Vec<u8>, EncodeError>
     ensures ok { IfOk result (λ octets. IsEncoded true T.schema (T.meaning value.now) octets.items) }
     ensures only { IfErr result (NotEncoded true T.schema (T.meaning value.now)) }
     ensures fresh { IfErr result (λ e. e ≡ EncodeError.AlreadyFailed → ⊥) }
+    ensures fits { IfErr result (λ e. e ≡ EncodeError.LengthExceedsPlatformSize → ⊥) }
     ensures in_place { IfErr result (λ e. e ≡ EncodeError.CallOutOfPlace → ⊥) }
 {
     let octets = crate::writing::encode(alloc, EncoderOptions::aligned(), value)?;
@@ -45,6 +46,7 @@ pub fn encode_buf<T: Encode>(
     ensures ok { OnOk result (IsEncoded true T.schema (T.meaning value.now) buffer.new.items) }
     ensures only { IfErr result (NotEncoded true T.schema (T.meaning value.now)) }
     ensures fresh { IfErr result (λ e. e ≡ EncodeError.AlreadyFailed → ⊥) }
+    ensures fits { IfErr result (λ e. e ≡ EncodeError.LengthExceedsPlatformSize → ⊥) }
     ensures in_place { IfErr result (λ e. e ≡ EncodeError.CallOutOfPlace → ⊥) }
     ensures empty { OnErr result (buffer.new.items ≡ []) }
 {
@@ -66,6 +68,7 @@ pub fn encode_with_constraints<T: Encode>(
         (λ octets. IsEncoded true (T.under (meant constraints.entry)) (T.meaning value.now) octets.items) }
     ensures only { IfErr result (NotEncoded true (T.under (meant constraints.entry)) (T.meaning value.now)) }
     ensures fresh { IfErr result (λ e. e ≡ EncodeError.AlreadyFailed → ⊥) }
+    ensures fits { IfErr result (λ e. e ≡ EncodeError.LengthExceedsPlatformSize → ⊥) }
     ensures in_place { IfErr result (λ e. e ≡ EncodeError.CallOutOfPlace → ⊥) }
 {
     let options = EncoderOptions::aligned();
@@ -77,7 +80,7 @@ pub fn encode_with_constraints<T: Encode>(
 ///
 /// # Errors
 ///
-/// Want of memory aside, only where no octets in front, fewer than 2 to 60, are an encoding of a value that nests at
+/// Want of memory aside, only where no octets in front, fewer than 2^60, are an encoding of a value that nests at
 /// most 128 levels.
 pub fn decode<T: Decode>(alloc: Global, input: &[u8]) -> Result<T, DecodeError>
     ensures ok { IfOk result (λ x. (rest : List ℕ) × Tells aper T.schema (T.meaning x) input.now rest) }

@@ -16,7 +16,7 @@ use std::alloc::Global;
 ///
 /// # Errors
 ///
-/// `OutOfMemory` for want of memory. Any other only if no octets in front, fewer than 2 to 60, are an encoding of a
+/// `OutOfMemory` for want of memory. Any other only if no octets in front, fewer than 2^60, are an encoding of a
 /// value of the type that nests at most 128 levels.
 pub fn decode<T: Decode>(alloc: Global, input: &[u8], variant: Variant) -> Result<T, DecodeError>
     ensures ok { IfOk result (λ x. (rest : List ℕ) × Tells (rules_of variant) T.schema (T.meaning x) input.now rest) }
@@ -57,7 +57,7 @@ pub fn decode_with_remainder<'input, T: Decode>(
 /// # Errors
 ///
 /// `OutOfMemory` for want of memory. Any other, if the type under these constraints is a lawful one, only if no octets
-/// in front, fewer than 2 to 60, are an encoding of a value of it that nests at most 128 levels.
+/// in front, fewer than 2^60, are an encoding of a value of it that nests at most 128 levels.
 pub fn decode_with_constraints<T: Decode>(
     alloc: Global,
     constraints: Constraints,

@@ -6,13 +6,10 @@ ghost use Rattle.per_codec.specs.Encoded.{IsEncoded, NotEncoded};
 
 use asn1_schema_constraints::Constraints;
 use asn1_schema_encode::Encode;
-use asn1_schema_faults::EncodeError;
+use asn1_schema_faults::{EncodeError, refusal, within_limit};
 use per_codec_encoder::{Encoder, EncoderOptions};
 use std::alloc::Global;
 use std::mem;
-
-/// An encoding has fewer octets than this.
-const LENGTH_LIMIT: usize = 1 << 60;
 
 /// How many octets there is room for before the first one is written.
 const FIRST_CAPACITY: usize = 128;
@@ -25,42 +22,13 @@ fn with_room(alloc: Global) -> Result<Vec<u8>, EncodeError>
     Ok(octets)
 }
 
-/// The octets, if they are not too many for an encoding.
-fn within_limit(octets: Vec<u8>) -> Result<Vec<u8>, EncodeError>
-    ensures { MatchResult result
-        (λ kept. (kept.items ≡ octets.items) × (length octets.items < 2 ^ 60))
-        (λ e. (e ≡ EncodeError.TooLongValue) × (2 ^ 60 ≤ length octets.items)) }
-{
-    if octets.len() >= LENGTH_LIMIT {
-        return Err(EncodeError::TooLongValue);
-    }
-    Ok(octets)
-}
-
-/// How a refusal of the value's type is passed on. That an encoding is too long is found by `within_limit` alone; a
-/// type that says so itself, or that makes a call out of its place, refuses its value, and is taken to refuse a length.
-fn refusal(error: EncodeError) -> EncodeError
-    ensures length { error ≡ EncodeError.TooLongValue → result ≡ EncodeError.SizeConstraintNotSatisfied }
-    ensures place { error ≡ EncodeError.CallOutOfPlace → result ≡ EncodeError.SizeConstraintNotSatisfied }
-    ensures others { ¬ (error ≡ EncodeError.TooLongValue) → ¬ (error ≡ EncodeError.CallOutOfPlace) → result ≡ error }
-    ensures fresh { ¬ (error ≡ EncodeError.AlreadyFailed) → ¬ (result ≡ EncodeError.AlreadyFailed) }
-    ensures in_place { ¬ (result ≡ EncodeError.CallOutOfPlace) }
-{
-    match error {
-        EncodeError::TooLongValue | EncodeError::CallOutOfPlace => {
-            EncodeError::SizeConstraintNotSatisfied
-        }
-        error => error,
-    }
-}
-
 /// The canonical encoding of a value (X.691), in the variant that the options name: at least one octet.
 ///
 /// # Errors
 ///
-/// `TooLongValue` for an encoding of 2 to 60 octets or more and for nothing else, `OutOfMemory`, and those of the
-/// value's type, where the value has no encoding of any length; a `TooLongValue` or `CallOutOfPlace` of the type's own
-/// comes as `SizeConstraintNotSatisfied`.
+/// `TooLongValue` for an encoding of 2^60 octets or more and for nothing else, `OutOfMemory`, and those of the
+/// value's type, where the value has no encoding of any length; a `TooLongValue`, `LengthExceedsPlatformSize` or
+/// `CallOutOfPlace` of the type's own comes as `SizeConstraintNotSatisfied`.
 pub fn encode<T: Encode>(
     alloc: Global,
     options: EncoderOptions,
@@ -69,6 +37,7 @@ pub fn encode<T: Encode>(
     ensures ok { IfOk result (λ octets. IsEncoded (is_aligned options) T.schema (T.meaning value.now) octets.items) }
     ensures only { IfErr result (NotEncoded (is_aligned options) T.schema (T.meaning value.now)) }
     ensures fresh { IfErr result (λ e. e ≡ EncodeError.AlreadyFailed → ⊥) }
+    ensures fits { IfErr result (λ e. e ≡ EncodeError.LengthExceedsPlatformSize → ⊥) }
     ensures in_place { IfErr result (λ e. e ≡ EncodeError.CallOutOfPlace → ⊥) }
 {
     let room = with_room(alloc)?;
@@ -85,6 +54,7 @@ fn encode_into<T: Encode>(
     ensures ok { IfOk result (λ octets. IsEncoded (is_aligned options) T.schema (T.meaning value.now) octets.items) }
     ensures only { IfErr result (NotEncoded (is_aligned options) T.schema (T.meaning value.now)) }
     ensures fresh { IfErr result (λ e. e ≡ EncodeError.AlreadyFailed → ⊥) }
+    ensures fits { IfErr result (λ e. e ≡ EncodeError.LengthExceedsPlatformSize → ⊥) }
     ensures in_place { IfErr result (λ e. e ≡ EncodeError.CallOutOfPlace → ⊥) }
 {
     let mut encoder = Encoder::new_with_output(alloc, options, room);
@@ -114,6 +84,7 @@ pub fn encode_with_constraints<T: Encode>(
     ensures only { IfErr result
         (NotEncoded (is_aligned options) (T.under (meant constraints.entry)) (T.meaning value.now)) }
     ensures fresh { IfErr result (λ e. e ≡ EncodeError.AlreadyFailed → ⊥) }
+    ensures fits { IfErr result (λ e. e ≡ EncodeError.LengthExceedsPlatformSize → ⊥) }
     ensures in_place { IfErr result (λ e. e ≡ EncodeError.CallOutOfPlace → ⊥) }
 {
     let room = with_room(alloc)?;
@@ -141,6 +112,7 @@ pub fn encode_buf<T: Encode>(
     ensures ok { OnOk result (IsEncoded (is_aligned options) T.schema (T.meaning value.now) buffer.new.items) }
     ensures only { IfErr result (NotEncoded (is_aligned options) T.schema (T.meaning value.now)) }
     ensures fresh { IfErr result (λ e. e ≡ EncodeError.AlreadyFailed → ⊥) }
+    ensures fits { IfErr result (λ e. e ≡ EncodeError.LengthExceedsPlatformSize → ⊥) }
     ensures in_place { IfErr result (λ e. e ≡ EncodeError.CallOutOfPlace → ⊥) }
     ensures none { OnErr result (buffer.new.items ≡ []) }
 {

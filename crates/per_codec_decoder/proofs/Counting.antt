@@ -66,7 +66,7 @@ module _ (free : Per.Freedom → Bool) (al : Bool) where
   pub fragment_determinant : (t u : Tally) (a b : Place) (m : ℕ) → Front free (length_form al (Fragment m)) a b → u ≡ with_fragment m t → NextDeterminant al free t a b (m * 16384) (Some u)
   fragment_determinant t u a b m f e = let g = if_out free (leb 1 m && leb m 4) (Per.at_octet al (exactly (true ∷ true ∷ binary 6 m))) a b f in inl (m, g.0, g.1, refl, ap (λ (v : Tally). Some v) e)
 
-  in_place : (out t : Bool) → IsTrue (free Per.root_marked_outside) → (out || t) ≡ true → InPlace free out t
+  in_place : (out t : Bool) → IsTrue (free Per.root_told_outside) → (out || t) ≡ true → InPlace free out t
   in_place false t f e = e
   in_place true t f e = inr f
 
@@ -77,7 +77,7 @@ module _ (free : Per.Freedom → Bool) (al : Bool) where
   abbrev pub MayBe : Tally → ℕ → Type 0
   MayBe t n = admitted t.held t.size.counts t.outside n ≡ true
 
-  pub last_determinant : (t : Tally) (a b : Place) (n : ℕ) → IsTrue (free Per.root_marked_outside) → IsTrue (free Per.other_fragments) → Front free (Per.short_length al n) a b → MayBe t (in_all t.sizes n) → NextDeterminant al free t a b n None
+  pub last_determinant : (t : Tally) (a b : Place) (n : ℕ) → IsTrue (free Per.root_told_outside) → IsTrue (free Per.other_fragments) → Front free (Per.short_length al n) a b → MayBe t (in_all t.sizes n) → NextDeterminant al free t a b n None
   last_determinant t a b n f o g m =
       let p = and_parts (is_count_within t.held (in_all t.sizes n)) (t.outside || is_count_within t.size.counts (in_all t.sizes n)) m in
       inr ((p.0, in_place t.outside (is_count_within t.size.counts (in_all t.sizes n)) f p.1), inr o, g, refl)

@@ -76,8 +76,8 @@ module _ (free : Per.Freedom → Bool) (al : Bool) (a b : Place) where
   unfolding Per.form Per.sized
   bits_within z h v f = subst (λ n. is_count_within h n ≡ true) (length_of_map _ v) (if_out free (is_count_within h (length (Per.bit_units v))) _ a b f).0
 
-  in_bounds : (e c : Bool) (x y : Per.BitForm) → Front free (Per.marked e c x y) a b → (e || c) ≡ true
-  unfolding Per.marked
+  in_bounds : (e c : Bool) (x y : Per.BitForm) → Front free (Per.with_extension_bit e c x y) a b → (e || c) ≡ true
+  unfolding Per.with_extension_bit
   in_bounds true c x y f = refl
   in_bounds false c x y f = (if_out free c x a b f).0
 

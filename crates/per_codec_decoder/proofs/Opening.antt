@@ -21,7 +21,7 @@ use Rattle.per_codec_decoder.specs.Preamble.{HasBitmap, NoBitmap}
 use Rattle.per_codec_decoder.specs.Scopes.{NoAdditions, Flags, NoFlag, Leaves, LeavesBehind, NoEnd, LeavesAddition, NoAdditionEnd}
 use Rattle.per_codec_decoder.specs.Endings.{IsClosed, Passes, NotPassed}
 use Rattle.per_codec_decoder.specs.declared.frames.Ending.{Ending}
-use Rattle.per_codec_decoder.specs.declared.frames.Ending.TheVariants.{Nothing, Unknown, OpenType as Filled}
+use Rattle.per_codec_decoder.specs.declared.frames.Ending.TheVariants.{Nothing, Unknown, OpenType as Padded}
 use Rattle.asn1_schema_variants.specs.declared.chosen.Chosen.{Chosen}
 use Rattle.per_codec_fronts.proofs.Next.{place_same, state_same, same_fronts}
 use Rattle.asn1_laws_fronts.proofs.PerNumbers.{constrained_alike}
@@ -43,9 +43,9 @@ pub octets_behind_are_free : (v : Variant) → IsTrue (freedoms v Per.octets_beh
 octets_behind_are_free Unaligned = refl
 octets_behind_are_free Aligned = refl
 
-pub filling_is_free : (v : Variant) → IsTrue (freedoms v Per.any_filling)
-filling_is_free Unaligned = refl
-filling_is_free Aligned = refl
+pub padding_is_free : (v : Variant) → IsTrue (freedoms v Per.any_padding)
+padding_is_free Unaligned = refl
+padding_is_free Aligned = refl
 
 pub empty_bitmaps_are_free : (v : Variant) → IsTrue (freedoms v Per.empty_bitmap)
 empty_bitmaps_are_free Unaligned = refl
@@ -243,17 +243,17 @@ PassesAt mid w new = Passes (is_aligned mid.variant) (freedoms mid.variant) w mi
 abbrev NotPassedAt : Held → Ending → DecodeError → Type 0
 NotPassedAt mid w e = NotPassed (is_aligned mid.variant) (freedoms mid.variant) w mid.place e
 
-pub addition_ended : (old now mid new : Held) (behind : Stretched) (k : List Scope) (s : Storage) (l l' : List Storage) → now ≡ old → IsReady old → LeavesAddition behind.place now.scopes k → now.stands ≡ s ∷ l → l ≡ behind.storage ∷ l' → mid ≡ left now k (s ∷ l') → HasPassed (Filled behind) mid new → Passes (is_aligned mid.variant) (freedoms mid.variant) (Filled behind) mid.place new.place → Finds old addition_ends new
+pub addition_ended : (old now mid new : Held) (behind : Stretched) (k : List Scope) (s : Storage) (l l' : List Storage) → now ≡ old → IsReady old → LeavesAddition behind.place now.scopes k → now.stands ≡ s ∷ l → l ≡ behind.storage ∷ l' → mid ≡ left now k (s ∷ l') → HasPassed (Padded behind) mid new → Passes (is_aligned mid.variant) (freedoms mid.variant) (Padded behind) mid.place new.place → Finds old addition_ends new
 addition_ended old now mid new behind k s l l' same ready g v w z f c =
-    let d : PassesAt (left now k (s ∷ l')) (Filled behind) new = subst (λ (h : Held). PassesAt h (Filled behind) new) z c in
-    let t : Closes (freedoms now.variant) now.place behind.place k (new.place, k) = subst (λ (p : Place). Closes (freedoms now.variant) now.place behind.place k (p, k)) (sym d.1) (d.0 (freedoms now.variant) behind.place k (filling_is_free now.variant) (octets_behind_are_free now.variant)) in
+    let d : PassesAt (left now k (s ∷ l')) (Padded behind) new = subst (λ (h : Held). PassesAt h (Padded behind) new) z c in
+    let t : Closes (freedoms now.variant) now.place behind.place k (new.place, k) = subst (λ (p : Place). Closes (freedoms now.variant) now.place behind.place k (p, k)) (sym d.1) (d.0 (freedoms now.variant) behind.place k (padding_is_free now.variant) (octets_behind_are_free now.variant)) in
     let i : now.scopes ≡ open_type behind.place ∷ added g.1.0 g.1.1 ∷ g.1.2 = g.0 ∙ ap (λ (l : List Scope). open_type behind.place ∷ l) g.1.3 in
     let u : Closes (freedoms now.variant) now.place behind.place (added g.1.0 g.1.1 ∷ g.1.2) (new.place, k) = subst (λ (l : List Scope). Closes (freedoms now.variant) now.place behind.place l (new.place, k)) g.1.3 t in
-    steps old now new new.place k now.levels addition_ends (behind.storage ∷ l') same ready (subst (λ (l : List Scope). AdditionEnds (freedoms now.variant) now.place l (new.place, k)) (sym i) u) refl (sym w ∙ ap (drop 1) (sym v)) (passed_to now mid new (Filled behind) k (s ∷ l') z f)
+    steps old now new new.place k now.levels addition_ends (behind.storage ∷ l') same ready (subst (λ (l : List Scope). AdditionEnds (freedoms now.variant) now.place l (new.place, k)) (sym i) u) refl (sym w ∙ ap (drop 1) (sym v)) (passed_to now mid new (Padded behind) k (s ∷ l') z f)
 
-pub addition_open : (old now mid : Held) (behind : Stretched) (k : List Scope) (l : List Storage) (e x : DecodeError) → now ≡ old → LeavesAddition behind.place now.scopes k → mid ≡ left now k l → NotPassed (is_aligned mid.variant) (freedoms mid.variant) (Filled behind) mid.place e → NoRecord Finds asks_addition_end old x
+pub addition_open : (old now mid : Held) (behind : Stretched) (k : List Scope) (l : List Storage) (e x : DecodeError) → now ≡ old → LeavesAddition behind.place now.scopes k → mid ≡ left now k l → NotPassed (is_aligned mid.variant) (freedoms mid.variant) (Padded behind) mid.place e → NoRecord Finds asks_addition_end old x
 addition_open old now mid behind k l e x same g z c =
-    let d : NotPassedAt (left now k l) (Filled behind) e = subst (λ (h : Held). NotPassedAt h (Filled behind) e) z c in
+    let d : NotPassedAt (left now k l) (Padded behind) e = subst (λ (h : Held). NotPassedAt h (Padded behind) e) z c in
     let s : now.scopes ≡ open_type behind.place ∷ added g.1.0 g.1.1 ∷ g.1.2 = g.0 ∙ ap (λ (l : List Scope). open_type behind.place ∷ l) g.1.3 in
     let here : NoRecord Finds asks_addition_end now x = record {
       none = λ i r new q p.
@@ -271,15 +271,15 @@ asked_end al free a b r k t = cc k
 end_in : (al : Bool) (v : Variant) (w : Ending) (s k : List Scope) (a b : Place) → Leaves w s k → Passes al (freedoms v) w a b → Ends al (freedoms v) a s (b, k)
 end_in al v Nothing s k a b l p = subst (λ (q : Place). Ends al (freedoms v) a s (q, k)) (sym p) (l al (freedoms v) a)
 end_in al v (Unknown r) s k a b l p = subst (λ (t : List Scope). Ends al (freedoms v) a t (b, k)) (sym l) (p, refl)
-end_in al v (Filled q) s k a b l p =
-    let c = p.0 (freedoms v) q.place k (filling_is_free v) (octets_behind_are_free v) in
+end_in al v (Padded q) s k a b l p =
+    let c = p.0 (freedoms v) q.place k (padding_is_free v) (octets_behind_are_free v) in
     let d : Closes (freedoms v) a q.place k (b, k) = subst (λ (x : Place). Closes (freedoms v) a q.place k (x, k)) (sym p.1) c in
     subst (λ (t : List Scope). Ends al (freedoms v) a t (b, k)) (sym l) d
 
 end_out : (al : Bool) (free : Per.Freedom → Bool) (w : Ending) (s k : List Scope) (a : Place) (e : DecodeError) → Leaves w s k → NotPassed al free w a e → ¬ (e ≡ OutOfMemory) → (b : State) → Ends al free a s b → ⊥
 end_out al free Nothing s k a e l n m b t = n
 end_out al free (Unknown r) s k a e l n m b t = let u = subst (λ (x : List Scope). Ends al free a x b) l t in n m b.0 u.0
-end_out al free (Filled q) s k a e l n m b t = let u : Closes free a q.place k b = subst (λ (x : List Scope). Ends al free a x b) l t in n q.place k b u
+end_out al free (Padded q) s k a e l n m b t = let u : Closes free a q.place k b = subst (λ (x : List Scope). Ends al free a x b) l t in n q.place k b u
 
 -- what is open where nothing is passed over is no open type
 no_type_left : (p : Place) (s k : List Scope) → Leaves Nothing (open_type p ∷ s) k → ⊥
@@ -296,7 +296,7 @@ kept_behind : (w : Ending) (s k : List Scope) (o : Storage) (l l' : List Storage
 kept_behind Nothing (open_type p ∷ s) k o l l' g h = absurd (no_type_left p s k g)
 kept_behind Nothing s k o l l' g h = ap (λ t. o ∷ t) (sym h)
 kept_behind (Unknown r) s k o l l' g h = ap (λ t. o ∷ t) (sym h) ∙ ap (λ t. stands_outside t (o ∷ l)) (sym g)
-kept_behind (Filled p) s k o l l' g h = sym h ∙ ap (λ t. stands_outside t (o ∷ l)) (sym g)
+kept_behind (Padded p) s k o l l' g h = sym h ∙ ap (λ t. stands_outside t (o ∷ l)) (sym g)
 
 pub ended : (old now mid new : Held) (w : Ending) (k : List Scope) (b : Place) (o : Storage) (l l' : List Storage) → now ≡ old → IsReady old → now.levels < now.most → Leaves w now.scopes k → now.stands ≡ o ∷ l → LeavesBehind w l l' → mid ≡ left now k (o ∷ l') → Passes (is_aligned mid.variant) (freedoms mid.variant) w mid.place b → new ≡ record { place = b; scopes = k; levels = now.levels + 1; most = now.most; failed = now.failed; variant = now.variant; stands = stands_behind w (o ∷ l') } → Finds old ends new
 ended old now mid new w k b o l l' same ready m g v h z p f =
@@ -357,10 +357,10 @@ passed_unknown al free w r here there place new n t e p s m =
 pub not_passed_unknown : (al : Bool) (free : Per.Freedom → Bool) (w : Ending) (r : Stretched) (here place : Place) (e : DecodeError) → w ≡ Unknown r → here ≡ place → (¬ (e ≡ OutOfMemory) → (b : Place) → Skips al free r.place.1 here b → ⊥) → NotPassed al free w place e
 not_passed_unknown al free w r here place e t q n = subst (λ (x : Ending). NotPassed al free x place e) (sym t) (λ m b s. n m b (subst (λ (x : Place). Skips al free r.place.1 x b) (sym q) s))
 
-pub passed_open : (al : Bool) (free : Per.Freedom → Bool) (w : Ending) (p : Stretched) (here place new : Place) → w ≡ Filled p → here ≡ place → IsClosed here → new ≡ p.place → Passes al free w place new
+pub passed_open : (al : Bool) (free : Per.Freedom → Bool) (w : Ending) (p : Stretched) (here place new : Place) → w ≡ Padded p → here ≡ place → IsClosed here → new ≡ p.place → Passes al free w place new
 passed_open al free w p here place new t q c f = subst (λ (x : Ending). Passes al free x place new) (sym t) (subst (λ (x : Place). IsClosed x) q c, f)
 
-pub not_passed_open : (al : Bool) (free : Per.Freedom → Bool) (w : Ending) (p : Stretched) (here place : Place) (e : DecodeError) → w ≡ Filled p → here ≡ place → ((f : Per.Freedom → Bool) (rest : Place) (k : List Scope) (b : State) → Closes f here rest k b → ⊥) → NotPassed al free w place e
+pub not_passed_open : (al : Bool) (free : Per.Freedom → Bool) (w : Ending) (p : Stretched) (here place : Place) (e : DecodeError) → w ≡ Padded p → here ≡ place → ((f : Per.Freedom → Bool) (rest : Place) (k : List Scope) (b : State) → Closes f here rest k b → ⊥) → NotPassed al free w place e
 not_passed_open al free w p here place e t q n = subst (λ (x : Ending). NotPassed al free x place e) (sym t) (λ rest k b s. n free rest k b (subst (λ (x : Place). Closes free x rest k b) (sym q) s))
 
 -- ---- open types

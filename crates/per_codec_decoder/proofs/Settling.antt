@@ -128,7 +128,7 @@ pub uncharacters : {T : Type 0} (answer result : Result T DecodeError) (c : Stri
 uncharacters answer result c z l h old now here same p r m = unfound answer result (asks_characters c z l h) (character_string c z l h) old now here same p r m (λ al free a b i k t. asked_characters al free a b c z l h i k t)
 
 -- ---- the end of a message
-pub finished : (answer result : Result (Unit {0}) DecodeError) (old now new : Held) (here there : Place) (n : ℕ) → now ≡ old → IsReady old → here ≡ now.place → n ≡ there.0 → result ≡ answer → IsTrue (freedoms now.variant Per.any_filling) → OnOk answer ((free : Per.Freedom → Bool) → IsTrue (free Per.any_filling) → Front free (completion here.0) here there) → OnOk result (Moves now n new) → OnOk result (IsReady old × Front (freedoms old.variant) (completion old.place.0) old.place new.place)
+pub finished : (answer result : Result (Unit {0}) DecodeError) (old now new : Held) (here there : Place) (n : ℕ) → now ≡ old → IsReady old → here ≡ now.place → n ≡ there.0 → result ≡ answer → IsTrue (freedoms now.variant Per.any_padding) → OnOk answer ((free : Per.Freedom → Bool) → IsTrue (free Per.any_padding) → Front free (completion here.0) here there) → OnOk result (Moves now n new) → OnOk result (IsReady old × Front (freedoms old.variant) (completion old.place.0) old.place new.place)
 finished answer (Err e) old now new here there n same ready h p r t f m = tt
 finished (Err x) (Ok y) old now new here there n same ready h p r t f m = cc
 finished (Ok x) (Ok y) old now new here there n same ready h p r t f m =
@@ -139,7 +139,7 @@ finished (Ok x) (Ok y) old now new here there n same ready h p r t f m =
     (ready, subst (λ (w : Held). Front (freedoms w.variant) (completion w.place.0) w.place new.place) same k)
 
 -- and all but the place is as it was
-pub finished_there : (answer result : Result (Unit {0}) DecodeError) (old now new : Held) (here there : Place) (n : ℕ) → now ≡ old → here ≡ now.place → n ≡ there.0 → result ≡ answer → IsTrue (freedoms now.variant Per.any_filling) → OnOk answer ((free : Per.Freedom → Bool) → IsTrue (free Per.any_filling) → Front free (completion here.0) here there) → OnOk result (Moves now n new) → OnOk result (Stays old new)
+pub finished_there : (answer result : Result (Unit {0}) DecodeError) (old now new : Held) (here there : Place) (n : ℕ) → now ≡ old → here ≡ now.place → n ≡ there.0 → result ≡ answer → IsTrue (freedoms now.variant Per.any_padding) → OnOk answer ((free : Per.Freedom → Bool) → IsTrue (free Per.any_padding) → Front free (completion here.0) here there) → OnOk result (Moves now n new) → OnOk result (Stays old new)
 finished_there answer (Err e) old now new here there n same h p r t f m = tt
 finished_there (Err x) (Ok y) old now new here there n same h p r t f m = cc
 finished_there (Ok x) (Ok y) old now new here there n same h p r t f m =

@@ -5,21 +5,21 @@ use Rattle.asn1_schema_faults.specs.declared.DecodeError.{DecodeError}
 use Rattle.asn1_schema_faults.specs.declared.DecodeError.TheVariants.{OutOfMemory}
 use Rattle.per_codec_fronts.specs.Takes.{Place, State, Scope, Closes, Skips}
 use Rattle.per_codec_decoder.specs.declared.frames.Ending.{Ending}
-use Rattle.per_codec_decoder.specs.declared.frames.Ending.TheVariants.{Nothing, Unknown, OpenType as Filled}
+use Rattle.per_codec_decoder.specs.declared.frames.Ending.TheVariants.{Nothing, Unknown, OpenType as Padded}
 
 -- What stands in an open type behind its value, up to its end, may stand there: a reader with the freedoms takes it.
 abbrev pub IsClosed : Place → Type 0
-IsClosed a = (free : Per.Freedom → Bool) (rest : Place) (k : List Scope) → IsTrue (free Per.any_filling)
+IsClosed a = (free : Per.Freedom → Bool) (rest : Place) (k : List Scope) → IsTrue (free Per.any_padding)
     → IsTrue (free Per.octets_behind) → Closes free a rest k (rest, k)
 
 -- What is left where a scope ends is passed over.
 abbrev pub Passes : Bool → (Per.Freedom → Bool) → Ending → Place → Place → Type 0
 Passes al free Nothing a b = b ≡ a
 Passes al free (Unknown r) a b = Skips al free r.place.1 a b
-Passes al free (Filled p) a b = IsClosed a × (b ≡ p.place)
+Passes al free (Padded p) a b = IsClosed a × (b ≡ p.place)
 
 -- Why it is not: for want of memory, or because something else stands there.
 abbrev pub NotPassed : Bool → (Per.Freedom → Bool) → Ending → Place → DecodeError → Type 0
 NotPassed al free Nothing a x = ⊥
 NotPassed al free (Unknown r) a x = ¬ (x ≡ OutOfMemory) → (b : Place) → Skips al free r.place.1 a b → ⊥
-NotPassed al free (Filled p) a x = (rest : Place) (k : List Scope) (b : State) → Closes free a rest k b → ⊥
+NotPassed al free (Padded p) a x = (rest : Place) (k : List Scope) (b : State) → Closes free a rest k b → ⊥

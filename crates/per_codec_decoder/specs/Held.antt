@@ -16,7 +16,7 @@ use Rattle.per_codec_fronts.specs.Takes.{Place, Scope, State, Tally, members, op
 use Rattle.per_codec_decoder.specs.Members.{HasMembers, NoMembers}
 use Rattle.per_codec_decoder.specs.Preamble.{HasPreamble, NoPreamble}
 use Rattle.per_codec_decoder.specs.declared.frames.Ending.{Ending}
-use Rattle.per_codec_decoder.specs.declared.frames.Ending.TheVariants.{Nothing, Unknown, OpenType as Filled}
+use Rattle.per_codec_decoder.specs.declared.frames.Ending.TheVariants.{Nothing, Unknown, OpenType as Padded}
 
 -- What is held: the place in the message and the bits that are left, the open scopes, how many more levels may be
 -- nested, how many were so at the beginning, whether the decoder has failed, the variant that it reads, and where the
@@ -147,7 +147,7 @@ NotComponents old e n x = IsReady old → 0 < old.levels → NoPreamble (freedom
 abbrev pub stands_behind : Ending → List Storage → List Storage
 stands_behind Nothing l = l
 stands_behind (Unknown r) l = l
-stands_behind (Filled p) l = p.storage ∷ drop 1 l
+stands_behind (Padded p) l = p.storage ∷ drop 1 l
 
 -- Behind the end of a scope that is left is another place.
 abbrev pub HasPassed : Ending → Held → Held → Type 0

@@ -10,7 +10,7 @@ use Rattle.per_codec_decoder.specs.declared.frames.Frame.TheVariants.{Components
 use Rattle.per_codec_decoder.specs.declared.frames.Enclosing.{Enclosing}
 use Rattle.per_codec_decoder.specs.declared.frames.Enclosing.TheVariants.{OpenType as Opened, Alternative as Chosen}
 use Rattle.per_codec_decoder.specs.declared.frames.Ending.{Ending}
-use Rattle.per_codec_decoder.specs.declared.frames.Ending.TheVariants.{Nothing, Unknown, OpenType as Filled}
+use Rattle.per_codec_decoder.specs.declared.frames.Ending.TheVariants.{Nothing, Unknown, OpenType as Padded}
 
 -- An open scope.
 abbrev pub scope_of : Frame → Scope
@@ -93,13 +93,13 @@ NoFlag s = (al : Bool) (free : Per.Freedom → Bool) (v : Bool) (a : Place) (b :
 abbrev pub Leaves : Ending → List Scope → List Scope → Type 0
 Leaves Nothing old new = (al : Bool) (free : Per.Freedom → Bool) (a : Place) → Ends al free a old (a, new)
 Leaves (Unknown r) old new = old ≡ added [] r.place.1 ∷ new
-Leaves (Filled p) old new = old ≡ open_type p.place ∷ new
+Leaves (Padded p) old new = old ≡ open_type p.place ∷ new
 
 -- And bits stand so behind the open types that are left, if it was one.
 abbrev pub LeavesBehind : Ending → List Storage → List Storage → Type 0
 LeavesBehind Nothing old new = old ≡ new
 LeavesBehind (Unknown r) old new = old ≡ new
-LeavesBehind (Filled p) old new = old ≡ p.storage ∷ new
+LeavesBehind (Padded p) old new = old ≡ p.storage ∷ new
 
 -- No end comes here.
 abbrev pub NoEnd : List Scope → Type 0

@@ -6,8 +6,8 @@ ghost use Rattle.per_codec_reading.specs.Fronts.{IsFresh};
 ghost use Rattle.per_codec_decoder.specs.Endings.{IsClosed};
 
 use asn1_schema_faults::DecodeError;
+use asn1_values_bits::free_bits;
 use per_codec_reading::Cursor;
-use per_codec_reading::padding::missing;
 
 /// Passes over the padding of a message behind its value: any bits up to the next octet, or one zero octet where the
 /// value has no bits.
@@ -17,7 +17,7 @@ use per_codec_reading::padding::missing;
 /// `InvalidPadding` if that octet is not zero, and `Incomplete` if the bits end early.
 #[inline(always)]
 pub(crate) fn read_completion(cursor: &mut Cursor<'_>) -> Result<(), DecodeError>
-    ensures ok { OnOk result ((free : _) → IsTrue (free Per.any_filling)
+    ensures ok { OnOk result ((free : _) → IsTrue (free Per.any_padding)
         → Front free (completion cursor.old.0) cursor.old cursor.new) }
     ensures only { IfErr result (λ _. (free : _) (b : _) → Front free (completion cursor.old.0) cursor.old b → ⊥) }
     ensures fresh { IfErr result IsFresh }
@@ -28,7 +28,7 @@ pub(crate) fn read_completion(cursor: &mut Cursor<'_>) -> Result<(), DecodeError
         }
         return Ok(());
     }
-    let _padding = cursor.take(missing(cursor.position()))?;
+    let _padding = cursor.take(free_bits(cursor.position()) as usize)?;
     Ok(())
 }
 

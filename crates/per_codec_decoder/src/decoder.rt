@@ -85,7 +85,7 @@ macro_rules! record {
 }
 
 impl<'input> Decoder<'input> {
-    /// A decoder of this input, within 128 nested levels. Of an input of 2 to 60 octets or more the first ones are
+    /// A decoder of this input, within 128 nested levels. Of an input of 2^60 octets or more the first ones are
     /// looked at, fewer than so many.
     #[inline(always)]
     pub fn new(alloc: Global, input: &'input [u8], options: DecoderOptions) -> Self

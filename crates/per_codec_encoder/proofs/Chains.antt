@@ -40,13 +40,13 @@ added al s v os k new = (λ c. go (text_at (Per.form al s v) (position (os, k)))
     go None e f = cc
     go (Some w) e f = (w, e, let q : new ≡ (os ++ w, k) = cc in q)
 
--- a message is the text of the records, filled up
+-- a message is the text of the records, padded
 pub messages : (al : Bool) (s : Schema) (v : Value) → option_and_then octets_of (runs al (presents s v) ([], [])) ≡ per al s v
 unfolding per Per.message Per.complete written
 messages al s v =
     ap (option_and_then octets_of) (all_of al s v [] [] ∙ ap (option_and_then (λ w. Some (w, []))) (known (Per.form al s v) 0))
     ∙ go (written (Per.form al s v) 0)
   where
-    go : (o : Option (List Bool)) → option_and_then octets_of (option_and_then (λ w. Some (w, [])) (option_map as_text o)) ≡ option_map packed (option_and_then (λ w. written (Per.filled_up w) 0) o)
+    go : (o : Option (List Bool)) → option_and_then octets_of (option_and_then (λ w. Some (w, [])) (option_map as_text o)) ≡ option_map packed (option_and_then (λ w. written (Per.padded w) 0) o)
     go None = refl
-    go (Some w) = ap (option_and_then (λ w. option_map packed (written (Per.filled_up w) 0))) (plain_text w)
+    go (Some w) = ap (option_and_then (λ w. option_map packed (written (Per.padded w) 0))) (plain_text w)

@@ -4,7 +4,7 @@ use Rattle.std.proofs.lemmas.List.{append-nil}
 use Rattle.asn1_model.specs.Form.{exactly, is_any_present}
 use Rattle.asn1_model.specs.Per
 use Rattle.asn1_schema_presented.specs.Records.{ends}
-use Rattle.per_codec_packing.specs.Texts.{Text, bit, fill, as_text, plain, on, text_at}
+use Rattle.per_codec_packing.specs.Texts.{Text, bit, padding, as_text, plain, on, text_at}
 use Rattle.per_codec_packing.proofs.Formed.{length-text}
 use Rattle.per_codec_packing.specs.Packed.{Packed, Adds, place, plus, solid, with_bit}
 use Rattle.per_codec_packing.proofs.Adding.{added as text_added}
@@ -164,7 +164,7 @@ module _ (al : Bool) (fs rest : List Frame) (f : Frame) (ad : Additions) (o cut 
       ap (run al ends) (h.is ∙ ap (λ k. let l : State = (h.inner, added k h.presence_bits h.root ad.slots.items h.outer.0 ∷ h.outer.1) in l) one)
 
 -- the end of the root is a place in the text
-pub root_ends : (fs rest : List Frame) (f : Frame) (ad : Additions) (o : Packed) → fs ≡ rest ++ f ∷ [] → f ≡ Added ad → AreSound fs o → (ad.end.bits + ad.end.fills ≤ length o.text) × (length (solid (take (ad.end.bits + ad.end.fills) o.text)) ≡ ad.end.bits)
+pub root_ends : (fs rest : List Frame) (f : Frame) (ad : Additions) (o : Packed) → fs ≡ rest ++ f ∷ [] → f ≡ Added ad → AreSound fs o → (ad.end.bits + ad.end.paddings ≤ length o.text) × (length (solid (take (ad.end.bits + ad.end.paddings) o.text)) ≡ ad.end.bits)
 root_ends fs rest f ad o a b q =
     let h = on_top fs rest f (Added ad) o q.state a b q.holds in
     (omega (arith, length-added _ ad.due ad.given ad.start ad.end ad.slots.items o q.state h), ap (λ t. length (solid t)) (head_shown _ ad.due ad.given ad.start ad.end ad.slots.items o q.state h) ∙ h.end_bits)
@@ -199,6 +199,6 @@ behind_bit_set x old extended new i e a =
   where
     as_long : (i : ℕ) (t : Text) → length (with_bit i true t) ≡ length t
     as_long i [] = refl
-    as_long i (fill ∷ t) = ap suc (as_long i t)
+    as_long i (padding ∷ t) = ap suc (as_long i t)
     as_long zero (bit b ∷ t) = refl
     as_long (suc i) (bit b ∷ t) = ap suc (as_long i t)

@@ -9,9 +9,9 @@ use Rattle.asn1_model.specs.Oer.{admits}
 use Rattle.asn1_model.specs.Per
 use Rattle.asn1_schema_constraints.specs.Bounds.{counts_of, members_of, lower, upper}
 use Rattle.asn1_schema_constraints.specs.declared.bounds.Bounded.{Bounded}
-use Rattle.per_codec_packing.specs.Texts.{fill, as_text, text_at, moved, bit}
+use Rattle.per_codec_packing.specs.Texts.{padding, as_text, text_at, moved, bit}
 use Rattle.per_codec_packing.specs.Packed.{Packed, place, plus}
-use Rattle.per_codec_writing.specs.Writing.{fill_at}
+use Rattle.per_codec_writing.specs.Writing.{padding_if}
 use Rattle.per_codec_writing.proofs.LengthTexts.{adds_short, adds_long, adds_fragment}
 use Rattle.per_codec_writing.proofs.ConstrainedTexts.{constrained_bits, adds_octet, adds_two_octets}
 use Rattle.per_codec_writing.specs.Headings.{Heading, before_all, general, sized_count, extensible_count, Heads}
@@ -32,12 +32,12 @@ unmapped f (Some x) y e = (x, refl)
 -- a text that stands at this position
 at_place : (q : Option ℕ) → (o : Packed) × (place o ≡ q)
 at_place None = (record { text = []; placed = false }, refl)
-at_place (Some k) = (record { text = replicate k fill; placed = true }, ap (λ n. Some n) (length-replicate k fill))
+at_place (Some k) = (record { text = replicate k padding; placed = true }, ap (λ n. Some n) (length-replicate k padding))
 
 module _ (al : Bool) where
   module _ (o : Packed) where
-    abbrev filled : Packed
-    filled = plus o (fill_at al (place o))
+    abbrev behind_padding : Packed
+    behind_padding = plus o (padding_if al (place o))
 
     few_there : (n : ℕ) → n < 16384 → IsThere (general al n (place o))
     few_there n l = go (ltb n 128) refl
@@ -45,20 +45,20 @@ module _ (al : Bool) where
         go : (t : Bool) → ltb n 128 ≡ t → IsThere (general al n (place o))
         go true t =
             let d : Due = record { units = n; behind = None } in
-            let p : Packed = plus filled (as_text (binary 8 n)) in
-            let h : Heads (general al n (place o)) o d p = few_heads al n d o p l refl (adds_short al n o filled p (ltb-true n 128 t) refl refl) in
+            let p : Packed = plus behind_padding (as_text (binary 8 n)) in
+            let h : Heads (general al n (place o)) o d p = few_heads al n d o p l refl (adds_short al n o behind_padding p (ltb-true n 128 t) refl refl) in
             (_, h.is)
         go false t =
             let d : Due = record { units = n; behind = None } in
-            let p : Packed = plus filled (as_text (binary 16 (32768 + n))) in
-            let h : Heads (general al n (place o)) o d p = few_heads al n d o p l refl (adds_long al n o filled p (ltb-false n 128 t) l refl refl) in
+            let p : Packed = plus behind_padding (as_text (binary 16 (32768 + n))) in
+            let h : Heads (general al n (place o)) o d p = few_heads al n d o p l refl (adds_long al n o behind_padding p (ltb-false n 128 t) l refl refl) in
             (_, h.is)
 
     many_there : (n m : ℕ) → 16384 ≤ n → m ≡ min (n / 16384) 4 → IsThere (general al n (place o))
     many_there n m l e =
         let d : Due = record { units = m * 16384; behind = Some (n - m * 16384) } in
-        let p : Packed = plus filled (as_text (binary 8 (192 + m))) in
-        let h : Heads (general al n (place o)) o d p = fragment_heads al n m d o p l e refl (adds_fragment al m o filled p (omega (arith, e)) refl refl) in
+        let p : Packed = plus behind_padding (as_text (binary 8 (192 + m))) in
+        let h : Heads (general al n (place o)) o d p = fragment_heads al n m d o p l e refl (adds_fragment al m o behind_padding p (omega (arith, e)) refl refl) in
         (_, h.is)
 
   general_there : (n : ℕ) (q : Option ℕ) → IsThere (general al n q)
@@ -69,7 +69,7 @@ module _ (al : Bool) where
 -- a constrained whole number of less than three octets
 octets_there : (o : Packed) (span d : ℕ) → d ≤ span → 255 ≤ span → span < 65536 → IsThere (text_at (Per.constrained true span d) (place o))
 octets_there o span d h l u =
-    let mid : Packed = plus o (fill_at true (place o)) in
+    let mid : Packed = plus o (padding_if true (place o)) in
     elim (cases_lt 255 span) [
       | inl k ↦ unmapped (λ w. plus o w) _ _ (adds_two_octets span d o mid (plus mid (as_text (binary 16 d))) h k u refl refl)
       | inr k ↦ unmapped (λ w. plus o w) _ _ (adds_octet span d o mid (plus mid (as_text (binary 8 d))) h (omega arith) refl refl)
@@ -100,25 +100,25 @@ module _ (al : Bool) where
           mapped (λ w. before_all n w) _ (constrained_there (high - c.low) (n - c.low) q (omega (arith, low, up)) (omega (arith, l)))
       go false t = general_there al n q
 
-marked_there : (e b : Bool) (root outside : Option ℕ → Option Heading) → (b ≡ true → (q : Option ℕ) → IsThere (root q)) → ((q : Option ℕ) → IsThere (outside q)) → (e || b) ≡ true → (q : Option ℕ) → IsThere (extensible_count e b root outside q)
-marked_there false true root outside r o h q = r refl q
-marked_there false false root outside r o h q = cc
-marked_there true true root outside r o h q = mapped (λ (h : Heading). let g : Heading = record { text = bit false ∷ h.text; due = h.due; determinants = h.determinants } in g) (root (moved q 1)) (r refl (moved q 1))
-marked_there true false root outside r o h q = mapped (λ (h : Heading). let g : Heading = record { text = bit true ∷ h.text; due = h.due; determinants = h.determinants } in g) (outside (moved q 1)) (o (moved q 1))
+extensible_there : (e b : Bool) (root outside : Option ℕ → Option Heading) → (b ≡ true → (q : Option ℕ) → IsThere (root q)) → ((q : Option ℕ) → IsThere (outside q)) → (e || b) ≡ true → (q : Option ℕ) → IsThere (extensible_count e b root outside q)
+extensible_there false true root outside r o h q = r refl q
+extensible_there false false root outside r o h q = cc
+extensible_there true true root outside r o h q = mapped (λ (h : Heading). let g : Heading = record { text = bit false ∷ h.text; due = h.due; determinants = h.determinants } in g) (root (moved q 1)) (r refl (moved q 1))
+extensible_there true false root outside r o h q = mapped (λ (h : Heading). let g : Heading = record { text = bit true ∷ h.text; due = h.due; determinants = h.determinants } in g) (outside (moved q 1)) (o (moved q 1))
 
 -- So many members have a heading where the program's type holds them, and they are in the root of the size or this is extensible.
 pub heading_there : (al : Bool) (z : Size) (h : Counts) (n : ℕ) (q : Option ℕ) → true ≡ (is_count_within h n && (z.extensible || is_count_within z.counts n)) → IsThere (list_heading al z h n q)
 heading_there al z h n q w =
     let p = and_parts (is_count_within h n) (z.extensible || is_count_within z.counts n) (sym w) in
     let root : Option ℕ → Option Heading = λ q. sized_count al z.counts z.counts.high false n q in
-    let m = marked_there z.extensible (is_count_within z.counts n) root (λ q. general al n q) (λ b. sized_there al z.counts z.counts.high n b) (general_there al n) p.1 q in
+    let m = extensible_there z.extensible (is_count_within z.counts n) root (λ q. general al n q) (λ b. sized_there al z.counts z.counts.high n b) (general_there al n) p.1 q in
     (m.0, ap (λ t. cond t (extensible_count z.extensible (is_count_within z.counts n) root (λ q. general al n q) q) None) p.0 ∙ m.1)
 
-none_marked : (a e b : Bool) (root outside : Option ℕ → Option Heading) (q : Option ℕ) → (a && (e || b)) ≡ false → cond a (extensible_count e b root outside q) None ≡ None
-none_marked false e b root outside q w = refl
-none_marked true false false root outside q w = refl
-none_marked true false true root outside q w = cc
-none_marked true true b root outside q w = cc
+none_extensible : (a e b : Bool) (root outside : Option ℕ → Option Heading) (q : Option ℕ) → (a && (e || b)) ≡ false → cond a (extensible_count e b root outside q) None ≡ None
+none_extensible false e b root outside q w = refl
+none_extensible true false false root outside q w = refl
+none_extensible true false true root outside q w = cc
+none_extensible true true b root outside q w = cc
 
 -- The counts that a type of the program holds, told by its bounds.
 held_same : (b : Bounded ℕ) (n : ℕ) → n < 2 ^ 64 → is_count_within (members_of b) n ≡ is_count_within (counts_of b) n
@@ -133,4 +133,4 @@ admitted z b n t l e = e ∙ ap (λ x. x && (z.extensible || is_count_within z.c
 
 -- And no others have one.
 pub no_heading : (al : Bool) (z : Size) (h : Counts) (n : ℕ) (q : Option ℕ) → false ≡ (is_count_within h n && (z.extensible || is_count_within z.counts n)) → list_heading al z h n q ≡ None
-no_heading al z h n q w = none_marked (is_count_within h n) z.extensible (is_count_within z.counts n) _ _ q (sym w)
+no_heading al z h n q w = none_extensible (is_count_within h n) z.extensible (is_count_within z.counts n) _ _ q (sym w)

@@ -12,7 +12,7 @@ pub mod Lists
 pub mod StepSequences
 pub mod StepAdditions
 pub mod Choices
-pub mod Fills
+pub mod Pads
 pub mod StepBags
 pub mod Types
 pub mod Chains

@@ -82,7 +82,7 @@ pub open_text : (al : Bool) (x : Per.BitForm) (q : Option ℕ) → text_at (Per.
 unfolding written text_at Per.open_type Per.complete
 open_text al x q = go (written x 0)
   where
-    go : (o : Option (List Bool)) → option_and_then (λ w. text_at (varied Per.octets_behind [] (λ more. only_if (each_is is_octet more) (Per.counted_eights al (w ++ flat_map (binary 8) more)))) q) (option_and_then (λ w. written (Per.filled_up w) 0) o) ≡ option_and_then (λ w. text_at (Per.open_type al (exactly w)) q) o
+    go : (o : Option (List Bool)) → option_and_then (λ w. text_at (varied Per.octets_behind [] (λ more. only_if (each_is is_octet more) (Per.counted_eights al (w ++ flat_map (binary 8) more)))) q) (option_and_then (λ w. written (Per.padded w) 0) o) ≡ option_and_then (λ w. text_at (Per.open_type al (exactly w)) q) o
     go None = refl
     go (Some w) = refl
 

@@ -8,7 +8,7 @@ use Rattle.asn1_model.specs.Tables.{is_required, presence_bit_unless, presence_b
 use Rattle.asn1_model.specs.Form.{exactly, refused, both, varied, only_if}
 use Rattle.asn1_model.specs.Per
 use Rattle.asn1_schema_presented.specs.Records.{Record, presence_bit, is_default, is_empty, ends, mismatch}
-use Rattle.asn1_schema_presented.specs.Presents.{presents, root_records, optional_count, marked}
+use Rattle.asn1_schema_presented.specs.Presents.{presents, root_records, optional_count, with_presence_bit}
 use Rattle.per_codec_packing.specs.Texts.{Text, as_text, moved, on, text_at}
 use Rattle.per_codec_encoder.specs.Steps.{Scope, components, extension_bit_width, offset, position, runs}
 use Rattle.per_codec_encoder.specs.Ties.{BridgesAt, Bridges}
@@ -72,23 +72,23 @@ one_bit e n ms b front os k =
     let m : length front + (extension_bit_width e + length (ms ++ b ∷ []) + n) ≡ length front + (extension_bit_width e + length ms + suc n) = omega arith in
     ap (λ w. on (moved (offset k) w) os) m
 
-marked_off : (al e b : Bool) (cs : Components) (x : Per.BitForm) (ps : Parts) (ms : List Bool) (front os : Text) (k : List Scope) (rs more : List Record) → option_and_then (λ w. runs al (rs ++ more) (os ++ w, components e 0 ((ms ++ b ∷ []) ++ presence_bits cs ps) front ∷ k)) (text_at x (position (os, components e (optional_count cs) (ms ++ b ∷ []) front ∷ k))) ≡ option_and_then (λ w. runs al (rs ++ more) (os ++ w, components e 0 (ms ++ (b ∷ presence_bits cs ps)) front ∷ k)) (text_at x (position (os, components e (suc (optional_count cs)) ms front ∷ k)))
-marked_off al e b cs x ps ms front os k rs more =
+presence_bit_off : (al e b : Bool) (cs : Components) (x : Per.BitForm) (ps : Parts) (ms : List Bool) (front os : Text) (k : List Scope) (rs more : List Record) → option_and_then (λ w. runs al (rs ++ more) (os ++ w, components e 0 ((ms ++ b ∷ []) ++ presence_bits cs ps) front ∷ k)) (text_at x (position (os, components e (optional_count cs) (ms ++ b ∷ []) front ∷ k))) ≡ option_and_then (λ w. runs al (rs ++ more) (os ++ w, components e 0 (ms ++ (b ∷ presence_bits cs ps)) front ∷ k)) (text_at x (position (os, components e (suc (optional_count cs)) ms front ∷ k)))
+presence_bit_off al e b cs x ps ms front os k rs more =
     ap (λ n. option_and_then (λ w. runs al (rs ++ more) (os ++ w, components e 0 ((ms ++ b ∷ []) ++ presence_bits cs ps) front ∷ k)) (text_at x n)) (one_bit e (optional_count cs) ms b front os k)
     ∙ ap (λ l. option_and_then (λ w. runs al (rs ++ more) (os ++ w, components e 0 l front ∷ k)) (text_at x (position (os, components e (suc (optional_count cs)) ms front ∷ k)))) (append_assoc ms (b ∷ []) (presence_bits cs ps))
 
-one_there : (al e r : Bool) (cs : Components) (s : Schema) (v : Value) → BridgesAt al s v → Root al e cs → (d g : Bool) (ps : Parts) (ms : List Bool) (front os : Text) (k : List Scope) (rs more : List Record) → runs al ((marked r (presents s v ++ noted_by d g) ++ root_records cs ps rs) ++ more) (os, components e (cond r (optional_count cs) (suc (optional_count cs))) ms front ∷ k) ≡ option_and_then (λ w. runs al (rs ++ more) (os ++ w, components e 0 (ms ++ presence_bit_unless r true (presence_bits cs ps)) front ∷ k)) (text_at (both (spelled_by d g (Per.form al s v)) (Per.component_forms al cs ps)) (position (os, components e (cond r (optional_count cs) (suc (optional_count cs))) ms front ∷ k)))
+one_there : (al e r : Bool) (cs : Components) (s : Schema) (v : Value) → BridgesAt al s v → Root al e cs → (d g : Bool) (ps : Parts) (ms : List Bool) (front os : Text) (k : List Scope) (rs more : List Record) → runs al ((with_presence_bit r (presents s v ++ noted_by d g) ++ root_records cs ps rs) ++ more) (os, components e (cond r (optional_count cs) (suc (optional_count cs))) ms front ∷ k) ≡ option_and_then (λ w. runs al (rs ++ more) (os ++ w, components e 0 (ms ++ presence_bit_unless r true (presence_bits cs ps)) front ∷ k)) (text_at (both (spelled_by d g (Per.form al s v)) (Per.component_forms al cs ps)) (position (os, components e (cond r (optional_count cs) (suc (optional_count cs))) ms front ∷ k)))
 one_there al e true cs s v h others d g ps ms front os k rs more = it_and_others al e cs s v h others d g ps ms front os k rs more
 one_there al e false cs s v h others d g ps ms front os k rs more =
     it_and_others al e cs s v h others d g ps (ms ++ true ∷ []) front os k rs more
-    ∙ marked_off al e true cs (both (spelled_by d g (Per.form al s v)) (Per.component_forms al cs ps)) ps ms front os k rs more
+    ∙ presence_bit_off al e true cs (both (spelled_by d g (Per.form al s v)) (Per.component_forms al cs ps)) ps ms front os k rs more
 
 one_absent : (al e r : Bool) (cs : Components) → Root al e cs → (ps : Parts) (ms : List Bool) (front os : Text) (k : List Scope) (rs more : List Record) → runs al ((cond r (mismatch ∷ []) (presence_bit false ∷ []) ++ root_records cs ps rs) ++ more) (os, components e (cond r (optional_count cs) (suc (optional_count cs))) ms front ∷ k) ≡ option_and_then (λ w. runs al (rs ++ more) (os ++ w, components e 0 (ms ++ presence_bit_unless r false (presence_bits cs ps)) front ∷ k)) (text_at (cond r refused (Per.component_forms al cs ps)) (position (os, components e (cond r (optional_count cs) (suc (optional_count cs))) ms front ∷ k)))
 unfolding text_at
 one_absent al e true cs others ps ms front os k rs more = refl
 one_absent al e false cs others ps ms front os k rs more =
     others ps (ms ++ false ∷ []) front os k rs more
-    ∙ marked_off al e false cs (Per.component_forms al cs ps) ps ms front os k rs more
+    ∙ presence_bit_off al e false cs (Per.component_forms al cs ps) ps ms front os k rs more
 
 pub root : (al e : Bool) (cs : Components) → EachBridges cs → Root al e cs
 unfolding root_records Per.component_forms text_at Per.spelled

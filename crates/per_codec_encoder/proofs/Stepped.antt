@@ -9,7 +9,7 @@ use Rattle.asn1_schema_faults.specs.declared.EncodeError.{EncodeError}
 use Rattle.asn1_schema_faults.specs.declared.EncodeError.TheVariants.{ValueConstraintNotSatisfied, SizeConstraintNotSatisfied, AlphabetConstraintNotSatisfied, TooLongValue, LengthExceedsPlatformSize, CallOutOfPlace, OutOfMemory, AlreadyFailed}
 use Rattle.asn1_schema_encode.specs.Writes.{Refused}
 use Rattle.asn1_schema_presented.specs.Records.{Record, nil, sequence_begins, set_begins, group_begins}
-use Rattle.per_codec_packing.specs.Texts.{Text, bit, fill, as_text, plain, text_at}
+use Rattle.per_codec_packing.specs.Texts.{Text, bit, padding, as_text, plain, text_at}
 use Rattle.per_codec_packing.proofs.Formed.{plain_text}
 use Rattle.per_codec_packing.specs.Packed.{Packed, place, plus}
 use Rattle.per_codec_packing.proofs.Adding.{added}
@@ -117,7 +117,7 @@ taken_out fs o l al f w (Err x) e s q h = tt
 taken_out fs o l al f w (Ok v) e s q h = λ g k.
     let a : now fs o ≡ w.state = ap (λ (u : Written). u.state) e in
     let b = nothing_open (reverse fs) o (now fs o) (s (ap (λ (u : Written). u.failed) e ∙ g)) (ap (λ (t : State). t.1) a ∙ k) in
-    ap octets_of (sym a ∙ b.1) ∙ ap (option_and_then (λ w. option_map packed (written (Per.filled_up w) 0))) (q b.0 ∙ sym (plain_text l)) ∙ h
+    ap octets_of (sym a ∙ b.1) ∙ ap (option_and_then (λ w. option_map packed (written (Per.padded w) 0))) (q b.0 ∙ sym (plain_text l)) ∙ h
 
 -- a text of no bits is none
 no_text : (t : Text) → plain t ≡ Some [] → t ≡ []
@@ -127,7 +127,7 @@ no_text (bit b ∷ t) e = go (plain t) e
     go : (p : Option (List Bool)) → option_map (λ l. b ∷ l) p ≡ Some [] → bit b ∷ t ≡ []
     go None e = cc
     go (Some l) e = cc
-no_text (fill ∷ t) e = cc
+no_text (padding ∷ t) e = cc
 
 -- memory is taken for a message of no bits alone
 pub none_taken_out : (fs : List Frame) (o : Packed) (l : List Bool) (al f : Bool) (w : Written) (r : Result (Vec ℕ Global) EncodeError) → made fs o al f ≡ w → (f ≡ false → Sound fs o) → (o.placed ≡ true → plain o.text ≡ Some l) → Told l r → OnErr r (w.failed ≡ false → w.state.1 ≡ [] → w.state.0 ≡ [])

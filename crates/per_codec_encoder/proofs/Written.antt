@@ -97,28 +97,28 @@ by_variant true s v = (refl, refl)
 by_variant false s v = (refl, refl)
 
 -- the message of bits
-filled : Option (List Bool) → Option (List ℕ)
-filled o = option_map packed (option_and_then (λ w. written (Per.filled_up w) 0) o)
+padded_octets : Option (List Bool) → Option (List ℕ)
+padded_octets o = option_map packed (option_and_then (λ w. written (Per.padded w) 0) o)
 
-canonically : (al : Bool) (schema : ℕ → Schema) (v : Value) (o : Option (List Bool)) → ((n : ℕ) → Fits (schema n) v → bits_of al (schema n) v ≡ o) → HasOctets al schema v (option_and_then of_moderate_length (filled o))
-unfolding canonical per Per.message Per.complete written filled
+canonically : (al : Bool) (schema : ℕ → Schema) (v : Value) (o : Option (List Bool)) → ((n : ℕ) → Fits (schema n) v → bits_of al (schema n) v ≡ o) → HasOctets al schema v (option_and_then of_moderate_length (padded_octets o))
+unfolding canonical per Per.message Per.complete written padded_octets
 canonically al schema v o h n f =
     let b = by_variant al (schema n) (normal (schema n) v) in
-    let m : per al (schema n) (normal (schema n) v) ≡ filled o = ap filled (h n f) in
+    let m : per al (schema n) (normal (schema n) v) ≡ padded_octets o = ap padded_octets (h n f) in
     (ap (option_and_then of_moderate_length) (b.0 ∙ m), ap (option_and_then of_moderate_length) (b.1 ∙ m))
 
-filled_text : (l : List Bool) → filled (Some l) ≡ octets_of (as_text l, [])
-unfolding filled
-filled_text l = ap (option_and_then (λ w. option_map packed (written (Per.filled_up w) 0))) (sym (plain_text l))
+padded_text : (l : List Bool) → padded_octets (Some l) ≡ octets_of (as_text l, [])
+unfolding padded_octets
+padded_text l = ap (option_and_then (λ w. option_map packed (written (Per.padded w) 0))) (sym (plain_text l))
 
 pub writes_the_octets : {S : Type 0} {step : S → Record → S → Type 0} {aligned : S → Bool} {held : S → State} {Ready : S → Type 0} → IsWriter step aligned held Ready → WritesTheOctets step aligned held
 writes_the_octets {aligned} {held} h schema v old new i e w =
     let P : State → Type 0 = λ s. (n : ℕ) → Fits (schema n) v → Chain (Step (aligned old)) (presents (schema n) v) s (held new) in
     let t = (written_by_records (aligned old) schema v (held new) i).0 (record { chain = subst P e (λ n f. chain_held h (presents (schema n) v) old new (w.chain n f)) }) in
     let Q : Option (List ℕ) → Type 0 = λ o. HasOctets (aligned old) schema v (option_and_then of_moderate_length o) in
-    (ap (λ (s : State). s.1) t.1, subst Q (filled_text t.0 ∙ ap octets_of (sym t.1)) (canonically (aligned old) schema v (Some t.0) t.2))
+    (ap (λ (s : State). s.1) t.1, subst Q (padded_text t.0 ∙ ap octets_of (sym t.1)) (canonically (aligned old) schema v (Some t.0) t.2))
 
 pub refuses_only_none : {S : Type 0} {step : S → Record → S → Type 0} {aligned : S → Bool} {held : S → State} {Ready : S → Type 0} → IsWriter step aligned held Ready → RefusesOnlyNone step aligned held Ready
-unfolding filled
+unfolding padded_octets
 refuses_only_none {aligned} h schema v old x i k e y c =
     canonically (aligned old) schema v None ((refused_by_records (aligned old) schema v x i y).0 (record { none = λ z n new f t. let P : State → Type 0 = λ s. Chain (Step (aligned old)) (presents (schema n) v) s new in let u = chain_taken h (presents (schema n) v) old new k (subst P (sym e) t) in c.none z n u.0 f u.1 }))

@@ -18,7 +18,7 @@ use Rattle.per_codec_encoder.specs.Bags.{bag_of}
 
 -- How long the text in front of a place is.
 abbrev pub at : Place → ℕ
-at p = p.bits + p.fills
+at p = p.bits + p.paddings
 
 -- The bits of a preamble (X.691 19.1 to 19.3): the extension bit, which is not set, where there is one, and the
 -- presence bits.

@@ -4,7 +4,7 @@ use Rattle.std.specs.Prelude.{◌≡◌, ℕ, ℤ, pos, negsuc, Bool, true, fals
 use Rattle.std.specs.Prelude.{option_and_then, replicate}
 use Rattle.asn1_model.specs.Types.{from_to, any_number, any_count, any_size, sizes, sizes_or_more, context}
 use Rattle.asn1_schema_presented.specs.Records as call
-use Rattle.per_codec_packing.specs.Texts.{fill, as_text}
+use Rattle.per_codec_packing.specs.Texts.{padding, as_text}
 use Rattle.per_codec_encoder.specs.Steps.{components, members, bag_members, run, runs}
 use Rattle.per_codec_encoder.specs.Ties.{octets_of}
 
@@ -67,7 +67,7 @@ bag_of_three = call.bag_begins any_size any_count 3 ∷ call.further true ∷ wh
     (negsuc 0) ∷ call.further true ∷ whole (pos 1) ∷ call.further false ∷ call.ends ∷ []
 
 -- SEQUENCE {a BOOLEAN, b SET (SIZE (1..2)) OF SEQUENCE {c BOOLEAN, d INTEGER (0..65535)}}: the members change places,
--- and each is filled at its own
+-- and each is padded at its own
 abbrev pub bag_behind_bit : List call.Record
 bag_behind_bit =
     call.sequence_begins false 0 ∷ call.flag true ∷ call.bag_begins (sizes 1 2) any_count 2
@@ -109,7 +109,7 @@ OctetRows =
     × Packs false root_alternative (0x40 ∷ 0x40 ∷ 0x40 ∷ [])
     × Packs true root_alternative (0x40 ∷ 0x01 ∷ 0x01 ∷ [])
 
--- the bits of a length determinant, filled up in front where it stands behind a bit
+-- the bits of a length determinant, padded in front where it stands behind a bit
 abbrev pub closing_of_one : List Bool
 closing_of_one = replicate 7 false ++ true ∷ []
 
@@ -142,7 +142,7 @@ StateRows =
     × (run true (word 258) (as_text (true ∷ []), []) ≡ Some
     (as_text (true ∷ replicate 7 false ++ closing_of_one ++ replicate 6 false ++ true ∷ false ∷ []), []))
     × (run true (word 258) ([], bag_members any_size any_count 0 None [] ∷ []) ≡ Some (
-      fill ∷ as_text (closing_of_one ++ replicate 6 false ++ true ∷ false ∷ []),
+      padding ∷ as_text (closing_of_one ++ replicate 6 false ++ true ∷ false ∷ []),
       bag_members any_size any_count 0
           None [] ∷ [],
     ))

@@ -39,9 +39,9 @@ ChainsAddTheTexts = (al : Bool) (s : Schema) (v : Value) (os : Text) (k : List S
     → Chain (Step al) (presents s v) (os, k) new
     ↔ ((w : Text) × (text_at (Per.form al s v) (position (os, k)) ≡ Some w) × (new ≡ (os ++ w, k)))
 
--- the bits of the state behind a whole value, filled up to octets (X.691 11.1)
+-- the bits of the state behind a whole value, padded to octets (X.691 11.1)
 abbrev pub octets_of : State → Option (List ℕ)
-octets_of s = option_and_then (λ w. option_map packed (written (Per.filled_up w) 0)) (plain s.0)
+octets_of s = option_and_then (λ w. option_map packed (written (Per.padded w) 0)) (plain s.0)
 
 -- A message from the records: nothing is held before them.
 abbrev pub MessagesAreTheirs : Type 0

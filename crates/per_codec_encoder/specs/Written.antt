@@ -16,7 +16,7 @@ use Rattle.per_codec_packing.specs.Texts.{as_text}
 use Rattle.per_codec_encoder.specs.Steps.{State, Step}
 use Rattle.per_codec_encoder.specs.Ties.{octets_of}
 
--- The canonical bits of a value from the beginning of a message on, before it is filled up.
+-- The canonical bits of a value from the beginning of a message on, before it is padded.
 abbrev pub bits_of : Bool → Schema → Value → Option (List Bool)
 bits_of al s v = written (Per.form al s (normal s v)) 0
 
@@ -46,7 +46,7 @@ abbrev pub HasOctets : Bool → (ℕ → Schema) → Value → Option (List ℕ)
 HasOctets al schema v w = (n : ℕ) → Fits (schema n) v
     → (canonical (cond al aper uper) (schema n) v ≡ w) × (canonical (cond al aper_strict uper_strict) (schema n) v ≡ w)
 
--- Such a writer that held nothing holds the canonical encoding of the value, once it is filled up to octets, but for
+-- Such a writer that held nothing holds the canonical encoding of the value, once it is padded to octets, but for
 -- the bound on their length.
 abbrev pub WritesTheOctets : {S : Type 0} → (S → Record → S → Type 0) → (S → Bool) → (S → State) → Type 0
 WritesTheOctets {S} step aligned held = (schema : ℕ → Schema) (v : Value) (old new : S) → IsValue schema v

@@ -15,6 +15,7 @@ use crate::members::begin_members;
 use crate::options::EncoderOptions;
 use crate::sequences::{begin_components, put_further, put_presence_bit};
 use asn1_schema_constraints::{Bounded, Constraints};
+use asn1_schema_encode::{begin_record, go_on};
 use asn1_schema_faults::{CodecKind, EncodeError};
 use asn1_schema_tags::{Identifier, Tag};
 use asn1_schema_variants::{Chosen, Enumerated};
@@ -60,7 +61,7 @@ impl Model for Encoder {
     ghost invariant = { λ e. e.failed ≡ false → Holds (reverse e.frames) e.output (shown (reverse e.frames) e.output) };
 }
 
-/// The octets of a message: its bits, filled up with zero bits to whole octets, and one zero octet in place of no bits
+/// The octets of a message: its bits, padded with zero bits to whole octets, and one zero octet in place of no bits
 /// (X.691 11.1).
 fn message(bits: BitBuffer) -> Result<Vec<u8>, EncodeError>
     ensures { MatchResult result (λ octets. octets_of (as_text bits, []) ≡ Some octets.items)
@@ -139,10 +140,7 @@ impl Encoder {
 // One call: `AlreadyFailed` after a refusal, else what is written of its record, and after a refusal no more.
 macro_rules! record {
     ($encoder:ident, $written:expr) => {{
-        if $encoder.failed {
-            return Err(EncodeError::AlreadyFailed);
-        }
-        $encoder.failed = true;
+        begin_record(&mut $encoder.failed)?;
         $written?;
         $encoder.failed = false;
         Ok(())
@@ -178,9 +176,7 @@ impl asn1_schema_encode::Encoder for Encoder {
 
     #[inline(always)]
     fn encode_null(&mut self, _tag: Tag, _identifier: Identifier) -> Result<(), EncodeError> {
-        if self.failed {
-            return Err(EncodeError::AlreadyFailed);
-        }
+        go_on(self.failed)?;
         Ok(())
     }
 

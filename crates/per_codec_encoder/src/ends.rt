@@ -77,7 +77,7 @@ fn end_additions(
     if additions.due > 0 {
         return Err(EncodeError::CallOutOfPlace);
     }
-    output.truncate(additions.end.bits, additions.end.fills);
+    output.truncate(additions.end.bits, additions.end.paddings);
     let slots = additions.slots.as_slice();
     push_extension(output, variant, alloc, additions.start.bits, slots)?;
     Ok(())

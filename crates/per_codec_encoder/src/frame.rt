@@ -13,18 +13,18 @@ pub(crate) struct Place {
     /// How many bits stand in front.
     pub bits: usize,
     /// How many times padding that is left open stands in front.
-    pub fills: usize,
+    pub paddings: usize,
 }
 
 impl Place {
     /// The place behind a text.
     pub(crate) fn end_of(text: &Packing) -> Self
         ensures bits { result.bits ≡ length (solid text.now.text) }
-        ensures all { result.bits + result.fills ≡ length text.now.text }
+        ensures all { result.bits + result.paddings ≡ length text.now.text }
     {
         Place {
             bits: text.len(),
-            fills: text.fill_count(),
+            paddings: text.padding_count(),
         }
     }
 }

@@ -25,7 +25,7 @@ pub fn chains_add_the_texts()
     ensures { ChainsAddTheTexts }
 {}
 
-/// The records of a value, from nothing on and filled up to octets, are its message, and are refused where it has none
+/// The records of a value, from nothing on and padded to octets, are its message, and are refused where it has none
 /// (X.691 11.1).
 pub fn messages_are_theirs()
     ensures { MessagesAreTheirs }
@@ -59,7 +59,7 @@ pub trait Writer {
     ghost is_writer: { IsWriter step aligned held ready };
 }
 
-/// A writer that held nothing holds the canonical encoding of a value behind its records, once it is filled up to
+/// A writer that held nothing holds the canonical encoding of a value behind its records, once it is padded to
 /// octets (X.691 11.1).
 pub fn writes_the_octets<W: Writer>()
     ensures { WritesTheOctets W.step W.aligned W.held }

@@ -150,15 +150,15 @@ module _ (free : Per.Freedom → Bool) (al : Bool) where
       ap length (sym p.2) ∙ ap suc (additions_long cs qs p.0 p.1)
 
   -- the form of a sequence with an extension bit, by its presence bits and its root
-  abbrev pub Marked : Components → Parts → List Bool → Per.BitForm → Per.BitForm
-  Marked adds qs ms y = given (Per.addition_forms al adds qs) (Per.sequence_form al true ms y)
+  abbrev pub Extensible : Components → Parts → List Bool → Per.BitForm → Per.BitForm
+  Extensible adds qs ms y = given (Per.addition_forms al adds qs) (Per.sequence_form al true ms y)
 
   module _ (other : IsTrue (free Per.other_bitmap)) (adds : Components) (ha : EachFinds al free adds) (qs : Parts) where
-    marked_in : (ms : List Bool) (y : Per.BitForm) → (x : Option Bool) (more : List Bool) (start mid o2 : Place) (k : List Scope) (b : State) → is_present x ≡ true → Front free (exactly (preamble_bits x (ms ++ more))) start mid → Front free y mid o2 → Chain (Step free al) (additions_begin (component_count adds) ∷ added_records adds qs) (o2, components x more ∷ k) b → Front free (Marked adds qs ms y) start b.0 × (b.1 ≡ k)
-    marked_in ms y None more start mid o2 k b e f g c = cc
-    marked_in ms y (Some true) (z ∷ more) start mid o2 k b e f g c = absurd c.1
-    marked_in ms y (Some false) (z ∷ more) start mid o2 k b e f g c = absurd c.1
-    marked_in ms y (Some false) [] start mid o2 k b e f g c =
+    extensible_in : (ms : List Bool) (y : Per.BitForm) → (x : Option Bool) (more : List Bool) (start mid o2 : Place) (k : List Scope) (b : State) → is_present x ≡ true → Front free (exactly (preamble_bits x (ms ++ more))) start mid → Front free y mid o2 → Chain (Step free al) (additions_begin (component_count adds) ∷ added_records adds qs) (o2, components x more ∷ k) b → Front free (Extensible adds qs ms y) start b.0 × (b.1 ≡ k)
+    extensible_in ms y None more start mid o2 k b e f g c = cc
+    extensible_in ms y (Some true) (z ∷ more) start mid o2 k b e f g c = absurd c.1
+    extensible_in ms y (Some false) (z ∷ more) start mid o2 k b e f g c = absurd c.1
+    extensible_in ms y (Some false) [] start mid o2 k b e f g c =
         let n : ℕ = component_count adds in
         let r = added_in free al adds ha qs [] k b (first_bits n []) o2 (from_state free al (added_records adds qs) c.0 b o2 (added (first_bits n []) [] ∷ k) c.1 c.2) in
         let none : is_any_present r.0 ≡ false = flags_none r.0 n r.3 in
@@ -170,7 +170,7 @@ module _ (free : Per.Freedom → Bool) (al : Bool) where
         let f' : Front free (exactly (false ∷ ms)) start mid = subst (λ l. Front free (exactly (false ∷ l)) start mid) (append-nil ms) f in
         let g' : Front free y mid b.0 = subst (λ l. Front free y mid l) (sym (a2 ∙ a1)) g in
         (given_in free (Per.addition_forms al adds qs) (Per.sequence_form al true ms y) r.0 r.2 start b.0 (without_in ms y other r.0 none start mid b.0 f' g'), r.6)
-    marked_in ms y (Some true) [] start mid o2 k b e f g c =
+    extensible_in ms y (Some true) [] start mid o2 k b e f g c =
         let n : ℕ = component_count adds in
         let bs : List Bool = c.1.0 in
         let m : State = c.0 in
@@ -181,10 +181,10 @@ module _ (free : Per.Freedom → Bool) (al : Bool) where
         let f' : Front free (exactly (true ∷ ms)) start mid = subst (λ l. Front free (exactly (true ∷ l)) start mid) (append-nil ms) f in
         (given_in free (Per.addition_forms al adds qs) (Per.sequence_form al true ms y) r.0 r.2 start b.0 (with_in ms y other r.0 r.5.0 bs e1 e2 c.1.1 start mid o2 m.0 r.1 b.0 f' g c.1.2 r.4 r.5.2), r.6)
 
-    pub extended_in : (cs : Components) → EachFinds al free cs → (ps : Parts) (a m b : State) → Begins free true (optional_count cs) a m → Chain (Step free al) (root_records cs ps (additions_begin (component_count adds) ∷ added_records adds qs)) m b → Found free (Marked adds qs (presence_bits cs ps) (Per.component_forms al cs ps)) a b
+    pub extended_in : (cs : Components) → EachFinds al free cs → (ps : Parts) (a m b : State) → Begins free true (optional_count cs) a m → Chain (Step free al) (root_records cs ps (additions_begin (component_count adds) ∷ added_records adds qs)) m b → Found free (Extensible adds qs (presence_bits cs ps) (Per.component_forms al cs ps)) a b
     extended_in cs h ps a m b t c =
         let o = begun_in free al true cs h ps (additions_begin (component_count adds) ∷ added_records adds qs) a m b t c in
-        marked_in (presence_bits cs ps) (Per.component_forms al cs ps) o.0 o.1 a.0 o.2 o.3 a.1 b o.4 o.5 o.6 o.7
+        extensible_in (presence_bits cs ps) (Per.component_forms al cs ps) o.0 o.1 a.0 o.2 o.3 a.1 b o.4 o.5 o.6 o.7
 
   module _ (other : IsTrue (free Per.other_bitmap)) (adds : Components) (ha : EachShows al free adds) (qs : Parts) where
     -- what is held at the extension bit, with additions like these
@@ -212,13 +212,13 @@ module _ (free : Per.Freedom → Bool) (al : Bool) where
         let r = added_out free al adds ha qs (first_bits n bs) (drop n bs) w.4 k b (xs, w.5, e, e1, w.12, (w.0, e2, w.13), scopes) in
         (r.0, Some true, w.2, w.3, r.1, refl, w.9, w.10, ((w.4, added (first_bits n bs) (drop n bs) ∷ k), (bs, w.8, w.11, refl), r.2))
 
-    marked_out : (ms : List Bool) (y : Per.BitForm) → (start : Place) (k : List Scope) (b : State) → Front free (Marked adds qs ms y) start b.0 → b.1 ≡ k → AtExtensionBit ms y start k b
-    marked_out ms y start k b f scopes =
+    extensible_out : (ms : List Bool) (y : Per.BitForm) → (start : Place) (k : List Scope) (b : State) → Front free (Extensible adds qs ms y) start b.0 → b.1 ≡ k → AtExtensionBit ms y start k b
+    extensible_out ms y start k b f scopes =
         let t = given_out free (Per.addition_forms al adds qs) (Per.sequence_form al true ms y) start b.0 f in
         at_extension_bit ms y t.0 t.1 start k b scopes (read_out ms y other t.0 start b.0 t.2)
 
     -- ---- SEQUENCE and SET with an extension bit
-    pub extended_out : (cs : Components) → EachShows al free cs → (ps : Parts) (a b : State) → Found free (Marked adds qs (presence_bits cs ps) (Per.component_forms al cs ps)) a b → (ss : Parts) × LikeParts adds qs ss × Closed free al true cs ps (additions_begin (component_count adds) ∷ added_records adds ss) a b
+    pub extended_out : (cs : Components) → EachShows al free cs → (ps : Parts) (a b : State) → Found free (Extensible adds qs (presence_bits cs ps) (Per.component_forms al cs ps)) a b → (ss : Parts) × LikeParts adds qs ss × Closed free al true cs ps (additions_begin (component_count adds) ∷ added_records adds ss) a b
     extended_out cs h ps a b f =
-        let t = marked_out (presence_bits cs ps) (Per.component_forms al cs ps) a.0 a.1 b f.0 f.1 in
+        let t = extensible_out (presence_bits cs ps) (Per.component_forms al cs ps) a.0 a.1 b f.0 f.1 in
         (t.0, t.4, begun_out free al true cs h ps (additions_begin (component_count adds) ∷ added_records adds t.0) a b t.1 t.2 t.3 t.5 t.6 t.7 t.8)

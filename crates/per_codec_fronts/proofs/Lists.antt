@@ -262,9 +262,9 @@ module _ (free : Per.Freedom → Bool) (al : Bool) where
   unfolding Per.counted
   start_out z h out us a b c f = let q = varied_out free {c = Per.other_fragments} (λ ms. Per.fragments al ms us) a b f in (q.0, omega arith, (c, q.1), behind_none _ a b q.2)
 
-  never_filled : (x : Per.BitForm) → Per.at_octet (al && false) x ≡ x
+  never_padded : (x : Per.BitForm) → Per.at_octet (al && false) x ≡ x
   unfolding Per.at_octet
-  never_filled x = by_variant al
+  never_padded x = by_variant al
     where
       by_variant : (t : Bool) → Per.at_octet (t && false) x ≡ x
       by_variant true = refl
@@ -298,14 +298,14 @@ module _ (free : Per.Freedom → Bool) (al : Bool) where
   bounds_in z h true high us a k m b f g =
       let r = g f.0 None f.3 in
       let e : f.0 ≡ length us = sym r.0 in
-      let x = never_filled (joined us) in
+      let x = never_padded (joined us) in
       (subst (λ n. Admits free z h false n) e f.1, join free (Per.constrained al (high - z.counts.low) (length us - z.counts.low)) (Per.at_octet (al && false) (joined us)) a m.0 b (subst (λ n. Front free (Per.constrained al (high - z.counts.low) (n - z.counts.low)) a m.0) e f.2) (subst (λ y. Front free y m.0 b) (sym x) r.1))
   bounds_in z h false high us a k m b f g = headed_in z h false us a k m b f g
 
   bounds_out : (z : Size) (h : Counts) (t : Bool) (high : ℕ) (us : List Per.BitForm) (a : Place) (k : List Scope) (b : Place) → Admits free z h false (length us) → Front free (cond t (by_number z high us) (Per.counted al us)) a b → (m : State) × (d : ℕ) × (hs : Option Tally) × Counted al free z h false (cond t (Some high) None) a k m × (m.1 ≡ members d hs ∷ k) × Rest d hs us m.0 b
   bounds_out z h true high us a k b c f =
       let q = split free (Per.constrained al (high - z.counts.low) (length us - z.counts.low)) (Per.at_octet (al && false) (joined us)) a b f in
-      let x = never_filled (joined us) in
+      let x = never_padded (joined us) in
       ((q.0, members (length us) None ∷ k), length us, None, (length us, c, q.1, refl), refl, (refl, subst (λ y. Front free y q.0 b) x q.2))
   bounds_out z h false high us a k b c f = headed_out z h false us a k b c f
 
@@ -322,34 +322,34 @@ module _ (free : Per.Freedom → Bool) (al : Bool) where
   counted_out z h false (Some high) us a k b r = bounds_out z h (ltb high 65536) high us a k b r.0 r.1
 
   -- ---- the extension bit of a size
-  bit_in : (e t : Bool) (x y : Per.BitForm) (out : Bool) (a mid b : Place) → Front free (extension_bit e out) a mid → InPlace free out t → Front free (cond out y x) mid b → Front free (Per.marked e t x y) a b
-  unfolding Per.marked
+  bit_in : (e t : Bool) (x y : Per.BitForm) (out : Bool) (a mid b : Place) → Front free (extension_bit e out) a mid → InPlace free out t → Front free (cond out y x) mid b → Front free (Per.with_extension_bit e t x y) a b
+  unfolding Per.with_extension_bit
   bit_in false t x y true a mid b m i f = absurd (of_refused free a mid m)
   bit_in false t x y false a mid b m i f = if_in free t x a b i (subst (λ p. Front free x p b) (of_nothing free a mid m) f)
-  bit_in true t x y true a mid b m i f = varied_in free {c = Per.root_marked_outside} (λ o. cond o (both (exactly (true ∷ [])) y) (only_if t (both (exactly (false ∷ [])) x))) true (outside i) a b (join free (exactly (true ∷ [])) y a mid b m f)
+  bit_in true t x y true a mid b m i f = varied_in free {c = Per.root_told_outside} (λ o. cond o (both (exactly (true ∷ [])) y) (only_if t (both (exactly (false ∷ [])) x))) true (outside i) a b (join free (exactly (true ∷ [])) y a mid b m f)
     where
-      outside : (t ≡ false) ⊎ IsTrue (free Per.root_marked_outside) → (true ≡ not t) ⊎ IsTrue (free Per.root_marked_outside)
+      outside : (t ≡ false) ⊎ IsTrue (free Per.root_told_outside) → (true ≡ not t) ⊎ IsTrue (free Per.root_told_outside)
       outside (inl e) = inl (sym (ap not e))
       outside (inr e) = inr e
-  bit_in true t x y false a mid b m i f = varied_in free {c = Per.root_marked_outside} (λ o. cond o (both (exactly (true ∷ [])) y) (only_if t (both (exactly (false ∷ [])) x))) false (inl (sym (ap not i))) a b (if_in free t (both (exactly (false ∷ [])) x) a b i (join free (exactly (false ∷ [])) x a mid b m f))
+  bit_in true t x y false a mid b m i f = varied_in free {c = Per.root_told_outside} (λ o. cond o (both (exactly (true ∷ [])) y) (only_if t (both (exactly (false ∷ [])) x))) false (inl (sym (ap not i))) a b (if_in free t (both (exactly (false ∷ [])) x) a b i (join free (exactly (false ∷ [])) x a mid b m f))
 
   abbrev Placed : Bool → Bool → Per.BitForm → Per.BitForm → Place → Place → Type 0
   Placed e t x y a b = (out : Bool) × (mid : Place) × Front free (extension_bit e out) a mid × InPlace free out t × Front free (cond out y x) mid b
 
-  bit_out : (e t : Bool) (x y : Per.BitForm) (a b : Place) → Front free (Per.marked e t x y) a b → Placed e t x y a b
-  unfolding Per.marked
+  bit_out : (e t : Bool) (x y : Per.BitForm) (a b : Place) → Front free (Per.with_extension_bit e t x y) a b → Placed e t x y a b
+  unfolding Per.with_extension_bit
   bit_out false t x y a b f = let q = if_out free t x a b f in (false, a, nothing_front free a, q.0, q.1)
-  bit_out true t x y a b f = let q = varied_out free {c = Per.root_marked_outside} (λ o. cond o (both (exactly (true ∷ [])) y) (only_if t (both (exactly (false ∷ [])) x))) a b f in go q.0 q.1 q.2
+  bit_out true t x y a b f = let q = varied_out free {c = Per.root_told_outside} (λ o. cond o (both (exactly (true ∷ [])) y) (only_if t (both (exactly (false ∷ [])) x))) a b f in go q.0 q.1 q.2
     where
       inside : (b : Bool) → true ≡ not b → b ≡ false
       inside true e = cc
       inside false e = refl
 
-      outside : (true ≡ not t) ⊎ IsTrue (free Per.root_marked_outside) → (t ≡ false) ⊎ IsTrue (free Per.root_marked_outside)
+      outside : (true ≡ not t) ⊎ IsTrue (free Per.root_told_outside) → (t ≡ false) ⊎ IsTrue (free Per.root_told_outside)
       outside (inl e) = inl (inside t e)
       outside (inr e) = inr e
 
-      go : (o : Bool) → (o ≡ not t) ⊎ IsTrue (free Per.root_marked_outside) → Front free (cond o (both (exactly (true ∷ [])) y) (only_if t (both (exactly (false ∷ [])) x))) a b → Placed true t x y a b
+      go : (o : Bool) → (o ≡ not t) ⊎ IsTrue (free Per.root_told_outside) → Front free (cond o (both (exactly (true ∷ [])) y) (only_if t (both (exactly (false ∷ [])) x))) a b → Placed true t x y a b
       go true i f = let q = split free (exactly (true ∷ [])) y a b f in (true, q.0, q.1, outside i, q.2)
       go false i f =
           let p = if_out free t (both (exactly (false ∷ [])) x) a b f in

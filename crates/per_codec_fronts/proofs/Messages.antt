@@ -1,4 +1,4 @@
--- The records of a value in front of octets, and what fills up a message behind them.
+-- The records of a value in front of octets, and the padding of a message behind them.
 use Rattle.std.proofs.Common.{◌≡◌, ◌≤◌, ℕ, ◌+◌, ◌*◌, Bool, true, false, IsTrue, List, [], ◌++◌, length, take, drop, refl, ap, sym, ◌∙◌, subst, append_assoc, length-append, arith}
 use Rattle.std.proofs.lemmas.List.{append_cancel_right, length-take, take-append-drop}
 use Rattle.std.proofs.lemmas.Grind.{flat_map-append}
@@ -18,7 +18,7 @@ use Rattle.asn1_schema_finding.proofs.Fitting.{records_fit}
 use Rattle.per_codec_fronts.specs.Takes.{Place, State, Front, completion, Takes}
 use Rattle.per_codec_fronts.specs.Ties.{FindsIn, FoundFirst}
 use Rattle.per_codec_fronts.proofs.Next.{place_same, one_taken}
-use Rattle.per_codec_fronts.proofs.Opened.{filled_in, filled_out}
+use Rattle.per_codec_fronts.proofs.Opened.{padded_in, padded_out}
 use Rattle.per_codec_fronts.proofs.Whole.{records_read, forms_show}
 
 octets_long : (os : List ℕ) → length (octet_bits os) ≡ 8 * length os
@@ -42,7 +42,7 @@ module _ (al : Bool) (free : Per.Freedom → Bool) (other : IsTrue (free Per.oth
   pub message_out : (s : Schema) (v : Value) (w rest : List ℕ) → IsTrue (is_lawful s) → Reads free (Per.message al s v) 0 (octet_bits w) → (u : Value) × (same v u ≡ true) × FoundFirst al free s u w rest
   unfolding Per.message Per.complete Reads
   message_out s v w rest l r =
-      let z = filled_out free r.0 (octet_bits w) r.2 in
+      let z = padded_out free r.0 (octet_bits w) r.2 in
       let all : r.0 ++ (z.0 ++ octet_bits rest) ≡ octet_bits (w ++ rest) = sym (append_assoc r.0 z.0 (octet_bits rest)) ∙ ap (λ l. l ++ octet_bits rest) z.1 ∙ sym (flat_map-append (binary 8) w rest) in
       let n : length r.0 + length z.0 ≡ 8 * length w = sym (length-append r.0 z.0) ∙ ap length z.1 ∙ octets_long w in
       let f : Front free (Per.form al s v) (0, octet_bits (w ++ rest)) (length r.0, z.0 ++ octet_bits rest) = record { text = r.0; has_form = r.1; in_front = all; moved = omega arith } in
@@ -53,8 +53,8 @@ module _ (al : Bool) (free : Per.Freedom → Bool) (other : IsTrue (free Per.oth
   fits s v a b c = records_fit _ _ (λ a b m. m) s v a b c
 
   -- one place stands behind the records of whichever value is found
-  pub filled_up : (s : Schema) (u v : Value) (w rest : List ℕ) (left : Place) → IsTrue (is_lawful s) → Reads free (Per.message al s v) 0 (octet_bits w) → Chain (Takes al free) (presents s u) ((0, octet_bits (w ++ rest)), []) (left, []) → Front free (completion left.0) left (8 * length w, octet_bits rest)
-  filled_up s u v w rest left l r c =
+  pub padded : (s : Schema) (u v : Value) (w rest : List ℕ) (left : Place) → IsTrue (is_lawful s) → Reads free (Per.message al s v) 0 (octet_bits w) → Chain (Takes al free) (presents s u) ((0, octet_bits (w ++ rest)), []) (left, []) → Front free (completion left.0) left (8 * length w, octet_bits rest)
+  padded s u v w rest left l r c =
       let t = message_out s v w rest l r in
       let x = t.2 in
       let start : State = ((0, octet_bits (w ++ rest)), []) in
@@ -71,14 +71,14 @@ module _ (al : Bool) (free : Per.Freedom → Bool) (other : IsTrue (free Per.oth
         let g = r.2 in
         let both : (f.text ++ g.text) ++ octet_bits rest ≡ octet_bits w ++ octet_bits rest = append_assoc f.text g.text (octet_bits rest) ∙ ap (λ l. f.text ++ l) g.in_front ∙ f.in_front ∙ flat_map-append (binary 8) w rest in
         let all : f.text ++ g.text ≡ octet_bits w = append_cancel_right (f.text ++ g.text) (octet_bits w) (octet_bits rest) both in
-        (f.text, f.has_form, subst (λ l. Reads free (Per.filled_up f.text) 0 l) all (filled_in free f.text g.text left.0 f.moved g.has_form))
+        (f.text, f.has_form, subst (λ l. Reads free (Per.padded f.text) 0 l) all (padded_in free f.text g.text left.0 f.moved g.has_form))
 
     -- where a message ends, an octet does
     pub ends_at_octet : (s : Schema) (v : Value) (os : List ℕ) (left after : Place) → Chain (Takes al free) (presents s v) ((0, octet_bits os), []) (left, []) → Front free (completion left.0) left after → (w : List ℕ) × (rest : List ℕ) × (w ++ rest ≡ os) × (after ≡ (8 * length w, octet_bits rest))
     unfolding Per.complete Reads
     ends_at_octet s v os left after c g =
         let f : Front free (Per.form al s v) (0, octet_bits os) left = (records_read al free s v ((0, octet_bits os), []) (left, []) other order c).0 in
-        let k = complete_whole free (Per.form al s v) (f.text ++ g.text) 0 (f.text, f.has_form, filled_in free f.text g.text left.0 f.moved g.has_form) in
+        let k = complete_whole free (Per.form al s v) (f.text ++ g.text) 0 (f.text, f.has_form, padded_in free f.text g.text left.0 f.moved g.has_form) in
         let all : (f.text ++ g.text) ++ after.1 ≡ octet_bits os = append_assoc f.text g.text after.1 ∙ ap (λ l. f.text ++ l) g.in_front ∙ f.in_front in
         let r = behind_octets os k.0 (f.text ++ g.text) after.1 k.1 all in
         let n = r.0 in

@@ -1,4 +1,4 @@
--- Complete encodings and open types, as a reader finds them: the value's bits, what fills them up, and octets behind.
+-- Complete encodings and open types, as a reader finds them: the value's bits, their padding, and octets behind.
 use Rattle.std.proofs.Common.{◌≡◌, ℕ, zero, suc, ◌+◌, ◌*◌, Bool, List, [], ◌∷◌, ◌++◌, length, map, refl, ap, sym, ◌∙◌, subst, append_assoc, arith}
 use Rattle.asn1_model.specs.Numbers.{binary, octet_bits, packed}
 use Rattle.asn1_model.specs.Form.{exactly, only_if, Reads}
@@ -15,24 +15,24 @@ octets_as_units [] = refl
 octets_as_units (o ∷ os) = ap (λ l. exactly (binary 8 o) ∷ l) (octets_as_units os)
 
 module _ (free : Per.Freedom → Bool) where
-  -- what fills up a value's bits stands behind them
-  pub filled_in : (u fill : List Bool) (n : ℕ) → 0 + length u ≡ n → Reads free (completion n) n fill → Reads free (Per.filled_up u) 0 (u ++ fill)
-  unfolding Per.filled_up Reads
-  filled_in [] fill zero e r = r
-  filled_in [] fill (suc n) e r = absurd (omega arith)
-  filled_in (b ∷ u) fill zero e r = absurd (omega arith)
-  filled_in (b ∷ u) fill (suc n) e r =
+  -- the padding of a value's bits stands behind them
+  pub padded_in : (u padding : List Bool) (n : ℕ) → 0 + length u ≡ n → Reads free (completion n) n padding → Reads free (Per.padded u) 0 (u ++ padding)
+  unfolding Per.padded Reads
+  padded_in [] padding zero e r = r
+  padded_in [] padding (suc n) e r = absurd (omega arith)
+  padded_in (b ∷ u) padding zero e r = absurd (omega arith)
+  padded_in (b ∷ u) padding (suc n) e r =
       let l : suc n ≡ length (b ∷ u) = omega arith in
       let m : suc n ≡ 0 + length (b ∷ u) = omega arith in
-      (b ∷ u, fill, refl, subst (λ p. Reads free (Per.filling (Per.missing (length (b ∷ u)))) p fill) m (subst (λ i. Reads free (Per.filling (Per.missing i)) (suc n) fill) l r), refl)
+      (b ∷ u, padding, refl, subst (λ p. Reads free (Per.padding (Per.missing (length (b ∷ u)))) p padding) m (subst (λ i. Reads free (Per.padding (Per.missing i)) (suc n) padding) l r), refl)
 
-  pub filled_out : (u c : List Bool) → Reads free (Per.filled_up u) 0 c → (fill : List Bool) × (u ++ fill ≡ c) × Reads free (completion (length u)) (length u) fill
-  unfolding Per.filled_up Reads
-  filled_out [] c r = (c, refl, r)
-  filled_out (b ∷ u) c r =
+  pub padded_out : (u c : List Bool) → Reads free (Per.padded u) 0 c → (padding : List Bool) × (u ++ padding ≡ c) × Reads free (completion (length u)) (length u) padding
+  unfolding Per.padded Reads
+  padded_out [] c r = (c, refl, r)
+  padded_out (b ∷ u) c r =
       let l : length r.0 ≡ length (b ∷ u) = ap (λ (l : List Bool). length l) (sym r.2) in
       let m : 0 + length r.0 ≡ length (b ∷ u) = omega arith in
-      (r.1, ap (λ l. l ++ r.1) r.2 ∙ r.4, subst (λ p. Reads free (Per.filling (Per.missing (length (b ∷ u)))) p r.1) m r.3)
+      (r.1, ap (λ l. l ++ r.1) r.2 ∙ r.4, subst (λ p. Reads free (Per.padding (Per.missing (length (b ∷ u)))) p r.1) m r.3)
 
   module _ (al : Bool) where
     pub open_in : (x : Per.BitForm) (a rest left : Place) (os : List ℕ) (k : List Scope) (l : State) → Front free (Per.counted_octets al os) a rest → Front free x (0, octet_bits os) left → Closes free left rest k l → Front free (Per.open_type al x) a rest
@@ -45,7 +45,7 @@ module _ (free : Per.Freedom → Bool) where
         let told = if_in free (each_is is_octet c.1) (Per.counted_eights al ((g.text ++ c.2.text) ++ octet_bits c.1)) a rest c.3 whole in
         record {
           text = told.text;
-          has_form = (g.text ++ c.2.text, (g.text, g.has_form, filled_in g.text c.2.text left.0 g.moved c.2.has_form), (c.1, c.5, told.has_form));
+          has_form = (g.text ++ c.2.text, (g.text, g.has_form, padded_in g.text c.2.text left.0 g.moved c.2.has_form), (c.1, c.5, told.has_form));
           in_front = told.in_front;
           moved = told.moved;
         }
@@ -64,8 +64,8 @@ module _ (free : Per.Freedom → Bool) where
         let s = if_out free (each_is is_octet r.2.0) (Per.counted_eights al (r.0 ++ octet_bits r.2.0)) a rest told in
         let units : Front free (Per.counted al (Per.octet_units (packed (r.0 ++ octet_bits r.2.0)))) a rest = subst (λ us. Front free (Per.counted al us) a rest) (eights_units (k.0 + length r.2.0) (r.0 ++ octet_bits r.2.0) long) s.1 in
         let counted = if_in free (each_is is_octet (packed (r.0 ++ octet_bits r.2.0))) (Per.counted al (Per.octet_units (packed (r.0 ++ octet_bits r.2.0)))) a rest (packed_octets (k.0 + length r.2.0) (r.0 ++ octet_bits r.2.0) long) units in
-        let z = filled_out r.1.0 r.0 r.1.2 in
+        let z = padded_out r.1.0 r.0 r.1.2 in
         let all : r.1.0 ++ (z.0 ++ octet_bits r.2.0) ≡ octet_bits (packed (r.0 ++ octet_bits r.2.0)) = sym (append_assoc r.1.0 z.0 (octet_bits r.2.0)) ∙ ap (λ l. l ++ octet_bits r.2.0) z.1 ∙ sym back in
         let value : Front free x (0, octet_bits (packed (r.0 ++ octet_bits r.2.0))) (length r.1.0, z.0 ++ octet_bits r.2.0) = record { text = r.1.0; has_form = r.1.1; in_front = all; moved = omega arith } in
-        let filled : Front free (completion (length r.1.0)) (length r.1.0, z.0 ++ octet_bits r.2.0) (length r.1.0 + length z.0, octet_bits r.2.0) = record { text = z.0; has_form = z.2; in_front = refl; moved = refl } in
-        (packed (r.0 ++ octet_bits r.2.0), (length r.1.0, z.0 ++ octet_bits r.2.0), counted, value, λ k. ((length r.1.0 + length z.0, octet_bits r.2.0), r.2.0, filled, s.0, refl, r.2.1, refl))
+        let padded : Front free (completion (length r.1.0)) (length r.1.0, z.0 ++ octet_bits r.2.0) (length r.1.0 + length z.0, octet_bits r.2.0) = record { text = z.0; has_form = z.2; in_front = refl; moved = refl } in
+        (packed (r.0 ++ octet_bits r.2.0), (length r.1.0, z.0 ++ octet_bits r.2.0), counted, value, λ k. ((length r.1.0 + length z.0, octet_bits r.2.0), r.2.0, padded, s.0, refl, r.2.1, refl))

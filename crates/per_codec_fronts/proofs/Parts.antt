@@ -8,7 +8,7 @@ use Rattle.asn1_model.specs.Form.{refused, both}
 use Rattle.asn1_model.specs.Per
 use Rattle.asn1_laws_values.proofs.Listed.{EachComponent}
 use Rattle.asn1_schema_presented.specs.Records.{Record, flag, nil, whole, one_of, bits, octets, characters, identifier, presence_bit, mismatch}
-use Rattle.asn1_schema_presented.specs.Presents.{presents, root_records, marked}
+use Rattle.asn1_schema_presented.specs.Presents.{presents, root_records, with_presence_bit}
 use Rattle.asn1_schema_presented.specs.Chains.{Chain}
 use Rattle.asn1_schema_presented.proofs.Chains.{chain_split, chain_append}
 use Rattle.per_codec_fronts.specs.Takes.{Place, State, Scope, components, Front}
@@ -90,7 +90,7 @@ module _ (free : Per.Freedom → Bool) (al : Bool) where
       let r = others ms start (from_state free al tail c.0 b start (components x ms ∷ k) c.1.1 c.2) in
       (r.0, r.1, ap (λ n. n ∷ ms) (sym c.1.0) ∙ ap (λ l. t ∷ l) r.2, r.3, r.4)
 
-  one_there : (q : Bool) (s : Schema) (v : Value) → Finds al free s → (d g : Bool) (bs : List Bool) (y : Per.BitForm) → (rs tail : List Record) (x : Option Bool) (k : List Scope) (b : State) → Goes bs y rs tail x k b → Goes (presence_bit_unless q true bs) (both (spelled_by d g (Per.form al s v)) y) rs (marked q (presents s v ++ noted_by d g) ++ tail) x k b
+  one_there : (q : Bool) (s : Schema) (v : Value) → Finds al free s → (d g : Bool) (bs : List Bool) (y : Per.BitForm) → (rs tail : List Record) (x : Option Bool) (k : List Scope) (b : State) → Goes bs y rs tail x k b → Goes (presence_bit_unless q true bs) (both (spelled_by d g (Per.form al s v)) y) rs (with_presence_bit q (presents s v ++ noted_by d g) ++ tail) x k b
   one_there true s v h d g bs y rs tail x k b others = behind_it s v h d g bs y rs tail x k b others
   one_there false s v h d g bs y rs tail x k b others = behind_presence_bit true bs _ rs _ x k b (behind_it s v h d g bs y rs tail x k b others)
 
@@ -114,9 +114,9 @@ module _ (free : Per.Freedom → Bool) (al : Bool) where
   abbrev RootOut : Components → Parts → List Record → Option Bool → List Bool → Place → List Scope → State → Type 0
   RootOut cs ps rs x more start k b = (qs : Parts) × LikeParts cs ps qs × (presence_bits cs qs ≡ presence_bits cs ps) × Chain (Step free al) (root_records cs qs rs) (start, components x (presence_bits cs qs ++ more) ∷ k) b
 
-  marked_out : (q : Bool) (rs tail : List Record) (x : Option Bool) (bs more : List Bool) (start : Place) (k : List Scope) (b : State) → Chain (Step free al) (rs ++ tail) (start, components x (bs ++ more) ∷ k) b → Chain (Step free al) (marked q rs ++ tail) (start, components x (presence_bit_unless q true bs ++ more) ∷ k) b
-  marked_out true rs tail x bs more start k b c = c
-  marked_out false rs tail x bs more start k b c = ((start, components x (bs ++ more) ∷ k), (refl, refl), c)
+  presence_bit_out : (q : Bool) (rs tail : List Record) (x : Option Bool) (bs more : List Bool) (start : Place) (k : List Scope) (b : State) → Chain (Step free al) (rs ++ tail) (start, components x (bs ++ more) ∷ k) b → Chain (Step free al) (with_presence_bit q rs ++ tail) (start, components x (presence_bit_unless q true bs ++ more) ∷ k) b
+  presence_bit_out true rs tail x bs more start k b c = c
+  presence_bit_out false rs tail x bs more start k b c = ((start, components x (bs ++ more) ∷ k), (refl, refl), c)
 
   unless_refused : (q : Bool) (y : Per.BitForm) (start mid : Place) → Front free (cond q refused y) start mid → (q ≡ false) × Front free y start mid
   unless_refused true y start mid f = absurd (of_refused free start mid f)
@@ -138,7 +138,7 @@ module _ (free : Per.Freedom → Bool) (al : Bool) where
       let there : State = (q.0, components x (presence_bits cs r.0 ++ more) ∷ k) in
       let w = there_out free al s h.0 o v here there (q.1, refl) in
       let its : List Record = presents s w.0 ++ noted_by (is_at_default o s w.0) (is_group_left_out s w.0) in
-      (present w.0 r.0, like_present t o s cs v w.0 ps r.0 w.1 r.1, ap (λ l. presence_bit_unless (is_required o) true l) r.2, marked_out (is_required o) its (root_records cs r.0 rs) x (presence_bits cs r.0) more start k b (chain_append (Step free al) its (root_records cs r.0 rs) here there b w.2 r.3))
+      (present w.0 r.0, like_present t o s cs v w.0 ps r.0 w.1 r.1, ap (λ l. presence_bit_unless (is_required o) true l) r.2, presence_bit_out (is_required o) its (root_records cs r.0 rs) x (presence_bits cs r.0) more start k b (chain_append (Step free al) its (root_records cs r.0 rs) here there b w.2 r.3))
   root_out (component t o s cs) h (absent ps) rs x more start mid k b f c =
       let d = unless_refused (is_required o) (Per.component_forms al cs ps) start mid f in
       let r = root_out cs h.1 ps rs x more start mid k b d.1 c in

@@ -64,7 +64,7 @@ Found free x a b = Front free x a.0 b.0 × (b.1 ≡ a.1)
 -- the root there.
 abbrev pub InPlace : (Per.Freedom → Bool) → Bool → Bool → Type 0
 InPlace free false t = t ≡ true
-InPlace free true t = (t ≡ false) ⊎ IsTrue (free Per.root_marked_outside)
+InPlace free true t = (t ≡ false) ⊎ IsTrue (free Per.root_told_outside)
 
 -- So many members may there be: the program's type holds the count, and it is where the extension bit says.
 abbrev pub Admits : (Per.Freedom → Bool) → Size → Counts → Bool → ℕ → Type 0
@@ -166,12 +166,12 @@ Opens al free a k b =
     (os : List ℕ) × (rest : Place) × Front free (Per.counted_octets al os) a rest
     × (b ≡ ((0, octet_bits os), open_type rest ∷ k))
 
--- What fills up so many bits to a complete encoding (X.691 11.1).
+-- The padding of so many bits in a complete encoding (X.691 11.1).
 abbrev pub completion : ℕ → Per.BitForm
 completion zero = exactly (replicate 8 false)
-completion (suc n) = Per.filling (missing (suc n))
+completion (suc n) = Per.padding (missing (suc n))
 
--- It ends: the value's bits are filled up, and nothing is left behind them, or the reader takes octets there.
+-- It ends: the value's bits are padded, and nothing is left behind them, or the reader takes octets there.
 abbrev pub Closes : (Per.Freedom → Bool) → Place → Place → List Scope → State → Type 0
 Closes free a rest k b =
     (mid : Place) × (more : List ℕ) × Front free (completion a.0) a mid × (each_is is_octet more ≡ true)

@@ -55,7 +55,7 @@ RecordsFit =
     (al : Bool) (free : Per.Freedom → Bool) (s : Schema) (v : Value) (a b : State)
     → Chain (Takes al free) (presents s v) a b → Fits s v
 
--- The records of a value are found in the bits of octets from their beginning on, and what fills up a message behind
+-- The records of a value are found in the bits of octets from their beginning on, and the padding of a message behind
 -- them ends in front of the rest.
 abbrev pub FoundFirst : Bool → (Per.Freedom → Bool) → Schema → Value → List ℕ → List ℕ → Type 0
 FoundFirst al free s v w rest =
@@ -75,7 +75,7 @@ FindsEncodings =
     FindsIn uper false lenient × FindsIn aper true lenient × FindsIn uper_strict false strict_per
     × FindsIn aper_strict true strict_per
 
--- What fills up a message behind the records of a value ends where an octet does (X.691 11.1).
+-- The padding of a message behind the records of a value ends where an octet does (X.691 11.1).
 abbrev pub EndsAtOctet : Type 0
 EndsAtOctet =
     (al : Bool) (free : Per.Freedom → Bool) (s : Schema) (v : Value) (os : List ℕ) (left after : Place)
@@ -84,9 +84,9 @@ EndsAtOctet =
     → Front free (completion left.0) left after → (w : List ℕ) × (rest : List ℕ) × (w ++ rest ≡ os)
     × (after ≡ (8 * length w, octet_bits rest))
 
--- Where a message of a lawful type stands in front, it is filled up behind the records of whichever value is found.
-abbrev pub FilledUp : Type 0
-FilledUp =
+-- Where a message of a lawful type stands in front, it is padded behind the records of whichever value is found.
+abbrev pub PaddedMessages : Type 0
+PaddedMessages =
     (al : Bool) (free : Per.Freedom → Bool) (s : Schema) (u v : Value) (w rest : List ℕ) (left : Place)
     → IsTrue (free Per.other_bitmap) → IsLawful s → Reads free (Per.message al s v) 0 (octet_bits w)
     → Chain (Takes al free) (presents s u) ((0, octet_bits (w ++ rest)), []) (left, [])

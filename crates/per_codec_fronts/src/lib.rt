@@ -2,7 +2,8 @@
 //! value exactly where the bits in front are of its form. Each function does nothing; its contract is a law.
 #![tactic(auto)]
 
-ghost use Rattle.per_codec_fronts.specs.Ties.{CountHeld, EachBridges, EndsAtOctet, FilledUp, FindsEncodings, FormsShow};
+ghost use Rattle.per_codec_fronts.specs.Ties.{CountHeld, EachBridges, EndsAtOctet, FindsEncodings, FormsShow};
+ghost use Rattle.per_codec_fronts.specs.Ties.{PaddedMessages};
 ghost use Rattle.per_codec_fronts.specs.Ties.{OneTaken, RecordsFit, RecordsRead};
 
 /// Of the records that answer a question one at most is next, and one state stands after it, whatever the reader's
@@ -39,17 +40,17 @@ pub fn records_fit()
     ensures { RecordsFit }
 {}
 
-/// What fills up a message behind the records of a value ends where an octet does.
+/// The padding of a message behind the records of a value ends where an octet does.
 pub fn messages_end_at_octets()
     ensures { EndsAtOctet }
 {}
 
-/// Where a message of a lawful type stands in front, it is filled up behind the records of whichever value is found.
-pub fn messages_are_filled_up()
-    ensures { FilledUp }
+/// Where a message of a lawful type stands in front, it is padded behind the records of whichever value is found.
+pub fn messages_are_padded()
+    ensures { PaddedMessages }
 {}
 
-/// The records of a value, and behind them what fills up a message, are found in front of octets nowhere but in an
+/// The records of a value, and behind them the padding of a message, are found in front of octets nowhere but in an
 /// encoding of it, by UPER and APER, for a lenient and for a strict reader; and in each encoding of a value of a lawful
 /// type, up to the order of bags.
 pub fn encodings_are_found()

@@ -1,5 +1,6 @@
 //! What writers and readers of the packed encoding rules (X.691) share: the two variants of the rules, where the form
-//! of a length changes (X.691 11.9), and where padding stands in front of units.
+//! of a length (X.691 11.9) and of a constrained whole number (X.691 11.5) changes, and where padding stands in front
+//! of units.
 #![tactic(auto)]
 
 pub mod counts;
@@ -16,3 +17,7 @@ pub const FRAGMENT: usize = 16384;
 /// From so many on the highest number of units that there may be does not tell the form of their number (X.691
 /// 11.9.4.1).
 pub const LONG_COUNT: usize = 65536;
+
+/// From this span on a constrained whole number stands behind the number of its octets, in the aligned variant: there
+/// are more than 65536 such numbers (X.691 11.5.7.4).
+pub const LONG_SPAN: u128 = 65536;

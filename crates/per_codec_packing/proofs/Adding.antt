@@ -4,9 +4,9 @@ use Rattle.std.proofs.lemmas.List.{length-replicate}
 use Rattle.asn1_model.specs.Numbers.{missing}
 use Rattle.asn1_model.specs.Form.{exactly, only_if, both, placed}
 use Rattle.asn1_model.specs.Per
-use Rattle.per_codec_packing.specs.Texts.{Text, fill, as_text, on, text_at, as_form}
+use Rattle.per_codec_packing.specs.Texts.{Text, padding, as_text, on, text_at, as_form}
 use Rattle.per_codec_packing.proofs.Forms.{as_form-append, form_of_bits}
-use Rattle.per_codec_packing.specs.Packed.{Packed, Adds, place, plus, filling_at}
+use Rattle.per_codec_packing.specs.Packed.{Packed, Adds, place, plus, padding_at}
 
 pub adds_text : (o : Option Text) (w : Text) (old new : Packed) → o ≡ Some w → new ≡ plus old w → Adds o old new
 adds_text o w old new e h = ap (option_map (λ x. plus old x)) e ∙ ap Some (sym h)
@@ -59,23 +59,23 @@ none_second x y old mid a e =
     ap (λ o. option_and_then (λ c. option_map (λ d. c ++ d) (text_at y (on (place old) c))) o) p.1
     ∙ ap (option_map (λ d. p.0 ++ d)) (ap (λ k. text_at y k) (sym (behind old mid p.0 p.2)) ∙ e)
 
--- ---- bits, and filling
+-- ---- bits, and padding
 
 pub adds_bits : (l : List Bool) (old new : Packed) → new ≡ plus old (as_text l) → Adds (text_at (exactly l) (place old)) old new
 unfolding text_at
 adds_bits l old new e = adds_text _ (as_text l) old new refl e
 
-pub filling_text : (q : Option ℕ) → text_at (placed (λ p. Per.filling (missing p))) q ≡ Some (filling_at q)
-unfolding text_at Per.filling
-filling_text None = refl
-filling_text (Some p) = go (length (replicate (missing p) false) == missing p) (eq-eqb _ _ (length-replicate (missing p) false))
+pub padding_text : (q : Option ℕ) → text_at (placed (λ p. Per.padding (missing p))) q ≡ Some (padding_at q)
+unfolding text_at Per.padding
+padding_text None = refl
+padding_text (Some p) = go (length (replicate (missing p) false) == missing p) (eq-eqb _ _ (length-replicate (missing p) false))
   where
     go : (b : Bool) → b ≡ true → text_at (only_if b (exactly (replicate (missing p) false))) (Some p) ≡ Some (as_text (replicate (missing p) false))
     go true e = refl
     go false e = cc
 
-pub adds_filling : (old new : Packed) → new ≡ plus old (filling_at (place old)) → Adds (text_at (placed (λ p. Per.filling (missing p))) (place old)) old new
-adds_filling old new e = adds_text _ (filling_at (place old)) old new (filling_text (place old)) e
+pub adds_padding : (old new : Packed) → new ≡ plus old (padding_at (place old)) → Adds (text_at (placed (λ p. Per.padding (missing p))) (place old)) old new
+adds_padding old new e = adds_text _ (padding_at (place old)) old new (padding_text (place old)) e
 
 -- ---- texts as forms
 
@@ -85,5 +85,5 @@ adds_form_bits l old new e = adds_text _ (as_text l) old new (sym (form_of_bits 
 pub adds_forms : (a b : Text) (old mid new : Packed) → Adds (text_at (as_form a) (place old)) old mid → Adds (text_at (as_form b) (place mid)) mid new → Adds (text_at (as_form (a ++ b)) (place old)) old new
 adds_forms a b old mid new h k = adds_same _ _ old new (as_form-append a b (place old)) (adds_both (as_form a) (as_form b) old mid new h k)
 
-pub adds_form_fill : (t : Text) (old mid new : Packed) → mid ≡ plus old (filling_at (place old)) → Adds (text_at (as_form t) (place mid)) mid new → Adds (text_at (as_form (fill ∷ t)) (place old)) old new
-adds_form_fill t old mid new e a = adds_both (placed (λ p. Per.filling (missing p))) (as_form t) old mid new (adds_filling old mid e) a
+pub adds_form_padding : (t : Text) (old mid new : Packed) → mid ≡ plus old (padding_at (place old)) → Adds (text_at (as_form t) (place mid)) mid new → Adds (text_at (as_form (padding ∷ t)) (place old)) old new
+adds_form_padding t old mid new e a = adds_both (placed (λ p. Per.padding (missing p))) (as_form t) old mid new (adds_padding old mid e) a

@@ -1,12 +1,12 @@
 -- The bits of a text, and one of them changed.
 use Rattle.std.proofs.Common.{◌≡◌, ℕ, zero, suc, ◌+◌, ◌<◌, Bool, List, [], ◌∷◌, ◌++◌, length, set, refl, ap, ◌∙◌, arith}
-use Rattle.per_codec_packing.specs.Texts.{Text, bit, fill, as_text}
+use Rattle.per_codec_packing.specs.Texts.{Text, bit, padding, as_text}
 use Rattle.per_codec_packing.specs.Packed.{solid, with_bit}
 
 pub solid-append : (s t : Text) → solid (s ++ t) ≡ solid s ++ solid t
 solid-append [] t = refl
 solid-append (bit b ∷ s) t = ap (λ l. b ∷ l) (solid-append s t)
-solid-append (fill ∷ s) t = solid-append s t
+solid-append (padding ∷ s) t = solid-append s t
 
 pub solid-bits : (l : List Bool) → solid (as_text l) ≡ l
 solid-bits [] = refl
@@ -27,4 +27,4 @@ changed_front (suc i) b (c ∷ l) t h = ap (λ u. bit c ∷ u) (changed_front i 
 pub changed_behind : (i : ℕ) (b : Bool) (s t : Text) → with_bit (length (solid s) + i) b (s ++ t) ≡ s ++ with_bit i b t
 changed_behind i b [] t = let e : 0 + i ≡ i = omega arith in ap (λ k. with_bit k b t) e
 changed_behind i b (bit c ∷ s) t = let e : length (solid (bit c ∷ s)) + i ≡ suc (length (solid s) + i) = omega arith in ap (λ k. with_bit k b (bit c ∷ s ++ t)) e ∙ ap (λ u. bit c ∷ u) (changed_behind i b s t)
-changed_behind i b (fill ∷ s) t = ap (λ u. fill ∷ u) (changed_behind i b s t)
+changed_behind i b (padding ∷ s) t = ap (λ u. padding ∷ u) (changed_behind i b s t)

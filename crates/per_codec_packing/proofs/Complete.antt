@@ -4,7 +4,7 @@ use Rattle.std.proofs.lemmas.List.{length-replicate}
 use Rattle.asn1_model.specs.Form.{exactly, only_if, written}
 use Rattle.asn1_model.specs.Numbers.{binary, missing, octet_bits}
 use Rattle.asn1_model.specs.Per
-use Rattle.asn1_values_bits.specs.Octets.{filled_up}
+use Rattle.asn1_values_bits.specs.Octets.{padded}
 use Rattle.per_codec_packing.specs.Texts.{Text, as_text, text_at, as_form}
 use Rattle.per_codec_packing.proofs.Formed.{known}
 use Rattle.per_codec_packing.specs.Packed.{Packed, Adds, place, solid}
@@ -22,32 +22,32 @@ alone t nothing all e a =
     let w : p.0 ≡ all.text = ap (λ (q : Packed). q.text ++ p.0) (sym e) ∙ ap (λ (q : Packed). q.text) p.2 in
     bits_at_start (written (as_form t) 0) p.0 (sym (known (as_form t) 0) ∙ ap (λ (q : Packed). text_at (as_form t) (place q)) (sym e) ∙ p.1) ∙ ap (λ u. Some (solid u)) w
 
-filling_written : (n p : ℕ) → written (Per.filling n) p ≡ Some (replicate n false)
-unfolding Per.filling written
-filling_written n p = let h : (length (replicate n false) == n) ≡ true = eq-eqb _ _ (length-replicate n false) in ap (λ (t : Bool). written (only_if {F = Per.Freedom} {D = Per.Detail} t (exactly (replicate n false))) p) h
+padding_written : (n p : ℕ) → written (Per.padding n) p ≡ Some (replicate n false)
+unfolding Per.padding written
+padding_written n p = let h : (length (replicate n false) == n) ≡ true = eq-eqb _ _ (length-replicate n false) in ap (λ (t : Bool). written (only_if {F = Per.Freedom} {D = Per.Detail} t (exactly (replicate n false))) p) h
 
-filled : (b : Bool) (bs : List Bool) → written (Per.filled_up (b ∷ bs)) 0 ≡ Some (filled_up (b ∷ bs))
-unfolding Per.filled_up written
-filled b bs = ap (option_map (λ d. (b ∷ bs) ++ d)) (filling_written (missing (length (b ∷ bs))) _)
+some_padded : (b : Bool) (bs : List Bool) → written (Per.padded (b ∷ bs)) 0 ≡ Some (padded (b ∷ bs))
+unfolding Per.padded written
+some_padded b bs = ap (option_map (λ d. (b ∷ bs) ++ d)) (padding_written (missing (length (b ∷ bs))) _)
 
-completed : (x : Per.BitForm) (l : List Bool) → written x 0 ≡ Some l → written (Per.complete x) 0 ≡ written (Per.filled_up l) 0
+completed : (x : Per.BitForm) (l : List Bool) → written x 0 ≡ Some l → written (Per.complete x) 0 ≡ written (Per.padded l) 0
 unfolding written Per.complete
-completed x l e = ap (option_and_then (λ w. written (Per.filled_up w) 0)) e
+completed x l e = ap (option_and_then (λ w. written (Per.padded w) 0)) e
 
 octets-append : (a b : List ℕ) → octet_bits (a ++ b) ≡ octet_bits a ++ octet_bits b
 octets-append [] b = refl
 octets-append (x ∷ a) b = ap (λ l. binary 8 x ++ l) (octets-append a b) ∙ sym (append_assoc (binary 8 x) (octet_bits a) (octet_bits b))
 
-zeros : written (Per.filled_up []) 0 ≡ Some (filled_up [] ++ octet_bits (0 ∷ []))
-unfolding written Per.filled_up
+zeros : written (Per.padded []) 0 ≡ Some (padded [] ++ octet_bits (0 ∷ []))
+unfolding written Per.padded
 zeros = refl
 
 -- one zero octet in place of no bits
-pub of_none : (x : Per.BitForm) (l : List Bool) (os all : List ℕ) → written x 0 ≡ Some l → l ≡ [] → octet_bits os ≡ filled_up l → all ≡ os ++ 0 ∷ [] → written (Per.complete x) 0 ≡ Some (octet_bits all)
+pub of_none : (x : Per.BitForm) (l : List Bool) (os all : List ℕ) → written x 0 ≡ Some l → l ≡ [] → octet_bits os ≡ padded l → all ≡ os ++ 0 ∷ [] → written (Per.complete x) 0 ≡ Some (octet_bits all)
 of_none x l os all e n b f =
-    completed x l e ∙ ap (λ m. written (Per.filled_up m) 0) n ∙ zeros
-    ∙ ap Some (ap (λ m. m ++ octet_bits (0 ∷ [])) (sym (b ∙ ap filled_up n)) ∙ sym (octets-append os (0 ∷ [])) ∙ ap octet_bits (sym f))
+    completed x l e ∙ ap (λ m. written (Per.padded m) 0) n ∙ zeros
+    ∙ ap Some (ap (λ m. m ++ octet_bits (0 ∷ [])) (sym (b ∙ ap padded n)) ∙ sym (octets-append os (0 ∷ [])) ∙ ap octet_bits (sym f))
 
-pub of_some : (x : Per.BitForm) (l : List Bool) (os : List ℕ) → written x 0 ≡ Some l → (l ≡ [] → ⊥) → octet_bits os ≡ filled_up l → written (Per.complete x) 0 ≡ Some (octet_bits os)
+pub of_some : (x : Per.BitForm) (l : List Bool) (os : List ℕ) → written x 0 ≡ Some l → (l ≡ [] → ⊥) → octet_bits os ≡ padded l → written (Per.complete x) 0 ≡ Some (octet_bits os)
 of_some x [] os e n b = absurd (n refl)
-of_some x (c ∷ l) os e n b = completed x (c ∷ l) e ∙ filled c l ∙ ap Some (sym b)
+of_some x (c ∷ l) os e n b = completed x (c ∷ l) e ∙ some_padded c l ∙ ap Some (sym b)

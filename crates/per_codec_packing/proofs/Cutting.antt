@@ -3,10 +3,10 @@ use Rattle.std.proofs.Common.{◌≡◌, ℕ, zero, suc, ◌+◌, ◌-◌, ◌�
 use Rattle.std.proofs.lemmas.Bool.{cases_lt}
 use Rattle.std.proofs.lemmas.List.{length-drop, length-take, length-take-le, take-append-le, take-take, take-map, drop-take}
 use Rattle.std.proofs.Math.Seq.{take-append-add}
-use Rattle.per_codec_packing.specs.Texts.{Text, bit, fill, as_text}
+use Rattle.per_codec_packing.specs.Texts.{Text, bit, padding, as_text}
 use Rattle.per_codec_packing.proofs.Formed.{length-text}
 use Rattle.per_codec_packing.specs.Packed.{Packed, solid}
-use Rattle.per_codec_packing.specs.Spread.{spread, shown, Ascend, AreFills}
+use Rattle.per_codec_packing.specs.Spread.{spread, shown, Ascend, ArePaddings}
 use Rattle.per_codec_packing.proofs.Bits.{solid-append, solid-bits}
 use Rattle.per_codec_packing.proofs.Spread.{up_to, reaches, behind}
 
@@ -18,14 +18,14 @@ length-spread from bits (f ∷ fs) a =
     let n = f - from in
     let h = reaches from f bits fs a in
     let i = length-spread f (drop n bits) fs (behind from f bits fs a) in
-    omega (arith, length-append (as_text (take n bits)) (fill ∷ spread f (drop n bits) fs), length-text (take n bits), length-take-le n bits h, length-drop n bits, i, h)
+    omega (arith, length-append (as_text (take n bits)) (padding ∷ spread f (drop n bits) fs), length-text (take n bits), length-take-le n bits h, length-drop n bits, i, h)
 
 -- ---- a front of it
 
 solid-short : (t : Text) → length (solid t) ≤ length t
 solid-short [] = omega arith
 solid-short (bit b ∷ t) = let h = solid-short t in omega arith
-solid-short (fill ∷ t) = let h = solid-short t in omega arith
+solid-short (padding ∷ t) = let h = solid-short t in omega arith
 
 -- bits in front, and what stands behind them
 module _ (n : ℕ) (bits : List Bool) (h : n ≤ length bits) (t : Text) where
@@ -51,17 +51,17 @@ bits_front : (m : ℕ) (bits : List Bool) → take m (as_text bits) ≡ as_text 
 bits_front m bits = take-map (λ b. bit b) m bits
 
 -- a front of bits alone, by the count of its bits
-no_filling : (from m : ℕ) (bits : List Bool) (fs : List ℕ) → Ascend from fs (from + length bits) → length (solid (take m (spread from bits fs))) ≡ m → take m (spread from bits fs) ≡ as_text (take m bits)
-no_filling from m bits [] a e = bits_front m bits
-no_filling from m bits (f ∷ fs) a e = elim (cases_lt (f - from) m) [
-  | inr l ↦ within_bits (f - from) bits (reaches from f bits fs a) (fill ∷ spread f (drop (f - from) bits) fs) m l
+no_padding : (from m : ℕ) (bits : List Bool) (fs : List ℕ) → Ascend from fs (from + length bits) → length (solid (take m (spread from bits fs))) ≡ m → take m (spread from bits fs) ≡ as_text (take m bits)
+no_padding from m bits [] a e = bits_front m bits
+no_padding from m bits (f ∷ fs) a e = elim (cases_lt (f - from) m) [
+  | inr l ↦ within_bits (f - from) bits (reaches from f bits fs a) (padding ∷ spread f (drop (f - from) bits) fs) m l
   | inl l ↦
       let n = f - from in
       let h = reaches from f bits fs a in
       let rest : Text = spread f (drop n bits) fs in
       let k : ℕ = m - n - 1 in
       let split : m ≡ n + suc k = omega (arith, l) in
-      let parts : length (solid (take m (spread from bits (f ∷ fs)))) ≡ n + length (solid (take k rest)) = ap (λ j. length (solid (take j (spread from bits (f ∷ fs))))) split ∙ ap (λ t. length (solid t)) (past_bits n bits h (fill ∷ rest) (suc k)) ∙ solid_past n bits h (fill ∷ rest) (fill ∷ take k rest) in
+      let parts : length (solid (take m (spread from bits (f ∷ fs)))) ≡ n + length (solid (take k rest)) = ap (λ j. length (solid (take j (spread from bits (f ∷ fs))))) split ∙ ap (λ t. length (solid t)) (past_bits n bits h (padding ∷ rest) (suc k)) ∙ solid_past n bits h (padding ∷ rest) (padding ∷ take k rest) in
       absurd (omega (arith, parts, e, split, solid-short (take k rest), length-take k rest))
 ]
 
@@ -78,7 +78,7 @@ cut from b zero bits fs a l e =
     let z : b + 0 ≡ b = omega arith in
     let t : length (solid (take b (spread from bits fs))) ≡ b = ap (λ k. length (solid (take k (spread from bits fs)))) (sym z) ∙ e in
     record {
-      is = ap (λ k. spread from (take b bits) k) (none_taken fs) ∙ sym (ap (λ k. take k (spread from bits fs)) z ∙ no_filling from b bits fs a t);
+      is = ap (λ k. spread from (take b bits) k) (none_taken fs) ∙ sym (ap (λ k. take k (spread from bits fs)) z ∙ no_padding from b bits fs a t);
       ascend = subst (λ k. Ascend from k (from + length (take b bits))) (sym (none_taken fs)) (omega arith);
     }
 cut from b (suc f) bits [] a l e =
@@ -88,7 +88,7 @@ cut from b (suc f) bits (g ∷ gs) a l e = elim (cases_lt (g - from) (b + suc f)
   | inr k ↦
       let n = g - from in
       let h = reaches from g bits gs a in
-      let t : length (solid (take (b + suc f) (spread from bits (g ∷ gs)))) ≡ b + suc f = ap (λ x. length (solid x)) (within_bits n bits h (fill ∷ spread g (drop n bits) gs) (b + suc f) k) ∙ ap length (solid-bits (take (b + suc f) bits)) ∙ length-take-le (b + suc f) bits (omega (arith, k, h)) in
+      let t : length (solid (take (b + suc f) (spread from bits (g ∷ gs)))) ≡ b + suc f = ap (λ x. length (solid x)) (within_bits n bits h (padding ∷ spread g (drop n bits) gs) (b + suc f) k) ∙ ap length (solid-bits (take (b + suc f) bits)) ∙ length-take-le (b + suc f) bits (omega (arith, k, h)) in
       absurd (omega (arith, t, e))
   | inl k ↦
       let n = g - from in
@@ -97,22 +97,22 @@ cut from b (suc f) bits (g ∷ gs) a l e = elim (cases_lt (g - from) (b + suc f)
       let c : ℕ = b - n in
       let parts : length (solid (take (b + suc f) (spread from bits (g ∷ gs)))) ≡ n + length (solid (take (b + f - n) rest)) =
       let split : b + suc f ≡ n + suc (b + f - n) = omega (arith, k) in
-      ap (λ j. length (solid (take j (spread from bits (g ∷ gs))))) split ∙ ap (λ t. length (solid t)) (past_bits n bits h (fill ∷ rest) (suc (b + f - n))) ∙ solid_past n bits h (fill ∷ rest) (fill ∷ take (b + f - n) rest) in
+      ap (λ j. length (solid (take j (spread from bits (g ∷ gs))))) split ∙ ap (λ t. length (solid t)) (past_bits n bits h (padding ∷ rest) (suc (b + f - n))) ∙ solid_past n bits h (padding ∷ rest) (padding ∷ take (b + f - n) rest) in
       let enough : n ≤ b = omega (arith, parts, e) in
       let same : b + f - n ≡ c + f = omega (arith, enough) in
       let whole : b ≡ n + c = omega (arith, enough) in
       let long : c + f ≤ length rest =
-      omega (arith, l, length-append (as_text (take n bits)) (fill ∷ rest), length-text (take n bits), length-take-le n bits h, enough) in
+      omega (arith, l, length-append (as_text (take n bits)) (padding ∷ rest), length-text (take n bits), length-take-le n bits h, enough) in
       let solid_is : length (solid (take (c + f) rest)) ≡ c = omega (arith, parts, e, whole, ap (λ j. length (solid (take j rest))) same) in
       let i = cut g c f (drop n bits) gs (behind from g bits gs a) long solid_is in
       let dropped : drop n (take b bits) ≡ take c (drop n bits) = ap (λ j. drop n (take j bits)) whole ∙ drop-take n c bits in
       record {
         is =
-            ap (λ x. as_text x ++ fill ∷ spread g (drop n (take b bits)) (take f gs)) (take-take n b bits enough)
-            ∙ ap (λ x. as_text (take n bits) ++ fill ∷ spread g x (take f gs)) dropped
-            ∙ ap (λ x. as_text (take n bits) ++ fill ∷ x) (i.is ∙ ap (λ j. take j rest) (sym same))
-            ∙ sym (past_bits n bits h (fill ∷ rest) (suc (b + f - n)))
-            ∙ ap (λ j. take j (as_text (take n bits) ++ fill ∷ rest)) (let s : n + suc (b + f - n) ≡ b + suc f = omega (arith, enough) in s);
+            ap (λ x. as_text x ++ padding ∷ spread g (drop n (take b bits)) (take f gs)) (take-take n b bits enough)
+            ∙ ap (λ x. as_text (take n bits) ++ padding ∷ spread g x (take f gs)) dropped
+            ∙ ap (λ x. as_text (take n bits) ++ padding ∷ x) (i.is ∙ ap (λ j. take j rest) (sym same))
+            ∙ sym (past_bits n bits h (padding ∷ rest) (suc (b + f - n)))
+            ∙ ap (λ j. take j (as_text (take n bits) ++ padding ∷ rest)) (let s : n + suc (b + f - n) ≡ b + suc f = omega (arith, enough) in s);
         ascend = (a.0, up_to g (g + length (take c (drop n bits))) (from + length (take b bits)) (take f gs) (omega (arith, a.0, length-take c (drop n bits), length-drop n bits, length-take b bits, h, whole)) i.ascend);
       }
 ]
@@ -123,24 +123,24 @@ no_more : (k : ℕ) → (let l : List ℕ = [] in take k l) ≡ []
 no_more zero = refl
 no_more (suc k) = refl
 
-module _ (bits : List Bool) (fills : List ℕ) (placed : Bool) (h : AreFills bits fills placed) (v : Packed) (is : shown bits fills placed ≡ v) where
-  in_order : Ascend 0 fills (0 + length bits)
-  in_order = up_to 0 (length bits) (0 + length bits) fills (omega arith) h.ascend
+module _ (bits : List Bool) (paddings : List ℕ) (placed : Bool) (h : ArePaddings bits paddings placed) (v : Packed) (is : shown bits paddings placed ≡ v) where
+  in_order : Ascend 0 paddings (0 + length bits)
+  in_order = up_to 0 (length bits) (0 + length bits) paddings (omega arith) h.ascend
 
-  pub counted : length (solid v.text) ≡ length bits → length (solid v.text) + length fills ≡ length v.text
-  counted e = omega (arith, e, ap (λ (p : Packed). length p.text) is, length-spread 0 bits fills in_order)
+  pub counted : length (solid v.text) ≡ length bits → length (solid v.text) + length paddings ≡ length v.text
+  counted e = omega (arith, e, ap (λ (p : Packed). length p.text) is, length-spread 0 bits paddings in_order)
 
   module _ (b f : ℕ) (l : b + f ≤ length v.text) (e : length (solid (take (b + f) v.text)) ≡ b) where
-    cut_here : Cut 0 b f bits fills
-    cut_here = cut 0 b f bits fills in_order (subst (λ (p : Packed). b + f ≤ length p.text) (sym is) l) (subst (λ (p : Packed). length (solid (take (b + f) p.text)) ≡ b) (sym is) e)
+    cut_here : Cut 0 b f bits paddings
+    cut_here = cut 0 b f bits paddings in_order (subst (λ (p : Packed). b + f ≤ length p.text) (sym is) l) (subst (λ (p : Packed). length (solid (take (b + f) p.text)) ≡ b) (sym is) e)
 
-    pub still_kept : (new : List Bool) (left : List ℕ) → new ≡ take b bits → left ≡ take f fills → AreFills new left placed
+    pub still_kept : (new : List Bool) (left : List ℕ) → new ≡ take b bits → left ≡ take f paddings → ArePaddings new left placed
     still_kept new left x y = record {
-      ascend = subst (λ k. Ascend 0 k (length new)) (sym y) (up_to 0 (0 + length (take b bits)) (length new) (take f fills) (omega (arith, ap length x)) cut_here.ascend);
+      ascend = subst (λ k. Ascend 0 k (length new)) (sym y) (up_to 0 (0 + length (take b bits)) (length new) (take f paddings) (omega (arith, ap length x)) cut_here.ascend);
       known = λ p. y ∙ ap (take f) (h.known p) ∙ no_more f;
     }
 
-    pub cut_shown : (new : List Bool) (left : List ℕ) → new ≡ take b bits → left ≡ take f fills → shown new left placed ≡ record { text = take (b + f) v.text; placed = v.placed }
+    pub cut_shown : (new : List Bool) (left : List ℕ) → new ≡ take b bits → left ≡ take f paddings → shown new left placed ≡ record { text = take (b + f) v.text; placed = v.placed }
     cut_shown new left x y =
         ap (λ k. shown k left placed) x ∙ ap (λ k. shown (take b bits) k placed) y
         ∙ ap (λ t. let p : Packed = record { text = t; placed = placed } in p) cut_here.is

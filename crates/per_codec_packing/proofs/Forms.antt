@@ -2,7 +2,7 @@
 use Rattle.std.proofs.Common.{◌≡◌, ℕ, Bool, List, [], ◌∷◌, ◌++◌, Option, Some, None, option_map, refl, ap, sym, ◌∙◌}
 use Rattle.asn1_model.specs.Form.{exactly, both, placed}
 use Rattle.asn1_model.specs.Per
-use Rattle.per_codec_packing.specs.Texts.{Text, bit, fill, as_text, plain, moved, on, text_at, as_form}
+use Rattle.per_codec_packing.specs.Texts.{Text, bit, padding, as_text, plain, moved, on, text_at, as_form}
 use Rattle.per_codec_packing.proofs.Formed.{chain_same, behind_nothing, both_assoc}
 
 -- one text behind another, as forms
@@ -14,7 +14,7 @@ as_form-append [] b q = same (text_at (as_form b) q) ∙ ap (λ p. option_map (�
     same None = refl
     same (Some w) = refl
 as_form-append (bit c ∷ a) b q = ap (option_map (λ d. bit c ∷ d)) (as_form-append a b (moved q 1)) ∙ sym (both_assoc (exactly (c ∷ [])) (as_form a) (as_form b) q)
-as_form-append (fill ∷ a) b q = chain_same (text_at (placed (λ p. Per.filling (Per.missing p))) q) (λ d. option_map (λ e. d ++ e) (text_at (as_form (a ++ b)) (on q d))) (λ d. option_map (λ e. d ++ e) (text_at (both (as_form a) (as_form b)) (on q d))) (λ d. ap (option_map (λ e. d ++ e)) (as_form-append a b (on q d))) ∙ sym (both_assoc (placed (λ p. Per.filling (Per.missing p))) (as_form a) (as_form b) q)
+as_form-append (padding ∷ a) b q = chain_same (text_at (placed (λ p. Per.padding (Per.missing p))) q) (λ d. option_map (λ e. d ++ e) (text_at (as_form (a ++ b)) (on q d))) (λ d. option_map (λ e. d ++ e) (text_at (both (as_form a) (as_form b)) (on q d))) (λ d. ap (option_map (λ e. d ++ e)) (as_form-append a b (on q d))) ∙ sym (both_assoc (placed (λ p. Per.padding (Per.missing p))) (as_form a) (as_form b) q)
 
 pub form_of_bits : (l : List Bool) (q : Option ℕ) → Some (as_text l) ≡ text_at (as_form (as_text l)) q
 unfolding text_at
@@ -26,7 +26,7 @@ pub own_text : (t : Text) → text_at (as_form t) None ≡ Some t
 unfolding text_at
 own_text [] = refl
 own_text (bit b ∷ t) = ap (option_map (λ u. bit b ∷ u)) (own_text t)
-own_text (fill ∷ t) = ap (option_map (λ u. fill ∷ u)) (own_text t)
+own_text (padding ∷ t) = ap (option_map (λ u. padding ∷ u)) (own_text t)
 
 -- a text in which nothing is left open is its bits
 pub text_of_plain : (t : Text) (w : List Bool) → plain t ≡ Some w → t ≡ as_text w
@@ -36,4 +36,4 @@ text_of_plain (bit b ∷ t) w e = go (plain t) e (λ l f. text_of_plain t l f)
     go : (o : Option (List Bool)) → option_map (λ l. b ∷ l) o ≡ Some w → ((l : List Bool) → o ≡ Some l → t ≡ as_text l) → bit b ∷ t ≡ as_text w
     go None f h = cc
     go (Some l) f h = let g : b ∷ l ≡ w = cc in ap (λ u. bit b ∷ u) (h l refl) ∙ ap as_text g
-text_of_plain (fill ∷ t) w e = cc
+text_of_plain (padding ∷ t) w e = cc

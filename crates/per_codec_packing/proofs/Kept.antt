@@ -1,62 +1,62 @@
 -- What is kept shows the text.
 use Rattle.std.proofs.Common.{◌≡◌, ℕ, ◌+◌, ◌-◌, ◌≤◌, Bool, true, false, cond, List, [], ◌∷◌, ◌++◌, length, take, replicate, set, Some, None, refl, ap, sym, subst, ◌∙◌, length-append, length-set, arith}
 use Rattle.asn1_model.specs.Numbers.{binary, missing}
-use Rattle.per_codec_packing.specs.Texts.{Text, fill, as_text, plain}
+use Rattle.per_codec_packing.specs.Texts.{Text, padding, as_text, plain}
 use Rattle.per_codec_packing.proofs.Formed.{plain_text, length-text}
-use Rattle.per_codec_packing.specs.Packed.{Packed, place, plus, filling_at, solid, with_bit}
-use Rattle.per_codec_packing.specs.Spread.{spread, shown, Ascend, AreFills}
-use Rattle.per_codec_packing.proofs.Spread.{up_to, one_place, all_taken, spread-bits, spread-fill, spread-set, solid-spread}
+use Rattle.per_codec_packing.specs.Packed.{Packed, place, plus, padding_at, solid, with_bit}
+use Rattle.per_codec_packing.specs.Spread.{spread, shown, Ascend, ArePaddings}
+use Rattle.per_codec_packing.proofs.Spread.{up_to, one_place, all_taken, spread-bits, spread-padding, spread-set, solid-spread}
 
 -- bits behind others are all added as one number that has as many digits
 pub as_number : (bits w new : List Bool) (count n : ℕ) → length w ≤ count → binary count n ≡ take count w → new ≡ bits ++ binary count n → new ≡ bits ++ w
 as_number bits w new count n h e f = f ∙ ap (λ l. bits ++ l) (e ∙ all_taken count w h)
 
-module _ (bits : List Bool) (fills : List ℕ) (placed : Bool) (h : AreFills bits fills placed) where
-  in_order : Ascend 0 fills (0 + length bits)
-  in_order = up_to 0 (length bits) (0 + length bits) fills (omega arith) h.ascend
+module _ (bits : List Bool) (paddings : List ℕ) (placed : Bool) (h : ArePaddings bits paddings placed) where
+  in_order : Ascend 0 paddings (0 + length bits)
+  in_order = up_to 0 (length bits) (0 + length bits) paddings (omega arith) h.ascend
 
-  pub with_bits : (w new : List Bool) → new ≡ bits ++ w → AreFills new fills placed
+  pub with_bits : (w new : List Bool) → new ≡ bits ++ w → ArePaddings new paddings placed
   with_bits w new e = record {
-    ascend = let n = length-append bits w in up_to 0 (length bits) (length new) fills (omega (arith, ap length e)) h.ascend;
+    ascend = let n = length-append bits w in up_to 0 (length bits) (length new) paddings (omega (arith, ap length e)) h.ascend;
     known = h.known;
   }
 
-  pub with_fill : (new : List ℕ) → placed ≡ false → new ≡ fills ++ length bits ∷ [] → AreFills bits new placed
-  with_fill new p e = record {
-    ascend = subst (λ l. Ascend 0 l (length bits)) (sym e) (one_place 0 (length bits) fills h.ascend);
+  pub with_padding : (new : List ℕ) → placed ≡ false → new ≡ paddings ++ length bits ∷ [] → ArePaddings bits new placed
+  with_padding new p e = record {
+    ascend = subst (λ l. Ascend 0 l (length bits)) (sym e) (one_place 0 (length bits) paddings h.ascend);
     known = λ q. absurd (cc);
   }
 
-  pub with_set : (i : ℕ) (b : Bool) (new : List Bool) → new ≡ set bits i b → AreFills new fills placed
+  pub with_set : (i : ℕ) (b : Bool) (new : List Bool) → new ≡ set bits i b → ArePaddings new paddings placed
   with_set i b new e = record {
-    ascend = let n = length-set bits i b in up_to 0 (length bits) (length new) fills (omega (arith, ap length e)) h.ascend;
+    ascend = let n = length-set bits i b in up_to 0 (length bits) (length new) paddings (omega (arith, ap length e)) h.ascend;
     known = h.known;
   }
 
-  module _ (v : Packed) (is : shown bits fills placed ≡ v) where
+  module _ (v : Packed) (is : shown bits paddings placed ≡ v) where
     pub bits_alone : solid v.text ≡ bits
-    bits_alone = ap (λ (p : Packed). solid p.text) (sym is) ∙ solid-spread 0 bits fills
+    bits_alone = ap (λ (p : Packed). solid p.text) (sym is) ∙ solid-spread 0 bits paddings
 
     pub is_placed : v.placed ≡ placed
     is_placed = ap (λ (p : Packed). p.placed) (sym is)
 
-    -- there is no text where there are neither bits nor filling, and only there
-    pub nothing_there : bits ≡ [] → fills ≡ [] → v.text ≡ []
-    nothing_there e f = ap (λ (p : Packed). p.text) (sym is) ∙ ap (λ l. spread 0 l fills) e ∙ ap (λ l. spread 0 [] l) f
+    -- there is no text where there are neither bits nor padding, and only there
+    pub nothing_there : bits ≡ [] → paddings ≡ [] → v.text ≡ []
+    nothing_there e f = ap (λ (p : Packed). p.text) (sym is) ∙ ap (λ l. spread 0 l paddings) e ∙ ap (λ l. spread 0 [] l) f
 
     pub no_bits : v.text ≡ [] → bits ≡ []
     no_bits e = sym bits_alone ∙ ap solid e
 
-    pub no_fills : v.text ≡ [] → fills ≡ []
-    no_fills e = without fills (ap (λ (p : Packed). p.text) is ∙ e)
+    pub no_paddings : v.text ≡ [] → paddings ≡ []
+    no_paddings e = without paddings (ap (λ (p : Packed). p.text) is ∙ e)
       where
-        behind_fill : (s t : Text) → s ++ fill ∷ t ≡ [] → ⊥
-        behind_fill [] t e = cc
-        behind_fill (a ∷ s) t e = cc
+        behind_padding : (s t : Text) → s ++ padding ∷ t ≡ [] → ⊥
+        behind_padding [] t e = cc
+        behind_padding (a ∷ s) t e = cc
 
         without : (fs : List ℕ) → spread 0 bits fs ≡ [] → fs ≡ []
         without [] e = refl
-        without (f ∷ fs) e = absurd (behind_fill _ _ e)
+        without (f ∷ fs) e = absurd (behind_padding _ _ e)
 
     -- at a known place there are bits alone
     pub text_is : placed ≡ true → v.text ≡ as_text bits
@@ -71,10 +71,10 @@ module _ (bits : List Bool) (fills : List ℕ) (placed : Bool) (h : AreFills bit
     place_open : placed ≡ false → place v ≡ None
     place_open e = ap (λ b. cond b (Some (length v.text)) None) (is_placed ∙ e)
 
-    pub bits_added : (w new : List Bool) → new ≡ bits ++ w → shown new fills placed ≡ plus v (as_text w)
+    pub bits_added : (w new : List Bool) → new ≡ bits ++ w → shown new paddings placed ≡ plus v (as_text w)
     bits_added w new e =
-        ap (λ b. shown b fills placed) e
-        ∙ ap (λ t. let p : Packed = record { text = t; placed = placed } in p) (spread-bits 0 bits w fills in_order)
+        ap (λ b. shown b paddings placed) e
+        ∙ ap (λ t. let p : Packed = record { text = t; placed = placed } in p) (spread-bits 0 bits w paddings in_order)
         ∙ ap (λ p. plus p (as_text w)) is
 
     pub grown : (len : ℕ) (b : Bool) (new : List Bool) → length (solid v.text) ≤ len → new ≡ take len bits ++ replicate (len - length bits) b → new ≡ bits ++ replicate (len - length (solid v.text)) b
@@ -82,18 +82,18 @@ module _ (bits : List Bool) (fills : List ℕ) (placed : Bool) (h : AreFills bit
         let within : length bits ≤ len = subst (λ k. length k ≤ len) bits_alone l in
         e ∙ ap (λ k. k ++ replicate (len - length bits) b) (all_taken len bits within) ∙ ap (λ k. bits ++ replicate (len - length k) b) (sym bits_alone)
 
-    pub filled : (new : List Bool) → placed ≡ true → new ≡ bits ++ replicate (missing (length bits)) false → shown new fills placed ≡ plus v (filling_at (place v))
-    filled new p e = bits_added (replicate (missing (length bits)) false) new e ∙ ap (λ q. plus v (filling_at q)) (sym (place_is p))
+    pub padding_added : (new : List Bool) → placed ≡ true → new ≡ bits ++ replicate (missing (length bits)) false → shown new paddings placed ≡ plus v (padding_at (place v))
+    padding_added new p e = bits_added (replicate (missing (length bits)) false) new e ∙ ap (λ q. plus v (padding_at q)) (sym (place_is p))
 
-    pub left_open : (new : List ℕ) → placed ≡ false → new ≡ fills ++ length bits ∷ [] → shown bits new placed ≡ plus v (filling_at (place v))
+    pub left_open : (new : List ℕ) → placed ≡ false → new ≡ paddings ++ length bits ∷ [] → shown bits new placed ≡ plus v (padding_at (place v))
     left_open new p e =
         ap (λ l. shown bits l placed) e
-        ∙ ap (λ t. let q : Packed = record { text = t; placed = placed } in q) (spread-fill 0 (length bits) bits fills (omega arith) h.ascend)
-        ∙ ap (λ p. plus p (fill ∷ [])) is
-        ∙ ap (λ q. plus v (filling_at q)) (sym (place_open p))
+        ∙ ap (λ t. let q : Packed = record { text = t; placed = placed } in q) (spread-padding 0 (length bits) bits paddings (omega arith) h.ascend)
+        ∙ ap (λ p. plus p (padding ∷ [])) is
+        ∙ ap (λ q. plus v (padding_at q)) (sym (place_open p))
 
-    pub changed : (i : ℕ) (b : Bool) (new : List Bool) → new ≡ set bits i b → shown new fills placed ≡ record { text = with_bit i b v.text; placed = v.placed }
+    pub changed : (i : ℕ) (b : Bool) (new : List Bool) → new ≡ set bits i b → shown new paddings placed ≡ record { text = with_bit i b v.text; placed = v.placed }
     changed i b new e =
-        ap (λ l. shown l fills placed) e
-        ∙ ap (λ t. let p : Packed = record { text = t; placed = placed } in p) (spread-set 0 bits fills i b in_order)
+        ap (λ l. shown l paddings placed) e
+        ∙ ap (λ t. let p : Packed = record { text = t; placed = placed } in p) (spread-set 0 bits paddings i b in_order)
         ∙ ap (λ (p : Packed). let q : Packed = record { text = with_bit i b p.text; placed = p.placed } in q) is

@@ -1,9 +1,9 @@
--- Bits with filling in between, from a place on.
+-- Bits with padding in between, from a place on.
 use Rattle.std.proofs.Common.{◌≡◌, ℕ, zero, suc, ◌+◌, ◌-◌, ◌≤◌, Bool, List, [], ◌∷◌, ◌++◌, length, take, drop, set, inl, inr, refl, ap, sym, ◌∙◌, append_assoc, arith}
 use Rattle.std.proofs.lemmas.Bool.{cases_lt}
 use Rattle.std.proofs.lemmas.List.{length-drop, length-take-le, take-append-drop, take-append-le, drop-append-le, drop-set-lt, drop-set-add, take-set-le}
 use Rattle.std.proofs.Math.Seq.{take-set-lt}
-use Rattle.per_codec_packing.specs.Texts.{fill, as_text}
+use Rattle.per_codec_packing.specs.Texts.{padding, as_text}
 use Rattle.per_codec_packing.proofs.Formed.{as_text-append}
 use Rattle.per_codec_packing.specs.Packed.{solid, with_bit}
 use Rattle.per_codec_packing.proofs.Bits.{solid-append, solid-bits, changed_bits, changed_front, changed_behind}
@@ -42,10 +42,10 @@ spread-bits from bits w [] a = sym (as_text-append bits w)
 spread-bits from bits w (f ∷ fs) a =
     let h = reaches from f bits fs a in
     let n = f - from in
-    ap (λ l. as_text l ++ fill ∷ spread f (drop n (bits ++ w)) fs) (take-append-le n bits w h)
-    ∙ ap (λ l. as_text (take n bits) ++ fill ∷ spread f l fs) (drop-append-le n bits w h)
-    ∙ ap (λ t. as_text (take n bits) ++ fill ∷ t) (spread-bits f (drop n bits) w fs (behind from f bits fs a))
-    ∙ sym (append_assoc (as_text (take n bits)) (fill ∷ spread f (drop n bits) fs) (as_text w))
+    ap (λ l. as_text l ++ padding ∷ spread f (drop n (bits ++ w)) fs) (take-append-le n bits w h)
+    ∙ ap (λ l. as_text (take n bits) ++ padding ∷ spread f l fs) (drop-append-le n bits w h)
+    ∙ ap (λ t. as_text (take n bits) ++ padding ∷ t) (spread-bits f (drop n bits) w fs (behind from f bits fs a))
+    ∙ sym (append_assoc (as_text (take n bits)) (padding ∷ spread f (drop n bits) fs) (as_text w))
 
 pub all_taken : (n : ℕ) (bits : List Bool) → length bits ≤ n → take n bits ≡ bits
 all_taken zero [] h = refl
@@ -59,16 +59,16 @@ none_left zero (b ∷ bits) h = absurd (omega arith)
 none_left (suc n) [] h = refl
 none_left (suc n) (b ∷ bits) h = none_left n bits (omega arith)
 
-pub spread-fill : (from to : ℕ) (bits : List Bool) (fs : List ℕ) → to ≡ from + length bits → Ascend from fs to → spread from bits (fs ++ to ∷ []) ≡ spread from bits fs ++ fill ∷ []
-spread-fill from to bits [] e a =
-    ap (λ l. as_text l ++ fill ∷ as_text (drop (to - from) bits)) (all_taken (to - from) bits (omega arith))
-    ∙ ap (λ l. as_text bits ++ fill ∷ as_text l) (none_left (to - from) bits (omega arith))
-spread-fill from to bits (f ∷ fs) e a =
+pub spread-padding : (from to : ℕ) (bits : List Bool) (fs : List ℕ) → to ≡ from + length bits → Ascend from fs to → spread from bits (fs ++ to ∷ []) ≡ spread from bits fs ++ padding ∷ []
+spread-padding from to bits [] e a =
+    ap (λ l. as_text l ++ padding ∷ as_text (drop (to - from) bits)) (all_taken (to - from) bits (omega arith))
+    ∙ ap (λ l. as_text bits ++ padding ∷ as_text l) (none_left (to - from) bits (omega arith))
+spread-padding from to bits (f ∷ fs) e a =
     let n = f - from in
     let g = goes_up f to fs a.1 in
     let l = length-drop n bits in
-    ap (λ t. as_text (take n bits) ++ fill ∷ t) (spread-fill f to (drop n bits) fs (omega (arith, a.0)) a.1)
-    ∙ sym (append_assoc (as_text (take n bits)) (fill ∷ spread f (drop n bits) fs) (fill ∷ []))
+    ap (λ t. as_text (take n bits) ++ padding ∷ t) (spread-padding f to (drop n bits) fs (omega (arith, a.0)) a.1)
+    ∙ sym (append_assoc (as_text (take n bits)) (padding ∷ spread f (drop n bits) fs) (padding ∷ []))
 
 -- ---- the bits of a text
 
@@ -76,7 +76,7 @@ pub solid-spread : (from : ℕ) (bits : List Bool) (fs : List ℕ) → solid (sp
 solid-spread from bits [] = solid-bits bits
 solid-spread from bits (f ∷ fs) =
     let n = f - from in
-    solid-append (as_text (take n bits)) (fill ∷ spread f (drop n bits) fs)
+    solid-append (as_text (take n bits)) (padding ∷ spread f (drop n bits) fs)
     ∙ ap (λ l. l ++ solid (spread f (drop n bits) fs)) (solid-bits (take n bits))
     ∙ ap (λ l. take n bits ++ l) (solid-spread f (drop n bits) fs)
     ∙ take-append-drop n bits
@@ -89,18 +89,18 @@ spread-set from bits (f ∷ fs) i b a = elim (cases_lt i (f - from)) [
   | inl h ↦
       let n = f - from in
       let k = length-take-le n bits (reaches from f bits fs a) in
-      ap (λ l. as_text l ++ fill ∷ spread f (drop n (set bits i b)) fs) (take-set-lt n bits i b h)
-      ∙ ap (λ l. as_text (set (take n bits) i b) ++ fill ∷ spread f l fs) (drop-set-lt n bits i b h)
-      ∙ sym (changed_front i b (take n bits) (fill ∷ spread f (drop n bits) fs) (omega arith))
+      ap (λ l. as_text l ++ padding ∷ spread f (drop n (set bits i b)) fs) (take-set-lt n bits i b h)
+      ∙ ap (λ l. as_text (set (take n bits) i b) ++ padding ∷ spread f l fs) (drop-set-lt n bits i b h)
+      ∙ sym (changed_front i b (take n bits) (padding ∷ spread f (drop n bits) fs) (omega arith))
   | inr h ↦
       let n = f - from in
       let j = i - n in
       let k = length-take-le n bits (reaches from f bits fs a) in
       let e : i ≡ n + j = omega arith in
       let g : i ≡ length (solid (as_text (take n bits))) + j = omega (arith, ap length (solid-bits (take n bits))) in
-      ap (λ l. as_text l ++ fill ∷ spread f (drop n (set bits i b)) fs) (take-set-le n bits i b h)
-      ∙ ap (λ m. as_text (take n bits) ++ fill ∷ spread f (drop n (set bits m b)) fs) e
-      ∙ ap (λ l. as_text (take n bits) ++ fill ∷ spread f l fs) (drop-set-add n bits j b)
-      ∙ ap (λ t. as_text (take n bits) ++ fill ∷ t) (spread-set f (drop n bits) fs j b (behind from f bits fs a))
-      ∙ sym (ap (λ m. with_bit m b (as_text (take n bits) ++ fill ∷ spread f (drop n bits) fs)) g ∙ changed_behind j b (as_text (take n bits)) (fill ∷ spread f (drop n bits) fs))
+      ap (λ l. as_text l ++ padding ∷ spread f (drop n (set bits i b)) fs) (take-set-le n bits i b h)
+      ∙ ap (λ m. as_text (take n bits) ++ padding ∷ spread f (drop n (set bits m b)) fs) e
+      ∙ ap (λ l. as_text (take n bits) ++ padding ∷ spread f l fs) (drop-set-add n bits j b)
+      ∙ ap (λ t. as_text (take n bits) ++ padding ∷ t) (spread-set f (drop n bits) fs j b (behind from f bits fs a))
+      ∙ sym (ap (λ m. with_bit m b (as_text (take n bits) ++ padding ∷ spread f (drop n bits) fs)) g ∙ changed_behind j b (as_text (take n bits)) (padding ∷ spread f (drop n bits) fs))
 ]

@@ -2,7 +2,7 @@
 use Rattle.std.specs.Prelude.{◌≡◌, ℕ, zero, suc, Bool, true, false, cond, List, [], ◌∷◌, ◌++◌, length, replicate}
 use Rattle.std.specs.Prelude.{Option, Some, None, option_map}
 use Rattle.asn1_model.specs.Numbers.{missing}
-use Rattle.per_codec_packing.specs.Texts.{Text, bit, fill, as_text}
+use Rattle.per_codec_packing.specs.Texts.{Text, bit, padding, as_text}
 
 -- A text, and whether its place is known: it then begins where its message or open type does.
 pub record Packed : Type 0 where
@@ -25,20 +25,20 @@ plus p w = record { text = p.text ++ w; placed = p.placed }
 abbrev pub Adds : Option Text → Packed → Packed → Type 0
 Adds text old new = option_map (λ w. plus old w) text ≡ Some new
 
--- What fills up to the next octet from a position on: zero bits, where this is known (X.691 11.1).
-abbrev pub filling_at : Option ℕ → Text
-filling_at None = fill ∷ []
-filling_at (Some p) = as_text (replicate (missing p) false)
+-- The padding up to the next octet from a position on: zero bits, where this is known (X.691 11.1).
+abbrev pub padding_at : Option ℕ → Text
+padding_at None = padding ∷ []
+padding_at (Some p) = as_text (replicate (missing p) false)
 
--- The bits of a text, without filling that is left open.
+-- The bits of a text, without padding that is left open.
 abbrev pub solid : Text → List Bool
 solid [] = []
 solid (bit b ∷ t) = b ∷ solid t
-solid (fill ∷ t) = solid t
+solid (padding ∷ t) = solid t
 
 -- A text with one of these bits changed, the first being that at 0.
 abbrev pub with_bit : ℕ → Bool → Text → Text
 with_bit i b [] = []
-with_bit i b (fill ∷ t) = fill ∷ with_bit i b t
+with_bit i b (padding ∷ t) = padding ∷ with_bit i b t
 with_bit zero b (bit c ∷ t) = bit b ∷ t
 with_bit (suc i) b (bit c ∷ t) = bit c ∷ with_bit i b t

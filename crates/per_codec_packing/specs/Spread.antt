@@ -1,17 +1,17 @@
--- How a text is kept: its bits, and how many of them stand in front of each filling that is left open.
+-- How a text is kept: its bits, and how many of them stand in front of each padding that is left open.
 use Rattle.std.specs.Prelude.{◌≡◌, ℕ, ◌-◌, ◌≤◌, Bool, true, List, [], ◌∷◌, ◌++◌, length, take, drop}
 use Rattle.std.specs.Coded.{×_prop, le_prop}
-use Rattle.per_codec_packing.specs.Texts.{Text, fill, as_text}
+use Rattle.per_codec_packing.specs.Texts.{Text, padding, as_text}
 use Rattle.per_codec_packing.specs.Packed.{Packed}
 
--- The text of the bits from one on, with filling behind so many.
+-- The text of the bits from one on, with padding behind so many.
 abbrev pub spread : ℕ → List Bool → List ℕ → Text
 spread from bits [] = as_text bits
-spread from bits (f ∷ fs) = as_text (take (f - from) bits) ++ fill ∷ spread f (drop (f - from) bits) fs
+spread from bits (f ∷ fs) = as_text (take (f - from) bits) ++ padding ∷ spread f (drop (f - from) bits) fs
 
--- What the bits, the places of filling and what is known of the place stand for.
+-- What the bits, the places of padding and what is known of the place stand for.
 abbrev pub shown : List Bool → List ℕ → Bool → Packed
-shown bits fills placed = record { text = spread 0 bits fills; placed = placed }
+shown bits paddings placed = record { text = spread 0 bits paddings; placed = placed }
 
 -- The places ascend, from one on and up to another.
 abbrev pub Ascend : ℕ → List ℕ → ℕ → Type 0
@@ -23,7 +23,11 @@ pub ascend_prop : (from : ℕ) (fs : List ℕ) (to : ℕ) → IsProp (Ascend fro
 ascend_prop from [] to = le_prop
 ascend_prop from (f ∷ fs) to = ×_prop le_prop (ascend_prop f fs to)
 
--- Filling is left open within the bits, and where the place is known there is none.
-pub record AreFills (bits : List Bool) (fills : List ℕ) (placed : Bool) : Type 0 where
-  pub ascend : Ascend 0 fills (length bits)
-  pub known : placed ≡ true → fills ≡ []
+-- They ascend within these bits.
+abbrev pub AscendIn : List Bool → List ℕ → Type 0
+AscendIn bits paddings = Ascend 0 paddings (length bits)
+
+-- Padding is left open within the bits, and where the place is known there is none.
+pub record ArePaddings (bits : List Bool) (paddings : List ℕ) (placed : Bool) : Type 0 where
+  pub ascend : AscendIn bits paddings
+  pub known : placed ≡ true → paddings ≡ []

@@ -6,4 +6,4 @@ use Rattle.per_codec_packing.specs.declared.text_view.TextView.{TextView}
 
 -- the text that a view shows
 unfoldable pub text_of : TextView → Text
-text_of v = spread 0 (bits_of v.bits) v.fills.now
+text_of v = spread 0 (bits_of v.bits) v.paddings.now

@@ -10,7 +10,7 @@ use crate::packing::Packing;
 use crate::text_view::TextView;
 use std::alloc::AllocError;
 
-/// The complete encoding of a text where it stands alone (X.691 11.1): filled up with zero bits to whole octets, and
+/// The complete encoding of a text where it stands alone (X.691 11.1): padded with zero bits to whole octets, and
 /// one zero octet in place of no bits. By these the members of a bag are put in order (X.691 22). It is written in
 /// `room`, which is cleared first.
 ///

@@ -1,4 +1,4 @@
-//! Texts of the packed encoding rules (X.691): bits, and filling up to octets, which is left open where the position
+//! Texts of the packed encoding rules (X.691): bits, and padding up to octets, which is left open where the position
 //! in a message is not known yet. What such texts are, and how they are put together.
 #![tactic(auto)]
 

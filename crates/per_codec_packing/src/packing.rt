@@ -4,12 +4,12 @@ ghost use Rattle.std.specs.Prelude.{OnErr, IsTrue, ◌↔◌};
 ghost use Rattle.asn1_model.specs.Numbers.{binary, octet_bits};
 ghost use Rattle.asn1_values_bits.specs.BitStr.{bits_of};
 ghost use Rattle.per_codec_packing.specs.Texts.{as_text, plain, text_at, as_form};
-ghost use Rattle.per_codec_packing.specs.Packed.{Adds, filling_at, place, plus, solid, with_bit};
+ghost use Rattle.per_codec_packing.specs.Packed.{Adds, padding_at, place, plus, solid, with_bit};
 ghost use Rattle.per_codec_packing.specs.Viewed.{text_of};
 
 use crate::text_view::TextView;
 use crate::views::{push_number, push_view};
-use asn1_values_bits::{BitBuffer, BitStr};
+use asn1_values_bits::{BitBuffer, BitStr, free_bits};
 use std::alloc::{AllocError, Global};
 use std::marker::Model;
 
@@ -17,14 +17,14 @@ use std::marker::Model;
 const NUMBER_OCTETS: usize = 16;
 
 /// A text that grows at its end. Where its place is known, it begins with its message or open type and is bits alone.
-/// Where it is not, as that of a member of a bag, filling up to octets (X.691 11.1) is left open until the text is
+/// Where it is not, as that of a member of a bag, padding up to octets (X.691 11.1) is left open until the text is
 /// added to another.
 #[derive(Drop)]
 pub struct Packing {
-    // The bits, without filling that is left open.
+    // The bits, without padding that is left open.
     bits: BitBuffer,
-    // How many of them stand in front of each filling that is left open.
-    fills: Vec<usize>,
+    // How many of them stand in front of each padding that is left open.
+    paddings: Vec<usize>,
     is_placed: bool,
 }
 
@@ -33,11 +33,11 @@ impl Model for Packing {
 
     ghost Value = { Packed };
 
-    ghost use Rattle.per_codec_packing.specs.Spread.{shown, AreFills};
+    ghost use Rattle.per_codec_packing.specs.Spread.{shown, ArePaddings};
 
-    ghost view = { λ p. shown p.bits p.fills.items p.is_placed };
+    ghost view = { λ p. shown p.bits p.paddings.items p.is_placed };
 
-    ghost invariant = { λ p. AreFills p.bits p.fills.items p.is_placed };
+    ghost invariant = { λ p. ArePaddings p.bits p.paddings.items p.is_placed };
 }
 
 impl Packing {
@@ -47,7 +47,7 @@ impl Packing {
     {
         Packing {
             bits: BitBuffer::new(alloc),
-            fills: Vec::new(alloc),
+            paddings: Vec::new(alloc),
             is_placed: true,
         }
     }
@@ -58,7 +58,7 @@ impl Packing {
     {
         Packing {
             bits: BitBuffer::new(alloc),
-            fills: Vec::new(alloc),
+            paddings: Vec::new(alloc),
             is_placed: false,
         }
     }
@@ -72,12 +72,12 @@ impl Packing {
         cleared.clear();
         Packing {
             bits: BitBuffer::from_vec(cleared),
-            fills: Vec::new(alloc),
+            paddings: Vec::new(alloc),
             is_placed: true,
         }
     }
 
-    /// How many bits there are, without filling that is left open.
+    /// How many bits there are, without padding that is left open.
     #[inline]
     pub fn len(&self) -> usize
         ensures bits { result ≡ length (solid self.now.text) }
@@ -86,30 +86,30 @@ impl Packing {
         self.bits.len()
     }
 
-    /// How many fillings there are that are left open.
+    /// How many times padding is left open.
     #[inline]
-    pub fn fill_count(&self) -> usize
+    pub fn padding_count(&self) -> usize
         ensures { length (solid self.now.text) + result ≡ length self.now.text }
     {
-        self.fills.len()
+        self.paddings.len()
     }
 
-    /// Keeps the text in front of a place alone, which has so many bits and so many fillings that are left open. No
+    /// Keeps the text in front of a place alone, which has so many bits and so many times padding that is left open. No
     /// memory is taken.
-    pub fn truncate(&mut self, bits: usize, fills: usize)
-        requires within { bits + fills ≤ length self.old.text }
-        requires place { length (solid (take (bits + fills) self.old.text)) ≡ bits }
-        ensures { self.new ≡ record { text = take (bits + fills) self.old.text; placed = self.old.placed } }
+    pub fn truncate(&mut self, bits: usize, paddings: usize)
+        requires within { bits + paddings ≤ length self.old.text }
+        requires place { length (solid (take (bits + paddings) self.old.text)) ≡ bits }
+        ensures { self.new ≡ record { text = take (bits + paddings) self.old.text; placed = self.old.placed } }
     {
         self.bits.truncate(bits);
-        self.fills.truncate(fills);
+        self.paddings.truncate(paddings);
     }
 
-    /// Whether there is neither a bit nor filling.
+    /// Whether there is neither a bit nor padding.
     pub fn is_empty(&self) -> bool
         ensures { IsTrue result ↔ (self.now.text ≡ []) }
     {
-        self.bits.is_empty() && self.fills.is_empty()
+        self.bits.is_empty() && self.paddings.is_empty()
     }
 
     /// Adds one bit.
@@ -196,27 +196,27 @@ impl Packing {
         self.bits.set(index, bit);
     }
 
-    /// Fills up to the next octet (X.691 11.1): with at most seven zero bits where the place is known, else this is
+    /// Adds padding up to the next octet (X.691 11.1): at most seven zero bits where the place is known, else it is
     /// left open.
     ///
     /// # Errors
     ///
     /// Want of memory; nothing is changed then.
     #[inline]
-    pub fn align(&mut self) -> Result<(), AllocError>
-        ensures ok { OnOk result (self.new ≡ plus self.old (filling_at (place self.old))) }
+    pub fn push_padding(&mut self) -> Result<(), AllocError>
+        ensures ok { OnOk result (self.new ≡ plus self.old (padding_at (place self.old))) }
         ensures err { OnErr result (self.new ≡ self.old) }
     {
         let len = self.bits.len();
         if self.is_placed {
-            self.bits.push_bits(0, ((8 - len % 8) % 8) as u32)?;
+            self.bits.push_bits(0, free_bits(len))?;
             return Ok(());
         }
-        self.fills.push(len)?;
+        self.paddings.push(len)?;
         Ok(())
     }
 
-    /// Adds a text: filling that it leaves open goes from here up to octets, where the place is known.
+    /// Adds a text: padding that it leaves open goes from here up to octets, where the place is known.
     ///
     /// # Errors
     ///
@@ -225,10 +225,10 @@ impl Packing {
         ensures { OnOk result (Adds (text_at (as_form (text_of text.entry)) (place self.old)) self.old self.new) }
     {
         let mut from = 0;
-        for fill in text.fills {
-            self.extend_from_bitslice(text.bits.split_at(*fill).0.split_at(from).1)?;
-            self.align()?;
-            from = *fill;
+        for padding in text.paddings {
+            self.extend_from_bitslice(text.bits.split_at(*padding).0.split_at(from).1)?;
+            self.push_padding()?;
+            from = *padding;
         }
         self.extend_from_bitslice(text.bits.split_at(from).1)?;
         Ok(())
@@ -240,11 +240,11 @@ impl Packing {
     {
         TextView {
             bits: self.bits.as_bitslice(),
-            fills: self.fills.as_slice(),
+            paddings: self.paddings.as_slice(),
         }
     }
 
-    /// The bits, without filling that is left open: all there is, where the place is known.
+    /// The bits, without padding that is left open: all there is, where the place is known.
     pub fn as_bits(&self) -> &BitBuffer
         ensures bits { result.now ≡ solid self.now.text }
         ensures placed { self.now.placed ≡ true → plain self.now.text ≡ Some result.now }
@@ -259,7 +259,7 @@ impl Packing {
     {
         let Packing {
             bits,
-            fills: _,
+            paddings: _,
             is_placed: _,
         } = self;
         bits

@@ -1,4 +1,4 @@
-//! Texts of the forms of the packed encoding rules (X.691): bits, and filling up to octets where the position is not
+//! Texts of the forms of the packed encoding rules (X.691): bits, and padding up to octets where the position is not
 //! known yet. Each function does nothing: its contract is a law.
 
 ghost use Rattle.per_codec_packing.specs.Laws.{KnownTexts, OwnTexts};

@@ -20,16 +20,16 @@ struct Span {
 #[derive(Clone, Copy)]
 struct Part {
     bits: Span,
-    fills: Span,
+    paddings: Span,
 }
 
 /// Texts whose places are not known, as those of the members of a bag, one behind the other in memory that they share.
 #[derive(Drop)]
 pub struct Texts {
-    // The bits of all, without filling that is left open.
+    // The bits of all, without padding that is left open.
     bits: BitBuffer,
-    // How many bits of its text stand in front of each filling that is left open.
-    fills: Vec<usize>,
+    // How many bits of its text stand in front of each padding that is left open.
+    paddings: Vec<usize>,
     parts: Vec<Part>,
 }
 
@@ -41,9 +41,9 @@ impl Model for Texts {
 
     ghost use Rattle.per_codec_packing.specs.Parts.{texts_in, AreParts};
 
-    ghost view = { λ t. texts_in t.bits t.fills.items t.parts.items };
+    ghost view = { λ t. texts_in t.bits t.paddings.items t.parts.items };
 
-    ghost invariant = { λ t. AreParts t.bits t.fills.items t.parts.items };
+    ghost invariant = { λ t. AreParts t.bits t.paddings.items t.parts.items };
 }
 
 impl Texts {
@@ -53,7 +53,7 @@ impl Texts {
     {
         Texts {
             bits: BitBuffer::new(alloc),
-            fills: Vec::new(alloc),
+            paddings: Vec::new(alloc),
             parts: Vec::new(alloc),
         }
     }
@@ -76,17 +76,17 @@ impl Texts {
     {
         let added = text.as_text();
         let first_bit = self.bits.len();
-        let first_fill = self.fills.len();
+        let first_padding = self.paddings.len();
         push_view(&mut self.bits, added.bits)?;
-        self.fills.extend_from_slice(added.fills)?;
+        self.paddings.extend_from_slice(added.paddings)?;
         let part = Part {
             bits: Span {
                 from: first_bit,
                 to: self.bits.len(),
             },
-            fills: Span {
-                from: first_fill,
-                to: self.fills.len(),
+            paddings: Span {
+                from: first_padding,
+                to: self.paddings.len(),
             },
         };
         self.parts.push(part)?;
@@ -100,10 +100,10 @@ impl Texts {
     {
         let part = self.parts[index];
         let front = self.bits.as_bitslice().split_at(part.bits.to).0;
-        let fills = &self.fills[part.fills.from..part.fills.to];
+        let paddings = &self.paddings[part.paddings.from..part.paddings.to];
         TextView {
             bits: front.split_at(part.bits.from).1,
-            fills,
+            paddings,
         }
     }
 }

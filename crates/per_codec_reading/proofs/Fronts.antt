@@ -6,7 +6,7 @@ use Rattle.asn1_model.specs.Per
 use Rattle.asn1_schema_faults.specs.declared.DecodeError.{DecodeError}
 use Rattle.asn1_schema_faults.specs.declared.DecodeError.TheVariants.{Incomplete, OutOfMemory, AlreadyFailed}
 use Rattle.asn1_laws_fronts.proofs.Fronts.{agree_placed}
-use Rattle.asn1_laws_fronts.proofs.PerNumbers.{filling_alike}
+use Rattle.asn1_laws_fronts.proofs.PerNumbers.{padding_alike}
 use Rattle.per_codec_fronts.specs.Takes.{Place, Front}
 use Rattle.per_codec_fronts.proofs.Fronts.{of_nothing, nothing_front, split, join}
 use Rattle.per_codec_fronts.proofs.Next.{same_fronts}
@@ -15,9 +15,9 @@ use Rattle.per_codec_limits.specs.declared.variant.Variant.TheVariants.{Unaligne
 use Rattle.per_codec_reading.specs.Fronts.{freedoms, Leads, NoneStands, IsFresh, Misses, to_octet}
 
 -- ---- the freedoms that both variants leave to a reader
-pub any_filling_is_free : (v : Variant) → IsTrue (freedoms v Per.any_filling)
-any_filling_is_free Unaligned = refl
-any_filling_is_free Aligned = refl
+pub any_padding_is_free : (v : Variant) → IsTrue (freedoms v Per.any_padding)
+any_padding_is_free Unaligned = refl
+any_padding_is_free Aligned = refl
 
 pub longer_length_is_free : (v : Variant) → IsTrue (freedoms v Per.longer_length)
 longer_length_is_free Unaligned = refl
@@ -27,9 +27,9 @@ pub longer_number_is_free : (v : Variant) → IsTrue (freedoms v Per.longer_numb
 longer_number_is_free Unaligned = refl
 longer_number_is_free Aligned = refl
 
-pub root_marked_outside_is_free : (v : Variant) → IsTrue (freedoms v Per.root_marked_outside)
-root_marked_outside_is_free Unaligned = refl
-root_marked_outside_is_free Aligned = refl
+pub root_told_outside_is_free : (v : Variant) → IsTrue (freedoms v Per.root_told_outside)
+root_told_outside_is_free Unaligned = refl
+root_told_outside_is_free Aligned = refl
 
 pub other_fragments_are_free : (v : Variant) → IsTrue (freedoms v Per.other_fragments)
 other_fragments_are_free Unaligned = refl
@@ -104,62 +104,62 @@ module _ (free : Per.Freedom → Bool) where
       let n = length-append w b.1 in
       omega arith
 
-  -- ---- filling
-  pub filled : (w : List Bool) (a b : Place) → IsTrue (free Per.any_filling) → length w ≡ Per.missing a.0 → Leads w a b → Front free to_octet a b
-  unfolding Reads Per.filling
-  filled w a b t l h =
+  -- ---- padding
+  pub padding_in : (w : List Bool) (a b : Place) → IsTrue (free Per.any_padding) → length w ≡ Per.missing a.0 → Leads w a b → Front free to_octet a b
+  unfolding Reads Per.padding
+  padding_in w a b t l h =
       let has : Reads free (only_if (length w == Per.missing a.0) (exactly w)) a.0 w = rw (eq-eqb _ _ l) refl in
       record { text = w; has_form = (w, inr t, has); in_front = h.0; moved = h.1 }
 
-  pub fillings_same : (a b c : Place) → Front free to_octet a b → Front free to_octet a c → b ≡ c
-  fillings_same a b c f g = (same_fronts free (agree_placed free (λ p. filling_alike free (Per.missing p))) a b c f g).1
+  pub paddings_same : (a b c : Place) → Front free to_octet a b → Front free to_octet a c → b ≡ c
+  paddings_same a b c f g = (same_fronts free (agree_placed free (λ p. padding_alike free (Per.missing p))) a b c f g).1
 
-  -- a form behind filling stands just behind it
-  pub after_filling : (al : Bool) (x : Per.BitForm) (a mid b : Place) → Front free (Per.at_octet al nothing_more) a mid → Front free x mid b → Front free (Per.at_octet al x) a b
+  -- a form behind padding stands just behind it
+  pub after_padding : (al : Bool) (x : Per.BitForm) (a mid b : Place) → Front free (Per.at_octet al nothing_more) a mid → Front free x mid b → Front free (Per.at_octet al x) a b
   unfolding Per.at_octet
-  after_filling false x a mid b f g = subst (λ m. Front free x m b) (of_nothing free a mid f) g
-  after_filling true x a mid b f g =
+  after_padding false x a mid b f g = subst (λ m. Front free x m b) (of_nothing free a mid f) g
+  after_padding true x a mid b f g =
       let p = split free to_octet nothing_more a mid f in
       join free to_octet x a p.0 b p.1 (subst (λ m. Front free x m b) (of_nothing free p.0 mid p.2) g)
 
-  pub behind_filling : (al : Bool) (x : Per.BitForm) (a mid b : Place) → Front free (Per.at_octet al nothing_more) a mid → Front free (Per.at_octet al x) a b → Front free x mid b
+  pub behind_padding : (al : Bool) (x : Per.BitForm) (a mid b : Place) → Front free (Per.at_octet al nothing_more) a mid → Front free (Per.at_octet al x) a b → Front free x mid b
   unfolding Per.at_octet
-  behind_filling false x a mid b f g = subst (λ m. Front free x m b) (sym (of_nothing free a mid f)) g
-  behind_filling true x a mid b f g =
+  behind_padding false x a mid b f g = subst (λ m. Front free x m b) (sym (of_nothing free a mid f)) g
+  behind_padding true x a mid b f g =
       let p = split free to_octet nothing_more a mid f in
       let q = split free to_octet x a b g in
-      let e : mid ≡ q.0 = of_nothing free p.0 mid p.2 ∙ fillings_same a p.0 q.0 p.1 q.1 in
+      let e : mid ≡ q.0 = of_nothing free p.0 mid p.2 ∙ paddings_same a p.0 q.0 p.1 q.1 in
       subst (λ m. Front free x m b) (sym e) q.2
 
-  pub unfilled : (x : Per.BitForm) (a b : Place) → Front free (Per.at_octet false x) a b → Front free x a b
+  pub unpadded : (x : Per.BitForm) (a b : Place) → Front free (Per.at_octet false x) a b → Front free x a b
   unfolding Per.at_octet
-  unfilled x a b f = f
+  unpadded x a b f = f
 
-  pub unfilled_in : (x : Per.BitForm) (a b : Place) → Front free x a b → Front free (Per.at_octet false x) a b
+  pub unpadded_in : (x : Per.BitForm) (a b : Place) → Front free x a b → Front free (Per.at_octet false x) a b
   unfolding Per.at_octet
-  unfilled_in x a b f = f
+  unpadded_in x a b f = f
 
-  pub aligned_filling : (a b : Place) → Front free to_octet a b → Front free (Per.at_octet true nothing_more) a b
+  pub aligned_padding : (a b : Place) → Front free to_octet a b → Front free (Per.at_octet true nothing_more) a b
   unfolding Per.at_octet
-  aligned_filling a b f = join free to_octet nothing_more a b b f (nothing_front free b)
+  aligned_padding a b f = join free to_octet nothing_more a b b f (nothing_front free b)
 
-  pub unaligned_filling : (a : Place) → Front free (Per.at_octet false nothing_more) a a
+  pub unaligned_padding : (a : Place) → Front free (Per.at_octet false nothing_more) a a
   unfolding Per.at_octet
-  unaligned_filling a = nothing_front free a
+  unaligned_padding a = nothing_front free a
 
-  filling_one : (b : Bool) (u w : List Bool) (n p : ℕ) → (length u == n) ≡ b → Reads {F = Per.Freedom} {D = Per.Detail} {A = Bool} free (only_if b (exactly u)) p w → length w ≡ n
+  padding_one : (b : Bool) (u w : List Bool) (n p : ℕ) → (length u == n) ≡ b → Reads {F = Per.Freedom} {D = Per.Detail} {A = Bool} free (only_if b (exactly u)) p w → length w ≡ n
   unfolding Reads
-  filling_one true u w n p e r = ap length (sym r) ∙ eqb-true (length u) n e
-  filling_one false u w n p e r = absurd r
+  padding_one true u w n p e r = ap length (sym r) ∙ eqb-true (length u) n e
+  padding_one false u w n p e r = absurd r
 
-  filling_long : (n p : ℕ) (w : List Bool) → Reads free (Per.filling n) p w → length w ≡ n
-  unfolding Reads Per.filling
-  filling_long n p w r = filling_one (length r.0 == n) r.0 w n p refl r.2
+  padding_long : (n p : ℕ) (w : List Bool) → Reads free (Per.padding n) p w → length w ≡ n
+  unfolding Reads Per.padding
+  padding_long n p w r = padding_one (length r.0 == n) r.0 w n p refl r.2
 
-  pub no_filling : (a : Place) → length a.1 < Per.missing a.0 → (b : Place) → Front free to_octet a b → ⊥
+  pub short_padding : (a : Place) → length a.1 < Per.missing a.0 → (b : Place) → Front free to_octet a b → ⊥
   unfolding Reads
-  no_filling a l b f =
-      let n = filling_long (Per.missing a.0) a.0 f.text f.has_form in
+  short_padding a l b f =
+      let n = padding_long (Per.missing a.0) a.0 f.text f.has_form in
       let e = ap length f.in_front in
       let k = length-append f.text b.1 in
       omega (arith, l)

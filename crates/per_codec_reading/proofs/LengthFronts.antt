@@ -15,7 +15,7 @@ use Rattle.per_codec_reading.specs.declared.lengths.Length.{Length}
 use Rattle.per_codec_reading.specs.declared.lengths.Length.TheVariants.{Short, Fragment}
 use Rattle.per_codec_reading.specs.Fronts.{Leads, NoneStands}
 use Rattle.per_codec_reading.specs.Lengths.{length_form}
-use Rattle.per_codec_reading.proofs.Fronts.{leads_same, leads_join, exactly_in, exactly_out, after_filling, behind_filling, unfilled, unfilled_in}
+use Rattle.per_codec_reading.proofs.Fronts.{leads_same, leads_join, exactly_in, exactly_out, after_padding, behind_padding, unpadded, unpadded_in}
 
 -- ---- an octet and its first bits
 bit_is : (x : ℕ) (b : Bool) → (b ≡ true → x ≡ 1) → (b ≡ false → x ≡ 0) → (x == 1) ≡ b
@@ -155,20 +155,20 @@ module _ (free : Per.Freedom → Bool) where
     | inr q ↦ elim q [ inl r ↦ (let v = r.1 in omega arith) | inr r ↦ (let v = r.0 in let z = r.1 in elim w [ inl t ↦ omega arith | inr t ↦ omega arith ]) ]
   ])
 
-  -- ---- behind filling
+  -- ---- behind padding
   pub length_after : (al : Bool) (l : Length) (a mid b : Place) → Front free (Per.at_octet al nothing_more) a mid → Front free (length_form false l) mid b → Front free (length_form al l) a b
   unfolding Per.short_length
-  length_after al (Short n) a mid b f g = after_filling free al _ a mid b f (unfilled free _ mid b g)
+  length_after al (Short n) a mid b f g = after_padding free al _ a mid b f (unpadded free _ mid b g)
   length_after al (Fragment m) a mid b f g =
       let i = if_out free (leb 1 m && leb m 4) _ mid b g in
-      if_in free (leb 1 m && leb m 4) _ a b i.0 (after_filling free al _ a mid b f (unfilled free _ mid b i.1))
+      if_in free (leb 1 m && leb m 4) _ a b i.0 (after_padding free al _ a mid b f (unpadded free _ mid b i.1))
 
   pub length_behind : (al : Bool) (l : Length) (a mid b : Place) → Front free (Per.at_octet al nothing_more) a mid → Front free (length_form al l) a b → Front free (length_form false l) mid b
   unfolding Per.short_length
-  length_behind al (Short n) a mid b f g = unfilled_in free _ mid b (behind_filling free al _ a mid b f g)
+  length_behind al (Short n) a mid b f g = unpadded_in free _ mid b (behind_padding free al _ a mid b f g)
   length_behind al (Fragment m) a mid b f g =
       let i = if_out free (leb 1 m && leb m 4) _ a b g in
-      if_in free (leb 1 m && leb m 4) _ mid b i.0 (unfilled_in free _ mid b (behind_filling free al _ a mid b f i.1))
+      if_in free (leb 1 m && leb m 4) _ mid b i.0 (unpadded_in free _ mid b (behind_padding free al _ a mid b f i.1))
 
   pub no_length_behind : (al : Bool) (a mid : Place) → Front free (Per.at_octet al nothing_more) a mid → NoneStands free (length_form false) mid → NoneStands free (length_form al) a
   no_length_behind al a mid f n l b g = n l b (length_behind al l a mid b f g)

@@ -15,7 +15,7 @@ use Rattle.per_codec_fronts.proofs.Fronts.{split, join, varied_in, varied_out, i
 use Rattle.per_codec_fronts.proofs.Next.{same_fronts}
 use Rattle.per_codec_reading.specs.Fronts.{Leads, NoneStands, to_octet}
 use Rattle.per_codec_reading.specs.Lengths.{number_within, aligned_within, one_bit}
-use Rattle.per_codec_reading.proofs.Fronts.{leads_same, exactly_in, exactly_out, too_short, after_filling, behind_filling}
+use Rattle.per_codec_reading.proofs.Fronts.{leads_same, exactly_in, exactly_out, too_short, after_padding, behind_padding}
 
 -- ---- numbers and their digits
 digit_bits : (k d : ℕ) → flat_map (binary 8) (digits 256 k d) ≡ binary (8 * k) d
@@ -82,7 +82,7 @@ module _ (free : Per.Freedom → Bool) where
       let u = i.bound in
       omega arith
 
-  -- ---- behind filling
+  -- ---- behind padding
   pub condition_in : (al t : Bool) (x : Per.BitForm) (a b : Place) → t ≡ true → Front free (Per.at_octet al x) a b → Front free (Per.at_octet al (only_if t x)) a b
   condition_in al true x a b e f = f
   condition_in al false x a b e f = absurd (false≢true e)
@@ -108,13 +108,13 @@ module _ (free : Per.Freedom → Bool) where
       record { bound = leb-true n most p.0; fits = ltb-true n (2 ^ w) p.1; stands = i.1 }
 
   pub aligned_read : (al : Bool) (w most n : ℕ) (a mid b : Place) → Front free (Per.at_octet al nothing_more) a mid → Front free (number_within w most n) mid b → Front free (aligned_within al w most n) a b
-  aligned_read al w most n a mid b f g = after_filling free al _ a mid b f g
+  aligned_read al w most n a mid b f g = after_padding free al _ a mid b f g
 
   pub none_aligned : (al : Bool) (w most : ℕ) (a mid : Place) → Front free (Per.at_octet al nothing_more) a mid → NoneStands free (number_within w most) mid → NoneStands free (aligned_within al w most) a
-  none_aligned al w most a mid f n d b g = n d b (behind_filling free al _ a mid b f g)
+  none_aligned al w most a mid f n d b g = n d b (behind_padding free al _ a mid b f g)
 
-  pub none_filled : (al : Bool) (w most : ℕ) (a : Place) → NoneStands free (Per.at_octet al) a → NoneStands free (aligned_within al w most) a
-  none_filled al w most a n d b g = n (number_within w most d) b g
+  pub none_padded : (al : Bool) (w most : ℕ) (a : Place) → NoneStands free (Per.at_octet al) a → NoneStands free (aligned_within al w most) a
+  none_padded al w most a n d b g = n (number_within w most d) b g
 
   -- ---- a constrained whole number
   abbrev by_span : (ℕ → ℕ → Per.BitForm) → Bool → Bool → Bool → Bool → ℕ → ℕ → Per.BitForm

@@ -6,7 +6,7 @@ use Rattle.asn1_model.specs.Strings.{each_is, is_octet}
 use Rattle.asn1_model.specs.Form.{exactly}
 use Rattle.asn1_model.specs.Per
 use Rattle.asn1_laws_values.proofs.Octets.{packed_octets}
-use Rattle.asn1_values_bits.specs.Octets.{filled_up}
+use Rattle.asn1_values_bits.specs.Octets.{padded}
 use Rattle.per_codec_fronts.specs.Takes.{Place, Front}
 use Rattle.per_codec_fronts.proofs.Fronts.{if_in, if_out}
 use Rattle.per_codec_reading.specs.Fronts.{NoneStands}
@@ -17,14 +17,14 @@ pub fits_octets : (os : List ℕ) → ((i : ℕ) → Fits w8 (get_or os i 0)) �
 fits_octets [] h = refl
 fits_octets (o ∷ os) h = and_from _ _ (lt-ltb o 256 (h zero).fits) (fits_octets os (λ i. h (suc i)))
 
-pub whole_filled : (bs : List Bool) → length bs % 8 ≡ 0 → filled_up bs ≡ bs
-whole_filled bs h = let m : missing (length bs) ≡ 0 = omega arith in ap (λ k. bs ++ replicate k false) m ∙ append-nil bs
+pub whole_padded : (bs : List Bool) → length bs % 8 ≡ 0 → padded bs ≡ bs
+whole_padded bs h = let m : missing (length bs) ≡ 0 = omega arith in ap (λ k. bs ++ replicate k false) m ∙ append-nil bs
 
-pub packed_small : (bs : List Bool) → length bs % 8 ≡ 0 → each_is is_octet (packed (filled_up bs)) ≡ true
+pub packed_small : (bs : List Bool) → length bs % 8 ≡ 0 → each_is is_octet (packed (padded bs)) ≡ true
 packed_small bs h =
-    let e = whole_filled bs h in
-    let k : length (filled_up bs) ≡ 8 * (length bs / 8) = ap length e ∙ omega arith in
-    packed_octets (length bs / 8) (filled_up bs) k
+    let e = whole_padded bs h in
+    let k : length (padded bs) ≡ 8 * (length bs / 8) = ap length e ∙ omega arith in
+    packed_octets (length bs / 8) (padded bs) k
 
 pub length-octet_bits : (os : List ℕ) → length (octet_bits os) ≡ length os * 8
 length-octet_bits [] = refl

@@ -56,7 +56,7 @@ module _ (free : Per.Freedom → Bool) where
       let q : c.low ≤ vs.0 = leb-true _ _ ((and_parts _ _ l.0).0) in
       omega arith
 
-  -- ---- units of the root, or marked as outside
+  -- ---- units of the root, or told as outside
   pub told_size : (al : Bool) (w : ℕ) (pads : ℕ → Counts → Bool) (c : Counts) (told : Option ℕ) (us : Units) (a b : Place) → Front free (units_told al w pads c told us) a b → length us.1 ≡ us.0 * w
   told_size al w pads c None us a b f = eqb-true _ _ (if_out free (length us.1 == us.0 * w) _ a b f).0
   told_size al w pads c (Some high) us a b f = eqb-true _ _ (if_out free (length us.1 == us.0 * w) _ a b f).0
@@ -91,19 +91,19 @@ module _ (free : Per.Freedom → Bool) where
 
   -- ---- all of it
   -- the extension bit, and the units behind it
-  pub record Marked (al : Bool) (z : Size) (held : Counts) (w : ℕ) (pads : ℕ → Counts → Bool) (us : Units) (a b : Place) : Type 0 where
+  pub record WithExtensionBit (al : Bool) (z : Size) (held : Counts) (w : ℕ) (pads : ℕ → Counts → Bool) (us : Units) (a b : Place) : Type 0 where
     pub outside : Bool
     pub mid : Place
     pub bit : Front free (extension_bit z.extensible outside) a mid
     pub units : Front free (units_told al w pads z.counts (told_highest outside z.counts.high) us) mid b
     pub may : admitted held z.counts outside us.0 ≡ true
 
-  marked_in : (e outside in_root : Bool) (x y : Per.BitForm) (a mid b : Place) → IsTrue (free Per.root_marked_outside) → Front free (extension_bit e outside) a mid → (outside || in_root) ≡ true → (outside ≡ false → Front free x mid b) → (outside ≡ true → Front free y mid b) → Front free (Per.marked e in_root x y) a b
-  unfolding Per.marked
-  marked_in false true i x y a mid b t m k f g = absurd (of_refused free a mid m)
-  marked_in false false i x y a mid b t m k f g = if_in free i x a b k (subst (λ p. Front free x p b) (of_nothing free a mid m) (f refl))
-  marked_in true true i x y a mid b t m k f g = varied_in free _ true (inr t) a b (join free (exactly (true ∷ [])) y a mid b m (g refl))
-  marked_in true false i x y a mid b t m k f g = varied_in free _ false (inr t) a b (if_in free i _ a b k (join free (exactly (false ∷ [])) x a mid b m (f refl)))
+  with_extension_bit_in : (e outside in_root : Bool) (x y : Per.BitForm) (a mid b : Place) → IsTrue (free Per.root_told_outside) → Front free (extension_bit e outside) a mid → (outside || in_root) ≡ true → (outside ≡ false → Front free x mid b) → (outside ≡ true → Front free y mid b) → Front free (Per.with_extension_bit e in_root x y) a b
+  unfolding Per.with_extension_bit
+  with_extension_bit_in false true i x y a mid b t m k f g = absurd (of_refused free a mid m)
+  with_extension_bit_in false false i x y a mid b t m k f g = if_in free i x a b k (subst (λ p. Front free x p b) (of_nothing free a mid m) (f refl))
+  with_extension_bit_in true true i x y a mid b t m k f g = varied_in free _ true (inr t) a b (join free (exactly (true ∷ [])) y a mid b m (g refl))
+  with_extension_bit_in true false i x y a mid b t m k f g = varied_in free _ false (inr t) a b (if_in free i _ a b k (join free (exactly (false ∷ [])) x a mid b m (f refl)))
 
   -- an extension bit, and one of two forms behind it
   record Parts (e in_root : Bool) (x y : Per.BitForm) (a b : Place) : Type 0 where
@@ -114,12 +114,12 @@ module _ (free : Per.Freedom → Bool) where
     pub root_form : outside ≡ false → Front free x mid b
     pub outer_form : outside ≡ true → Front free y mid b
 
-  marked_out : (e in_root : Bool) (x y : Per.BitForm) (a b : Place) → Front free (Per.marked e in_root x y) a b → Parts e in_root x y a b
-  unfolding Per.marked
-  marked_out false i x y a b f =
+  with_extension_bit_out : (e in_root : Bool) (x y : Per.BitForm) (a b : Place) → Front free (Per.with_extension_bit e in_root x y) a b → Parts e in_root x y a b
+  unfolding Per.with_extension_bit
+  with_extension_bit_out false i x y a b f =
       let k = if_out free i x a b f in
       record { outside = false; mid = a; bit = nothing_front free a; may = k.0; root_form = λ e. k.1; outer_form = λ e. absurd (false≢true e) }
-  marked_out true i x y a b f = let v = varied_out free _ a b f in go v.0 v.2
+  with_extension_bit_out true i x y a b f = let v = varied_out free _ a b f in go v.0 v.2
     where
       go : (t : Bool) → Front free (cond t (both (exactly (true ∷ [])) y) (only_if i (both (exactly (false ∷ [])) x))) a b → Parts true i x y a b
       go true g = let s = split free (exactly (true ∷ [])) y a b g in record { outside = true; mid = s.0; bit = s.1; may = refl; root_form = λ e. absurd (false≢true (sym e)); outer_form = λ e. s.2 }
@@ -128,7 +128,7 @@ module _ (free : Per.Freedom → Bool) where
           let s = split free (exactly (false ∷ [])) x a b k.1 in
           record { outside = false; mid = s.0; bit = s.1; may = k.0; root_form = λ e. s.2; outer_form = λ e. absurd (false≢true e) }
 
-  pub sized_in : (al : Bool) (z : Size) (held : Counts) (w : ℕ) (pads : ℕ → Counts → Bool) (us : Units) (outside : Bool) (a mid b : Place) → IsTrue (free Per.root_marked_outside) → Front free (extension_bit z.extensible outside) a mid → Front free (units_told al w pads z.counts (told_highest outside z.counts.high) us) mid b → admitted held z.counts outside us.0 ≡ true → Front free (sized_units al z held w pads us) a b
+  pub sized_in : (al : Bool) (z : Size) (held : Counts) (w : ℕ) (pads : ℕ → Counts → Bool) (us : Units) (outside : Bool) (a mid b : Place) → IsTrue (free Per.root_told_outside) → Front free (extension_bit z.extensible outside) a mid → Front free (units_told al w pads z.counts (told_highest outside z.counts.high) us) mid b → admitted held z.counts outside us.0 ≡ true → Front free (sized_units al z held w pads us) a b
   unfolding Per.sized
   sized_in al z held w pads us outside a mid b t m f k =
       let p = and_parts (is_count_within held us.0) (outside || is_count_within z.counts us.0) k in
@@ -136,20 +136,20 @@ module _ (free : Per.Freedom → Bool) where
       let x = Per.sized_root al z.counts z.counts.high (pads us.0) (units_of w us.0 us.1) in
       let y = Per.counted al (units_of w us.0 us.1) in
       let T : Bool → Type 0 = λ o. Front free (units_told al w pads z.counts (told_highest o z.counts.high) us) mid b in
-      let g = marked_in z.extensible outside (is_count_within z.counts us.0) x y a mid b t m p.1 (λ e. root_in al w pads z.counts z.counts.high us mid b (subst T e f)) (λ e. outside_in al w pads z.counts z.counts.high us mid b (subst T e f)) in
-      let h = if_in free (is_count_within held us.0) (Per.marked z.extensible (is_count_within z.counts us.0) x y) a b p.0 g in
-      if_in free (length us.1 == us.0 * w) _ a b (eq-eqb _ _ l) (subst (λ n. Front free (only_if (is_count_within held n) (Per.marked z.extensible (is_count_within z.counts n) x y)) a b) (sym (length-units w us.0 us.1)) h)
+      let g = with_extension_bit_in z.extensible outside (is_count_within z.counts us.0) x y a mid b t m p.1 (λ e. root_in al w pads z.counts z.counts.high us mid b (subst T e f)) (λ e. outside_in al w pads z.counts z.counts.high us mid b (subst T e f)) in
+      let h = if_in free (is_count_within held us.0) (Per.with_extension_bit z.extensible (is_count_within z.counts us.0) x y) a b p.0 g in
+      if_in free (length us.1 == us.0 * w) _ a b (eq-eqb _ _ l) (subst (λ n. Front free (only_if (is_count_within held n) (Per.with_extension_bit z.extensible (is_count_within z.counts n) x y)) a b) (sym (length-units w us.0 us.1)) h)
 
-  pub sized_out : (al : Bool) (z : Size) (held : Counts) (w : ℕ) (pads : ℕ → Counts → Bool) (us : Units) (a b : Place) → Front free (sized_units al z held w pads us) a b → Marked al z held w pads us a b
+  pub sized_out : (al : Bool) (z : Size) (held : Counts) (w : ℕ) (pads : ℕ → Counts → Bool) (us : Units) (a b : Place) → Front free (sized_units al z held w pads us) a b → WithExtensionBit al z held w pads us a b
   unfolding Per.sized
   sized_out al z held w pads us a b f =
       let i = if_out free (length us.1 == us.0 * w) _ a b f in
       let l = eqb-true _ _ i.0 in
       let x = Per.sized_root al z.counts z.counts.high (pads us.0) (units_of w us.0 us.1) in
       let y = Per.counted al (units_of w us.0 us.1) in
-      let h = subst (λ n. Front free (only_if (is_count_within held n) (Per.marked z.extensible (is_count_within z.counts n) x y)) a b) (length-units w us.0 us.1) i.1 in
-      let j = if_out free (is_count_within held us.0) (Per.marked z.extensible (is_count_within z.counts us.0) x y) a b h in
-      let q = marked_out z.extensible (is_count_within z.counts us.0) x y a b j.1 in
+      let h = subst (λ n. Front free (only_if (is_count_within held n) (Per.with_extension_bit z.extensible (is_count_within z.counts n) x y)) a b) (length-units w us.0 us.1) i.1 in
+      let j = if_out free (is_count_within held us.0) (Per.with_extension_bit z.extensible (is_count_within z.counts us.0) x y) a b h in
+      let q = with_extension_bit_out z.extensible (is_count_within z.counts us.0) x y a b j.1 in
       record { outside = q.outside; mid = q.mid; bit = q.bit; units = go q.outside q.may q.mid q.root_form q.outer_form; may = and_from _ _ j.0 q.may }
     where
       go : (o : Bool) → (o || is_count_within z.counts us.0) ≡ true → (m : Place) → (o ≡ false → Front free (Per.sized_root al z.counts z.counts.high (pads us.0) (units_of w us.0 us.1)) m b) → (o ≡ true → Front free (Per.counted al (units_of w us.0 us.1)) m b) → Front free (units_told al w pads z.counts (told_highest o z.counts.high) us) m b

@@ -8,7 +8,7 @@ use Rattle.asn1_laws_fronts.proofs.PerNumbers.{constrained_alike}
 use Rattle.per_codec_fronts.specs.Takes.{Place, Front}
 use Rattle.per_codec_fronts.proofs.Fronts.{split, join, if_in, if_out}
 use Rattle.per_codec_reading.specs.Fronts.{Leads, NoneStands}
-use Rattle.per_codec_reading.proofs.Fronts.{exactly_in, exactly_out, after_filling, behind_filling}
+use Rattle.per_codec_reading.proofs.Fronts.{exactly_in, exactly_out, after_padding, behind_padding}
 use Rattle.per_codec_reading.specs.Units.{Units}
 use Rattle.per_codec_reading.specs.Sizes.{told_count, told_units}
 use Rattle.per_codec_reading.proofs.RunFronts.{one}
@@ -59,11 +59,11 @@ module _ (free : Per.Freedom → Bool) where
     pub few_bits : (n : ℕ) (a m o : Place) → Front free (told_count al c.low high n) a m → Front free (Per.at_octet (al && pads n c) nothing_more) m o → length o.1 < n * w → NoneStands free (told_units al w pads c high) a
     few_bits n a m o h k l us b f =
         let g = behind n us a m b h f in
-        let e = exactly_out free us.1 o b (behind_filling free (al && pads n c) (exactly us.1) m o b k g.1) in
+        let e = exactly_out free us.1 o b (behind_padding free (al && pads n c) (exactly us.1) m o b k g.1) in
         let d = g.0 in
         let i = ap length e.0 in
         let j = length-append us.1 b.1 in
         absurd (omega arith)
 
     pub told_stands : (n : ℕ) (bs : List Bool) (a m o b : Place) → Front free (told_count al c.low high n) a m → Front free (Per.at_octet (al && pads n c) nothing_more) m o → Leads bs o b → length bs ≡ n * w → Front free (told_units al w pads c high (n, bs)) a b
-    told_stands n bs a m o b h k l e = if_in free (length bs == n * w) _ a b (eq-eqb _ _ e) (join free _ _ a m b h (after_filling free (al && pads n c) (exactly bs) m o b k (exactly_in free bs o b l)))
+    told_stands n bs a m o b h k l e = if_in free (length bs == n * w) _ a b (eq-eqb _ _ e) (join free _ _ a m b h (after_padding free (al && pads n c) (exactly bs) m o b k (exactly_in free bs o b l)))

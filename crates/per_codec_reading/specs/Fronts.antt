@@ -1,7 +1,7 @@
 -- What stands in front of the bits that are still to be read, and why a reader refuses them.
 use Rattle.std.specs.Prelude.{◌≡◌, ◌+◌, ◌++◌, Bool, List, length}
 use Rattle.asn1_model.specs.Form.{placed}
-use Rattle.asn1_model.specs.Per.{Freedom, BitForm, filling, missing}
+use Rattle.asn1_model.specs.Per.{Freedom, BitForm, padding, missing}
 use Rattle.asn1_model.specs.Rules.{lenient}
 use Rattle.asn1_schema_faults.specs.declared.DecodeError.{DecodeError}
 use Rattle.asn1_schema_faults.specs.declared.DecodeError.TheVariants.{OutOfMemory, AlreadyFailed}
@@ -44,4 +44,4 @@ MissesRest free first f old e = (a : Place) → Front free first a old → Misse
 
 -- The padding up to the next octet (X.691 11.1).
 abbrev pub to_octet : BitForm
-to_octet = placed (λ p. filling (missing p))
+to_octet = placed (λ p. padding (missing p))

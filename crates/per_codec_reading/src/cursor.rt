@@ -4,12 +4,9 @@ ghost use Rattle.asn1_model.specs.Numbers.{binary, octet_bits};
 ghost use Rattle.asn1_values_bits.specs.BitStr.{bits_of};
 ghost use Rattle.per_codec_reading.specs.Fronts.{Leads};
 
-use asn1_schema_faults::DecodeError;
+use asn1_schema_faults::{DecodeError, MOST_OCTETS};
 use asn1_values_bits::BitStr;
 use std::marker::Model;
-
-/// An encoding has no more octets.
-const MOST_OCTETS: usize = (1 << 60) - 1;
 
 /// A place in a message or in an open type: how many bits stand in front of it, and the bits behind it, which are
 /// unread and lent.

@@ -4,27 +4,14 @@ ghost use Rattle.asn1_model.specs.Per as Per;
 ghost use Rattle.asn1_model.specs.Schema as Asn1;
 ghost use Rattle.asn1_model.specs.Value as Asn1Value;
 ghost use Rattle.per_codec_fronts.specs.Takes.{Front};
-ghost use Rattle.per_codec_reading.specs.Fronts.{freedoms, IsFresh, Misses};
+ghost use Rattle.per_codec_reading.specs.Fronts.{freedoms, Misses};
 ghost use Rattle.per_codec_reading.specs.Fronts as fronts;
 
 use crate::octets::read_counted_octets;
 use crate::{Cursor, Variant};
-use asn1_schema_faults::DecodeError;
-use asn1_values_identifiers::{IdentifierError, ObjectIdentifier, oid_from_octets};
+use asn1_schema_faults::{DecodeError, identifier_fault};
+use asn1_values_identifiers::{ObjectIdentifier, oid_from_octets};
 use std::alloc::Global;
-
-/// Why octets are not read as an identifier.
-fn fault_of(error: IdentifierError) -> DecodeError
-    ensures memory { error ≡ IdentifierError.Memory → result ≡ DecodeError.OutOfMemory }
-    ensures fresh { IsFresh result }
-{
-    match error {
-        IdentifierError::Memory => DecodeError::OutOfMemory,
-        IdentifierError::Truncated | IdentifierError::Padded | IdentifierError::ArcTooLarge => {
-            DecodeError::InvalidObjectIdentifier
-        }
-    }
-}
 
 /// Reads an object identifier (X.691 24): its contents (X.690 8.19) behind their number.
 ///
@@ -45,6 +32,6 @@ pub fn read_object_identifier(
     let octets = read_counted_octets(alloc, cursor, variant)?;
     match oid_from_octets(alloc, octets.as_slice()) {
         Ok(identifier) => Ok(identifier),
-        Err(error) => Err(fault_of(error)),
+        Err(error) => Err(identifier_fault(error)),
     }
 }

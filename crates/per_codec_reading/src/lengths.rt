@@ -6,7 +6,7 @@ ghost use Rattle.per_codec_reading.specs.Fronts as fronts;
 ghost use Rattle.per_codec_reading.specs.Lengths.{IsLength, length_form};
 ghost use Rattle.per_codec_reading.specs.Units.{count_of};
 
-use crate::padding::align;
+use crate::padding::read_padding;
 use crate::{Cursor, FRAGMENT, Variant};
 use asn1_schema_faults::DecodeError;
 
@@ -71,6 +71,6 @@ pub fn read_length(cursor: &mut Cursor<'_>, variant: Variant) -> Result<Length, 
     ensures bound { IfOk result IsLength }
     ensures only { IfErr result (Misses (freedoms variant) (length_form (fronts.is_aligned variant)) cursor.old) }
 {
-    align(cursor, variant)?;
+    read_padding(cursor, variant)?;
     read_unaligned_length(cursor, variant)
 }

@@ -6,10 +6,11 @@ ghost use Rattle.per_codec_reading.specs.Fronts as fronts;
 ghost use Rattle.per_codec_reading.specs.Fronts.{freedoms, Misses};
 ghost use Rattle.per_codec_reading.specs.Lengths.{aligned_within, number_within};
 
-use crate::padding::align;
+use crate::padding::read_padding;
 use crate::{Cursor, Variant};
 use asn1_schema_faults::DecodeError;
 use asn1_values_natives::octets::{bit_count, octet_width};
+use per_codec_limits::LONG_SPAN;
 
 /// Reads a number in so many bits, if it is not above a highest one.
 ///
@@ -51,7 +52,7 @@ fn read_aligned_within(
     ensures only { IfErr result (Misses (freedoms variant)
         (aligned_within (fronts.is_aligned variant) bits most) cursor.old) }
 {
-    align(cursor, variant)?;
+    read_padding(cursor, variant)?;
     read_number_within(cursor, variant, bits, most)
 }
 
@@ -99,7 +100,7 @@ pub fn read_constrained(
     if span == 255 {
         return read_aligned_within(cursor, variant, 8, span);
     }
-    if span < 65536 {
+    if span < LONG_SPAN {
         return read_aligned_within(cursor, variant, 16, span);
     }
     read_octets_within(cursor, variant, span)

@@ -1,7 +1,6 @@
 //! Padding up to whole octets (X.691 11.1).
-ghost use Rattle.std.specs.Prelude.{◌≡◌, OnOk, IfErr};
+ghost use Rattle.std.specs.Prelude.{OnOk, IfErr};
 ghost use Rattle.asn1_model.specs.Form.{nothing_more};
-ghost use Rattle.asn1_model.specs.Numbers as Numbers;
 ghost use Rattle.asn1_model.specs.Per as Per;
 ghost use Rattle.per_codec_reading.specs.Fronts as fronts;
 ghost use Rattle.per_codec_reading.specs.Fronts.{freedoms, Misses, to_octet};
@@ -9,14 +8,7 @@ ghost use Rattle.per_codec_fronts.specs.Takes.{Front};
 
 use crate::{Cursor, Variant};
 use asn1_schema_faults::DecodeError;
-
-/// How many bits are missing to whole octets, behind so many (X.691 11.1).
-#[inline(always)]
-pub fn missing(count: usize) -> usize
-    ensures { result ≡ Numbers.missing count }
-{
-    (8 - count % 8) % 8
-}
+use asn1_values_bits::free_bits;
 
 /// Skips the padding up to the next octet of the message or open type, whatever its bits are (X.691 11.1).
 ///
@@ -28,7 +20,7 @@ pub fn skip_padding(cursor: &mut Cursor<'_>, variant: Variant) -> Result<(), Dec
     ensures ok { OnOk result (Front (freedoms variant) to_octet cursor.old cursor.new) }
     ensures only { IfErr result (Misses (freedoms variant) (λ (_ : Unit {0}). to_octet) cursor.old) }
 {
-    cursor.take(missing(cursor.position()))?;
+    cursor.take(free_bits(cursor.position()) as usize)?;
     Ok(())
 }
 
@@ -38,7 +30,7 @@ pub fn skip_padding(cursor: &mut Cursor<'_>, variant: Variant) -> Result<(), Dec
 ///
 /// `Incomplete` if there are fewer bits.
 #[inline(always)]
-pub fn align(cursor: &mut Cursor<'_>, variant: Variant) -> Result<(), DecodeError>
+pub fn read_padding(cursor: &mut Cursor<'_>, variant: Variant) -> Result<(), DecodeError>
     ensures ok { OnOk result (Front (freedoms variant)
         (Per.at_octet (fronts.is_aligned variant) nothing_more) cursor.old cursor.new) }
     ensures only { IfErr result (Misses (freedoms variant) (Per.at_octet (fronts.is_aligned variant)) cursor.old) }

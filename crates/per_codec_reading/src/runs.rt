@@ -3,7 +3,7 @@ ghost use Rattle.std.specs.Prelude.{◌≡◌, ◌+◌, ◌*◌, ◌<◌, ◌≤
 ghost use Rattle.std.specs.Cow.{cow_slice_items};
 ghost use Rattle.asn1_model.specs.Numbers.{octet_bits};
 ghost use Rattle.asn1_values_bits.specs.BitStr.{bits_of, offset_of};
-ghost use Rattle.asn1_values_bits.specs.Octets.{filled_up};
+ghost use Rattle.asn1_values_bits.specs.Octets.{padded};
 ghost use Rattle.per_codec_fronts.specs.Takes.{Front};
 ghost use Rattle.per_codec_reading.specs.Fronts.{freedoms, Completes, Misses, MissesRest};
 ghost use Rattle.per_codec_reading.specs.Fronts as fronts;

@@ -11,7 +11,7 @@ ghost use Rattle.per_codec_reading.specs.Runs.{units_in, IsLent, InOneRun, EndsW
 ghost use Rattle.per_codec_reading.specs.Sizes.{determinant_form, pads_of, sized_units, told_in_front, units_told};
 ghost use Rattle.per_codec_reading.specs.Sizes.{HoldsOneRun, IsDeterminant};
 
-use crate::padding::align;
+use crate::padding::read_padding;
 use crate::runs::{Run, RunBits, read_units_behind};
 use crate::sizes::{LengthDeterminant, is_admitted, read_heading};
 use crate::{Cursor, Variant};
@@ -46,14 +46,18 @@ fn is_padded(contents: Contents, width: u32, root: Bounded<usize>, count: usize)
 /// # Errors
 ///
 /// `Incomplete` if there are fewer bits.
-fn align_if(cursor: &mut Cursor<'_>, variant: Variant, is_padded: bool) -> Result<(), DecodeError>
+fn read_padding_if(
+    cursor: &mut Cursor<'_>,
+    variant: Variant,
+    is_padded: bool,
+) -> Result<(), DecodeError>
     ensures ok { OnOk result (Front (freedoms variant)
         (Per.at_octet (fronts.is_aligned variant && is_padded) nothing_more) cursor.old cursor.new) }
     ensures only { IfErr result (Misses (freedoms variant)
         (Per.at_octet (fronts.is_aligned variant && is_padded)) cursor.old) }
 {
     if is_padded {
-        align(cursor, variant)?;
+        read_padding(cursor, variant)?;
     }
     Ok(())
 }
@@ -89,7 +93,7 @@ fn read_units<'input>(
     match determinant {
         LengthDeterminant::Constrained(count) => {
             let padded = is_padded(contents, width, root, count);
-            align_if(cursor, variant, padded)?;
+            read_padding_if(cursor, variant, padded)?;
             let bits = cursor.take(count * width as usize)?;
             Ok(Run {
                 count,

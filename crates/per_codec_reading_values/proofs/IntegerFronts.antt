@@ -65,11 +65,11 @@ module _ (free : Per.Freedom → Bool) (al : Bool) where
 
   -- ---- without a constraint
   plain_in : (h : Range) (v : ℤ) (a b : Place) → is_within h v ≡ true → Front free (Per.unconstrained al v) a b → Front free (Integer None h (number v)) a b
-  unfolding Per.form Per.integer_form Per.marked Per.whole_number
+  unfolding Per.form Per.integer_form Per.with_extension_bit Per.whole_number
   plain_in h v a b w f = if_in free (is_within h v && (not (is_bounded (bounds_of None)) || fits_128 v)) _ a b (and_from _ _ w refl) f
 
   plain_out : (h : Range) (u : Value) (a b : Place) → Front free (Integer None h u) a b → (v : ℤ) × (is_within h v ≡ true) × Front free (Per.unconstrained al v) a b
-  unfolding Per.form Per.integer_form Per.marked Per.whole_number
+  unfolding Per.form Per.integer_form Per.with_extension_bit Per.whole_number
   plain_out h (number v) a b f =
       let i = if_out free (is_within h v && (not (is_bounded (bounds_of None)) || fits_128 v)) _ a b f in
       (v, (and_parts _ _ i.0).0, i.1)

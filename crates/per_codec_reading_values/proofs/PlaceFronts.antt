@@ -28,23 +28,23 @@ placed_below v [] i e = cc
 placed_below v (d ∷ ds) i e = moved_place v d ds i (same_number v d) (item_place v ds) e (λ j f. placed_below v ds j f)
 
 -- whether there is a second table
-pub mark_is : {X : Type 0} (P : X → Type 0) (o : Option X) (e : Bool) → MatchOption o (e ≡ false) (λ x. (e ≡ true) × P x) → is_some o ≡ e
-mark_is P None e m = sym m
-mark_is P (Some x) e m = sym m.0
+pub extensible_is : {X : Type 0} (P : X → Type 0) (o : Option X) (e : Bool) → MatchOption o (e ≡ false) (λ x. (e ≡ true) × P x) → is_some o ≡ e
+extensible_is P None e m = sym m
+extensible_is P (Some x) e m = sym m.0
 
 module _ (free : Per.Freedom → Bool) where
   -- ---- the extension bit
-  mark_in : (e : Bool) (a b : Place) → Front free (Per.extension_bit_of e false) a b → Front free (extension_bit e false) a b
-  mark_in false a b f = f
-  mark_in true a b f = f
+  extension_bit_in : (e : Bool) (a b : Place) → Front free (Per.extension_bit_of e false) a b → Front free (extension_bit e false) a b
+  extension_bit_in false a b f = f
+  extension_bit_in true a b f = f
 
-  pub mark_out : (e : Bool) (a b : Place) → Front free (extension_bit e false) a b → Front free (Per.extension_bit_of e false) a b
-  mark_out false a b f = f
-  mark_out true a b f = f
+  pub extension_bit_out : (e : Bool) (a b : Place) → Front free (extension_bit e false) a b → Front free (Per.extension_bit_of e false) a b
+  extension_bit_out false a b f = f
+  extension_bit_out true a b f = f
 
-  pub added_marked : (e : Bool) (a b : Place) → Front free (extension_bit e true) a b → (e ≡ true) × Front free (exactly (true ∷ [])) a b
-  added_marked true a b f = (refl, f)
-  added_marked false a b f = absurd (of_refused free a b f)
+  pub added_extension_bit : (e : Bool) (a b : Place) → Front free (extension_bit e true) a b → (e ≡ true) × Front free (exactly (true ∷ [])) a b
+  added_extension_bit true a b f = (refl, f)
+  added_extension_bit false a b f = absurd (of_refused free a b f)
 
   module _ (al : Bool) where
     -- ---- in the root
@@ -71,8 +71,8 @@ module _ (free : Per.Freedom → Bool) where
     place_out : (roots : ℕ) (e : Bool) (others : ℕ) (c : Chosen) (a b : Place) → Front free (place_form al roots e others c) a b → (m : Place) × Front free (extension_bit e c.added) a m × Front free (cond c.added (added_form al others c.place) (root_form al roots c.place)) m b
     place_out roots e others c a b f = split free (extension_bit e c.added) (cond c.added (added_form al others c.place) (root_form al roots c.place)) a b f
 
-    pub no_place_mark : (roots : ℕ) (e : Bool) (others : ℕ) (a : Place) → NoneStands free (extension_bit e) a → NoneStands free (place_form al roots e others) a
-    no_place_mark roots e others a n c b f = let s = place_out roots e others c a b f in n c.added s.0 s.1
+    pub no_place_extension_bit : (roots : ℕ) (e : Bool) (others : ℕ) (a : Place) → NoneStands free (extension_bit e) a → NoneStands free (place_form al roots e others) a
+    no_place_extension_bit roots e others a n c b f = let s = place_out roots e others c a b f in n c.added s.0 s.1
 
     pub no_added_place : (roots : ℕ) (e : Bool) (others : ℕ) (v : Bool) (a m : Place) → v ≡ true → Front free (extension_bit e v) a m → NoneStands free (added_form al others) m → NoneStands free (place_form al roots e others) a
     no_added_place roots e others v a m t f n c b g =
@@ -93,19 +93,19 @@ module _ (free : Per.Freedom → Bool) where
     root_told roots e others i a b f =
         let s = place_out roots e others (record { added = false; place = i }) a b f in
         let j = if_out free (ltb i roots) (Per.constrained al (roots - 1) i) s.0 b s.2 in
-        (ltb-true i roots j.0, join free (Per.extension_bit_of e false) (Per.constrained al (roots - 1) i) a s.0 b (mark_out e a s.0 s.1) j.1)
+        (ltb-true i roots j.0, join free (Per.extension_bit_of e false) (Per.constrained al (roots - 1) i) a s.0 b (extension_bit_out e a s.0 s.1) j.1)
 
     pub added_told : (roots : ℕ) (e : Bool) (others i : ℕ) (a b : Place) → Front free (place_form al roots e others (record { added = true; place = i })) a b → (e ≡ true) × (i < others) × Front free (both (exactly (true ∷ [])) (Per.normally_small al i)) a b
     added_told roots e others i a b f =
         let s = place_out roots e others (record { added = true; place = i }) a b f in
-        let m = added_marked e a s.0 s.1 in
+        let m = added_extension_bit e a s.0 s.1 in
         let j = if_out free (ltb i others) (Per.normally_small al i) s.0 b s.2 in
         (m.0, ltb-true i others j.0, join free (exactly (true ∷ [])) (Per.normally_small al i) a s.0 b m.1 j.1)
 
     pub root_is : (roots : ℕ) (e : Bool) (others i : ℕ) (a b : Place) → i < roots → Front free (both (Per.extension_bit_of e false) (Per.constrained al (roots - 1) i)) a b → Front free (place_form al roots e others (record { added = false; place = i })) a b
     root_is roots e others i a b l f =
         let s = split free (Per.extension_bit_of e false) (Per.constrained al (roots - 1) i) a b f in
-        join free (extension_bit e false) (root_form al roots i) a s.0 b (mark_in e a s.0 s.1) (if_in free (ltb i roots) (Per.constrained al (roots - 1) i) s.0 b (lt-ltb i roots l) s.2)
+        join free (extension_bit e false) (root_form al roots i) a s.0 b (extension_bit_in e a s.0 s.1) (if_in free (ltb i roots) (Per.constrained al (roots - 1) i) s.0 b (lt-ltb i roots l) s.2)
 
     pub added_is : (roots : ℕ) (others i : ℕ) (a b : Place) → i < others → Front free (both (exactly (true ∷ [])) (Per.normally_small al i)) a b → Front free (place_form al roots true others (record { added = true; place = i })) a b
     added_is roots others i a b l f =

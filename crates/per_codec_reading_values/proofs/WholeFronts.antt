@@ -207,79 +207,79 @@ module _ (free : Per.Freedom → Bool) where
     abbrev root : Per.BitForm
     root = Per.whole_number al (lower b) (upper b) v
 
-    abbrev all_marked : Bool → Per.BitForm
-    all_marked m = Per.marked m (is_within (range_of b) v) root (Per.unconstrained al v)
+    abbrev extensible_form : Bool → Per.BitForm
+    extensible_form m = Per.with_extension_bit m (is_within (range_of b) v) root (Per.unconstrained al v)
 
     abbrev behind : Bool → Per.BitForm
     behind out = cond out (Per.unconstrained al v) root
 
-    plain_in : (m : Bool) (a c : Place) → m ≡ false → Front free root a c → Front free (all_marked m) a c
-    unfolding Per.marked
+    plain_in : (m : Bool) (a c : Place) → m ≡ false → Front free root a c → Front free (extensible_form m) a c
+    unfolding Per.with_extension_bit
     plain_in false a c e f = if_in free (is_within (range_of b) v) _ a c (whole_within al (lower b) (upper b) v a c f) f
     plain_in true a c e f = absurd (false≢true (sym e))
 
-    plain_out : (m : Bool) (a c : Place) → m ≡ false → Front free (all_marked m) a c → Front free root a c
-    unfolding Per.marked
+    plain_out : (m : Bool) (a c : Place) → m ≡ false → Front free (extensible_form m) a c → Front free root a c
+    unfolding Per.with_extension_bit
     plain_out false a c e f = (if_out free (is_within (range_of b) v) _ a c f).1
     plain_out true a c e f = absurd (false≢true (sym e))
 
-    abbrev by_mark : Bool → Per.BitForm
-    by_mark out = cond out (both (exactly (true ∷ [])) (Per.unconstrained al v)) (only_if (is_within (range_of b) v) (both (exactly (false ∷ [])) root))
+    abbrev by_extension_bit : Bool → Per.BitForm
+    by_extension_bit out = cond out (both (exactly (true ∷ [])) (Per.unconstrained al v)) (only_if (is_within (range_of b) v) (both (exactly (false ∷ [])) root))
 
-    marked_in : (m out : Bool) (a mid c : Place) → m ≡ true → IsTrue (free Per.root_marked_outside) → Front free (one_bit out) a mid → Front free (behind out) mid c → Front free (all_marked m) a c
-    unfolding Per.marked
-    marked_in true true a mid c e t f g = varied_in free by_mark true (inr t) a c (join free _ _ a mid c f g)
-    marked_in true false a mid c e t f g =
+    extensible_in : (m out : Bool) (a mid c : Place) → m ≡ true → IsTrue (free Per.root_told_outside) → Front free (one_bit out) a mid → Front free (behind out) mid c → Front free (extensible_form m) a c
+    unfolding Per.with_extension_bit
+    extensible_in true true a mid c e t f g = varied_in free by_extension_bit true (inr t) a c (join free _ _ a mid c f g)
+    extensible_in true false a mid c e t f g =
         let w = whole_within al (lower b) (upper b) v mid c g in
-        varied_in free by_mark false (inl (ap not (sym w))) a c (if_in free (is_within (range_of b) v) _ a c w (join free _ _ a mid c f g))
-    marked_in false out a mid c e t f g = absurd (false≢true e)
+        varied_in free by_extension_bit false (inl (ap not (sym w))) a c (if_in free (is_within (range_of b) v) _ a c w (join free _ _ a mid c f g))
+    extensible_in false out a mid c e t f g = absurd (false≢true e)
 
-    split_mark : (out : Bool) (a c : Place) → Front free (by_mark out) a c → (mid : Place) × Front free (one_bit out) a mid × Front free (behind out) mid c
-    split_mark true a c f = split free _ _ a c f
-    split_mark false a c f = split free _ _ a c (if_out free (is_within (range_of b) v) _ a c f).1
+    split_extension_bit : (out : Bool) (a c : Place) → Front free (by_extension_bit out) a c → (mid : Place) × Front free (one_bit out) a mid × Front free (behind out) mid c
+    split_extension_bit true a c f = split free _ _ a c f
+    split_extension_bit false a c f = split free _ _ a c (if_out free (is_within (range_of b) v) _ a c f).1
 
-    marked_out : (m out : Bool) (a mid c : Place) → m ≡ true → Front free (one_bit out) a mid → Front free (all_marked m) a c → Front free (behind out) mid c
-    unfolding Per.marked
-    marked_out true out a mid c e f g =
-        let q = varied_out free by_mark a c g in
-        let s = split_mark q.0 a c q.2 in
+    extensible_out : (m out : Bool) (a mid c : Place) → m ≡ true → Front free (one_bit out) a mid → Front free (extensible_form m) a c → Front free (behind out) mid c
+    unfolding Per.with_extension_bit
+    extensible_out true out a mid c e f g =
+        let q = varied_out free by_extension_bit a c g in
+        let s = split_extension_bit q.0 a c q.2 in
         let t = bits_same q.0 out a s.0 mid s.1 f in
         subst (λ o. Front free (behind o) mid c) t.0 (subst (λ p. Front free (behind q.0) p c) t.1 s.2)
-    marked_out false out a mid c e f g = absurd (false≢true e)
+    extensible_out false out a mid c e f g = absurd (false≢true e)
 
-    some_marker : (m : Bool) (a c : Place) → m ≡ true → Front free (all_marked m) a c → (out : Bool) × (mid : Place) × Front free (one_bit out) a mid
-    unfolding Per.marked
-    some_marker true a c e f =
-        let q = varied_out free by_mark a c f in
-        let s = split_mark q.0 a c q.2 in
+    some_extension_bit : (m : Bool) (a c : Place) → m ≡ true → Front free (extensible_form m) a c → (out : Bool) × (mid : Place) × Front free (one_bit out) a mid
+    unfolding Per.with_extension_bit
+    some_extension_bit true a c e f =
+        let q = varied_out free by_extension_bit a c f in
+        let s = split_extension_bit q.0 a c q.2 in
         (q.0, s.0, s.1)
-    some_marker false a c e f = absurd (false≢true e)
+    some_extension_bit false a c e f = absurd (false≢true e)
 
   abbrev Constrained : Type 0
   Constrained = Extensible Constraint.Value
 
-  pub unmarked_read : (al : Bool) (c : Constrained) (v : ℤ) (a b : Place) → has_additions c ≡ false → Front free (in_128_bits (Per.whole_number al (lower c.constraint.value) (upper c.constraint.value)) v) a b → Front free (in_128_bits (under_constraint al c) v) a b
-  unmarked_read al c v a b e f =
+  pub inextensible_read : (al : Bool) (c : Constrained) (v : ℤ) (a b : Place) → has_additions c ≡ false → Front free (in_128_bits (Per.whole_number al (lower c.constraint.value) (upper c.constraint.value)) v) a b → Front free (in_128_bits (under_constraint al c) v) a b
+  inextensible_read al c v a b e f =
       let i = if_out free (is_within wide_range v) _ a b f in
       if_in free (is_within wide_range v) _ a b i.0 (plain_in al c.constraint.value v (has_additions c) a b e i.1)
 
-  pub unmarked_missed : (al : Bool) (c : Constrained) (a : Place) → has_additions c ≡ false → NoneStands free (in_128_bits (Per.whole_number al (lower c.constraint.value) (upper c.constraint.value))) a → NoneStands free (in_128_bits (under_constraint al c)) a
-  unmarked_missed al c a e n v b f =
+  pub inextensible_missed : (al : Bool) (c : Constrained) (a : Place) → has_additions c ≡ false → NoneStands free (in_128_bits (Per.whole_number al (lower c.constraint.value) (upper c.constraint.value))) a → NoneStands free (in_128_bits (under_constraint al c)) a
+  inextensible_missed al c a e n v b f =
       let i = if_out free (is_within wide_range v) _ a b f in
       n v b (if_in free (is_within wide_range v) _ a b i.0 (plain_out al c.constraint.value v (has_additions c) a b e i.1))
 
-  pub marked_read : (al : Bool) (c : Constrained) (out : Bool) (v : ℤ) (a mid b : Place) → has_additions c ≡ true → IsTrue (free Per.root_marked_outside) → Front free (one_bit out) a mid → Front free (in_128_bits (behind_extension_bit al out c.constraint.value) v) mid b → Front free (in_128_bits (under_constraint al c) v) a b
-  marked_read al c out v a mid b e t f g =
+  pub extensible_read : (al : Bool) (c : Constrained) (out : Bool) (v : ℤ) (a mid b : Place) → has_additions c ≡ true → IsTrue (free Per.root_told_outside) → Front free (one_bit out) a mid → Front free (in_128_bits (behind_extension_bit al out c.constraint.value) v) mid b → Front free (in_128_bits (under_constraint al c) v) a b
+  extensible_read al c out v a mid b e t f g =
       let i = if_out free (is_within wide_range v) _ mid b g in
-      if_in free (is_within wide_range v) _ a b i.0 (marked_in al c.constraint.value v (has_additions c) out a mid b e t f i.1)
+      if_in free (is_within wide_range v) _ a b i.0 (extensible_in al c.constraint.value v (has_additions c) out a mid b e t f i.1)
 
-  pub marked_missed : (al : Bool) (c : Constrained) (out : Bool) (a mid : Place) → has_additions c ≡ true → Front free (one_bit out) a mid → NoneStands free (in_128_bits (behind_extension_bit al out c.constraint.value)) mid → NoneStands free (in_128_bits (under_constraint al c)) a
-  marked_missed al c out a mid e f n v b g =
+  pub extensible_missed : (al : Bool) (c : Constrained) (out : Bool) (a mid : Place) → has_additions c ≡ true → Front free (one_bit out) a mid → NoneStands free (in_128_bits (behind_extension_bit al out c.constraint.value)) mid → NoneStands free (in_128_bits (under_constraint al c)) a
+  extensible_missed al c out a mid e f n v b g =
       let i = if_out free (is_within wide_range v) _ a b g in
-      n v b (if_in free (is_within wide_range v) _ mid b i.0 (marked_out al c.constraint.value v (has_additions c) out a mid b e f i.1))
+      n v b (if_in free (is_within wide_range v) _ mid b i.0 (extensible_out al c.constraint.value v (has_additions c) out a mid b e f i.1))
 
-  pub mark_missed : (al : Bool) (c : Constrained) (a : Place) → has_additions c ≡ true → NoneStands free one_bit a → NoneStands free (in_128_bits (under_constraint al c)) a
-  mark_missed al c a e n v b g =
+  pub extension_bit_missed : (al : Bool) (c : Constrained) (a : Place) → has_additions c ≡ true → NoneStands free one_bit a → NoneStands free (in_128_bits (under_constraint al c)) a
+  extension_bit_missed al c a e n v b g =
       let i = if_out free (is_within wide_range v) _ a b g in
-      let s = some_marker al c.constraint.value v (has_additions c) a b e i.1 in
+      let s = some_extension_bit al c.constraint.value v (has_additions c) a b e i.1 in
       n s.0 s.1 s.2

@@ -3,7 +3,8 @@ use Rattle.std.specs.Prelude.{ℕ, ◌-◌, ◌^◌, ltb, cond, ℤ, pos, negsuc
 use Rattle.asn1_model.specs.Schema.{Range}
 use Rattle.asn1_model.specs.Numbers.{is_within}
 use Rattle.asn1_model.specs.Form.{only_if}
-use Rattle.asn1_model.specs.Per.{BitForm, counted_octets, semi_constrained, unconstrained, whole_number, marked}
+use Rattle.asn1_model.specs.Per.{BitForm, counted_octets, semi_constrained, unconstrained, whole_number}
+use Rattle.asn1_model.specs.Per.{with_extension_bit}
 use Rattle.asn1_schema_constraints.specs.Bounds.{range_of, lower, upper}
 use Rattle.asn1_schema_constraints.specs.declared.bounds.Bounded.{Bounded}
 use Rattle.asn1_schema_constraints.specs.Sets.{has_additions}
@@ -36,5 +37,5 @@ behind_extension_bit al out b v = cond out (unconstrained al v) (whole_number al
 
 -- A number under a value constraint: by its bounds, or behind an extension bit that is set (X.691 13.1 and 13.2).
 abbrev pub under_constraint : Bool → Extensible Value → ℤ → BitForm
-under_constraint al c v = marked (has_additions c) (is_within (range_of c.constraint.value) v)
+under_constraint al c v = with_extension_bit (has_additions c) (is_within (range_of c.constraint.value) v)
     (whole_number al (lower c.constraint.value) (upper c.constraint.value) v) (unconstrained al v)

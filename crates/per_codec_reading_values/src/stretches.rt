@@ -10,14 +10,11 @@ ghost use Rattle.per_codec_reading.specs.Runs.{bits_in, StandsIn, storage_inside
 ghost use Rattle.per_codec_reading_values.specs.Fields.{EndsAt, field_form, octets_form};
 
 use crate::fields::{Field, read_field, read_octets};
-use asn1_schema_faults::DecodeError;
+use asn1_schema_faults::{DecodeError, MOST_OCTETS};
 use asn1_values_bits::{BitBuffer, BitStr};
 use per_codec_reading::{Cursor, RunBits, Variant, lent_by};
 use std::alloc::{AllocError, Global};
 use std::marker::Model;
-
-/// An encoding has no more octets.
-const MOST_OCTETS: usize = (1 << 60) - 1;
 
 /// The bits of a message or of an open type, presence bits or a bitmap, lent or held, and how many of them are read.
 #[derive(Drop)]

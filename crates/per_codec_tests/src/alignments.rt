@@ -121,7 +121,7 @@ const SIZED: [Row; 12] = [
     ),
 ];
 
-/// Lists (X.691 20). Behind the bits of a member the next one is filled up again.
+/// Lists (X.691 20). Behind the bits of a member the next one is padded again.
 const LISTS: [Row; 2] = [
     (Value::Numbers(&[1, 2]), Limit::Any, "| 02 01 01 01 02"),
     (Value::Lists(&[1, 3]), Limit::Any, "| 02 | 01 b1 | 03 b111"),
@@ -259,7 +259,7 @@ fn is_written_behind<T: Encode>(
     Ok(written.as_slice() == octets)
 }
 
-/// So many set bits and these: zero bits fill up the octets, of which there is one at least.
+/// So many set bits and these: padding follows up to whole octets, of which there is one at least.
 fn expected(
     alloc: Global,
     (variant, count): (Variant, usize),

@@ -28,7 +28,7 @@ const ROWS: [(&str, &str, bool); 13] = [
     ("A5*65536 3C*14464", "C4 A5*65536 B8 80 3C*14464", true),
 ];
 
-/// So many set bits, and in the aligned variant what fills up the octet, and these octets.
+/// So many set bits, and in the aligned variant padding, and these octets.
 fn behind(
     alloc: Global,
     (variant, count): (Variant, usize),
@@ -44,7 +44,7 @@ fn behind(
     Ok(bits)
 }
 
-/// Whether octets are read from these behind so many bits, and no bits stand behind them but those that fill up the
+/// Whether octets are read from these behind so many bits, and no bits stand behind them but the padding of the
 /// last octet.
 fn is_read(
     alloc: Global,

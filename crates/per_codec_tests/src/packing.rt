@@ -3,12 +3,12 @@ use per_codec_packing::{Packing, complete_in};
 use std::alloc::{AllocError, Global};
 use std::test::Fail;
 
-/// Adds a bit, filling, an octet, filling, and a bit.
+/// Adds a bit, padding, an octet, padding, and a bit.
 fn push_member(text: &mut Packing) -> Result<(), AllocError> {
     text.push(true)?;
-    text.align()?;
+    text.push_padding()?;
     text.push_bits(0xAB, 8)?;
-    text.align()?;
+    text.push_padding()?;
     text.push(true)
 }
 
@@ -78,7 +78,7 @@ fn are_complete(alloc: Global, of_member: &[u8], of_nothing: &[u8]) -> Result<bo
 }
 
 #[test]
-fn filled_where_it_comes_to_stand(rt: HostRuntime) -> Result<(), Fail> {
+fn padded_where_it_comes_to_stand(rt: HostRuntime) -> Result<(), Fail> {
     for row in ROWS {
         assert!(rt; is_right(rt.alloc(), row)?);
     }

@@ -214,7 +214,7 @@ fn lends_behind_a_bit(alloc: Global, input: &[u8], octets: &[u8]) -> Result<bool
 }
 
 /// Begins a choice of the alternatives [0] and, behind its extension marker, [1].
-fn begin_marked(decoder: &mut Decoder<'_>) -> Result<(), DecodeError> {
+fn begin_extensible(decoder: &mut Decoder<'_>) -> Result<(), DecodeError> {
     let Some(tables) = TagTables::checked(&[FIRST], true, &[SECOND], &PLACES[..2]) else {
         return Err(DecodeError::OutOfMemory);
     };
@@ -228,7 +228,7 @@ fn lends_both(
     decoder: &mut Decoder<'_>,
     (inside, behind): (&[u8], &[u8]),
 ) -> Result<bool, DecodeError> {
-    begin_marked(decoder)?;
+    begin_extensible(decoder)?;
     let first = lends(alloc, decoder, inside)?;
     decoder.end()?;
     Ok(lends(alloc, decoder, behind)? && first)

@@ -4,8 +4,8 @@ use per_codec_reading::Variant;
 use std::alloc::{AllocError, Global};
 use std::test::Fail;
 
-/// Fills a text of bits up to an octet, in the aligned variant.
-fn fill(bits: &mut BitBuffer, variant: Variant) -> Result<(), AllocError> {
+/// Pads a text of bits to an octet, in the aligned variant.
+fn pad_to_octet(bits: &mut BitBuffer, variant: Variant) -> Result<(), AllocError> {
     if variant.is_aligned() {
         let whole = bits.as_bytes().len().saturating_mul(8);
         bits.resize(whole, false)?;
@@ -26,12 +26,12 @@ fn push_octets(bits: &mut BitBuffer, word: &str) -> Result<(), Fail> {
     Ok(())
 }
 
-/// Adds what a text spells: octets in hexadecimal digits, many of one as `61*16384`, bits as `b0110`, and by `|` what
-/// fills up an octet in the aligned variant.
+/// Adds what a text spells: octets in hexadecimal digits, many of one as `61*16384`, bits as `b0110`, and by `|`
+/// padding up to an octet in the aligned variant.
 pub fn push_spelled(bits: &mut BitBuffer, text: &str, variant: Variant) -> Result<(), Fail> {
     for word in text.split_whitespace() {
         if word == "|" {
-            fill(bits, variant)?;
+            pad_to_octet(bits, variant)?;
         } else if let Some(digits) = word.strip_prefix('b') {
             for digit in digits.chars() {
                 bits.push(digit == '1')?;
@@ -43,7 +43,7 @@ pub fn push_spelled(bits: &mut BitBuffer, text: &str, variant: Variant) -> Resul
     Ok(())
 }
 
-/// The octets that a text spells, the last of them filled up.
+/// The octets that a text spells, the last of them padded.
 pub fn octets(alloc: Global, text: &str) -> Result<Vec<u8>, Fail> {
     let mut bits = BitBuffer::new(alloc);
     push_spelled(&mut bits, text, Variant::Unaligned)?;

@@ -7,7 +7,7 @@ use Rattle.asn1_schema_faults.specs.declared.EncodeError.TheVariants.{OutOfMemor
 use Rattle.per_codec_packing.specs.Texts.{Text, as_text, on, text_at}
 use Rattle.per_codec_packing.proofs.Formed.{as_text-append}
 use Rattle.per_codec_writing.specs.Writing.{Packed, Adds, Refuses, place, plus}
-use Rattle.per_codec_writing.proofs.FillingTexts.{adds_text}
+use Rattle.per_codec_writing.proofs.PaddingTexts.{adds_text}
 use Rattle.per_codec_writing.specs.Units.{together, forms_of}
 
 joined_text : (ts : List (List Bool)) (p : Option ℕ) → text_at (joined (forms_of ts)) p ≡ Some (as_text (together ts))

@@ -8,7 +8,7 @@ use Rattle.asn1_model.specs.Per
 use Rattle.asn1_values_bits.proofs.Binary.{binary_join}
 use Rattle.per_codec_packing.specs.Texts.{as_text, text_at}
 use Rattle.per_codec_writing.specs.Writing.{Packed, Adds, place, plus}
-use Rattle.per_codec_writing.proofs.FillingTexts.{adds_text, adds_same, adds_both, if_true, cond_true, cond_false}
+use Rattle.per_codec_writing.proofs.PaddingTexts.{adds_text, adds_same, adds_both, if_true, cond_true, cond_false}
 use Rattle.per_codec_writing.specs.Units.{together, forms_of}
 use Rattle.per_codec_writing.proofs.Adding.{adds_joined}
 use Rattle.per_codec_writing.specs.Additions.{as_open_types}

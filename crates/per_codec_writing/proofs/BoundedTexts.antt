@@ -21,30 +21,30 @@ use Rattle.asn1_values_natives.specs.Ranges.{whole_range}
 use Rattle.asn1_values_natives.proofs.Widths.{signed_octets-le}
 use Rattle.per_codec_packing.specs.Texts.{as_text, text_at}
 use Rattle.per_codec_writing.specs.Writing.{Packed, Adds, place, plus}
-use Rattle.per_codec_writing.proofs.FillingTexts.{adds_text, adds_same, adds_both, if_true, if_false}
+use Rattle.per_codec_writing.proofs.PaddingTexts.{adds_text, adds_same, adds_both, if_true, if_false}
 use Rattle.per_codec_writing.proofs.NumberTexts.{Did, did_same, did_behind, is_at_most_le}
 
 -- ---- in the root, or outside it
 
 module _ (root outside : Per.BitForm) where
-  pub unmarked_text : (e within : Bool) (p : Option ℕ) → e ≡ false → within ≡ true → text_at (Per.marked e within root outside) p ≡ text_at root p
-  unfolding Per.marked
-  unmarked_text false within p d w = if_true within root p w
-  unmarked_text true within p d w = cc
+  pub inextensible_text : (e within : Bool) (p : Option ℕ) → e ≡ false → within ≡ true → text_at (Per.with_extension_bit e within root outside) p ≡ text_at root p
+  unfolding Per.with_extension_bit
+  inextensible_text false within p d w = if_true within root p w
+  inextensible_text true within p d w = cc
 
-  pub unmarked_none : (e within : Bool) (p : Option ℕ) → e ≡ false → within ≡ false → text_at (Per.marked e within root outside) p ≡ None
-  unfolding Per.marked
-  unmarked_none false within p d w = if_false within root p w
-  unmarked_none true within p d w = cc
+  pub inextensible_none : (e within : Bool) (p : Option ℕ) → e ≡ false → within ≡ false → text_at (Per.with_extension_bit e within root outside) p ≡ None
+  unfolding Per.with_extension_bit
+  inextensible_none false within p d w = if_false within root p w
+  inextensible_none true within p d w = cc
 
-  inside_text : (e within : Bool) (p : Option ℕ) → e ≡ true → within ≡ true → text_at (Per.marked e within root outside) p ≡ text_at (both (exactly (false ∷ [])) root) p
-  unfolding Per.marked text_at
+  inside_text : (e within : Bool) (p : Option ℕ) → e ≡ true → within ≡ true → text_at (Per.with_extension_bit e within root outside) p ≡ text_at (both (exactly (false ∷ [])) root) p
+  unfolding Per.with_extension_bit text_at
   inside_text true true p d w = refl
   inside_text true false p d w = cc
   inside_text false within p d w = cc
 
-  outside_text : (e within : Bool) (p : Option ℕ) → e ≡ true → within ≡ false → text_at (Per.marked e within root outside) p ≡ text_at (both (exactly (true ∷ [])) outside) p
-  unfolding Per.marked text_at
+  outside_text : (e within : Bool) (p : Option ℕ) → e ≡ true → within ≡ false → text_at (Per.with_extension_bit e within root outside) p ≡ text_at (both (exactly (true ∷ [])) outside) p
+  unfolding Per.with_extension_bit text_at
   outside_text true false p d w = refl
   outside_text true true p d w = cc
   outside_text false within p d w = cc
@@ -53,10 +53,10 @@ module _ (root outside : Per.BitForm) where
   unfolding text_at
   adds_extension_bit b m old mid e f = adds_text _ (as_text (b ∷ [])) old mid refl (e ∙ ap (λ x. plus old (as_text (x ∷ []))) f)
 
-  pub did_inside : {T : Type 0} (r : Result T EncodeError) (e within : Bool) (old mid new : Packed) → e ≡ true → within ≡ true → mid ≡ plus old (as_text (not within ∷ [])) → Did r (text_at root (place mid)) mid new → Did r (text_at (Per.marked e within root outside) (place old)) old new
+  pub did_inside : {T : Type 0} (r : Result T EncodeError) (e within : Bool) (old mid new : Packed) → e ≡ true → within ≡ true → mid ≡ plus old (as_text (not within ∷ [])) → Did r (text_at root (place mid)) mid new → Did r (text_at (Per.with_extension_bit e within root outside) (place old)) old new
   did_inside r e within old mid new d w m h = did_same r _ _ old new (inside_text e within (place old) d w) (did_behind r (exactly (false ∷ [])) root old mid new (adds_extension_bit false (not within) old mid m (ap not w)) h)
 
-  pub adds_outside : (e within : Bool) (old mid new : Packed) → e ≡ true → within ≡ false → mid ≡ plus old (as_text (not within ∷ [])) → Adds (text_at outside (place mid)) mid new → Adds (text_at (Per.marked e within root outside) (place old)) old new
+  pub adds_outside : (e within : Bool) (old mid new : Packed) → e ≡ true → within ≡ false → mid ≡ plus old (as_text (not within ∷ [])) → Adds (text_at outside (place mid)) mid new → Adds (text_at (Per.with_extension_bit e within root outside) (place old)) old new
   adds_outside e within old mid new d w m h = adds_same _ _ old new (outside_text e within (place old) d w) (adds_both (exactly (true ∷ [])) outside old mid new (adds_extension_bit true (not within) old mid m (ap not w)) h)
 
 -- ---- numbers that the program's type and 128 bits hold
@@ -92,10 +92,10 @@ within_wide (pos m) w = let h : pos m ≤ℤ pos (2 ^ 127 - 1) = is_at_most_le (
 within_wide (negsuc m) w = let h : negsuc (2 ^ 127 - 1) ≤ℤ negsuc m = is_at_most_le (negsuc (2 ^ 127 - 1)) (negsuc m) (and_parts (is_at_most (negsuc (2 ^ 127 - 1)) (negsuc m)) (is_at_most (negsuc m) (pos (2 ^ 127 - 1))) w).0 in omega (arith, ints)
 
 pub unbounded_text : (al : Bool) (h : Range) (v : ℤ) (p : Option ℕ) → is_within h v ≡ true → text_at (Per.form al (integer (bounds_of None) (held_of None h)) (number v)) p ≡ text_at (Per.unconstrained al v) p
-unfolding Per.form Per.integer_form Per.marked Per.whole_number
+unfolding Per.form Per.integer_form Per.with_extension_bit Per.whole_number
 unbounded_text al h v p e = if_true (is_within h v && true) (Per.unconstrained al v) p (both_by e refl)
 
-pub bounded_text : (al : Bool) (c : Extensible Value) (h : Range) (v : ℤ) (p : Option ℕ) → is_within h v ≡ true → is_within wide v ≡ true → text_at (Per.form al (integer (bounds_of (Some c)) (held_of (Some c) h)) (number v)) p ≡ text_at (Per.marked (bounds_of (Some c)).extensible (is_within (bounds_of (Some c)).range v) (Per.whole_number al (lower c.constraint.value) (upper c.constraint.value) v) (Per.unconstrained al v)) p
+pub bounded_text : (al : Bool) (c : Extensible Value) (h : Range) (v : ℤ) (p : Option ℕ) → is_within h v ≡ true → is_within wide v ≡ true → text_at (Per.form al (integer (bounds_of (Some c)) (held_of (Some c) h)) (number v)) p ≡ text_at (Per.with_extension_bit (bounds_of (Some c)).extensible (is_within (bounds_of (Some c)).range v) (Per.whole_number al (lower c.constraint.value) (upper c.constraint.value) v) (Per.unconstrained al v)) p
 unfolding Per.form Per.integer_form
 bounded_text al c h v p e w = if_true (is_within (held_of (Some c) h) v && (not (is_bounded (bounds_of (Some c))) || fits_128 v)) _ p (both_by (held_within c h v ∙ both_by e w) (or_right (not (is_bounded (bounds_of (Some c)))) (fits_128 v) (le-leb (signed_octets v) 16 (signed_octets-le v 15 (within_wide v w)))))
 

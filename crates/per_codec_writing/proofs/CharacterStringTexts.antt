@@ -10,7 +10,7 @@ use Rattle.asn1_model.specs.Value.{text}
 use Rattle.asn1_model.specs.Per
 use Rattle.per_codec_alphabets.specs.Codes.{Coded, SameCharacters}
 use Rattle.per_codec_packing.specs.Texts.{text_at}
-use Rattle.per_codec_writing.proofs.FillingTexts.{if_true, cond_true, cond_false}
+use Rattle.per_codec_writing.proofs.PaddingTexts.{if_true, cond_true, cond_false}
 use Rattle.per_codec_writing.specs.Units.{forms_of}
 use Rattle.per_codec_writing.proofs.PaddedSizes.{sized_padded}
 use Rattle.per_codec_writing.specs.Characters.{has_code, texts_of}

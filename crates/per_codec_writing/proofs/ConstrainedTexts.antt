@@ -7,8 +7,8 @@ use Rattle.asn1_model.specs.Per
 use Rattle.asn1_values_bits.proofs.Binary.{binary_split, binary_low}
 use Rattle.asn1_values_natives.proofs.Widths.{octet_width-octets, octets-least, pow256}
 use Rattle.per_codec_packing.specs.Texts.{as_text, text_at}
-use Rattle.per_codec_writing.specs.Writing.{Packed, Adds, place, plus, fill_at}
-use Rattle.per_codec_writing.proofs.FillingTexts.{adds_text, adds_same, if_true, if_false, cond_true, cond_false, adds_both, adds_bits_at_octet}
+use Rattle.per_codec_writing.specs.Writing.{Packed, Adds, place, plus, padding_if}
+use Rattle.per_codec_writing.proofs.PaddingTexts.{adds_text, adds_same, if_true, if_false, cond_true, cond_false, adds_both, adds_bits_at_octet}
 
 -- ---- the bits of octets
 
@@ -47,7 +47,7 @@ large most span d p h l = if_true (leb d span) _ p (le-leb _ _ h) ∙ cond_false
     fits false false = refl
 
 -- 256 numbers
-pub adds_octet : (span d : ℕ) (old mid new : Packed) → d ≤ span → span ≡ 255 → mid ≡ plus old (fill_at true (place old)) → new ≡ plus mid (as_text (binary 8 d)) → Adds (text_at (Per.constrained true span d) (place old)) old new
+pub adds_octet : (span d : ℕ) (old mid new : Packed) → d ≤ span → span ≡ 255 → mid ≡ plus old (padding_if true (place old)) → new ≡ plus mid (as_text (binary 8 d)) → Adds (text_at (Per.constrained true span d) (place old)) old new
 unfolding Per.constrained
 adds_octet span d old mid new h s e f =
     adds_same _ _ old new
@@ -55,7 +55,7 @@ adds_octet span d old mid new h s e f =
     (adds_bits_at_octet true (binary 8 d) old mid new e f)
 
 -- up to 65536 numbers
-pub adds_two_octets : (span d : ℕ) (old mid new : Packed) → d ≤ span → 255 < span → span < 65536 → mid ≡ plus old (fill_at true (place old)) → new ≡ plus mid (as_text (binary 16 d)) → Adds (text_at (Per.constrained true span d) (place old)) old new
+pub adds_two_octets : (span d : ℕ) (old mid new : Packed) → d ≤ span → 255 < span → span < 65536 → mid ≡ plus old (padding_if true (place old)) → new ≡ plus mid (as_text (binary 16 d)) → Adds (text_at (Per.constrained true span d) (place old)) old new
 unfolding Per.constrained
 adds_two_octets span d old mid new h s t e f =
     adds_same _ _ old new
@@ -76,7 +76,7 @@ at_least_three (suc (suc (suc w))) span b h = omega arith
 pub octets_of_span : (span : ℕ) → 65536 ≤ span → span < 2 ^ 128 → (3 ≤ octet_width span) × (octet_width span ≤ 16)
 octets_of_span span h k = let b = octet_width-octets span in (at_least_three (octet_width span) span b.below h, octets-least span 16 (octet_width span) b k)
 
-pub adds_fewest : (span d : ℕ) (old number mid new : Packed) → d ≤ span → 65536 ≤ span → span < 2 ^ 128 → number ≡ plus old (as_text (binary (width (octet_width span - 1)) (least_octets d - 1))) → mid ≡ plus number (fill_at true (place number)) → new ≡ plus mid (as_text (binary (least_octets d * 8) d)) → Adds (text_at (Per.constrained true span d) (place old)) old new
+pub adds_fewest : (span d : ℕ) (old number mid new : Packed) → d ≤ span → 65536 ≤ span → span < 2 ^ 128 → number ≡ plus old (as_text (binary (width (octet_width span - 1)) (least_octets d - 1))) → mid ≡ plus number (padding_if true (place number)) → new ≡ plus mid (as_text (binary (least_octets d * 8) d)) → Adds (text_at (Per.constrained true span d) (place old)) old new
 unfolding Per.constrained Per.in_octets_of
 adds_fewest span d old number mid new h s t e f g =
     let k : ℕ = least_octets d in

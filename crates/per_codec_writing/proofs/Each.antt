@@ -5,7 +5,7 @@ use Rattle.asn1_model.specs.Form.{joined}
 use Rattle.per_codec_packing.specs.Texts.{text_at, as_form}
 use Rattle.per_codec_packing.proofs.Spread.{none_left}
 use Rattle.per_codec_writing.specs.Writing.{Packed, Adds, place}
-use Rattle.per_codec_writing.proofs.FillingTexts.{adds_both}
+use Rattle.per_codec_writing.proofs.PaddingTexts.{adds_both}
 use Rattle.per_codec_writing.specs.Members.{forms_of}
 use Rattle.per_codec_packing.specs.Viewed.{text_of}
 use Rattle.per_codec_packing.specs.declared.text_view.TextView.{TextView}

@@ -8,7 +8,7 @@ use Rattle.asn1_values_natives.proofs.OctetLaws.{AreOctets}
 use Rattle.asn1_values_natives.proofs.TwosComplement.{octets-all}
 use Rattle.per_codec_packing.specs.Texts.{text_at}
 use Rattle.per_codec_writing.specs.Writing.{Packed, Adds, place}
-use Rattle.per_codec_writing.proofs.FillingTexts.{adds_same, if_true}
+use Rattle.per_codec_writing.proofs.PaddingTexts.{adds_same, if_true}
 
 -- ---- how units are divided
 

@@ -13,7 +13,7 @@ use Rattle.per_codec_packing.proofs.Adding.{added, adds_text, adds_both, adds_sa
 use Rattle.per_codec_writing.specs.Headings.{LengthDeterminants, Heading, before_all, next_determinant, general, count_form, sized_count, behind_bit, extensible_count, heading, form_due, count_behind, determinants_of, Heads, IsDue}
 use Rattle.per_codec_writing.specs.Units.{of_size}
 use Rattle.per_codec_writing.specs.declared.lengths.Due.{Due}
-use Rattle.per_codec_writing.proofs.FillingTexts.{if_true, if_false}
+use Rattle.per_codec_writing.proofs.PaddingTexts.{if_true, if_false}
 
 -- how many units stand behind the next length determinant
 abbrev pub left : LengthDeterminants → ℕ
@@ -95,7 +95,7 @@ general_leads al us = record { text = λ p. next_text al (Per.largest_first (len
 -- a number, the padding behind it, and the units
 number_text : (al b : Bool) (low high : ℕ) (us : List Per.BitForm) (n : ℕ) (p : Option ℕ) → text_at (both (Per.constrained al (high - low) (n - low)) (Per.at_octet (al && b) (joined us))) p ≡ text_at (both (count_form al low high b n) (joined us)) p
 unfolding Per.at_octet
-number_text true true low high us n p = sym (both_assoc (Per.constrained true (high - low) (n - low)) (placed (λ p. Per.filling (missing p))) (joined us) p)
+number_text true true low high us n p = sym (both_assoc (Per.constrained true (high - low) (n - low)) (placed (λ p. Per.padding (missing p))) (joined us) p)
 number_text true false low high us n p = refl
 number_text false true low high us n p = refl
 number_text false false low high us n p = refl
@@ -139,8 +139,8 @@ unfolding text_at
 if_leads al true f n us x h = h
 if_leads al false f n us x h = record { text = λ p. refl; sound = λ p. tt }
 
-pub extensible_leads : (al e t : Bool) (f g : Option ℕ → Option Heading) (n : ℕ) (us : List Per.BitForm) (x y : Per.BitForm) → Leads al f n us x → Leads al g n us y → Leads al (extensible_count e t f g) n us (Per.marked e t x y)
-unfolding text_at Per.marked
+pub extensible_leads : (al e t : Bool) (f g : Option ℕ → Option Heading) (n : ℕ) (us : List Per.BitForm) (x y : Per.BitForm) → Leads al f n us x → Leads al g n us y → Leads al (extensible_count e t f g) n us (Per.with_extension_bit e t x y)
+unfolding text_at Per.with_extension_bit
 extensible_leads al false t f g n us x y h k = if_leads al t f n us x h
 extensible_leads al true true f g n us x y h k = let l = bit_leads al false f n us x h in record { text = l.text; sound = l.sound }
 extensible_leads al true false f g n us x y h k = let l = bit_leads al true g n us y k in record { text = l.text; sound = l.sound }

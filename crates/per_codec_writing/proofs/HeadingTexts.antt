@@ -10,11 +10,11 @@ use Rattle.asn1_schema_faults.specs.declared.EncodeError.TheVariants.{ValueConst
 use Rattle.per_codec_limits.specs.Counts.{below_long_count}
 use Rattle.per_codec_packing.specs.Texts.{Text, text_at}
 use Rattle.per_codec_packing.specs.Packed.{Packed, place, plus}
-use Rattle.per_codec_packing.proofs.Adding.{added, adds_filling, none_first}
-use Rattle.per_codec_writing.specs.Headings.{Heading, before_all, next_determinant, general, padded, count_form, sized_count, heading_of, Heads, NoHeading}
-use Rattle.per_codec_writing.specs.Writing.{Adds, Refuses, fill_at}
+use Rattle.per_codec_packing.proofs.Adding.{added, adds_padding, none_first}
+use Rattle.per_codec_writing.specs.Headings.{Heading, before_all, next_determinant, general, padding_behind, count_form, sized_count, heading_of, Heads, NoHeading}
+use Rattle.per_codec_writing.specs.Writing.{Adds, Refuses, padding_if}
 use Rattle.per_codec_writing.specs.declared.lengths.Due.{Due}
-use Rattle.per_codec_writing.proofs.FillingTexts.{adds_both, plus_nothing}
+use Rattle.per_codec_writing.proofs.PaddingTexts.{adds_both, plus_nothing}
 use Rattle.per_codec_writing.proofs.Fragments.{none_of_them, first_of_them}
 
 -- ---- length determinants
@@ -48,20 +48,20 @@ fragment_heads al n m d old new l f e a =
 
 -- ---- a number by the bounds of the root
 
-adds_padded : (al : Bool) (x : Per.BitForm) (old mid new : Packed) → Adds (text_at x (place old)) old mid → new ≡ plus mid (fill_at al (place mid)) → Adds (text_at (padded al x) (place old)) old new
-adds_padded true x old mid new a e = adds_both x (placed (λ p. Per.filling (missing p))) old mid new a (adds_filling mid new e)
-adds_padded false x old mid new a e = subst (λ m. Adds (text_at x (place old)) old m) (sym (e ∙ plus_nothing mid)) a
+adds_padding_behind : (al : Bool) (x : Per.BitForm) (old mid new : Packed) → Adds (text_at x (place old)) old mid → new ≡ plus mid (padding_if al (place mid)) → Adds (text_at (padding_behind al x) (place old)) old new
+adds_padding_behind true x old mid new a e = adds_both x (placed (λ p. Per.padding (missing p))) old mid new a (adds_padding mid new e)
+adds_padding_behind false x old mid new a e = subst (λ m. Adds (text_at x (place old)) old m) (sym (e ∙ plus_nothing mid)) a
 
-pub count_added : (al : Bool) (low high n : ℕ) (pads : Bool) (old mid new : Packed) → pads ≡ true → Adds (text_at (Per.constrained al (high - low) (n - low)) (place old)) old mid → new ≡ plus mid (fill_at al (place mid)) → Adds (text_at (count_form al low high pads n) (place old)) old new
-count_added al low high n true old mid new t a e = adds_padded al _ old mid new a e
+pub count_added : (al : Bool) (low high n : ℕ) (pads : Bool) (old mid new : Packed) → pads ≡ true → Adds (text_at (Per.constrained al (high - low) (n - low)) (place old)) old mid → new ≡ plus mid (padding_if al (place mid)) → Adds (text_at (count_form al low high pads n) (place old)) old new
+count_added al low high n true old mid new t a e = adds_padding_behind al _ old mid new a e
 count_added al low high n false old mid new t a e = cc
 
-padded_none : (b : Bool) (x : Per.BitForm) (q : Option ℕ) → text_at x q ≡ None → text_at (padded b x) q ≡ None
-padded_none true x q e = none_first x (placed (λ p. Per.filling (missing p))) q e
-padded_none false x q e = e
+no_padding_behind : (b : Bool) (x : Per.BitForm) (q : Option ℕ) → text_at x q ≡ None → text_at (padding_behind b x) q ≡ None
+no_padding_behind true x q e = none_first x (placed (λ p. Per.padding (missing p))) q e
+no_padding_behind false x q e = e
 
 pub count_none : (al : Bool) (low high n : ℕ) (pads : Bool) (q : Option ℕ) → text_at (Per.constrained al (high - low) (n - low)) q ≡ None → text_at (count_form al low high pads n) q ≡ None
-count_none al low high n pads q e = padded_none (pads && al) _ q e
+count_none al low high n pads q e = no_padding_behind (pads && al) _ q e
 
 -- behind the test whether the highest number is below 65536
 narrow_cond : (b : Bool) (m h : ℕ) (f : ℕ → Option Heading) (g : Option Heading) → cond b (Some m) None ≡ Some h → cond b (f m) g ≡ f h

@@ -6,8 +6,8 @@ use Rattle.asn1_model.specs.Numbers.{binary}
 use Rattle.asn1_model.specs.Per
 use Rattle.asn1_values_bits.proofs.Binary.{binary_join}
 use Rattle.per_codec_packing.specs.Texts.{as_text, text_at}
-use Rattle.per_codec_writing.specs.Writing.{Packed, Adds, place, plus, fill_at}
-use Rattle.per_codec_writing.proofs.FillingTexts.{adds_text, if_true, cond_true, cond_false, adds_at_octet, adds_bits_at_octet}
+use Rattle.per_codec_writing.specs.Writing.{Packed, Adds, place, plus, padding_if}
+use Rattle.per_codec_writing.proofs.PaddingTexts.{adds_text, if_true, cond_true, cond_false, adds_at_octet, adds_bits_at_octet}
 
 -- a number behind two bits that are set, and behind one that is and one that is not, and behind one that is not
 fragment_bits : (m : ℕ) → m < 64 → binary 8 (192 + m) ≡ true ∷ true ∷ binary 6 m
@@ -19,10 +19,10 @@ long_bits n h = sym (binary_join 2 14 2 n h)
 short_bits : (n : ℕ) → n < 128 → binary 8 n ≡ false ∷ binary 7 n
 short_bits n h = let e : 0 * 2 ^ 7 + n ≡ n = omega arith in sym (binary_join 1 7 0 n h ∙ ap (λ k. binary 8 k) e)
 
-pub adds_fragment : (al : Bool) (m : ℕ) (old mid new : Packed) → m ≤ 4 → mid ≡ plus old (fill_at al (place old)) → new ≡ plus mid (as_text (binary 8 (192 + m))) → Adds (text_at (Per.at_octet al (exactly (true ∷ true ∷ binary 6 m))) (place old)) old new
+pub adds_fragment : (al : Bool) (m : ℕ) (old mid new : Packed) → m ≤ 4 → mid ≡ plus old (padding_if al (place old)) → new ≡ plus mid (as_text (binary 8 (192 + m))) → Adds (text_at (Per.at_octet al (exactly (true ∷ true ∷ binary 6 m))) (place old)) old new
 adds_fragment al m old mid new h e f = adds_bits_at_octet al (true ∷ true ∷ binary 6 m) old mid new e (f ∙ ap (λ l. plus mid (as_text l)) (fragment_bits m (omega arith)))
 
-pub adds_short : (al : Bool) (n : ℕ) (old mid new : Packed) → n < 128 → mid ≡ plus old (fill_at al (place old)) → new ≡ plus mid (as_text (binary 8 n)) → Adds (text_at (Per.short_length al n) (place old)) old new
+pub adds_short : (al : Bool) (n : ℕ) (old mid new : Packed) → n < 128 → mid ≡ plus old (padding_if al (place old)) → new ≡ plus mid (as_text (binary 8 n)) → Adds (text_at (Per.short_length al n) (place old)) old new
 unfolding Per.short_length text_at
 adds_short al n old mid new h e f =
     adds_at_octet al _ old mid new e
@@ -30,7 +30,7 @@ adds_short al n old mid new h e f =
     (cond_false (leb 128 n) _ _ (place mid) (lt-leb _ _ h) ∙ if_true (ltb n 128) _ (place mid) (lt-ltb _ _ h))
     (f ∙ ap (λ l. plus mid (as_text l)) (short_bits n h)))
 
-pub adds_long : (al : Bool) (n : ℕ) (old mid new : Packed) → 128 ≤ n → n < 16384 → mid ≡ plus old (fill_at al (place old)) → new ≡ plus mid (as_text (binary 16 (32768 + n))) → Adds (text_at (Per.short_length al n) (place old)) old new
+pub adds_long : (al : Bool) (n : ℕ) (old mid new : Packed) → 128 ≤ n → n < 16384 → mid ≡ plus old (padding_if al (place old)) → new ≡ plus mid (as_text (binary 16 (32768 + n))) → Adds (text_at (Per.short_length al n) (place old)) old new
 unfolding Per.short_length text_at
 adds_long al n old mid new g h e f =
     adds_at_octet al _ old mid new e

@@ -1,4 +1,4 @@
-pub mod FillingTexts
+pub mod PaddingTexts
 pub mod LengthTexts
 pub mod ConstrainedTexts
 pub mod UnitTexts

@@ -13,7 +13,7 @@ use Rattle.asn1_schema_faults.specs.declared.EncodeError.TheVariants as Fault
 use Rattle.asn1_values_bits.proofs.Binary.{binary_join}
 use Rattle.per_codec_packing.specs.Texts.{Text, as_text, text_at}
 use Rattle.per_codec_writing.specs.Writing.{Packed, Adds, Refuses, place, plus}
-use Rattle.per_codec_writing.proofs.FillingTexts.{adds_text, adds_same, adds_both, none_second, if_true, cond_true, cond_false}
+use Rattle.per_codec_writing.proofs.PaddingTexts.{adds_text, adds_same, adds_both, none_second, if_true, cond_true, cond_false}
 
 -- ---- what was done
 

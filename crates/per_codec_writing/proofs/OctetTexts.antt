@@ -12,7 +12,7 @@ use Rattle.asn1_values_alphabets.specs.Permitted.{permits_all}
 use Rattle.per_codec_alphabets.specs.Codes.{Coded, SameCharacters}
 use Rattle.per_codec_packing.specs.Texts.{text_at}
 use Rattle.per_codec_writing.specs.Writing.{Packed, Adds, place}
-use Rattle.per_codec_writing.proofs.FillingTexts.{adds_same, if_true}
+use Rattle.per_codec_writing.proofs.PaddingTexts.{adds_same, if_true}
 use Rattle.per_codec_writing.specs.Units.{forms_of}
 use Rattle.per_codec_writing.specs.Characters.{text_of, texts_of}
 

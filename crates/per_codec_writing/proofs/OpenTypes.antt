@@ -7,12 +7,12 @@ use Rattle.asn1_model.specs.Numbers.{missing, packed}
 use Rattle.asn1_model.specs.Per
 use Rattle.asn1_model.specs.Strings.{each_is, is_octet}
 use Rattle.asn1_laws_values.proofs.Octets.{eights_units, packed_octets}
-use Rattle.asn1_values_bits.specs.Octets.{filled_up}
+use Rattle.asn1_values_bits.specs.Octets.{padded}
 use Rattle.per_codec_packing.specs.Texts.{text_at}
 use Rattle.per_codec_writing.specs.Writing.{Packed, Adds, place}
-use Rattle.per_codec_writing.proofs.FillingTexts.{adds_same, if_true}
+use Rattle.per_codec_writing.proofs.PaddingTexts.{adds_same, if_true}
 
-open_text : (al : Bool) (w z : List Bool) (k : ℕ) (p : Option ℕ) → written (Per.filled_up w) 0 ≡ Some z → length z ≡ 8 * k → text_at (Per.open_type al (exactly w)) p ≡ text_at (Per.counted_octets al (packed z)) p
+open_text : (al : Bool) (w z : List Bool) (k : ℕ) (p : Option ℕ) → written (Per.padded w) 0 ≡ Some z → length z ≡ 8 * k → text_at (Per.open_type al (exactly w)) p ≡ text_at (Per.counted_octets al (packed z)) p
 unfolding Per.open_type Per.complete Per.counted_octets written text_at
 open_text al w z k p e n =
     ap (option_and_then (λ (y : List Bool). text_at (Per.counted_eights al (y ++ [])) p)) e
@@ -20,26 +20,26 @@ open_text al w z k p e n =
     ∙ ap (λ us. text_at (Per.counted al us) p) (eights_units k z n)
     ∙ sym (if_true (each_is is_octet (packed z)) (Per.counted al (Per.octet_units (packed z))) p (packed_octets k z n))
 
-filling_written : (n p : ℕ) → written (Per.filling n) p ≡ Some (replicate n false)
-unfolding Per.filling written
-filling_written n p = let h : (length (replicate n false) == n) ≡ true = eq-eqb _ _ (length-replicate n false) in ap (λ (t : Bool). written (only_if {F = Per.Freedom} {D = Per.Detail} t (exactly (replicate n false))) p) h
+padding_written : (n p : ℕ) → written (Per.padding n) p ≡ Some (replicate n false)
+unfolding Per.padding written
+padding_written n p = let h : (length (replicate n false) == n) ≡ true = eq-eqb _ _ (length-replicate n false) in ap (λ (t : Bool). written (only_if {F = Per.Freedom} {D = Per.Detail} t (exactly (replicate n false))) p) h
 
-filled : (b : Bool) (bs : List Bool) → written (Per.filled_up (b ∷ bs)) 0 ≡ Some (filled_up (b ∷ bs))
-unfolding Per.filled_up written
-filled b bs = ap (option_map (λ d. (b ∷ bs) ++ d)) (filling_written (missing (length (b ∷ bs))) _)
+some_padded : (b : Bool) (bs : List Bool) → written (Per.padded (b ∷ bs)) 0 ≡ Some (padded (b ∷ bs))
+unfolding Per.padded written
+some_padded b bs = ap (option_map (λ d. (b ∷ bs) ++ d)) (padding_written (missing (length (b ∷ bs))) _)
 
-filled_none : written (Per.filled_up []) 0 ≡ Some (replicate 8 false)
-unfolding Per.filled_up written
-filled_none = refl
+none_padded : written (Per.padded []) 0 ≡ Some (replicate 8 false)
+unfolding Per.padded written
+none_padded = refl
 
 pub adds_open_none : (al : Bool) (w : List Bool) (os : List ℕ) (old new : Packed) → w ≡ [] → os ≡ 0 ∷ [] → Adds (text_at (Per.counted_octets al os) (place old)) old new → Adds (text_at (Per.open_type al (exactly w)) (place old)) old new
 adds_open_none al w os old new e f a =
-    adds_same _ _ old new (ap (λ l. text_at (Per.open_type al (exactly l)) (place old)) e ∙ open_text al [] (replicate 8 false) 1 (place old) filled_none refl ∙ ap (λ l. text_at (Per.counted_octets al l) (place old)) (sym f)) a
+    adds_same _ _ old new (ap (λ l. text_at (Per.open_type al (exactly l)) (place old)) e ∙ open_text al [] (replicate 8 false) 1 (place old) none_padded refl ∙ ap (λ l. text_at (Per.counted_octets al l) (place old)) (sym f)) a
 
-length_filled : (w : List Bool) → length (filled_up w) ≡ 8 * ((length w + missing (length w)) / 8)
-length_filled w = omega (arith, length-append w (replicate (missing (length w)) false), length-replicate (missing (length w)) false)
+length_padded : (w : List Bool) → length (padded w) ≡ 8 * ((length w + missing (length w)) / 8)
+length_padded w = omega (arith, length-append w (replicate (missing (length w)) false), length-replicate (missing (length w)) false)
 
-pub adds_open_some : (al : Bool) (w : List Bool) (os : List ℕ) (old new : Packed) → (w ≡ [] → ⊥) → os ≡ packed (filled_up w) → Adds (text_at (Per.counted_octets al os) (place old)) old new → Adds (text_at (Per.open_type al (exactly w)) (place old)) old new
+pub adds_open_some : (al : Bool) (w : List Bool) (os : List ℕ) (old new : Packed) → (w ≡ [] → ⊥) → os ≡ packed (padded w) → Adds (text_at (Per.counted_octets al os) (place old)) old new → Adds (text_at (Per.open_type al (exactly w)) (place old)) old new
 adds_open_some al [] os old new n e a = absurd (n refl)
 adds_open_some al (b ∷ bs) os old new n e a =
-    adds_same _ _ old new (open_text al (b ∷ bs) (filled_up (b ∷ bs)) _ (place old) (filled b bs) (length_filled (b ∷ bs)) ∙ ap (λ l. text_at (Per.counted_octets al l) (place old)) (sym e)) a
+    adds_same _ _ old new (open_text al (b ∷ bs) (padded (b ∷ bs)) _ (place old) (some_padded b bs) (length_padded (b ∷ bs)) ∙ ap (λ l. text_at (Per.counted_octets al l) (place old)) (sym e)) a

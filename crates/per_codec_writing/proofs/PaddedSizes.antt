@@ -15,7 +15,7 @@ root_padded al c (Some high) pads pads' us e = ap (λ b. cond (ltb high 65536) (
 
 pub sized_padded : (al : Bool) (z : Size) (h : Counts) (pads pads' : Counts → Bool) (us : List Per.BitForm) → pads z.counts ≡ pads' z.counts → Per.sized al z h pads us ≡ Per.sized al z h pads' us
 unfolding Per.sized
-sized_padded al z h pads pads' us e = ap (λ r. only_if (is_count_within h (length us)) (Per.marked z.extensible (is_count_within z.counts (length us)) r (Per.counted al us))) (root_padded al z.counts z.counts.high pads pads' us e)
+sized_padded al z h pads pads' us e = ap (λ r. only_if (is_count_within h (length us)) (Per.with_extension_bit z.extensible (is_count_within z.counts (length us)) r (Per.counted al us))) (root_padded al z.counts z.counts.high pads pads' us e)
 
 -- ---- under no size constraint
 

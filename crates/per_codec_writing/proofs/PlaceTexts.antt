@@ -11,7 +11,7 @@ use Rattle.asn1_schema_faults.specs.declared.EncodeError.{EncodeError}
 use Rattle.asn1_schema_variants.specs.Items.{IsPlaced}
 use Rattle.per_codec_packing.specs.Texts.{as_text, text_at}
 use Rattle.per_codec_writing.specs.Writing.{Packed, Adds, place, plus}
-use Rattle.per_codec_writing.proofs.FillingTexts.{adds_text, adds_both}
+use Rattle.per_codec_writing.proofs.PaddingTexts.{adds_text, adds_both}
 use Rattle.per_codec_writing.proofs.NumberTexts.{Did, did_same, did_behind}
 use Rattle.per_codec_writing.specs.Places.{place_form}
 

@@ -79,12 +79,12 @@ module _ (f : ℕ → Per.BitForm) (test : ℕ → Bool) (h : (c : ℕ) → test
   none_root al c None pads cs e p = none_counted al cs e p
   none_root al c (Some high) pads cs e p = none_either (ltb high 65536) _ _ (none_second _ _ (none_at_octet (al && pads c) _ (none_joined cs e))) (none_counted al cs e) p
 
-  none_marked : (e b : Bool) (x y : Per.BitForm) → Never x → Never y → Never (Per.marked e b x y)
-  unfolding Per.marked text_at
-  none_marked false b x y h k p = none_if b x h p
-  none_marked true true x y h k p = none_second (exactly (false ∷ [])) x h p
-  none_marked true false x y h k p = none_second (exactly (true ∷ [])) y k p
+  none_with_extension_bit : (e b : Bool) (x y : Per.BitForm) → Never x → Never y → Never (Per.with_extension_bit e b x y)
+  unfolding Per.with_extension_bit text_at
+  none_with_extension_bit false b x y h k p = none_if b x h p
+  none_with_extension_bit true true x y h k p = none_second (exactly (false ∷ [])) x h p
+  none_with_extension_bit true false x y h k p = none_second (exactly (true ∷ [])) y k p
 
   pub none_sized : (al : Bool) (z : Size) (held : Counts) (pads : Counts → Bool) (cs : List ℕ) → each_is test cs ≡ false → Never (Per.sized al z held pads (map f cs))
   unfolding Per.sized
-  none_sized al z held pads cs e p = none_if _ _ (none_marked z.extensible _ _ _ (none_root al z.counts z.counts.high pads cs e) (none_counted al cs e)) p
+  none_sized al z held pads cs e p = none_if _ _ (none_with_extension_bit z.extensible _ _ _ (none_root al z.counts z.counts.high pads cs e) (none_counted al cs e)) p

@@ -6,7 +6,7 @@ use Rattle.asn1_model.specs.Schema.{any_count}
 use Rattle.asn1_model.specs.Value.{bit_list, octet_list, text, arcs}
 use Rattle.asn1_model.specs.Per
 use Rattle.per_codec_packing.specs.Texts.{text_at}
-use Rattle.per_codec_writing.proofs.FillingTexts.{if_true}
+use Rattle.per_codec_writing.proofs.PaddingTexts.{if_true}
 use Rattle.per_codec_writing.proofs.PaddedSizes.{sized_padded, any_number}
 
 -- the sizes as a writer has them are y

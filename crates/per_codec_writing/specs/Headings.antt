@@ -42,13 +42,13 @@ abbrev pub general : Bool → ℕ → Option ℕ → Option Heading
 general al n q = next_determinant al (Per.largest_first n) n q
 
 -- A form, and padding behind it, where there is some (X.691 11.1).
-abbrev pub padded : Bool → Per.BitForm → Per.BitForm
-padded false x = x
-padded true x = both x (placed (λ p. Per.filling (missing p)))
+abbrev pub padding_behind : Bool → Per.BitForm → Per.BitForm
+padding_behind false x = x
+padding_behind true x = both x (placed (λ p. Per.padding (missing p)))
 
 -- The number of n units of low to high, and the padding behind it.
 abbrev pub count_form : Bool → ℕ → ℕ → Bool → ℕ → Per.BitForm
-count_form al low high pads n = padded (pads && al) (Per.constrained al (high - low) (n - low))
+count_form al low high pads n = padding_behind (pads && al) (Per.constrained al (high - low) (n - low))
 
 -- The number of n units of the root of a size, by its bounds where the highest is below 65536, and the padding behind
 -- it, else in the general form (X.691 11.9.4.1, 16.8 to 16.11, 17.5 to 17.8, 20.5, 30.5.6 and 30.5.7).

@@ -3,7 +3,7 @@ use Rattle.std.specs.Prelude.{◌≡◌, ℕ, Bool, true, false, [], Option, Non
 use Rattle.asn1_schema_faults.specs.declared.EncodeError.{EncodeError}
 use Rattle.asn1_schema_faults.specs.declared.EncodeError.TheVariants.{OutOfMemory, CallOutOfPlace, AlreadyFailed}
 use Rattle.per_codec_packing.specs.Texts.{Text}
-use Rattle.per_codec_packing.specs.Packed.{filling_at}
+use Rattle.per_codec_packing.specs.Packed.{padding_at}
 pub use Rattle.per_codec_packing.specs.Packed.{Packed, Adds, place, plus}
 
 -- Why no text was added: memory was refused, or there is none. That a call is out of its place is no reason, nor that
@@ -14,7 +14,7 @@ Refuses text CallOutOfPlace = ⊥
 Refuses text AlreadyFailed = ⊥
 Refuses text e = text ≡ None
 
--- What fills up to the next octet from a position on, in the aligned variant (X.691 11.1).
-abbrev pub fill_at : Bool → Option ℕ → Text
-fill_at false q = []
-fill_at true q = filling_at q
+-- The padding up to the next octet from a position on, in the aligned variant (X.691 11.1).
+abbrev pub padding_if : Bool → Option ℕ → Text
+padding_if false q = []
+padding_if true q = padding_at q

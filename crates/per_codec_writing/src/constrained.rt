@@ -7,7 +7,7 @@ ghost use Rattle.per_codec_limits.specs.Variants.{is_aligned};
 
 use asn1_schema_faults::EncodeError;
 use asn1_values_natives::octets::{bit_count, octet_width};
-use per_codec_limits::Variant;
+use per_codec_limits::{LONG_SPAN, Variant};
 use per_codec_packing::Packing;
 
 /// Adds a number of 0 to `span` in its fewest octets, which stand at an octet behind their number, itself a constrained
@@ -22,7 +22,7 @@ fn push_fewest_octets(output: &mut Packing, span: u128, value: u128) -> Result<(
     let count = octet_width(value).max(1);
     let further = octet_width(span) - 1;
     output.push_bits((count - 1) as u128, bit_count(further as u128) as u32)?;
-    output.align()?;
+    output.push_padding()?;
     output.push_bits(value, count as u32 * 8)?;
     Ok(())
 }
@@ -36,11 +36,11 @@ fn push_octets(output: &mut Packing, span: u128, value: u128) -> Result<(), Enco
         (text_at (constrained true span value) (place output.old)) output.old output.new)
         (λ e. e ≡ EncodeError.OutOfMemory) }
 {
-    if span >= 65536 {
+    if span >= LONG_SPAN {
         push_fewest_octets(output, span, value)?;
         return Ok(());
     }
-    output.align()?;
+    output.push_padding()?;
     let width = if span == 255 { 8 } else { 16 };
     output.push_bits(value, width)?;
     Ok(())

@@ -1,7 +1,8 @@
 //! Whole numbers (X.691 13).
 ghost use Rattle.std.specs.Prelude.{◌≡◌, true, MatchResult};
 ghost use Rattle.asn1_model.specs.Numbers.{is_within};
-ghost use Rattle.asn1_model.specs.Per.{form, marked, semi_constrained, unconstrained, whole_number as number_form};
+ghost use Rattle.asn1_model.specs.Per.{form, semi_constrained, unconstrained, whole_number as number_form};
+ghost use Rattle.asn1_model.specs.Per.{with_extension_bit};
 ghost use Rattle.asn1_model.specs.Schema.{integer};
 ghost use Rattle.asn1_model.specs.Value.{number as number_value};
 ghost use Rattle.asn1_schema_constraints.specs.Bounds.{admits_number, lower, upper};
@@ -91,11 +92,11 @@ fn push_bounded(
     number: i128,
 ) -> Result<(), EncodeError>
     ensures { MatchResult result (λ _. Adds
-        (text_at (marked extensible (admits_number bounds number)
+        (text_at (with_extension_bit extensible (admits_number bounds number)
         (number_form (is_aligned variant) (lower bounds) (upper bounds) number)
         (unconstrained (is_aligned variant) number)) (place output.old))
         output.old output.new)
-        (Refuses (text_at (marked extensible (admits_number bounds number)
+        (Refuses (text_at (with_extension_bit extensible (admits_number bounds number)
         (number_form (is_aligned variant) (lower bounds) (upper bounds) number)
         (unconstrained (is_aligned variant) number)) (place output.old))) }
 {

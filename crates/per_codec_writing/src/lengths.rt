@@ -8,7 +8,7 @@ ghost use Rattle.per_codec_writing.specs.Headings.{general, Heads, IsDue};
 ghost use Rattle.per_codec_writing.specs.Writing.{Adds, place};
 ghost use Rattle.per_codec_limits.specs.Variants.{is_aligned};
 
-use crate::alignment::align;
+use crate::padding::push_padding;
 use asn1_schema_faults::EncodeError;
 use per_codec_limits::{FRAGMENT, Variant};
 use per_codec_packing::Packing;
@@ -39,7 +39,7 @@ pub fn push_short_length(
         (text_at (short_length (is_aligned variant) count) (place output.old)) output.old output.new)
         (λ e. e ≡ EncodeError.OutOfMemory) }
 {
-    align(output, variant)?;
+    push_padding(output, variant)?;
     if count < 0x80 {
         output.push_bits(count as u128, 8)?;
     } else {
@@ -63,7 +63,7 @@ pub fn push_fragment_length(
         (text_at (at_octet (is_aligned variant) (exactly (true ∷ true ∷ binary 6 multiple))) (place output.old))
         output.old output.new) (λ e. e ≡ EncodeError.OutOfMemory) }
 {
-    align(output, variant)?;
+    push_padding(output, variant)?;
     output.push_bits(0xC0 + multiple as u128, 8)?;
     Ok(())
 }

@@ -4,7 +4,6 @@
 #![tactic(auto)]
 
 mod additions;
-mod alignment;
 mod bag;
 mod bits;
 mod booleans;
@@ -18,6 +17,7 @@ mod lengths;
 mod members;
 mod octets;
 mod open_types;
+mod padding;
 mod places;
 mod sized;
 mod sizes;
@@ -26,7 +26,6 @@ mod texts;
 mod units;
 
 pub use additions::{push_additions, push_bitmap};
-pub use alignment::align;
 pub use bag::push_bag;
 pub use bits::push_bit_string;
 pub use booleans::push_boolean;
@@ -38,6 +37,7 @@ pub use integers::push_integer;
 pub use lengths::{Due, push_fragment_length, push_length_determinant, push_short_length};
 pub use octets::push_octet_string;
 pub use open_types::push_open_type;
+pub use padding::push_padding;
 pub use per_codec_limits::{FRAGMENT, LONG_COUNT};
 pub use places::{push_enumerated, push_place};
 pub use sized::push_sized;

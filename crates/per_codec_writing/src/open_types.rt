@@ -12,7 +12,7 @@ use asn1_values_bits::BitBuffer;
 use per_codec_limits::Variant;
 use per_codec_packing::Packing;
 
-/// Adds bits as an open type: filled up with zero bits to whole octets, one zero octet in place of no bits, behind the
+/// Adds bits as an open type: padded with zero bits to whole octets, one zero octet in place of no bits, behind the
 /// number of these octets (X.691 11.1 and 11.2).
 ///
 /// # Errors

@@ -10,7 +10,7 @@ ghost use Rattle.per_codec_writing.specs.Writing.{Adds, Refuses, place};
 ghost use Rattle.per_codec_limits.specs.Variants.{is_aligned};
 
 use crate::lengths::push_length_determinant;
-use crate::{Due, align, push_constrained};
+use crate::{Due, push_constrained, push_padding};
 use asn1_schema_constraints::{Bounded, Sizes};
 use asn1_schema_faults::EncodeError;
 use per_codec_limits::{Variant, told_highest};
@@ -34,7 +34,7 @@ fn push_number(
 {
     push_constrained(output, variant, (high - low) as u128, (count - low) as u128)?;
     if pads {
-        align(output, variant)?;
+        push_padding(output, variant)?;
     }
     Ok(())
 }

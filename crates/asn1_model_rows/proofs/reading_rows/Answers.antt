@@ -16,15 +16,15 @@ abbrev OerChoice : Type 0
 OerChoice = (c : Oer.Freedom) → ℕ → Option (Oer.Detail c)
 
 abbrev choice_0 : PerChoice
-choice_0 Per.any_filling p = cond (p == 4) (Some (false ∷ true ∷ true ∷ true ∷ [])) None
+choice_0 Per.any_padding p = cond (p == 4) (Some (false ∷ true ∷ true ∷ true ∷ [])) None
 choice_0 c p = None
 
 abbrev choice_1 : PerChoice
-choice_1 Per.any_filling p = cond (p == 5) (Some (true ∷ true ∷ true ∷ [])) None
+choice_1 Per.any_padding p = cond (p == 5) (Some (true ∷ true ∷ true ∷ [])) None
 choice_1 c p = None
 
 abbrev choice_2 : PerChoice
-choice_2 Per.any_filling p = cond (p == 1) (Some (false ∷ true ∷ false ∷ true ∷ false ∷ true ∷ false ∷ [])) None
+choice_2 Per.any_padding p = cond (p == 1) (Some (false ∷ true ∷ false ∷ true ∷ false ∷ true ∷ false ∷ [])) None
 choice_2 c p = None
 
 abbrev choice_3 : OerChoice
@@ -48,11 +48,11 @@ choice_7 Per.longer_number p = Some 2
 choice_7 c p = None
 
 abbrev choice_8 : PerChoice
-choice_8 Per.root_marked_outside p = Some true
+choice_8 Per.root_told_outside p = Some true
 choice_8 c p = None
 
 abbrev choice_9 : PerChoice
-choice_9 Per.root_marked_outside p = Some true
+choice_9 Per.root_told_outside p = Some true
 choice_9 c p = None
 
 abbrev choice_10 : PerChoice
@@ -81,7 +81,7 @@ free_14 Oer.other_order p d e = refl
 free_14 c p d e = cc
 
 abbrev choice_15 : OerChoice
-choice_15 Oer.any_filling p = Some (true ∷ true ∷ true ∷ true ∷ [])
+choice_15 Oer.any_unused_bits p = Some (true ∷ true ∷ true ∷ true ∷ [])
 choice_15 c p = None
 
 abbrev choice_16 : OerChoice
@@ -185,7 +185,7 @@ free_30 Oer.other_order p d e = refl
 free_30 c p d e = cc
 
 abbrev choice_31 : OerChoice
-choice_31 Oer.any_filling p = Some (true ∷ true ∷ true ∷ true ∷ true ∷ true ∷ true ∷ [])
+choice_31 Oer.any_unused_bits p = Some (true ∷ true ∷ true ∷ true ∷ true ∷ true ∷ true ∷ [])
 choice_31 c p = None
 
 abbrev choice_32 : OerChoice
@@ -291,7 +291,7 @@ choice_49 Per.longer_length p = cond (p == 3) (Some true) None
 choice_49 c p = None
 
 abbrev choice_50 : PerChoice
-choice_50 Per.any_filling p = cond (p == 1) (Some (ones 7)) None
+choice_50 Per.any_padding p = cond (p == 1) (Some (ones 7)) None
 choice_50 c p = None
 
 abbrev choice_51 : PerChoice
@@ -377,7 +377,7 @@ choice_66 Oer.longer_item p = Some (Some 2)
 choice_66 c p = None
 
 abbrev choice_67 : OerChoice
-choice_67 Oer.any_filling p = Some (ones 4)
+choice_67 Oer.any_unused_bits p = Some (ones 4)
 choice_67 c p = None
 
 abbrev choice_68 : OerChoice

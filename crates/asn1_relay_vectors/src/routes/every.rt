@@ -1,6 +1,6 @@
 //! Every list of up to three hops.
 use crate::judging::CODECS;
-use crate::line::LineError;
+use crate::line::{LineError, Verdict};
 use crate::routes::arrives;
 use crate::routes::foretold::{Versions, Way};
 use asn1_relay_core::{Hop, Version};
@@ -23,7 +23,7 @@ const KINDS: usize = 8;
 /// # Errors
 ///
 /// `Otherwise` where they do not, `NoSample` where the pair has none, and `Memory` for want of memory.
-pub fn judge_every(alloc: Global, of: &dyn Versions) -> Result<(), LineError> {
+pub fn judge_every(alloc: Global, of: &dyn Versions) -> Verdict {
     for place in 0..SAMPLES {
         for from in CODECS {
             let Some(sent) = of.foretell(alloc, place, Way { from, hops: &[] }) else {

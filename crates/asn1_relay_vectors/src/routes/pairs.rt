@@ -1,5 +1,5 @@
 //! Pairs of versions, by their names.
-use crate::line::LineError;
+use crate::line::{LineError, Verdict};
 use crate::routes::foretold::{Grown, Known, Sent};
 use crate::routes::{Claim, judge};
 use asn1_relay_core::DecodeError;
@@ -21,7 +21,7 @@ use std::marker::PhantomData;
 /// # Errors
 ///
 /// `NoPair` where there is no such pair, and those of `judge`.
-pub fn judge_pair(alloc: Global, name: &str, claim: &Claim) -> Result<(), LineError> {
+pub fn judge_pair(alloc: Global, name: &str, claim: &Claim) -> Verdict {
     match name {
         "plain" => judge(alloc, &Known::<Old, New>(PhantomData), claim),
         "default" => judge(alloc, &Known::<OldDefault, NewDefault>(PhantomData), claim),
@@ -33,7 +33,7 @@ pub fn judge_pair(alloc: Global, name: &str, claim: &Claim) -> Result<(), LineEr
 
 /// Judges what is said of a pair that has no samples: of components that have grown, and of lists; or of one of those
 /// behind it.
-fn judge_grown(alloc: Global, name: &str, claim: &Claim) -> Result<(), LineError> {
+fn judge_grown(alloc: Global, name: &str, claim: &Claim) -> Verdict {
     match name {
         "list" => judge(alloc, &Sent::<OldList, NewList>(PhantomData), claim),
         "bag" => judge(alloc, &Sent::<OldBag, NewBag>(PhantomData), claim),
@@ -44,7 +44,7 @@ fn judge_grown(alloc: Global, name: &str, claim: &Claim) -> Result<(), LineError
 }
 
 /// Judges what is said of a pair whose newer version has a further addition or alternative.
-fn judge_longer(alloc: Global, name: &str, claim: &Claim) -> Result<(), LineError> {
+fn judge_longer(alloc: Global, name: &str, claim: &Claim) -> Verdict {
     match name {
         "nested" => judge(alloc, &Sent::<Old, Nested>(PhantomData), claim),
         "choice" => judge(alloc, &Sent::<OldVersioned, Versioned>(PhantomData), claim),

@@ -1,7 +1,7 @@
 use Rattle.std.proofs.Common.{◌<◌, length, arith, refl}
 use Rattle.std.proofs.lemmas.Bool.Decides.{nat_tests}
 use Rattle.asn1_values_natives.specs.Octets.{signed_number}
-use Rattle.asn1_values_fields.proofs.Shortest.{bare, padded, not_fewest, fewest_count, fewest_octets}
+use Rattle.asn1_values_fields.proofs.Shortest.{bare, leading_padding, not_fewest, fewest_count, fewest_octets}
 use Rattle.asn1_values_fields.proofs.reading.are_fewest.Goals as goal
 
 pub returns-clause-count : goal.returns-clause-count
@@ -14,4 +14,4 @@ pub returns-clause-octets : goal.returns-clause-octets
 returns-clause-octets c t = fewest_octets c.args.octets.now (signed_number c.args.octets.now) c.type_inv.octets refl
 
 pub returns-clause-longer : goal.returns-clause-longer
-returns-clause-longer c f = not_fewest c.args.octets.now c.type_inv.octets (padded c.has_padding.result _ c.has_padding.ensures f)
+returns-clause-longer c f = not_fewest c.args.octets.now c.type_inv.octets (leading_padding c.has_padding.result _ c.has_padding.ensures f)

@@ -3,7 +3,7 @@ use Rattle.asn1_schema_presented.proofs.Joined.{raised}
 use Rattle.asn1_values_bits.proofs.Binary.{length-octet_bits}
 use Rattle.oer_codec.specs.Preamble.{HasBits}
 use Rattle.oer_codec.specs.Scopes.{scope_of}
-use Rattle.oer_codec.proofs.Preambles.{filled, not_filled, not_short, less_than_octet}
+use Rattle.oer_codec.proofs.Preambles.{zero_unused_bits, other_unused_bits, not_short, less_than_octet}
 use Rattle.oer_codec.proofs.preamble.read_preamble.Goals as goal
 
 pub returns-in_err-octets-clause-only : goal.returns-in_err-octets-clause-only
@@ -27,11 +27,11 @@ are_zero-requires c =
 pub returns-then-not-are_zero-clause-only : goal.returns-then-not-are_zero-clause-only
 returns-then-not-are_zero-clause-only c = λ s rest h.
     let b : length c.in_ok-octets.octets.now ≡ c.preamble_len-count.result = c.in_ok-octets.ensures.count in
-    let z : c.take_presence-frame.new.bits.bits ≡ replicate (length c.take_presence-frame.new.bits.bits) false = not_filled c.args.extensible c.args.optional (scope_of c.take_presence-frame.result) s c.in_ok-octets.octets.now c.take.new.self rest c.args.cursor.now c.take_presence-frame.new.bits.bits (subst (λ bs. HasBits c.args.extensible c.args.optional (scope_of c.take_presence-frame.result) bs c.take_presence-frame.new.bits.bits) c.from_octets-bits.ensures.bits c.take_presence-frame.ensures) (ap (λ k. k * 8) b ∙ c.preamble_len-count.ensures) c.in_ok-octets.ensures.octets h in
+    let z : c.take_presence-frame.new.bits.bits ≡ replicate (length c.take_presence-frame.new.bits.bits) false = other_unused_bits c.args.extensible c.args.optional (scope_of c.take_presence-frame.result) s c.in_ok-octets.octets.now c.take.new.self rest c.args.cursor.now c.take_presence-frame.new.bits.bits (subst (λ bs. HasBits c.args.extensible c.args.optional (scope_of c.take_presence-frame.result) bs c.take_presence-frame.new.bits.bits) c.from_octets-bits.ensures.bits c.take_presence-frame.ensures) (ap (λ k. k * 8) b ∙ c.preamble_len-count.ensures) c.in_ok-octets.ensures.octets h in
     search rules
 
 pub returns-clause-ok : goal.returns-clause-ok
 returns-clause-ok c =
     let b : length c.in_ok-octets.octets.now ≡ c.preamble_len-count.result = c.in_ok-octets.ensures.count in
     let z : c.take_presence-frame.new.bits.bits ≡ replicate (length c.take_presence-frame.new.bits.bits) false = search rules in
-    filled c.args.extensible c.args.optional (scope_of c.take_presence-frame.result) c.in_ok-octets.octets.now c.take.new.self c.args.cursor.now c.take_presence-frame.new.bits.bits c.in_ok-octets.ensures.small (subst (λ bs. HasBits c.args.extensible c.args.optional (scope_of c.take_presence-frame.result) bs c.take_presence-frame.new.bits.bits) c.from_octets-bits.ensures.bits c.take_presence-frame.ensures) (ap (λ k. k * 8) b ∙ c.preamble_len-count.ensures) z c.in_ok-octets.ensures.octets
+    zero_unused_bits c.args.extensible c.args.optional (scope_of c.take_presence-frame.result) c.in_ok-octets.octets.now c.take.new.self c.args.cursor.now c.take_presence-frame.new.bits.bits c.in_ok-octets.ensures.small (subst (λ bs. HasBits c.args.extensible c.args.optional (scope_of c.take_presence-frame.result) bs c.take_presence-frame.new.bits.bits) c.from_octets-bits.ensures.bits c.take_presence-frame.ensures) (ap (λ k. k * 8) b ∙ c.preamble_len-count.ensures) z c.in_ok-octets.ensures.octets

@@ -2,7 +2,7 @@ use Rattle.std.proofs.Common.{◌+◌, arith, subst, sym}
 use Rattle.asn1_schema_presented.specs.Records.{presence_bit}
 use Rattle.oer_codec_encoder.specs.Holding.{Does}
 use Rattle.oer_codec_encoder.proofs.Refusals.{no_presence_bit_due}
-use Rattle.oer_codec_encoder.proofs.Scopes.{mark_within, does_presence_bit_absent, does_presence_bit_present, with_mark_byte, presence_bits_fit}
+use Rattle.oer_codec_encoder.proofs.Scopes.{presence_bit_within, does_presence_bit_absent, does_presence_bit_present, with_extension_byte, presence_bits_fit}
 use Rattle.oer_codec_encoder.proofs.sequences.put_presence_bit.Goals as goal
 
 pub next_presence_bit-requires : goal.next_presence_bit-requires
@@ -15,7 +15,7 @@ pub raise_bit-requires : goal.raise_bit-requires
 raise_bit-requires c =
     let e = c.in-Some.ensures.some in
     let p = c.in-Some.preamble in
-    let l = mark_within c.args.frames.now e.0 p c.args.octets.now.items e.1 e.2 (p.given + c.from.result) c.requires (with_mark_byte p.given c.from.result p.extensible c.from.ensures) in
+    let l = presence_bit_within c.args.frames.now e.0 p c.args.octets.now.items e.1 e.2 (p.given + c.from.result) c.requires (with_extension_byte p.given c.from.result p.extensible c.from.ensures) in
     omega (arith, l, c.args.octets.now.ok.0)
 
 pub returns-then-present : goal.returns-then-present
@@ -23,7 +23,7 @@ returns-then-present c =
     let e = c.in-Some.ensures.some in
     let p = c.in-Some.preamble in
     subst (λ b. Does (presence_bit b) c.args.frames.now c.args.octets.now.items c.next_presence_bit.new.self c.raise_bit.new.octets.items) (sym c.if-present.true)
-    (does_presence_bit_present c.args.frames.now e.0 p c.args.octets.now.items e.1 e.2 c.next_presence_bit.new.self c.raise_bit.new.octets.items (p.given + c.from.result) e.3 (with_mark_byte p.given c.from.result p.extensible c.from.ensures) c.raise_bit.ensures.others c.raise_bit.ensures.bit c.type_inv.octets)
+    (does_presence_bit_present c.args.frames.now e.0 p c.args.octets.now.items e.1 e.2 c.next_presence_bit.new.self c.raise_bit.new.octets.items (p.given + c.from.result) e.3 (with_extension_byte p.given c.from.result p.extensible c.from.ensures) c.raise_bit.ensures.others c.raise_bit.ensures.bit c.type_inv.octets)
 
 pub returns-else-present : goal.returns-else-present
 returns-else-present c =

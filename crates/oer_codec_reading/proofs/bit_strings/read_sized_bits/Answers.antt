@@ -19,7 +19,7 @@ returns-in_err-bits-in-None-clause-only c =
     rw (p.1, p.2) (misses_also (freedoms c.args.rules) (bit_string_form false) (sized_bits c.args.size) c.args.cursor.now c.args.cursor.now _ (none_of_any_size c.args.rules c.args.size c.args.cursor.now c.in-None.is) c.in_err-bits-in-None.ensures.only)
 
 pub returns-in_ok-bits-in-Some-clause-ok : goal.returns-in_ok-bits-in-Some-clause-ok
-returns-in_ok-bits-in-Some-clause-ok c = of_size c.args.rules c.args.size c.in-Some.count (bits_of c.in_ok-bits-in-Some.bits) c.args.cursor.now c.read_filled.new.cursor c.in-Some.is c.in_ok-bits-in-Some.ensures.ok
+returns-in_ok-bits-in-Some-clause-ok c = of_size c.args.rules c.args.size c.in-Some.count (bits_of c.in_ok-bits-in-Some.bits) c.args.cursor.now c.read_bits_of_octets.new.cursor c.in-Some.is c.in_ok-bits-in-Some.ensures.ok
 
 pub returns-in_ok-bits-in-None-clause-ok : goal.returns-in_ok-bits-in-None-clause-ok
 returns-in_ok-bits-in-None-clause-ok c = of_any_size c.args.rules c.args.size (bits_of c.in_ok-bits-in-None.bits) c.args.cursor.now c.read_varying.new.cursor c.in-None.is c.in_ok-bits-in-None.ensures.ok

@@ -26,7 +26,7 @@ pub returns-in_default-clause-only : goal.returns-in_default-clause-only
 returns-in_default-clause-only c = wrong_unused c.args.rules c.args.cursor.now c.read_length.new.cursor c.take_octet.new.self c.in_ok-length.length c.in_ok-unused.unused c.if-length-eq0.false c.in_ok-unused.ensures.octet.0 c.in_default.ensures.none c.in_ok-length.ensures.ok
 
 pub returns-clause-ok : goal.returns-clause-ok
-returns-clause-ok c = varying_read c.args.rules c.read_filled.result bits_of c.args.cursor.now c.read_length.new.cursor c.take_octet.new.self c.read_filled.new.cursor c.in_ok-length.length c.in_ok-unused.unused c.in-Some.count c.in_ok-unused.ensures.octet.0 c.in-Some.ensures.some.0 c.in-Some.ensures.some.1 c.in_ok-length.ensures.ok c.read_filled.ensures.ok
+returns-clause-ok c = varying_read c.args.rules c.read_bits_of_octets.result bits_of c.args.cursor.now c.read_length.new.cursor c.take_octet.new.self c.read_bits_of_octets.new.cursor c.in_ok-length.length c.in_ok-unused.unused c.in-Some.count c.in_ok-unused.ensures.octet.0 c.in-Some.ensures.some.0 c.in-Some.ensures.some.1 c.in_ok-length.ensures.ok c.read_bits_of_octets.ensures.ok
 
 pub returns-clause-only : goal.returns-clause-only
-returns-clause-only c = varying_refused c.args.rules c.read_filled.result c.args.cursor.now c.read_length.new.cursor c.take_octet.new.self c.in_ok-length.length c.in_ok-unused.unused c.in-Some.count c.if-length-eq0.false c.in_ok-unused.ensures.octet.0 c.in-Some.ensures.some.0 c.in-Some.ensures.some.1 c.in_ok-length.ensures.ok c.read_filled.ensures.only
+returns-clause-only c = varying_refused c.args.rules c.read_bits_of_octets.result c.args.cursor.now c.read_length.new.cursor c.take_octet.new.self c.in_ok-length.length c.in_ok-unused.unused c.in-Some.count c.if-length-eq0.false c.in_ok-unused.ensures.octet.0 c.in-Some.ensures.some.0 c.in-Some.ensures.some.1 c.in_ok-length.ensures.ok c.read_bits_of_octets.ensures.only

@@ -15,4 +15,4 @@ pub returns-in-Ok-clause-ok : goal.returns-in-Ok-clause-ok
 returns-in-Ok-clause-ok c = identifier_stands (freedoms c.args.rules) c.in-Ok.identifier c.in_ok-octets.octets.now c.args.cursor.now c.read_counted.new.cursor c.in-Ok.ensures.identifier c.in-Ok.ensures.written c.in_ok-octets.ensures.ok
 
 pub returns-in-Err-clause-only : goal.returns-in-Err-clause-only
-returns-in-Err-clause-only c = no_identifier (freedoms c.args.rules) c.in_ok-octets.octets.now c.args.cursor.now c.read_counted.new.cursor c.in-Err.error c.fault_of.result c.in-Err.ensures.wrong c.fault_of.ensures.memory c.fault_of.ensures.fresh c.in_ok-octets.ensures.ok
+returns-in-Err-clause-only c = no_identifier (freedoms c.args.rules) c.in_ok-octets.octets.now c.args.cursor.now c.read_counted.new.cursor c.in-Err.error c.identifier_fault.result c.in-Err.ensures.wrong c.identifier_fault.ensures.memory c.identifier_fault.ensures.fresh c.in_ok-octets.ensures.ok

@@ -2,7 +2,7 @@ use Rattle.std.proofs.Common.{◌≡◌, ◌+◌, ◌-◌, ◌*◌, ◌^◌, ◌
 use Rattle.std.proofs.lemmas.Nat.{shl_whole, shl_below}
 use Rattle.asn1_model.specs.Numbers.{packed}
 use Rattle.asn1_values_bits.specs.BitStr.{bits_of}
-use Rattle.asn1_values_bits.specs.Octets.{filled_up}
+use Rattle.asn1_values_bits.specs.Octets.{padded}
 use Rattle.oer_codec_writing.proofs.BitTexts.{bits_moved}
 use Rattle.oer_codec_writing.proofs.bits.push_bits.Goals as goal
 
@@ -20,4 +20,4 @@ loop-rest-preserved c =
     let b = bits_of c.loop-rest.rest in
     let whole : c.first_number.result * 2 ^ (8 - few) % 2 ^ 128 ≡ c.first_number.result * 2 ^ (8 - few) = shl_whole c.first_number.result few (8 - few) 128 c.first_number.ensures.fits (omega (arith, c.min-few.ensures)) in
     let few_is : few ≡ min (length b) 8 = c.min-few.ensures ∙ ap (λ k. min k 8) c.len-in-loop-rest.ensures in
-    bits_moved (c.args.octets.now.items ++ packed (filled_up (bits_of c.args.value))) c.loop-rest.octets.items c.push.new.self.items b (bits_of c.split_at.result.1) few c.first_number.result _ c.loop-rest.invariant (omega (arith, c.loop-rest-test.true, c.len.ensures)) few_is c.first_number.ensures.digits c.first_number.ensures.fits whole c.in_ok-push.ensures.items c.split_at.ensures.rest
+    bits_moved (c.args.octets.now.items ++ packed (padded (bits_of c.args.value))) c.loop-rest.octets.items c.push.new.self.items b (bits_of c.split_at.result.1) few c.first_number.result _ c.loop-rest.invariant (omega (arith, c.loop-rest-test.true, c.len.ensures)) few_is c.first_number.ensures.digits c.first_number.ensures.fits whole c.in_ok-push.ensures.items c.split_at.ensures.rest

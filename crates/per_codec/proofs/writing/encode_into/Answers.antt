@@ -3,7 +3,7 @@ use Rattle.per_codec.proofs.Encoding.{written_all, refused_all, encoded, not_enc
 use Rattle.per_codec.proofs.writing.encode_into.Goals as goal
 
 pub returns-clause-only : goal.returns-clause-only
-returns-clause-only g c = refused_all (is_aligned c.args.options) g.T.Described.schema (g.T.Described.meaning c.args.value.now) c.new_with_output-encoder.result c.in-Err.error c.refusal.result c.new_with_output-encoder.ensures (g.T.Described.valued c.args.value.now) c.in-Err.ensures.only (record { length = c.refusal.ensures.length; place = c.refusal.ensures.place; others = c.refusal.ensures.others })
+returns-clause-only g c = refused_all (is_aligned c.args.options) g.T.Described.schema (g.T.Described.meaning c.args.value.now) c.new_with_output-encoder.result c.in-Err.error c.refusal.result c.new_with_output-encoder.ensures (g.T.Described.valued c.args.value.now) c.in-Err.ensures.only (record { length = c.refusal.ensures.length; platform = c.refusal.ensures.platform; place = c.refusal.ensures.place; others = c.refusal.ensures.others })
 
 pub returns-in-Ok-clause-ok : goal.returns-in-Ok-clause-ok
 returns-in-Ok-clause-ok g c =

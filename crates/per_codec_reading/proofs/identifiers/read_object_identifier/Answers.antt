@@ -32,4 +32,4 @@ returns-clause-only c =
     let a = c.args.cursor.now in
     let b = c.read_counted_octets.new.cursor in
     let front = subst (λ os. Front f (Per.counted_octets al os) a b) (sym c.as_slice.ensures.value) c.in_ok-octets.ensures.ok in
-    no_identifier f al c.as_slice.result.now a b c.in-Err.error c.fault_of.result c.in-Err.ensures.wrong c.fault_of.ensures.memory c.fault_of.ensures.fresh front
+    no_identifier f al c.as_slice.result.now a b c.in-Err.error c.identifier_fault.result c.in-Err.ensures.wrong c.identifier_fault.ensures.memory c.identifier_fault.ensures.fresh front

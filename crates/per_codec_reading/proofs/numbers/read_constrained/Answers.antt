@@ -45,21 +45,21 @@ returns-then-span-eq255-clause-only c =
     let l = c.if-span-eq255.true in
     err_also c.read_aligned_within.result (λ e. misses_also f (aligned_within al 8 s) (Per.constrained al s) a a e (one_missed f al s a c.if-not-is_aligned.ensures l)) c.read_aligned_within.ensures.only
 
-pub returns-then-span-lt65536-clause-ok : goal.returns-then-span-lt65536-clause-ok
-returns-then-span-lt65536-clause-ok c =
+pub returns-then-span-lt-LONG_SPAN-clause-ok : goal.returns-then-span-lt-LONG_SPAN-clause-ok
+returns-then-span-lt-LONG_SPAN-clause-ok c =
     let g = c.if-span-lt255.false in
     let n = c.if-span-eq255.false in
-    ok_also c.read_aligned_within-then-span-lt65536.result (λ d. two_read (freedoms c.args.variant) (is_aligned c.args.variant) c.args.span d c.args.cursor.now c.read_aligned_within-then-span-lt65536.new.cursor c.if-not-is_aligned.ensures (omega arith) c.if-span-lt65536.true) c.read_aligned_within-then-span-lt65536.ensures.ok
+    ok_also c.read_aligned_within-then-span-lt-LONG_SPAN.result (λ d. two_read (freedoms c.args.variant) (is_aligned c.args.variant) c.args.span d c.args.cursor.now c.read_aligned_within-then-span-lt-LONG_SPAN.new.cursor c.if-not-is_aligned.ensures (omega arith) c.if-span-lt-LONG_SPAN.true) c.read_aligned_within-then-span-lt-LONG_SPAN.ensures.ok
 
-pub returns-then-span-lt65536-clause-only : goal.returns-then-span-lt65536-clause-only
-returns-then-span-lt65536-clause-only c =
+pub returns-then-span-lt-LONG_SPAN-clause-only : goal.returns-then-span-lt-LONG_SPAN-clause-only
+returns-then-span-lt-LONG_SPAN-clause-only c =
     let f = freedoms c.args.variant in
     let al = is_aligned c.args.variant in
     let a = c.args.cursor.now in
     let s = c.args.span in
     let g = c.if-span-lt255.false in
     let n = c.if-span-eq255.false in
-    err_also c.read_aligned_within-then-span-lt65536.result (λ e. misses_also f (aligned_within al 16 s) (Per.constrained al s) a a e (two_missed f al s a c.if-not-is_aligned.ensures (omega arith) c.if-span-lt65536.true)) c.read_aligned_within-then-span-lt65536.ensures.only
+    err_also c.read_aligned_within-then-span-lt-LONG_SPAN.result (λ e. misses_also f (aligned_within al 16 s) (Per.constrained al s) a a e (two_missed f al s a c.if-not-is_aligned.ensures (omega arith) c.if-span-lt-LONG_SPAN.true)) c.read_aligned_within-then-span-lt-LONG_SPAN.ensures.only
 
 pub returns-clause-ok : goal.returns-clause-ok
 returns-clause-ok c = ok_also c.read_octets_within.result (λ d x. subst (λ al. Front (freedoms c.args.variant) (Per.constrained al c.args.span d) c.args.cursor.now c.read_octets_within.new.cursor) c.if-not-is_aligned.ensures x) c.read_octets_within.ensures.ok

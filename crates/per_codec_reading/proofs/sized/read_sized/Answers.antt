@@ -5,7 +5,7 @@ use Rattle.asn1_schema_constraints.specs.Terms.{size_of}
 use Rattle.per_codec_fronts.specs.Sizes.{extension_bit, told_highest}
 use Rattle.per_codec_fronts.proofs.Fronts.{split}
 use Rattle.per_codec_reading.specs.Fronts.{freedoms, is_aligned}
-use Rattle.per_codec_reading.proofs.Fronts.{misses_also, root_marked_outside_is_free}
+use Rattle.per_codec_reading.proofs.Fronts.{misses_also, root_told_outside_is_free}
 use Rattle.per_codec_reading.specs.Runs.{units_in, InOneRun}
 use Rattle.per_codec_reading.specs.Sizes.{pads_of, determinant_form, heading_form, sized_units, units_told}
 use Rattle.per_codec_reading.proofs.LastFronts.{lent_behind}
@@ -69,7 +69,7 @@ returns-clause-ok c =
     let a = c.args.cursor.now in
     let b = c.read_units.new.cursor in
     let s = split f (extension_bit z.extensible o) (determinant_form al z.counts (told_highest o z.counts.high) heading.determinant) a c.read_heading.new.cursor c.in_ok-heading.ensures.ok in
-    sized_in f al z h w pads us o a s.0 b (root_marked_outside_is_free c.args.variant) s.1 (c.in_ok-run.ensures.ok (told_highest o z.counts.high) s.0 s.2) (sym c.if-not-is_admitted.ensures.counts)
+    sized_in f al z h w pads us o a s.0 b (root_told_outside_is_free c.args.variant) s.1 (c.in_ok-run.ensures.ok (told_highest o z.counts.high) s.0 s.2) (sym c.if-not-is_admitted.ensures.counts)
 
 pub returns-clause-lent : goal.returns-clause-lent
 returns-clause-lent c = λ one.

@@ -3,11 +3,11 @@ use Rattle.per_codec_reading.specs.Fronts.{freedoms, is_aligned}
 use Rattle.per_codec_reading.proofs.Fronts.{misses_also}
 use Rattle.per_codec_fronts.specs.Sizes.{extension_bit}
 use Rattle.per_codec_reading_values.specs.Places.{root_form, added_form, place_form}
-use Rattle.per_codec_reading_values.proofs.PlaceFronts.{added_place, root_place, no_place_mark, no_added_place, no_root_place}
+use Rattle.per_codec_reading_values.proofs.PlaceFronts.{added_place, root_place, no_place_extension_bit, no_added_place, no_root_place}
 use Rattle.per_codec_reading_values.proofs.places.read_place.Goals as goal
 
 pub returns-in_err-is_added-clause-only : goal.returns-in_err-is_added-clause-only
-returns-in_err-is_added-clause-only c = raised _ _ _ c.from_residual.ensures.1 (misses_also (freedoms c.args.variant) (extension_bit c.args.extensible) (place_form (is_aligned c.args.variant) c.args.roots c.args.extensible c.args.others) c.args.cursor.now c.args.cursor.now _ (no_place_mark (freedoms c.args.variant) (is_aligned c.args.variant) c.args.roots c.args.extensible c.args.others c.args.cursor.now) c.in_err-is_added.ensures.only)
+returns-in_err-is_added-clause-only c = raised _ _ _ c.from_residual.ensures.1 (misses_also (freedoms c.args.variant) (extension_bit c.args.extensible) (place_form (is_aligned c.args.variant) c.args.roots c.args.extensible c.args.others) c.args.cursor.now c.args.cursor.now _ (no_place_extension_bit (freedoms c.args.variant) (is_aligned c.args.variant) c.args.roots c.args.extensible c.args.others c.args.cursor.now) c.in_err-is_added.ensures.only)
 
 pub returns-in_err-place-clause-only : goal.returns-in_err-place-clause-only
 returns-in_err-place-clause-only c = raised _ _ _ c.from_residual-in_err-place.ensures.1 (misses_also (freedoms c.args.variant) (added_form (is_aligned c.args.variant) c.args.others) (place_form (is_aligned c.args.variant) c.args.roots c.args.extensible c.args.others) c.read_extension_bit.new.cursor c.args.cursor.now _ (no_added_place (freedoms c.args.variant) (is_aligned c.args.variant) c.args.roots c.args.extensible c.args.others c.in_ok-is_added.is_added c.args.cursor.now c.read_extension_bit.new.cursor c.if-is_added.true c.in_ok-is_added.ensures.ok) c.in_err-place.ensures.only)

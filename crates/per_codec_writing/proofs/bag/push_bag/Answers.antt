@@ -5,7 +5,7 @@ use Rattle.asn1_schema_constraints.specs.Bounds.{members_of}
 use Rattle.asn1_schema_constraints.specs.Terms.{size_of}
 use Rattle.per_codec_writing.specs.Writing.{place}
 use Rattle.per_codec_writing.specs.Members.{forms_of}
-use Rattle.per_codec_writing.proofs.FillingTexts.{adds_same}
+use Rattle.per_codec_writing.proofs.PaddingTexts.{adds_same}
 use Rattle.per_codec_writing.proofs.Adding.{raised}
 use Rattle.per_codec_writing.proofs.HeadingForms.{held_added, held_none, not_held}
 use Rattle.per_codec_writing.proofs.Ordered.{bag_text, length-members}

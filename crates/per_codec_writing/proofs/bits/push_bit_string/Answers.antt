@@ -4,7 +4,7 @@ use Rattle.asn1_schema_constraints.specs.Bounds.{counts_of}
 use Rattle.asn1_schema_constraints.specs.Terms.{sizes_of, size_of}
 use Rattle.asn1_values_bits.specs.BitStr.{bits_of}
 use Rattle.per_codec_writing.specs.Writing.{place}
-use Rattle.per_codec_writing.proofs.FillingTexts.{adds_same}
+use Rattle.per_codec_writing.proofs.PaddingTexts.{adds_same}
 use Rattle.per_codec_writing.proofs.Adding.{raised}
 use Rattle.per_codec_writing.proofs.StringTexts.{bit_string_text}
 use Rattle.per_codec_limits.specs.Variants.{is_aligned}

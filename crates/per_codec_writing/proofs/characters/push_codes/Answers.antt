@@ -5,7 +5,7 @@ use Rattle.asn1_model.specs.Strings.{permitted}
 use Rattle.asn1_model.specs.Schema.{any_count}
 use Rattle.asn1_schema_constraints.specs.Terms.{sizes_of, size_of, alphabet_of}
 use Rattle.per_codec_writing.specs.Writing.{place}
-use Rattle.per_codec_writing.proofs.FillingTexts.{adds_same}
+use Rattle.per_codec_writing.proofs.PaddingTexts.{adds_same}
 use Rattle.per_codec_writing.proofs.Adding.{refuses_also}
 use Rattle.per_codec_writing.proofs.CharacterStringTexts.{coded_text, coded_none}
 use Rattle.per_codec_limits.specs.Variants.{is_aligned}

@@ -2,7 +2,7 @@ use Rattle.std.proofs.Common.{◌≡◌, true, not, ltb, ◌||◌, ap, sym, ◌�
 use Rattle.asn1_model.specs.Numbers.{binary, width}
 use Rattle.per_codec_packing.specs.Texts.{as_text}
 use Rattle.per_codec_writing.specs.Writing.{place, plus}
-use Rattle.per_codec_writing.proofs.FillingTexts.{adds_text}
+use Rattle.per_codec_writing.proofs.PaddingTexts.{adds_text}
 use Rattle.per_codec_writing.proofs.ConstrainedTexts.{outside, constrained_bits, in_bits_alone, in_bits_below}
 use Rattle.per_codec_limits.specs.Variants.{is_aligned}
 use Rattle.per_codec_writing.proofs.constrained.push_constrained.Goals as goal

@@ -15,7 +15,7 @@ returns c =
     let d = c.args.value in
     let k : c.max-count.result ≡ least_octets d = omega (arith, c.max-count.ensures, c.octet_width.ensures.width) in
     let w : c.bit_count.result ≡ width (octet_width span - 1) = c.bit_count.ensures.value ∙ ap (λ n. width (n - 1)) c.octet_width-further.ensures.width in
-    adds_fewest span d old c.push_bits.new.self c.align.new.self c.push_bits-2.new.self c.requires.within c.requires.large c.ranges.span.fits
+    adds_fewest span d old c.push_bits.new.self c.push_padding.new.self c.push_bits-2.new.self c.requires.within c.requires.large c.ranges.span.fits
     (c.in_ok-push_bits.ensures.ok ∙ ap (λ n. plus old (as_text (binary n (c.max-count.result - 1)))) w ∙ ap (λ n. plus old (as_text (binary (width (octet_width span - 1)) (n - 1)))) k)
-    c.in_ok-align.ensures.ok
-    (c.in_ok-push_bits-2.ensures.ok ∙ ap (λ n. plus c.align.new.self (as_text (binary (n * 8) d))) k)
+    c.in_ok-push_padding.ensures.ok
+    (c.in_ok-push_bits-2.ensures.ok ∙ ap (λ n. plus c.push_padding.new.self (as_text (binary (n * 8) d))) k)

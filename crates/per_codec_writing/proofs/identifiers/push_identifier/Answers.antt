@@ -2,7 +2,7 @@ use Rattle.std.proofs.Common.{rules, subst, ◌∙◌}
 use Rattle.asn1_model.specs.Per
 use Rattle.per_codec_packing.specs.Texts.{text_at}
 use Rattle.per_codec_writing.specs.Writing.{Adds, place}
-use Rattle.per_codec_writing.proofs.FillingTexts.{adds_same}
+use Rattle.per_codec_writing.proofs.PaddingTexts.{adds_same}
 use Rattle.per_codec_writing.proofs.StringTexts.{identifier_text, one_arc}
 use Rattle.per_codec_limits.specs.Variants.{is_aligned}
 use Rattle.per_codec_writing.proofs.identifiers.push_identifier.Goals as goal

@@ -5,7 +5,7 @@ use Rattle.asn1_schema_constraints.specs.Bounds.{admits_number, lower, upper}
 use Rattle.per_codec_packing.specs.Texts.{as_text}
 use Rattle.per_codec_writing.specs.Writing.{place, plus}
 use Rattle.per_codec_writing.proofs.NumberTexts.{did_same}
-use Rattle.per_codec_writing.proofs.BoundedTexts.{unmarked_text, unmarked_none, did_inside, adds_outside}
+use Rattle.per_codec_writing.proofs.BoundedTexts.{inextensible_text, inextensible_none, did_inside, adds_outside}
 use Rattle.per_codec_limits.specs.Variants.{is_aligned}
 use Rattle.per_codec_writing.proofs.integers.push_bounded.Goals as goal
 
@@ -13,7 +13,7 @@ pub returns-then-not-inside : goal.returns-then-not-inside
 returns-then-not-inside c =
     let number = c.ranges.number in
     let within = simp to_z-of_z at c.contains-inside.ensures in
-    unmarked_none (Per.whole_number (is_aligned c.args.variant) (lower c.args.bounds) (upper c.args.bounds) c.args.number) (Per.unconstrained (is_aligned c.args.variant) c.args.number) c.args.extensible _ (place c.args.output.now) c.if-not-extensible.true (sym within ∙ c.if-not-inside.true)
+    inextensible_none (Per.whole_number (is_aligned c.args.variant) (lower c.args.bounds) (upper c.args.bounds) c.args.number) (Per.unconstrained (is_aligned c.args.variant) c.args.number) c.args.extensible _ (place c.args.output.now) c.if-not-extensible.true (sym within ∙ c.if-not-inside.true)
 
 pub returns-then-not-extensible : goal.returns-then-not-extensible
 returns-then-not-extensible c =
@@ -22,7 +22,7 @@ returns-then-not-extensible c =
     let within = simp to_z-of_z at c.contains-inside.ensures in
     let done = simp to_z-of_z at c.push_root.ensures in
     did_same c.push_root.result _ _ old c.push_root.new.output
-    (unmarked_text (Per.whole_number (is_aligned c.args.variant) (lower c.args.bounds) (upper c.args.bounds) c.args.number) (Per.unconstrained (is_aligned c.args.variant) c.args.number) c.args.extensible _ (place old) c.if-not-extensible.true (sym within ∙ c.if-not-inside.false))
+    (inextensible_text (Per.whole_number (is_aligned c.args.variant) (lower c.args.bounds) (upper c.args.bounds) c.args.number) (Per.unconstrained (is_aligned c.args.variant) c.args.number) c.args.extensible _ (place old) c.if-not-extensible.true (sym within ∙ c.if-not-inside.false))
     done
 
 pub returns-then-inside : goal.returns-then-inside

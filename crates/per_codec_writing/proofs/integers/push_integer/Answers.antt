@@ -13,7 +13,7 @@ use Rattle.asn1_schema_constraints.specs.declared.parts.Value.{Value}
 use Rattle.asn1_values_natives.specs.Ranges.{whole_range}
 use Rattle.per_codec_packing.specs.Texts.{text_at}
 use Rattle.per_codec_writing.specs.Writing.{Adds, place}
-use Rattle.per_codec_writing.proofs.FillingTexts.{adds_same}
+use Rattle.per_codec_writing.proofs.PaddingTexts.{adds_same}
 use Rattle.per_codec_writing.proofs.NumberTexts.{Did, did_same}
 use Rattle.per_codec_writing.proofs.BoundedTexts.{unbounded_text, bounded_text, wide_none}
 use Rattle.per_codec_limits.specs.Variants.{is_aligned}
@@ -54,6 +54,6 @@ returns g c =
     subst (λ (o : Option (Extensible Value)). Did c.push_bounded.result (text_at (Per.form al (integer (bounds_of o) (held_of o h)) (number_value v)) (place old)) old new) (sym c.in-Some.is)
     (did_same c.push_bounded.result _ _ old new
     (bounded_text al limits h v (place old) c.in-Some-to_i128.ensures.within wide
-    ∙ ap (λ y. text_at (Per.marked (is_some limits.extensible) (admits_number bounds y) (Per.whole_number al (lower bounds) (upper bounds) y) (Per.unconstrained al y)) (place old)) (sym same)
-    ∙ ap (λ b. text_at (Per.marked b (admits_number bounds z) (Per.whole_number al (lower bounds) (upper bounds) z) (Per.unconstrained al z)) (place old)) (sym c.is_some.ensures))
+    ∙ ap (λ y. text_at (Per.with_extension_bit (is_some limits.extensible) (admits_number bounds y) (Per.whole_number al (lower bounds) (upper bounds) y) (Per.unconstrained al y)) (place old)) (sym same)
+    ∙ ap (λ b. text_at (Per.with_extension_bit b (admits_number bounds z) (Per.whole_number al (lower bounds) (upper bounds) z) (Per.unconstrained al z)) (place old)) (sym c.is_some.ensures))
     done)

@@ -4,7 +4,7 @@ use Rattle.std.proofs.Common.{rules, sym, ◌∙◌}
 use Rattle.std.proofs.lemmas.Int.{to_z-of_z}
 use Rattle.asn1_schema_constraints.specs.Bounds.{lower, upper}
 use Rattle.per_codec_writing.specs.Writing.{place}
-use Rattle.per_codec_writing.proofs.FillingTexts.{adds_same}
+use Rattle.per_codec_writing.proofs.PaddingTexts.{adds_same}
 use Rattle.per_codec_writing.proofs.NumberTexts.{did_same, between_at, from_at, up_to_at}
 use Rattle.per_codec_limits.specs.Variants.{is_aligned}
 use Rattle.per_codec_writing.proofs.integers.push_root.Goals as goal

@@ -2,7 +2,7 @@ use Rattle.std.proofs.Common.{◌∙◌}
 use Rattle.asn1_schema_constraints.specs.Bounds.{counts_of}
 use Rattle.asn1_schema_constraints.specs.Terms.{sizes_of, size_of}
 use Rattle.per_codec_writing.specs.Writing.{place}
-use Rattle.per_codec_writing.proofs.FillingTexts.{adds_same}
+use Rattle.per_codec_writing.proofs.PaddingTexts.{adds_same}
 use Rattle.per_codec_writing.proofs.Adding.{raised}
 use Rattle.per_codec_writing.proofs.Fragments.{all_octets}
 use Rattle.per_codec_writing.proofs.StringTexts.{octet_string_text}

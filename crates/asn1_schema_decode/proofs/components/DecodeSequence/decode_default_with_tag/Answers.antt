@@ -1,5 +1,5 @@
 use Rattle.asn1_schema_presented.proofs.Joined.{raised}
-use Rattle.asn1_schema_decode.proofs.Marking.{part_default_read, part_default_unread}
+use Rattle.asn1_schema_decode.proofs.PresenceBits.{part_default_read, part_default_unread}
 use Rattle.asn1_schema_decode.proofs.components.DecodeSequence.decode_default_with_tag.Goals as goal
 
 pub returns-in_err-value-clause-only : goal.returns-in_err-value-clause-only

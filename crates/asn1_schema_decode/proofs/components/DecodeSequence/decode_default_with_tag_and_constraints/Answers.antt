@@ -1,6 +1,6 @@
 use Rattle.asn1_schema_presented.proofs.Joined.{raised}
 use Rattle.asn1_schema_decode.specs.Reads.{omitted, spelled_out, other_value}
-use Rattle.asn1_schema_decode.proofs.Marking.{reads_marked, unread_default_here, unread_default, unread_noted}
+use Rattle.asn1_schema_decode.proofs.PresenceBits.{reads_present, unread_default_here, unread_default, unread_noted}
 use Rattle.std.proofs.Common.{sym, ◌∙◌, ap, Err}
 use Rattle.asn1_schema_decode.proofs.components.DecodeSequence.decode_default_with_tag_and_constraints.Goals as goal
 use Rattle.asn1_schema_decode.proofs.Failing.{passed_on, failed_reads}
@@ -22,11 +22,11 @@ returns-in_err-note_default-clause-only g c =
 
 pub returns-clause-ok : goal.returns-clause-ok
 returns-clause-ok g c =
-    let marked = rw c.if-not-is_there.false at c.in_ok-is_there.ensures.ok in
+    let presence = rw c.if-not-is_there.false at c.in_ok-is_there.ensures.ok in
     let read = rw c.in_ok-is_there.ensures.level at c.in_ok-value.ensures.ok in
     elim c.if-is_default.branch [
-      | then-is_default+in_ok-note_default w ↦ rw w.self-is (spelled_out (sym c.is_default-is_default.ensures ∙ w.if-is_default.true) _ (reads_marked marked read) w.in_ok-note_default.ensures.ok)
-      | else-is_default w ↦ rw w.self-is (other_value (sym c.is_default-is_default.ensures ∙ w.if-is_default.false) (reads_marked marked read))
+      | then-is_default+in_ok-note_default w ↦ rw w.self-is (spelled_out (sym c.is_default-is_default.ensures ∙ w.if-is_default.true) _ (reads_present presence read) w.in_ok-note_default.ensures.ok)
+      | else-is_default w ↦ rw w.self-is (other_value (sym c.is_default-is_default.ensures ∙ w.if-is_default.false) (reads_present presence read))
     ]
 
 pub returns-in_err-note_default-clause-after : goal.returns-in_err-note_default-clause-after

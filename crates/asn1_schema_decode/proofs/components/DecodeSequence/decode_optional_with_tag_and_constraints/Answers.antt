@@ -1,5 +1,5 @@
 use Rattle.asn1_schema_presented.proofs.Joined.{raised}
-use Rattle.asn1_schema_decode.proofs.Marking.{reads_marked, unread_optional_here, unread_optional}
+use Rattle.asn1_schema_decode.proofs.PresenceBits.{reads_present, unread_optional_here, unread_optional}
 use Rattle.asn1_schema_decode.proofs.components.DecodeSequence.decode_optional_with_tag_and_constraints.Goals as goal
 
 pub returns-in_err-present-clause-only : goal.returns-in_err-present-clause-only
@@ -12,4 +12,4 @@ pub returns-in_err-value-clause-only : goal.returns-in_err-value-clause-only
 returns-in_err-value-clause-only g c = let one = g.met.Self.Decoder.one_record in raised _ _ _ c.from_residual-in_err-value.ensures.1 (unread_optional one (rw c.if-not-present.false at c.in_ok-present.ensures.ok) (rw c.in_ok-present.ensures.level at c.in_err-value.ensures.only))
 
 pub returns-clause-ok : goal.returns-clause-ok
-returns-clause-ok g c = reads_marked (rw c.if-not-present.false at c.in_ok-present.ensures.ok) (rw c.in_ok-present.ensures.level at c.in_ok-value.ensures.ok)
+returns-clause-ok g c = reads_present (rw c.if-not-present.false at c.in_ok-present.ensures.ok) (rw c.in_ok-present.ensures.level at c.in_ok-value.ensures.ok)

@@ -2,7 +2,7 @@ use Rattle.std.proofs.Common.{refl, ◌∙◌, ap, Err}
 use Rattle.asn1_schema.specs.Author.{optional}
 use Rattle.asn1_schema.proofs.Author.{raised, reads_as, unread_as, reads_required, reads_left_out, reads_there}
 use Rattle.asn1_schema.proofs.Author.{reads_end, reads_field, reads_sequence, unread_required, unread_presence_bit}
-use Rattle.asn1_schema.proofs.Author.{unread_marked, unread_end, unread_field, unread_field_here, unread_sequence}
+use Rattle.asn1_schema.proofs.Author.{unread_present, unread_end, unread_field, unread_field_here, unread_sequence}
 use Rattle.asn1_schema.proofs.Author.{unread_sequence_here, failed_before, passed_on, failed_reads, count_presence_bits}
 use Rattle.asn1_schema_example.specs.Numbers.{number_typed}
 use Rattle.asn1_schema_example.specs.Chain.{chain_table, chain_schema, chain_is, chain_opens, chain_made, chain_typed}
@@ -21,10 +21,10 @@ pub returns-then-not-is_there-clause-ok : goal.returns-then-not-is_there-clause-
 returns-then-not-is_there-clause-ok g t c = rw chain_made (reads_field _ (reads_required number_typed c.in_ok-value.ensures.ok) (reads_field _ (reads_left_out optional _ _ refl (rw c.if-not-is_there.true at c.in_ok-is_there.ensures.ok)) (reads_end _ c.in_ok-end.ensures.ok)))
 
 pub returns-in_err-begin_sequence-clause-only : goal.returns-in_err-begin_sequence-clause-only
-returns-in_err-begin_sequence-clause-only g t c = let one = g.met.D.Decoder.one_record in raised _ _ _ c.from_residual-in_err-begin_sequence.ensures.1 (unread_field one _ (reads_required number_typed c.in_ok-value.ensures.ok) (unread_field_here _ _ (unread_marked one optional refl (rw c.if-not-is_there.false at c.in_ok-is_there.ensures.ok) (unread_as _ _ chain_is (unread_sequence_here (chain_table chain_schema) _ (c.number_of_optional_and_default_fields-optional.ensures ∙ count_presence_bits _ _ c.fields.ensures) refl (rw (c.in_ok-is_there.ensures.level, c.in_ok-value.ensures.level) at c.in_err-begin_sequence.ensures.only))))))
+returns-in_err-begin_sequence-clause-only g t c = let one = g.met.D.Decoder.one_record in raised _ _ _ c.from_residual-in_err-begin_sequence.ensures.1 (unread_field one _ (reads_required number_typed c.in_ok-value.ensures.ok) (unread_field_here _ _ (unread_present one optional refl (rw c.if-not-is_there.false at c.in_ok-is_there.ensures.ok) (unread_as _ _ chain_is (unread_sequence_here (chain_table chain_schema) _ (c.number_of_optional_and_default_fields-optional.ensures ∙ count_presence_bits _ _ c.fields.ensures) refl (rw (c.in_ok-is_there.ensures.level, c.in_ok-value.ensures.level) at c.in_err-begin_sequence.ensures.only))))))
 
 pub returns-in_err-inner-clause-only : goal.returns-in_err-inner-clause-only
-returns-in_err-inner-clause-only g t c = let one = g.met.D.Decoder.one_record in raised _ _ _ c.from_residual-in_err-inner.ensures.1 (unread_field one _ (reads_required number_typed c.in_ok-value.ensures.ok) (unread_field_here _ _ (unread_marked one optional refl (rw c.if-not-is_there.false at c.in_ok-is_there.ensures.ok) (unread_as _ _ chain_is (unread_sequence one (chain_table chain_schema) (c.number_of_optional_and_default_fields-optional.ensures ∙ count_presence_bits _ _ c.fields.ensures) refl (rw (c.in_ok-is_there.ensures.level, c.in_ok-value.ensures.level) at c.in_ok-begin_sequence.ensures.level) c.in_ok-begin_sequence.ensures.ok c.in_err-inner.ensures.only)))))
+returns-in_err-inner-clause-only g t c = let one = g.met.D.Decoder.one_record in raised _ _ _ c.from_residual-in_err-inner.ensures.1 (unread_field one _ (reads_required number_typed c.in_ok-value.ensures.ok) (unread_field_here _ _ (unread_present one optional refl (rw c.if-not-is_there.false at c.in_ok-is_there.ensures.ok) (unread_as _ _ chain_is (unread_sequence one (chain_table chain_schema) (c.number_of_optional_and_default_fields-optional.ensures ∙ count_presence_bits _ _ c.fields.ensures) refl (rw (c.in_ok-is_there.ensures.level, c.in_ok-value.ensures.level) at c.in_ok-begin_sequence.ensures.level) c.in_ok-begin_sequence.ensures.ok c.in_err-inner.ensures.only)))))
 
 pub returns-in_err-end-2-clause-only : goal.returns-in_err-end-2-clause-only
 returns-in_err-end-2-clause-only g t c = let one = g.met.D.Decoder.one_record in raised _ _ _ c.from_residual-in_err-end-2.ensures.1 (unread_field one _ (reads_required number_typed c.in_ok-value.ensures.ok) (unread_field one _ (reads_there optional refl chain_typed (rw c.if-not-is_there.false at c.in_ok-is_there.ensures.ok) (reads_as _ _ chain_is (reads_sequence (chain_table chain_schema) (c.number_of_optional_and_default_fields-optional.ensures ∙ count_presence_bits _ _ c.fields.ensures) refl (rw (c.in_ok-is_there.ensures.level, c.in_ok-value.ensures.level) at c.in_ok-begin_sequence.ensures.level) c.in_ok-begin_sequence.ensures.ok c.in_ok-inner.ensures.ok)) refl) (unread_end _ c.in_err-end-2.ensures.only)))

@@ -3,7 +3,7 @@ use Rattle.std.proofs.lemmas.List.{length-drop}
 use Rattle.std.proofs.lemmas.Nat.{shl_whole, shl_below}
 use Rattle.asn1_model.specs.Numbers.{packed}
 use Rattle.asn1_values_bits.specs.BitStr.{bits_of}
-use Rattle.asn1_values_bits.specs.Octets.{filled_up}
+use Rattle.asn1_values_bits.specs.Octets.{padded}
 use Rattle.asn1_values_bits.proofs.Leading.{octet_leads}
 use Rattle.asn1_values_bits.proofs.bit_str.BitStr.split_octet.Goals as goal
 
@@ -22,8 +22,8 @@ returns-clause-octets c =
     let whole : c.first_number.result * 2 ^ (8 - few) % 2 ^ 128 ≡ c.first_number.result * 2 ^ (8 - few) = shl_whole c.first_number.result few (8 - few) 128 c.first_number.ensures.fits (omega (arith, c.min-few.ensures)) in
     let few_is : few ≡ min (length b) 8 = c.min-few.ensures ∙ ap (λ k. min k 8) c.len.ensures in
     octet_leads b few c.first_number.result c.requires few_is c.first_number.ensures.digits c.first_number.ensures.fits
-    ∙ ap (λ x. x ∷ packed (filled_up (drop few b))) (sym whole)
-    ∙ ap (λ l. c.first_number.result * 2 ^ (8 - few) % 2 ^ 128 ∷ packed (filled_up l)) (sym c.split_at.ensures.rest)
+    ∙ ap (λ x. x ∷ packed (padded (drop few b))) (sym whole)
+    ∙ ap (λ l. c.first_number.result * 2 ^ (8 - few) % 2 ^ 128 ∷ packed (padded l)) (sym c.split_at.ensures.rest)
 
 pub returns-clause-fewer : goal.returns-clause-fewer
 returns-clause-fewer c = omega (arith, c.min-few.ensures, c.len.ensures, ap length c.split_at.ensures.rest, length-drop c.min-few.result (bits_of c.args.self.now), c.requires)

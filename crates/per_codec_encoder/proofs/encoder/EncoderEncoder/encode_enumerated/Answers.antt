@@ -6,10 +6,10 @@ use Rattle.per_codec_limits.specs.Variants.{is_aligned}
 use Rattle.per_codec_encoder.proofs.encoder.EncoderEncoder.encode_enumerated.Goals as goal
 
 pub invariant_of-self-2 : goal.invariant_of-self-2
-invariant_of-self-2 g c _ = adds_sound (is_aligned c.self.inside.variant) (one_of g.T.Enumerated.roots g.T.Enumerated.extensible g.T.Enumerated.additions (g.T.Enumerated.number c.args.value.now)) _ c.self.inside.frames c.self.inside.output c.push_enumerated.new.output (λ s. refl) (c.self.invariant c.if-self.false) c.in_ok-push_enumerated.ensures
+invariant_of-self-2 g c _ = adds_sound (is_aligned c.self.inside.variant) (one_of g.T.Enumerated.roots g.T.Enumerated.extensible g.T.Enumerated.additions (g.T.Enumerated.number c.args.value.now)) _ c.self.inside.frames c.self.inside.output c.push_enumerated.new.output (λ s. refl) (c.self.invariant c.in_ok-begin_record.ensures.ok) c.in_ok-push_enumerated.ensures
 
 pub returns-clause-ok : goal.returns-clause-ok
-returns-clause-ok g c = adds_puts (is_aligned c.self.inside.variant) (one_of g.T.Enumerated.roots g.T.Enumerated.extensible g.T.Enumerated.additions (g.T.Enumerated.number c.args.value.now)) _ c.self.inside.frames c.self.inside.output c.push_enumerated.new.output c.self.inside.failed c.args.self.now (λ s. refl) c.self.view_is c.if-self.false (c.self.invariant c.if-self.false) c.in_ok-push_enumerated.ensures
+returns-clause-ok g c = adds_puts (is_aligned c.self.inside.variant) (one_of g.T.Enumerated.roots g.T.Enumerated.extensible g.T.Enumerated.additions (g.T.Enumerated.number c.args.value.now)) _ c.self.inside.frames c.self.inside.output c.push_enumerated.new.output c.self.inside.failed c.args.self.now (λ s. refl) c.self.view_is c.in_ok-begin_record.ensures.ok (c.self.invariant c.in_ok-begin_record.ensures.ok) c.in_ok-push_enumerated.ensures
 
 pub returns-in_err-push_enumerated-clause-only : goal.returns-in_err-push_enumerated-clause-only
-returns-in_err-push_enumerated-clause-only g c = raised _ _ _ c.from_residual.ensures.1 (form_refused (is_aligned c.self.inside.variant) (one_of g.T.Enumerated.roots g.T.Enumerated.extensible g.T.Enumerated.additions (g.T.Enumerated.number c.args.value.now)) _ c.self.inside.frames c.self.inside.output c.self.inside.failed c.args.self.now _ (λ s. refl) c.self.view_is (c.self.invariant c.if-self.false) c.in_err-push_enumerated.ensures)
+returns-in_err-push_enumerated-clause-only g c = raised _ _ _ c.from_residual-in_err-push_enumerated.ensures.1 (form_refused (is_aligned c.self.inside.variant) (one_of g.T.Enumerated.roots g.T.Enumerated.extensible g.T.Enumerated.additions (g.T.Enumerated.number c.args.value.now)) _ c.self.inside.frames c.self.inside.output c.self.inside.failed c.args.self.now _ (λ s. refl) c.self.view_is (c.self.invariant c.in_ok-begin_record.ensures.ok) c.in_err-push_enumerated.ensures)

@@ -5,12 +5,12 @@ use Rattle.per_codec_limits.specs.Variants.{is_aligned}
 use Rattle.per_codec_encoder.proofs.encoder.EncoderEncoder.put_further.Goals as goal
 
 pub invariant_of-self-2 : goal.invariant_of-self-2
-invariant_of-self-2 c _ = stays_sound (is_aligned c.self.inside.variant) _ c.self.inside.frames c.put_further.new.frames c.self.inside.output c.put_further.new.output (c.self.invariant c.if-self.false) c.in_ok-put_further.ensures
+invariant_of-self-2 c _ = stays_sound (is_aligned c.self.inside.variant) _ c.self.inside.frames c.put_further.new.frames c.self.inside.output c.put_further.new.output (c.self.invariant c.in_ok-begin_record.ensures.ok) c.in_ok-put_further.ensures
 
 pub returns-clause-ok : goal.returns-clause-ok
-returns-clause-ok c = puts (is_aligned c.self.inside.variant) _ c.self.inside.frames c.put_further.new.frames c.self.inside.output c.put_further.new.output c.self.inside.failed c.args.self.now c.self.view_is c.if-self.false (c.self.invariant c.if-self.false) c.in_ok-put_further.ensures
+returns-clause-ok c = puts (is_aligned c.self.inside.variant) _ c.self.inside.frames c.put_further.new.frames c.self.inside.output c.put_further.new.output c.self.inside.failed c.args.self.now c.self.view_is c.in_ok-begin_record.ensures.ok (c.self.invariant c.in_ok-begin_record.ensures.ok) c.in_ok-put_further.ensures
 
 pub returns-in_err-put_further-clause-only : goal.returns-in_err-put_further-clause-only
 returns-in_err-put_further-clause-only c =
-    let p = err_from_is_err_and c.from_residual.result c.from_residual.ensures.1 in
-    rw (p.1, p.2) (is_refused (is_aligned c.self.inside.variant) (further c.args.more) c.self.inside.frames c.self.inside.output c.self.inside.failed c.args.self.now _ c.self.view_is (c.self.invariant c.if-self.false) c.in_err-put_further.ensures)
+    let p = err_from_is_err_and c.from_residual-in_err-put_further.result c.from_residual-in_err-put_further.ensures.1 in
+    rw (p.1, p.2) (is_refused (is_aligned c.self.inside.variant) (further c.args.more) c.self.inside.frames c.self.inside.output c.self.inside.failed c.args.self.now _ c.self.view_is (c.self.invariant c.in_ok-begin_record.ensures.ok) c.in_err-put_further.ensures)

@@ -3,7 +3,7 @@ use Rattle.per_codec_packing.proofs.Kept.{bits_alone, plain_is}
 use Rattle.per_codec_packing.proofs.packing.Packing.into_bits.Goals as goal
 
 pub returns-clause-bits : goal.returns-clause-bits
-returns-clause-bits c = sym (bits_alone c.self.inside.bits c.self.inside.fills.items c.self.inside.is_placed c.self.invariant c.args.self c.self.view_is)
+returns-clause-bits c = sym (bits_alone c.self.inside.bits c.self.inside.paddings.items c.self.inside.is_placed c.self.invariant c.args.self c.self.view_is)
 
 pub returns-clause-placed : goal.returns-clause-placed
-returns-clause-placed c = plain_is c.self.inside.bits c.self.inside.fills.items c.self.inside.is_placed c.self.invariant c.args.self c.self.view_is
+returns-clause-placed c = plain_is c.self.inside.bits c.self.inside.paddings.items c.self.inside.is_placed c.self.invariant c.args.self c.self.view_is

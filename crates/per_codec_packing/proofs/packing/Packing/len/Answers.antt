@@ -3,4 +3,4 @@ use Rattle.per_codec_packing.proofs.Kept.{bits_alone}
 use Rattle.per_codec_packing.proofs.packing.Packing.len.Goals as goal
 
 pub returns-clause-bits : goal.returns-clause-bits
-returns-clause-bits c = c.len.ensures ∙ ap length (sym (bits_alone c.self.inside.bits c.self.inside.fills.items c.self.inside.is_placed c.self.invariant c.args.self.now c.self.view_is))
+returns-clause-bits c = c.len.ensures ∙ ap length (sym (bits_alone c.self.inside.bits c.self.inside.paddings.items c.self.inside.is_placed c.self.invariant c.args.self.now c.self.view_is))

@@ -4,4 +4,4 @@ use Rattle.per_codec_packing.specs.Parts.{text_in}
 use Rattle.per_codec_packing.proofs.texts.Texts.len.Goals as goal
 
 pub returns : goal.returns
-returns c = omega (arith, c.len.ensures, c.self.inside.parts.ok.0, length-map c.self.inside.parts.items (text_in c.self.inside.bits c.self.inside.fills.items), ap length c.self.view_is)
+returns c = omega (arith, c.len.ensures, c.self.inside.parts.ok.0, length-map c.self.inside.parts.items (text_in c.self.inside.bits c.self.inside.paddings.items), ap length c.self.view_is)

@@ -1,0 +1,36 @@
+//! What a call of an encoder asks before it writes.
+ghost use Rattle.std.specs.Prelude.{◌≡◌, true, false, OnOk, IfErr};
+
+use asn1_schema_faults::EncodeError;
+
+/// Goes on, unless an earlier call was refused.
+///
+/// # Errors
+///
+/// `AlreadyFailed` if one was.
+#[inline(always)]
+pub fn go_on(failed: bool) -> Result<(), EncodeError>
+    ensures ok { OnOk result (failed ≡ false) }
+    ensures only { IfErr result (λ e. (e ≡ EncodeError.AlreadyFailed) × (failed ≡ true)) }
+{
+    if failed {
+        return Err(EncodeError::AlreadyFailed);
+    }
+    Ok(())
+}
+
+/// Begins a record, unless an earlier call was refused. The encoder counts as failed until the record is written.
+///
+/// # Errors
+///
+/// Those of [`go_on`].
+#[inline(always)]
+pub fn begin_record(failed: &mut bool) -> Result<(), EncodeError>
+    ensures ok { OnOk result (failed.old ≡ false) }
+    ensures only { IfErr result (λ e. (e ≡ EncodeError.AlreadyFailed) × (failed.old ≡ true)) }
+    ensures failed { failed.new ≡ true }
+{
+    go_on(*failed)?;
+    *failed = true;
+    Ok(())
+}

@@ -1,0 +1,24 @@
+use Rattle.std.proofs.Common.{◌&&◌, sym, subst}
+use Rattle.std.proofs.lemmas.Result.{err_from_is_err_and}
+use Rattle.asn1_model.specs.Form.{nothing_more}
+use Rattle.asn1_model.specs.Per
+use Rattle.per_codec_fronts.specs.Takes.{Front}
+use Rattle.per_codec_reading.specs.Fronts.{freedoms, is_aligned}
+use Rattle.per_codec_reading.proofs.Fronts.{misses_also, unaligned_padding}
+use Rattle.per_codec_reading.proofs.ToldFronts.{padded_true, padded_false}
+use Rattle.per_codec_reading.proofs.sized.read_padding_if.Goals as goal
+
+pub returns-in_err-read_padding-clause-only : goal.returns-in_err-read_padding-clause-only
+returns-in_err-read_padding-clause-only c =
+    let p = err_from_is_err_and c.from_residual.result c.from_residual.ensures.1 in
+    let f = freedoms c.args.variant in
+    let al = is_aligned c.args.variant in
+    let a = c.args.cursor.now in
+    let e = padded_true al c.args.is_padded c.if-is_padded.true in
+    rw (p.1, p.2) (misses_also f (Per.at_octet al) (Per.at_octet (al && c.args.is_padded)) a a _ (λ n x b g. n x b (subst (λ t. Front f (Per.at_octet t x) a b) e g)) c.in_err-read_padding.ensures.only)
+
+pub returns-else-is_padded-clause-ok : goal.returns-else-is_padded-clause-ok
+returns-else-is_padded-clause-ok c =
+    let f = freedoms c.args.variant in
+    let a = c.args.cursor.now in
+    subst (λ t. Front f (Per.at_octet t nothing_more) a a) (sym (padded_false (is_aligned c.args.variant) c.args.is_padded c.if-is_padded.false)) (unaligned_padding f a)

@@ -1,0 +1,24 @@
+//! Padding up to octets (X.691 11.1).
+ghost use Rattle.std.specs.Prelude.{◌≡◌, MatchResult};
+ghost use Rattle.per_codec_writing.specs.Writing.{padding_if, place, plus};
+ghost use Rattle.per_codec_limits.specs.Variants.{is_aligned};
+
+use asn1_schema_faults::EncodeError;
+use per_codec_limits::Variant;
+use per_codec_packing::Packing;
+
+/// Adds padding up to the next octet in the aligned variant, and adds nothing in the other (X.691 11.1).
+///
+/// # Errors
+///
+/// `OutOfMemory`, and no other.
+pub fn push_padding(output: &mut Packing, variant: Variant) -> Result<(), EncodeError>
+    ensures { MatchResult result
+        (λ _. output.new ≡ plus output.old (padding_if (is_aligned variant) (place output.old)))
+        (λ e. e ≡ EncodeError.OutOfMemory) }
+{
+    if variant.is_aligned() {
+        output.push_padding()?;
+    }
+    Ok(())
+}
