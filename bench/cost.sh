@@ -1,5 +1,5 @@
 #!/bin/sh
-# bench/cost.sh [FOLDER [RULES..]]: builds the programs of «Types» and «Kinds» and the works in C in a folder of its own, and prints as tables in Markdown
+# bench/cost.sh [FOLDER [RULES..]]: builds the programs of «Types», «Scalars» and «Kinds» and the works in C in a folder of its own, and prints as tables in Markdown
 # how many instructions each work takes by each set of rules, or by those that are named (coer, oer, uper, aper, recode, recode_aligned). valgrind
 # counts them, over a hundredth of the values; RT and CC are those of shared.sh.
 here=$(cd "$(dirname "$0")" && pwd)
@@ -36,13 +36,16 @@ count() {
     }' "$work/said" >> "$work/costs"
 }
 
-# count_rules RULES: the works of «Types» and «Kinds» by a set of rules.
+# count_rules RULES: the works of «Types», «Scalars» and «Kinds» by a set of rules.
 count_rules() {
     octets=$here/types/oer.c
     case $1 in uper | aper) octets=$here/types/per.c ;; esac
     compile -DFEW $(flags "$1") "$octets"
     count plain "$1" "$work/plain"
     count proved "$1" "$work/crates/types_bench/out/types_bench" "$1" few
+    compile -DFEW $(flags "$1") "$here/scalars/plain.c"
+    count plain "$1" "$work/plain"
+    count proved "$1" "$work/crates/scalars_bench/out/scalars_bench" "$1" few
     compile -DFEW $(flags "$1") "$here/kinds/plain.c"
     count plain "$1" "$work/plain"
     count proved "$1" "$work/crates/kinds_bench/out/kinds_bench" "$1" few choices additions bags_1000 bags_10000
@@ -55,15 +58,17 @@ count_rules() {
 
 : > "$work/costs"
 case " $wanted " in
-    *recode*) take_packages $schema $codecs asn1_relay_core ;;
-    *) take_packages $schema $codecs ;;
+    *recode*) take_packages $schema $scalars $codecs asn1_relay_core ;;
+    *) take_packages $schema $scalars $codecs ;;
 esac
 make_bench_common
 make_bench_rules
 make_types_bench
+make_scalars_bench
 make_kinds_types
 make_kinds_bench
 prove types_bench
+prove scalars_bench
 prove kinds_bench
 for rules in $wanted; do
     case $rules in

@@ -13,6 +13,12 @@ for rules in coer oer uper aper; do
     echo
     "$here/types/run.sh" $rules "$work"
 done
+for rules in coer oer uper aper; do
+    echo
+    echo "## scalars, $rules"
+    echo
+    "$here/scalars/run.sh" $rules "$work"
+done
 for rules in coer oer uper aper recode recode_aligned; do
     echo
     echo "## kinds, $rules"

@@ -1,0 +1,213 @@
+/* The packed encoding rules in plain C, unaligned or, with ALIGNED, aligned: writers and readers of scalar types. */
+#include "../bits.h"
+
+#define STATE struct bits
+#define BEGIN(b) {b, 0}
+
+static int put_count_of(struct bits *o, size_t count)
+{
+    return put_count(o, count);
+}
+
+static int get_count_of(struct input *in, uint64_t *count, int *more)
+{
+    return get_count(in, count, more);
+}
+
+static int put_truth(struct bits *o, const struct scalar *s)
+{
+    return put_bits(o, (uint32_t)s->number, 1);
+}
+
+static int get_number_of(struct input *in, unsigned width, struct scalar *s)
+{
+    uint32_t number;
+    if (!get_bits(in, width, &number))
+        return 0;
+    s->number = number;
+    return 1;
+}
+
+static int get_truth(struct input *in, struct scalar *s)
+{
+    return get_number_of(in, 1, s);
+}
+
+static int put_number_16(struct bits *o, const struct scalar *s)
+{
+    return put_constrained(o, s->number, 2);
+}
+
+static int get_number_16(struct input *in, struct scalar *s)
+{
+    return get_constrained(in, 2, &s->number);
+}
+
+static int put_number_64(struct bits *o, const struct scalar *s)
+{
+    return put_constrained(o, s->number, 8);
+}
+
+static int get_number_64(struct input *in, struct scalar *s)
+{
+    return get_constrained(in, 8, &s->number);
+}
+
+/* A number of so many octets. */
+static int put_wide(struct bits *o, uint64_t number, unsigned octets)
+{
+    if (octets > 4 && !put_bits(o, (uint32_t)(number >> 32), 8 * (octets - 4)))
+        return 0;
+    return put_bits(o, (uint32_t)number, 8 * (octets < 4 ? octets : 4));
+}
+
+static int put_integer(struct bits *o, const struct scalar *s)
+{
+    unsigned width = signed_octets_of(s->number);
+    return put_length(o, width) && put_wide(o, s->number, width);
+}
+
+static int get_integer(struct input *in, struct scalar *s)
+{
+    size_t width;
+    uint32_t high = 0, low;
+    int more;
+    if (!get_count(in, &width, &more) || more || width < 1 || width > 8)
+        return 0;
+    if (width > 4 && !get_bits(in, 8 * ((unsigned)width - 4), &high))
+        return 0;
+    if (!get_bits(in, 8 * (unsigned)(width < 4 ? width : 4), &low))
+        return 0;
+    s->number = (uint64_t)high << 32 | low;
+    return signed_octets_of(s->number) == width;
+}
+
+/* Two items of the root, and one behind the extension marker. */
+static int put_item(struct bits *o, const struct scalar *s)
+{
+    return s->number < 2 ? put_bits(o, (uint32_t)s->number, 2) : put_bits(o, 0x80 | (uint32_t)(s->number - 2), 8);
+}
+
+static int get_item(struct input *in, struct scalar *s)
+{
+    uint32_t bits;
+    if (!get_bits(in, 2, &bits))
+        return 0;
+    s->number = bits;
+    if (bits < 2)
+        return 1;
+    if (bits == 3 || !get_bits(in, 6, &bits) || bits != 0)
+        return 0;
+    s->number = 2;
+    return 1;
+}
+
+static int put_bits_of(struct bits *o, const struct scalar *s)
+{
+    size_t whole = s->number / 8;
+    unsigned last = s->number % 8;
+    if (!put_length(o, s->number))
+        return 0;
+    push_padding(o);
+    return put_run(o, s->octets, whole) && (last == 0 || put_bits(o, s->octets[whole] >> (8 - last), last));
+}
+
+static int get_bits_of(struct input *in, struct scalar *s)
+{
+    size_t bits, whole;
+    uint32_t rest;
+    int more;
+    if (!get_count(in, &bits, &more) || more)
+        return 0;
+    read_padding(in);
+    whole = bits / 8;
+    s->number = bits;
+    s->count = whole + (bits % 8 > 0);
+    if (8 * in->count < in->bits + bits || !(s->octets = malloc(s->count + 1)) || !get_run(in, s->octets, whole))
+        return 0;
+    if (bits % 8 == 0)
+        return 1;
+    if (!get_bits(in, bits % 8, &rest))
+        return 0;
+    s->octets[whole] = (uint8_t)(rest << (8 - bits % 8));
+    return 1;
+}
+
+static int put_run_of(struct bits *o, const struct scalar *s)
+{
+    if (!put_length(o, s->count))
+        return 0;
+    push_padding(o);
+    return put_run(o, s->octets, s->count);
+}
+
+static int get_run_of(struct input *in, struct scalar *s)
+{
+    int more;
+    if (!get_count(in, &s->count, &more) || more)
+        return 0;
+    read_padding(in);
+    return in->count >= s->count && (s->octets = malloc(s->count + 1)) && get_run(in, s->octets, s->count);
+}
+
+/* Of seven bits each, or in the aligned variant of eight. */
+static int put_visible(struct bits *o, const struct scalar *s)
+{
+    size_t i;
+    if (IS_ALIGNED)
+        return put_run_of(o, s);
+    if (!put_length(o, s->count))
+        return 0;
+    for (i = 0; i < s->count; i++)
+        if (!put_bits(o, s->octets[i], 7))
+            return 0;
+    return 1;
+}
+
+static int get_visible(struct input *in, struct scalar *s)
+{
+    uint32_t bits;
+    size_t i;
+    int more;
+    if (IS_ALIGNED)
+        return get_run_of(in, s) && are_visible(s->octets, s->count);
+    if (!get_count(in, &s->count, &more) || more || 8 * in->count < in->bits + 7 * s->count || !(s->octets = malloc(s->count + 1)))
+        return 0;
+    for (i = 0; i < s->count; i++) {
+        if (!get_bits(in, 7, &bits))
+            return 0;
+        s->octets[i] = (uint8_t)bits;
+    }
+    return are_visible(s->octets, s->count);
+}
+
+static int put_utf8(struct bits *o, const struct scalar *s)
+{
+    return put_run_of(o, s);
+}
+
+static int get_utf8(struct input *in, struct scalar *s)
+{
+    return get_run_of(in, s) && are_utf8(s->octets, s->count);
+}
+
+static int put_arcs(struct bits *o, const struct scalar *s)
+{
+    uint8_t octets[5 * ARCS];
+    size_t count = octets_of_arcs(s->arcs, s->count, octets);
+    if (!put_length(o, count))
+        return 0;
+    push_padding(o);
+    return put_run(o, octets, count);
+}
+
+static int get_arcs(struct input *in, struct scalar *s)
+{
+    uint8_t octets[64];
+    size_t count;
+    int more;
+    if (!get_count(in, &count, &more) || more || count > sizeof octets)
+        return 0;
+    read_padding(in);
+    return get_run(in, octets, count) && own_arcs(s, octets, count);
+}
