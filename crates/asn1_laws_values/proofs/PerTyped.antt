@@ -32,7 +32,7 @@ module _ (free : Per.Freedom → Bool) where
   values_of f test no_more h r = refl
   values_of f test (member v vs) h r = two_true _ _ (h v r.0) (values_of f test vs h r.1)
 
-  -- what is marked is in the root, or there is an extension marker
+  -- a value is in the root, or there is an extension marker
   with_extension_bit_in : (e b : Bool) (x y : PerForm) → Read (Per.with_extension_bit e b x y) → (e || b) ≡ true
   unfolding Per.with_extension_bit
   with_extension_bit_in false b x y r = (read_if free b r).0

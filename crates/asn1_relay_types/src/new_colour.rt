@@ -6,9 +6,9 @@ ghost use Rattle.asn1_schema.proofs.Author.{one_number_of, type_enumerated, valu
 use crate::old_colour::OldColour;
 use asn1_schema::{
     AsnType, Constraints, Decode, DecodeError, DecodeItems, Decoder, Described, Encode,
-    EncodeError, EncodeItems, Encoder, Enumerated, EnumeratedType, Identifier, Tag, TagTree,
+    EncodeError, EncodeItems, Encoder, Enumerated, EnumeratedType, Extends, Identifier, Tag,
+    TagTree,
 };
-use asn1_schema_types::Extends;
 use std::alloc::Global;
 
 /// A colour.
@@ -127,8 +127,7 @@ impl Decode for NewColour {
 
 /// What the other version has, and blue behind its extension marker.
 impl Extends<OldColour> for NewColour {
-    ghost use Rattle.asn1_schema_authored.proofs.Fields.{gains_items};
-    ghost use Rattle.asn1_schema_authored.proofs.Unfolding.{constant_unfolds};
+    ghost use Rattle.asn1_schema.proofs.Author.{constant_unfolds, gains_items};
 
     ghost extends = { gains_items (pos 1 ∷ []) };
 

@@ -1,12 +1,9 @@
 //! SEQUENCE {s S DEFAULT {a TRUE}}, where S is SEQUENCE {a BOOLEAN, ..., b INTEGER (0..255) OPTIONAL}.
 ghost use Rattle.std.specs.Prelude.{refl};
 ghost use Rattle.asn1_schema.specs.Author.{absent, end, no_field};
-ghost use Rattle.asn1_schema.proofs.Author.{group_of, sequence_of, sequence_tag};
-ghost use Rattle.asn1_schema_authored.proofs.Fields.{gains_additions, grown_field, no_fields, same_tags};
-ghost use Rattle.asn1_schema_authored.proofs.Fields.{sequence_extends};
-ghost use Rattle.asn1_schema_authored.proofs.Defaults.{default_gains};
-ghost use Rattle.asn1_schema_authored.proofs.Unfolding.{constant_unfolds, field_unfolds, no_fields_unfold};
-ghost use Rattle.asn1_schema_authored.proofs.Unfolding.{sequence_unfolds};
+ghost use Rattle.asn1_schema.proofs.Author.{constant_unfolds, default_gains, field_unfolds, gains_additions};
+ghost use Rattle.asn1_schema.proofs.Author.{group_of, grown_field, no_fields, no_fields_unfold, same_tags};
+ghost use Rattle.asn1_schema.proofs.Author.{sequence_extends, sequence_of, sequence_tag, sequence_unfolds};
 ghost use Rattle.asn1_relay_types.specs.Defaults.{flag_table, new_true_stands, old_true_stands, one_optional, true_and};
 
 use crate::new::{New, NewFields};
@@ -14,11 +11,10 @@ use crate::old::Old;
 use crate::old_default::OldDefaultFields;
 use asn1_schema::{
     Components, ComponentsOf, DecodeComponents, DecodeError, Decoder, DefaultOf, Defaulted,
-    DefaultedComponent, Described, EncodeComponents, EncodeError, Encoder, End, Field,
-    FieldPresence, FieldTables, Fields, GroupComponents, Heading, Identifier, Sequence, Tag,
+    DefaultedComponent, Described, EncodeComponents, EncodeError, Encoder, End, ExtendsComponents,
+    Field, FieldPresence, FieldTables, Fields, GroupComponents, Heading, Identifier, Sequence, Tag,
     TagTree,
 };
-use asn1_schema_authored::ExtendsComponents;
 use std::alloc::{AllocError, Global};
 use std::marker::PhantomData;
 

@@ -1,19 +1,16 @@
 //! SEQUENCE {a BOOLEAN, ..., r [1] BOOLEAN}.
 ghost use Rattle.std.specs.Prelude.{refl};
-ghost use Rattle.asn1_schema.proofs.Author.{sequence_of, sequence_tag};
-ghost use Rattle.asn1_schema_authored.proofs.Fields.{gains_additions};
-ghost use Rattle.asn1_schema_authored.proofs.Unfolding.{constant_unfolds, field_unfolds, no_fields_unfold};
-ghost use Rattle.asn1_schema_authored.proofs.Unfolding.{sequence_unfolds};
+ghost use Rattle.asn1_schema.proofs.Author.{constant_unfolds, field_unfolds, gains_additions, no_fields_unfold};
+ghost use Rattle.asn1_schema.proofs.Author.{sequence_of, sequence_tag, sequence_unfolds};
 
 use crate::old::{Old, OldFields};
 use asn1_schema::{
     AddedRequired, AddedRequiredComponent, AdditionsOf, Class, Components, ComponentsOf,
     DecodeComponents, DecodeError, Decoder, Described, EncodeComponents, EncodeError, Encoder,
-    Field, FieldPresence, FieldTables, Fields, Heading, Identifier, Implicit, Marked,
-    MarkedComponents, NoMore, OneAddition, Required, RequiredComponent, Sequence, Tag, TagTree,
-    tag,
+    ExtendsComponents, Field, FieldPresence, FieldTables, Fields, Heading, Identifier, Implicit,
+    Marked, MarkedComponents, NoMore, OneAddition, Required, RequiredComponent, Sequence, Tag,
+    TagTree, tag,
 };
-use asn1_schema_authored::ExtendsComponents;
 use std::alloc::Global;
 
 /// A type that has grown by `r`, which its writers always write.

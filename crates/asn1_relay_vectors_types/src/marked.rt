@@ -5,6 +5,7 @@ ghost use Rattle.asn1_schema.proofs.Author.{integer_type};
 
 use asn1_schema::{Bounded, Constrained, Constraints, ConstraintsOf, Described, Extensible, Value};
 use asn1_values::Integer;
+
 /// (0..255, ...).
 #[derive(Clone, Copy, Debug, PartialEq, Eq)]
 pub struct OctetOrMore;

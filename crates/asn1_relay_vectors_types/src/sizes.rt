@@ -1,23 +1,16 @@
 //! Strings and lists of a size of their own.
-ghost use Rattle.std.specs.Prelude.{refl, Some, false};
 ghost use Rattle.asn1_schema.specs.Author.{fixed_to, sized};
-ghost use Rattle.asn1_schema.proofs.Author.{octet_string_type, type_list};
+ghost use Rattle.asn1_schema.proofs.Author.{refl, Some, false, octet_string_type, type_list};
 
 use asn1_schema::{Bounded, Constrained, Constraints, ConstraintsOf, Described, Extensible, Size};
 use asn1_values::OctetString;
+
 /// SIZE (3).
 #[derive(Clone, Copy, Debug, PartialEq, Eq)]
 pub struct Three;
 
-/// SIZE (1..2).
-#[derive(Clone, Copy, Debug, PartialEq, Eq)]
-pub struct OneOrTwo;
-
 /// OCTET STRING (SIZE (3)).
 pub type ThreeOctets = Constrained<Three, OctetString>;
-
-/// SEQUENCE (SIZE (1..2)) OF.
-pub type ListOfOneOrTwo<T> = Constrained<OneOrTwo, Vec<T>>;
 
 impl ConstraintsOf<OctetString> for Three {
     ghost terms = { fixed_to 3 };
@@ -41,6 +34,13 @@ impl ConstraintsOf<OctetString> for Three {
 
     ghost same_meaning = { λ _. refl };
 }
+
+/// SIZE (1..2).
+#[derive(Clone, Copy, Debug, PartialEq, Eq)]
+pub struct OneOrTwo;
+
+/// SEQUENCE (SIZE (1..2)) OF.
+pub type ListOfOneOrTwo<T> = Constrained<OneOrTwo, Vec<T>>;
 
 impl<T: Described> ConstraintsOf<Vec<T>> for OneOrTwo {
     ghost terms = { sized 1 (Some 2) false };

@@ -1,5 +1,6 @@
 -- What shows that a type is lawful, that values are of it, and that they are written and read as its author says.
-use Rattle.std.proofs.Common.{◌≡◌, refl, [], ◌∷◌}
+use Rattle.std.proofs.Common.{◌≡◌}
+pub use Rattle.std.proofs.Common.{refl, [], ◌∷◌, Some, None, true, false, pos, negsuc}
 use Rattle.asn1_schema_tags.specs.Tags.{tag_of}
 use Rattle.asn1_schema_tags.specs.Trees.{leaves_of}
 use Rattle.asn1_schema_tags.specs.declared.tags.Tag.{Tag}
@@ -11,6 +12,12 @@ pub use Rattle.asn1_schema_constructed.proofs.SetValues.{type_set, value_set}
 pub use Rattle.asn1_schema_authored.proofs.ChoiceShaping.{choice_of, none, of_addition, of_root, one}
 pub use Rattle.asn1_schema_authored.proofs.Shaping.{sequence_of, set_of}
 pub use Rattle.asn1_schema_authored.proofs.Grouping.{group_of}
+pub use Rattle.asn1_schema_authored.proofs.Defaults.{default_gains}
+pub use Rattle.asn1_schema_authored.proofs.Fields.{gains_additions, gains_alternatives, gains_items, grown_field}
+pub use Rattle.asn1_schema_authored.proofs.Fields.{no_fields, same_tags, sequence_extends, set_gains_additions}
+pub use Rattle.asn1_schema_authored.proofs.Unfolding.{choice_unfolds, constant_unfolds, field_unfolds}
+pub use Rattle.asn1_schema_authored.proofs.Unfolding.{no_fields_unfold, no_variants_unfold, sequence_unfolds, set_unfolds}
+pub use Rattle.asn1_schema_authored.proofs.Unfolding.{variant_unfolds}
 pub use Rattle.asn1_schema_authored.specs.Shapes.{sequence_tag, set_tag}
 pub use Rattle.asn1_schema_constructed.proofs.Types.{more_variants, no_variants, type_choice, type_enumerated, value_choice}
 pub use Rattle.asn1_schema_constructed.proofs.Types.{value_enumerated}

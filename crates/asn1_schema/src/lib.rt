@@ -124,3 +124,4 @@ pub use asn1_schema_wrapped::SetOf;
 pub use asn1_schema_wrapped::UniversalString;
 pub use asn1_schema_wrapped::Utf8String;
 pub use asn1_schema_wrapped::tag;
+pub use std::alloc::Global;

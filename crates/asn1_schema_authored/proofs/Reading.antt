@@ -202,7 +202,7 @@ module _ {S : Type 0} {step : S → Record → S → Type 0} (one : OneRecord st
         h.none w is_empty z.0 refl (subst (λ (i : S). step i is_empty z.0) (after c addition_ends t.0 d t.1 e) z.1);
   }
 
--- ---- additions under constraints that are handed over
+-- ---- additions under given constraints
 module _ {S : Type 0} {step : S → Record → S → Type 0} {s : ℕ → Schema} {n : ℕ} where
   pub unread_extension_here : {a : S} {x : DecodeError} → NoRecord step asks_addition a x → UnreadExtension step s n a x
   unread_extension_here {a} h = record { none = λ w p c. elim p as (λ p. ReadsExtension step s n p a c → ⊥) [ left_out ↦ λ q. h.none w (addition false) c refl q | there v ↦ λ q. h.none w (addition true) q.begun refl q.begins ] }

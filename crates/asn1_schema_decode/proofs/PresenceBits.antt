@@ -1,4 +1,4 @@
--- How components under constraints that are handed over are read.
+-- How components under given constraints are read.
 use Rattle.std.proofs.Common.{◌≡◌, ℕ, Bool, true, false, List, [], ◌∷◌, refl, subst, sym, ◌∙◌, ap}
 use Rattle.asn1_model.specs.Value.{Value, same}
 use Rattle.asn1_model.specs.Schema.{Tag, optional, by_default, Schema}

@@ -3,3 +3,4 @@ pub mod Listing
 pub mod SingleRecords
 pub mod Ranges
 pub mod Going
+pub mod Written

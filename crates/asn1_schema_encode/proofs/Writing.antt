@@ -109,7 +109,7 @@ writes_as {step = step} s t {v} {a} {b} e h = record { chain = λ n. subst (λ (
 pub cannot_as : {S : Type 0} {step : S → Record → S → Type 0} (s t : ℕ → Schema) {v : Value} {a : S} {x : EncodeError} → ((n : ℕ) → t n ≡ s n) → CannotWrite step s v a x → CannotWrite step t v a x
 cannot_as {step = step} s t {v} {a} e h = record { none = λ m n c. subst (λ (x : Schema). Fits x v → Chain step (presents x v) a c → ⊥) (sym (e n)) (h.none m n c) }
 
--- components behind a presence bit, under constraints that are handed over
+-- components behind a presence bit, under given constraints
 module _ {S : Type 0} {step : S → Record → S → Type 0} {s : ℕ → Schema} {v : Value} where
   pub writes_present : {a b c : S} → step a (presence_bit true) b → Writes step s v b c → WritesPresent step s v a c
   writes_present {b = b} m h = record { behind_presence_bit = b; presence_bits = m; writes = h }

@@ -1,2 +1,3 @@
 pub mod Told
 pub mod Writes
+pub mod Written

@@ -1,15 +1,13 @@
 //! SEQUENCE {on BOOLEAN, level INTEGER (0..255) OPTIONAL, step NULL}.
-ghost use Rattle.std.specs.Prelude.{refl, [], ◌∷◌};
 ghost use Rattle.asn1_schema.specs.Author.{fields, no_constraint, sequence_form, sequence_type};
-ghost use Rattle.asn1_schema.proofs.Author.{type_sequence, value_sequence};
+ghost use Rattle.asn1_schema.proofs.Author.{refl, [], ◌∷◌, type_sequence, value_sequence};
 
 use asn1_schema::{
     AsnType, ComponentsOf, Constraints, Constructed, Decode, DecodeComponents, DecodeConstructed,
     DecodeError, Decoder, Described, Encode, EncodeComponents, EncodeConstructed, EncodeError,
-    Encoder, End, Field, FieldPresence, Fields, Identifier, Optional, OptionalComponent, Required,
-    RequiredComponent, Tag, TagTree,
+    Encoder, End, Field, FieldPresence, Fields, Global, Identifier, Optional, OptionalComponent,
+    Required, RequiredComponent, Tag, TagTree,
 };
-use std::alloc::Global;
 
 /// A setting.
 #[derive(Drop)]

@@ -1,15 +1,13 @@
 //! SEQUENCE {id INTEGER (0..65535), name UTF8String, height [0] INTEGER OPTIONAL, active BOOLEAN, samples SEQUENCE OF
 //! INTEGER (0..255)}.
-ghost use Rattle.std.specs.Prelude.{refl};
-ghost use Rattle.asn1_schema.proofs.Author.{sequence_of, sequence_tag};
+ghost use Rattle.asn1_schema.proofs.Author.{refl, sequence_of, sequence_tag};
 
 use asn1_schema::{
     Components, ComponentsOf, DecodeComponents, DecodeError, Decoder, EncodeComponents,
-    EncodeError, Encoder, End, Heading, Implicit, Optional, OptionalComponent, Required,
+    EncodeError, Encoder, End, Global, Heading, Implicit, Optional, OptionalComponent, Required,
     RequiredComponent, Tag, tag,
 };
 use asn1_values::Integer;
-use std::alloc::Global;
 
 /// A station, as `Sequence<Station>`.
 #[derive(Drop)]

@@ -1,5 +1,5 @@
-//! Why a value has no encoding, why octets are no encoding, how many octets an encoding may have, and which rules a
-//! codec follows.
+//! Why a value has no encoding, why octets are no encoding or no value of the program's type, how many octets an
+//! encoding may have, and which rules a codec follows.
 #![tactic(auto)]
 
 ghost use Rattle.std.specs.Prelude.{◌≡◌};
@@ -8,10 +8,12 @@ ghost use Rattle.asn1_schema_faults.specs.declared.EncodeError.TheVariants.{OutO
 
 mod bounds;
 mod identifiers;
+mod numbers;
 mod refusals;
 
 pub use bounds::{MOST_OCTETS, within_limit};
 pub use identifiers::identifier_fault;
+pub use numbers::{held_number, number_from_octets};
 pub use refusals::refusal;
 use std::alloc::{AllocError, AllocFailed};
 use thiserror::Error;

@@ -1,22 +1,20 @@
 //! The calls by the names of types, each once: strings of each type, any value, values with a tag around their own, and
 //! components that may be absent or have a default.
-ghost use Rattle.std.specs.Prelude.{refl, pos};
-ghost use Rattle.asn1_model.specs.Value.{number};
-ghost use Rattle.asn1_schema_presented.proofs.Defaults.{integer_default};
 
 use crate::common::{Wanted, decoder, encoder, is_kept};
 use asn1_schema::records::{Item, Limits, RecordDecoder};
 use asn1_schema::{
-    Any, CodecKind, Constraints, Decode, DecodeError, DecodeNamed, DecodeSequence, DefaultOf,
-    Encode, EncodeError, EncodeNamed, EncodeSequence, EqualByMeaning, Identifier, Tag,
+    Any, CodecKind, Constraints, Decode, DecodeError, DecodeNamed, DecodeSequence, Encode,
+    EncodeError, EncodeNamed, EncodeSequence, Identifier, Tag,
 };
+use asn1_schema_example::measure::Zero;
 use asn1_values_alphabets::{PermittedAlphabetError, StaticPermittedAlphabet};
 use asn1_values_integers::Integer;
 use asn1_values_strings::{
     BmpString, GeneralString, GraphicString, Ia5String, NumericString, PrintableString,
     TeletexString, VisibleString,
 };
-use std::alloc::{AllocError, Global};
+use std::alloc::Global;
 
 /// A type of strings with calls of its name.
 trait Named: Encode + Decode + StaticPermittedAlphabet + PartialEq {
@@ -235,23 +233,6 @@ fn are_optional_kept(alloc: Global) -> bool {
         return false;
     }
     optional(alloc, &mut decoder(kept), tag) == Ok([Some(1), Some(2), None, Some(4)])
-}
-
-/// The default 0.
-struct Zero;
-
-impl DefaultOf<Integer> for Zero {
-    ghost value = { number (pos 0) };
-
-    fn default_value(_alloc: Global) -> Result<Integer, AllocError> {
-        Ok(Integer::zero())
-    }
-
-    fn is_default(component: &Integer) -> bool {
-        component.means_same(&Integer::zero())
-    }
-
-    ghost lawful = { integer_default _ _ _ refl };
 }
 
 /// Writes components with the default 0 to an encoder: the first number, and the second twice.

@@ -64,7 +64,7 @@ fn lends_all(alloc: Global, bag: &SetOf<u8>) -> Result<bool, AllocError> {
     Ok(lent.as_slice() == [&3, &1].as_slice())
 }
 
-/// Whether a copy of a bag of 3 and 1 has the same members, and hands them over, and the bag keeps its own.
+/// Whether a copy of a bag of 3 and 1 has the same members, and gives them up, and the bag keeps its own.
 fn is_copied(bag: &SetOf<u8>) -> Result<bool, AllocError> {
     let copy = bag.clone()?;
     let is_same = has(&copy, &[3, 1]) && has(bag, &[3, 1]);

@@ -114,7 +114,7 @@ fn are_any_compared(alloc: Global) -> Result<bool, AllocError> {
     is_any_compared(&any, &other)
 }
 
-/// Whether octets of any type are handed over.
+/// Whether the octets that are taken out of any value are those that it was made of.
 fn is_any_handed_over(alloc: Global) -> Result<bool, AllocError> {
     let again = Any::from(any_of(alloc, &[2, 1])?.into_bytes());
     Ok(again.into_bytes().as_slice() == [2, 1].as_slice())

@@ -84,7 +84,7 @@ impl Eq for Any {
     ghost laws = { nat_list_eq_equiv };
 }
 
-/// OCTET STRING without constraints; those that are handed over have no effect.
+/// OCTET STRING without constraints; given ones have no effect.
 impl Described for Any {
     ghost tags = { record { class = 0; number = 4 } ∷ [] };
 

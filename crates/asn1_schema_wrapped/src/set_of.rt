@@ -7,7 +7,7 @@ ghost use Rattle.std.specs.Prelude.{swap_remove, MatchOption, IfOk, IfErr, OnOk,
 use std::alloc::{AllocError, AllocFailed, Global};
 use std::slice::Iter;
 
-/// SET OF (X.680 28): a bag of members. They stand in the order in which they were put there, which means nothing. It
+/// SET OF (X.680 28): a bag of members. They stand in the order in which they were added, which means nothing. It
 /// keeps the allocator that its constructor, or the vector handed to it, brought.
 #[derive(Clone, Debug, Drop)]
 pub struct SetOf<T> {

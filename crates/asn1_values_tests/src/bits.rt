@@ -152,8 +152,8 @@ fn is_of_fourteen(answer: Result<BitString, AllocError>) -> bool {
     }
 }
 
-/// Whether sixteen bits, of which a further one is added, are cut to twelve, and these are filled up to twenty by one
-/// bits.
+/// Whether sixteen bits, of which a further one is added, are cut to twelve, and eight one bits are then added to make
+/// twenty.
 fn is_resized(buffer: &mut BitBuffer) -> Result<bool, AllocError> {
     let before = buffer.len();
     buffer.reserve_bytes(4)?;

@@ -68,8 +68,8 @@ fn is_used_again(alloc: Global) -> Result<bool, EncodeError> {
     keeps_room(alloc, &mut buffer, &mut worker)
 }
 
-/// What a worker holds does not matter, and it keeps its room from message to message, also where the outermost of two
-/// additions had it.
+/// What a worker holds does not matter, and it keeps its room from message to message, also where one addition stands
+/// in another.
 #[test]
 fn one_worker_for_more_messages(rt: HostRuntime) -> Result<(), Fail> {
     let alloc = rt.alloc();

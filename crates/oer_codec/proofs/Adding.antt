@@ -1,41 +1,16 @@
 -- Additions in front, and their presence bits.
-use Rattle.std.proofs.Common.{◌≡◌, ℕ, zero, suc, ◌+◌, min, Bool, true, false, List, [], ◌∷◌, ◌++◌, length, take, replicate, refl, sym, ap, ◌∙◌, subst, arith}
+use Rattle.std.proofs.Common.{◌≡◌, ℕ, zero, suc, ◌<◌, Bool, true, false, List, [], ◌∷◌, drop, refl, sym, ◌∙◌, subst, arith}
 use Rattle.asn1_model.specs.Oer
 use Rattle.asn1_schema_faults.specs.declared.DecodeError.{DecodeError}
+use Rattle.asn1_schema_faults.specs.declared.DecodeError.TheVariants.{AlreadyFailed}
 use Rattle.oer_codec_reading.specs.Fronts.{Misses}
 use Rattle.oer_codec_reading.specs.Skipping.{SkipsNone}
 use Rattle.oer_codec_reading.proofs.Fronts.{missed, not_before}
 use Rattle.oer_codec_reading.proofs.Skipping.{as_stands}
-use Rattle.oer_codec_fronts.specs.Takes.{Scope, added, State, Opens, NextAddition}
+use Rattle.oer_codec_fronts.specs.Takes.{Scope, added, State, Opens, NextAddition, Skips, Ends}
 use Rattle.asn1_schema_finding.specs.PresenceBits.{first_bits}
 use Rattle.oer_codec.specs.Refusals.{NoAdditions, NotFinished, NotOpened}
 use Rattle.oer_codec.specs.Scopes.{NextPresent}
-
--- ---- presence bits
-
-zeros : (n : ℕ) → replicate n false ≡ first_bits n []
-zeros zero = refl
-zeros (suc n) = ap (λ l. false ∷ l) (zeros n)
-
--- those of the type are those of the bitmap, and zeros where it has fewer
-pub due_bits : (n m k : ℕ) (bs : List Bool) → m + k ≡ n → m ≡ min n (length bs) → take m bs ++ replicate k false ≡ first_bits n bs
-due_bits zero m k bs e f =
-    let p : m ≡ 0 = omega (arith, e) in
-    let q : k ≡ 0 = omega (arith, e) in
-    ap (λ x. take x bs ++ replicate k false) p ∙ ap (λ y. replicate y false) q
-due_bits (suc n) m k [] e f =
-    let p : m ≡ 0 = omega (arith, f) in
-    let q : k ≡ suc n = omega (arith, e, p) in
-    ap (λ x. take x [] ++ replicate k false) p ∙ ap (λ y. replicate y false) q ∙ ap (λ l. false ∷ l) (zeros n)
-due_bits (suc n) m k (b ∷ bs) e f =
-    let j : ℕ = min n (length bs) in
-    let p : m ≡ suc j = omega (arith, f) in
-    ap (λ x. take x (b ∷ bs) ++ replicate k false) p ∙ ap (λ l. b ∷ l) (due_bits n j k bs (omega (arith, e, p)) refl)
-
--- nothing is made of nothing
-pub front_empty : (a b : List Bool) → a ++ b ≡ [] → a ≡ []
-front_empty [] b e = refl
-front_empty (x ∷ a) b e = cc e
 
 -- ---- their beginning
 pub no_bitmap : (free : Oer.Freedom → Bool) (n : ℕ) (os : List ℕ) (m : Bool) (e : DecodeError) → m ≡ true → Misses free Oer.counted_bits os e → NoAdditions free m n os e
@@ -62,6 +37,15 @@ none_opened free v w os [] after b e n none t = absurd n
 none_opened free v w os (s ∷ k) after b e n none t = absurd n
 
 -- ---- the end
-pub added_not_skipped : (free : Oer.Freedom → Bool) (ms us : List Bool) (os : List ℕ) (e : DecodeError) → SkipsNone free us os e → NotFinished free (added ms us) os e
-added_not_skipped free [] us os e h = record { none = λ i k b t. h.none i b.0 t.0; fresh = h.fresh }
-added_not_skipped free (m ∷ ms) us os e h = record { none = λ i k b t. t; fresh = h.fresh }
+pub skipped : (free : Oer.Freedom → Bool) (n : ℕ) (bs : List Bool) (os rest : List ℕ) (k : List Scope) → n ≡ 0 → Skips free bs os rest → Ends free os (added (first_bits n bs) (drop n bs) ∷ k) (rest, k)
+skipped free zero bs os rest k e s = (s, refl)
+skipped free (suc n) bs os rest k e s = cc e
+
+pub not_skipped : (free : Oer.Freedom → Bool) (n : ℕ) (bs : List Bool) (os : List ℕ) (e : DecodeError) → n ≡ 0 → SkipsNone free bs os e → NotFinished free (added (first_bits n bs) (drop n bs)) os e
+not_skipped free zero bs os e z h = record { none = λ i k b t. h.none i b.0 t.0; fresh = h.fresh }
+not_skipped free (suc n) bs os e z h = cc z
+
+pub still_due : (free : Oer.Freedom → Bool) (n : ℕ) (bs : List Bool) (os : List ℕ) (e : DecodeError) → 0 < n → ¬ (e ≡ AlreadyFailed) → NotFinished free (added (first_bits n bs) (drop n bs)) os e
+still_due free zero bs os e h f = absurd (omega (arith, h))
+still_due free (suc n) [] os e h f = record { none = λ i k b t. t; fresh = f }
+still_due free (suc n) (c ∷ bs) os e h f = record { none = λ i k b t. t; fresh = f }

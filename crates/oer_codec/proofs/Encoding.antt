@@ -1,14 +1,14 @@
 -- What an encoder holds behind the records of a value.
-use Rattle.std.proofs.Common.{◌≡◌, ℕ, ◌<◌, ◌≤◌, ◌^◌, ltb, suc, Bool, true, false, cond, List, [], ◌∷◌, length, Option, Some, None, Result, Ok, Err, Vec, Global, IfOk, IfErr, MatchResult, refl, sym, ◌∙◌, ap, subst, arith}
-use Rattle.std.proofs.lemmas.Bool.{le-leb, leb-true}
+use Rattle.std.proofs.Common.{◌≡◌, ℕ, true, false, List, [], ◌∷◌, Option, Some, None, refl, sym, ◌∙◌, ap, subst, arith}
 use Rattle.asn1_model.specs.Schema.{Schema}
 use Rattle.asn1_model.specs.Value.{Value, depth}
 use Rattle.asn1_model.specs.Normal.{normal}
 use Rattle.asn1_model.specs.Rules.{octet_encoding, encoding, of_moderate_length}
 use Rattle.asn1_schema_faults.specs.declared.EncodeError.{EncodeError}
-use Rattle.asn1_schema_faults.specs.declared.EncodeError.TheVariants.{TooLongValue, OutOfMemory}
+use Rattle.asn1_schema_faults.specs.declared.EncodeError.TheVariants.{OutOfMemory}
 use Rattle.asn1_schema_faults.proofs.Passing.{PassedOn, never_long, no_memory_before}
 use Rattle.asn1_schema_encode.specs.Writes.{Writes, CannotWrite}
+use Rattle.asn1_schema_encode.specs.Written.{HasTextIn}
 use Rattle.asn1_schema_presented.specs.Records.{Record}
 use Rattle.asn1_schema_presented.specs.Presents.{presents, Fits}
 use Rattle.asn1_schema_presented.specs.Chains.{Chain}
@@ -17,7 +17,7 @@ use Rattle.oer_codec_encoder.specs.Stepping.{Written, Puts}
 use Rattle.oer_codec_encoder.specs.Steps.{State, Step}
 use Rattle.oer_codec_encoder.specs.Written.{IsWriter, HasOctets}
 use Rattle.oer_codec_encoder.proofs.Written.{written_by_records, refused_by_records, writes_the_octets, refuses_only_none}
-use Rattle.oer_codec.specs.Encoded.{IsEncoded, HasText, NotEncoded}
+use Rattle.oer_codec.specs.Encoded.{octet_rules, NotEncoded}
 
 -- the encoder is a writer
 held : Written → State
@@ -61,20 +61,20 @@ chain_taken (r ∷ rs) a m k c =
     let u = chain_taken rs b m refl c.2 in
     (u.0, (b, (k, refl, c.1), u.1))
 
-as_text : (schema : ℕ → Schema) (v : Value) (o : Option (List ℕ)) → ((n : ℕ) → Fits (schema n) v → octet_encoding (schema n) (normal (schema n) v) ≡ o) → HasText schema v o
+as_text : (schema : ℕ → Schema) (v : Value) (o : Option (List ℕ)) → ((n : ℕ) → Fits (schema n) v → octet_encoding (schema n) (normal (schema n) v) ≡ o) → HasTextIn octet_rules schema v o
 unfolding encoding
 as_text schema v o h n f = (h n f, h n f)
 
-text_written : (schema : ℕ → Schema) (v : Value) (new : Written) → IsValue schema v → Writes Puts schema v nothing_held new → HasText schema v (Some new.state.0)
+text_written : (schema : ℕ → Schema) (v : Value) (new : Written) → IsValue schema v → Writes Puts schema v nothing_held new → HasTextIn octet_rules schema v (Some new.state.0)
 text_written schema v new i w = as_text schema v (Some new.state.0) ((written_by_records schema v new.state i).0 (record { chain = λ n f. chain_held (presents (schema n) v) nothing_held new (w.chain n f) })).1
 
-no_text : (schema : ℕ → Schema) (v : Value) (e : EncodeError) → IsValue schema v → ¬ (e ≡ OutOfMemory) → CannotWrite Puts schema v nothing_held e → HasText schema v None
+no_text : (schema : ℕ → Schema) (v : Value) (e : EncodeError) → IsValue schema v → ¬ (e ≡ OutOfMemory) → CannotWrite Puts schema v nothing_held e → HasTextIn octet_rules schema v None
 no_text schema v e i y c = as_text schema v None ((refused_by_records schema v e i y).0 (record { none = λ z n new f t. let u = chain_taken (presents (schema n) v) nothing_held new refl t in c.none z n u.0 f u.1 }))
 
 -- ---- what the calls answer
 
 -- behind the records of a value stand its octets
-pub written_all : (schema : ℕ → Schema) (v : Value) (start new : Written) (os : List ℕ) → start ≡ record { state = (os, []); failed = false } → os ≡ [] → IsValue schema v → Writes Puts schema v start new → (new.failed ≡ false) × (new.state.1 ≡ []) × HasOctets schema v (of_moderate_length new.state.0) × HasText schema v (Some new.state.0)
+pub written_all : (schema : ℕ → Schema) (v : Value) (start new : Written) (os : List ℕ) → start ≡ record { state = (os, []); failed = false } → os ≡ [] → IsValue schema v → Writes Puts schema v start new → (new.failed ≡ false) × (new.state.1 ≡ []) × HasOctets schema v (of_moderate_length new.state.0) × HasTextIn octet_rules schema v (Some new.state.0)
 unfolding held
 written_all schema v start new os e f i w =
     let x : Writes Puts schema v nothing_held new = subst (λ s. Writes Puts schema v s new) (begins start os e f) w in
@@ -90,41 +90,4 @@ refused_all schema v start os x e k f i c p =
       none = λ n. refuses_only_none is_writer schema v nothing_held x i refl refl (no_memory_before x e p n) y;
       long = λ h. absurd (never_long x e p h);
       bare = λ n m. no_text schema v x i (no_memory_before x e p n) y;
-    }
-
--- want of memory says nothing of a value
-pub wants_memory : (schema : ℕ → Schema) (v : Value) (e : EncodeError) → e ≡ OutOfMemory → NotEncoded schema v e
-wants_memory schema v e h = record {
-  none = λ n. absurd (n h);
-  long = λ k. let q : OutOfMemory ≡ TooLongValue = sym h ∙ k in cc;
-  bare = λ n m. absurd (n h);
-}
-
--- the bound on the length of an encoding
-pub short_enough : (w : List ℕ) → length w < 2 ^ 60 → of_moderate_length w ≡ Some w
-short_enough w h = ap (λ b. cond b (Some w) None) (le-leb (suc (length w)) (2 ^ 60) h)
-
-pub too_long : (w : List ℕ) → 2 ^ 60 ≤ length w → of_moderate_length w ≡ None
-too_long w h = go (ltb (length w) (2 ^ 60)) refl
-  where
-    go : (b : Bool) → ltb (length w) (2 ^ 60) ≡ b → of_moderate_length w ≡ None
-    go false e = ap (λ b. cond b (Some w) None) e
-    go true e = let l = leb-true (suc (length w)) (2 ^ 60) e in absurd (omega (arith, h, l))
-
--- what is answered: the octets, or that they are too many
-abbrev pub Kept : List ℕ → Result (Vec ℕ Global) EncodeError → Type 0
-Kept w r = MatchResult r (λ kept. (kept.items ≡ w) × (length w < 2 ^ 60)) (λ e. (e ≡ TooLongValue) × (2 ^ 60 ≤ length w))
-
-pub encoded : (schema : ℕ → Schema) (v : Value) (w os : List ℕ) (r : Result (Vec ℕ Global) EncodeError) → HasOctets schema v (of_moderate_length w) → os ≡ w → Kept os r → IfOk r (λ octets. IsEncoded schema v octets.items)
-encoded schema v w os (Ok kept) h e k = subst (HasOctets schema v) (short_enough w (subst (λ l. length l < 2 ^ 60) e k.1) ∙ ap Some (sym (k.0 ∙ e))) h
-encoded schema v w os (Err x) h e k = tt
-
-pub not_encoded : (schema : ℕ → Schema) (v : Value) (w os : List ℕ) (r : Result (Vec ℕ Global) EncodeError) → HasOctets schema v (of_moderate_length w) → HasText schema v (Some w) → os ≡ w → Kept os r → IfErr r (NotEncoded schema v)
-not_encoded schema v w os (Ok kept) h t e k = tt
-not_encoded schema v w os (Err x) h t e k =
-    let l = subst (λ l. 2 ^ 60 ≤ length l) e k.1 in
-    record {
-      none = λ n. subst (HasOctets schema v) (too_long w l) h;
-      long = λ _. record { text = w; has = t; beyond = l };
-      bare = λ n m. absurd (m k.0);
     }

@@ -1,8 +1,7 @@
 -- How a record that is asked for is found in front, and why none is.
-use Rattle.std.proofs.Common.{◌≡◌, ℕ, ℤ, zero, ◌+◌, ◌<◌, ◌≤◌, ◌^◌, suc, ltb, Bool, cond, true, false, ◌||◌, List, [], ◌∷◌, length, take, Some, None, Result, Ok, Err, refl, sym, ◌∙◌, ap, subst, arith}
+use Rattle.std.proofs.Common.{◌≡◌, ℕ, ℤ, zero, ◌+◌, ◌<◌, ◌≤◌, ◌^◌, suc, ltb, Bool, cond, true, false, ◌||◌, List, [], ◌∷◌, length, take, Some, Result, Ok, Err, refl, sym, ◌∙◌, ap, subst, arith}
 use Rattle.std.proofs.lemmas.Bool.{and_parts, le-leb, leb-true}
 use Rattle.std.specs.Prelude.{OnOk}
-use Rattle.std.specs.List.{slice_get}
 use Rattle.asn1_schema_presented.specs.Levels.{level}
 use Rattle.asn1_model.specs.Value.{Value, truth, nothing, number, bit_list, octet_list, text, arcs}
 use Rattle.asn1_model.specs.Schema.{Range, Bounds, Counts, Size, Alphabet, StringKind, Schema, boolean, null, integer, bit_string, octet_string, character_string, object_identifier}
@@ -29,15 +28,6 @@ take_whole zero [] h = refl
 take_whole zero (x ∷ l) h = absurd (omega (arith, h))
 take_whole (suc k) [] h = refl
 take_whole (suc k) (x ∷ l) h = ap (λ t. x ∷ t) (take_whole k l (omega (arith, h)))
-
--- the first of a list
-pub first_taken : (l : List Bool) (x : Bool) → slice_get l 0 ≡ Some x → take 1 l ≡ x ∷ []
-first_taken [] x e = cc
-first_taken (y ∷ l) x e = let f : y ≡ x = cc in ap (λ t. t ∷ []) f
-
-pub first_there : (l : List Bool) → slice_get l 0 ≡ None → 0 < length l → ⊥
-first_there [] e h = omega (arith, h)
-first_there (y ∷ l) e h = cc
 
 stands : {free : Oer.Freedom → Bool} {x : Oer.OctetForm} {os rest : List ℕ} → Front free x os rest → Stands free x os rest
 stands f = (f.text, f.in_front, f.has_form)

@@ -1,5 +1,7 @@
 -- What has begun and has not ended, as a reader of the octet encoding rules (X.696) holds it.
-use Rattle.std.specs.Prelude.{◌≡◌, Bool, false, List, [], ◌∷◌, ◌++◌, map, replicate, reverse, Option, Some, None}
+use Rattle.std.specs.Prelude.{◌≡◌, Bool, List, [], ◌∷◌, drop, map, reverse, Option, Some, None}
+use Rattle.asn1_schema_finding.specs.PresenceBits.{first_bits}
+use Rattle.asn1_values_bits.specs.BitStr.{bits_of}
 use Rattle.oer_codec_fronts.specs.Takes.{Scope, components, added, open_type, members, alternative}
 use Rattle.oer_codec.specs.declared.additions.Additions.{Additions}
 use Rattle.oer_codec.specs.declared.frames.Enclosing.{Enclosing}
@@ -9,13 +11,17 @@ use Rattle.oer_codec.specs.declared.frames.Frame.{Frame}
 use Rattle.oer_codec.specs.declared.frames.Frame.TheVariants.{Components, Added, OpenType, Members, Alternative}
 
 -- The presence bits of the type's additions that are still to come: those past the bitmap are 0.
-abbrev pub bits_due : Additions → List Bool
-bits_due a = a.known.bits ++ replicate a.absent false
+abbrev pub own_presence : Additions → List Bool
+own_presence a = first_bits a.left (bits_of a.bitmap)
+
+-- The presence bits of unknown ones.
+abbrev pub unknown_presence : Additions → List Bool
+unknown_presence a = drop a.left (bits_of a.bitmap)
 
 -- An open scope.
 abbrev pub scope_of : Frame → Scope
-scope_of (Components x r) = components x r.bits
-scope_of (Added a) = added (bits_due a) a.unknown.bits
+scope_of (Components x r) = components x (bits_of r)
+scope_of (Added a) = added (own_presence a) (unknown_presence a)
 scope_of (OpenType behind) = open_type behind
 scope_of (Members n) = members n
 scope_of Alternative = alternative

@@ -3,7 +3,7 @@ ghost use Rattle.std.specs.Prelude.{◌≡◌, ◌∷◌, true, false, OnOk, IfE
 ghost use Rattle.oer_codec_fronts.specs.Takes.{Ends, added};
 ghost use Rattle.oer_codec_reading.specs.Fronts.{freedoms};
 ghost use Rattle.oer_codec.specs.Refusals.{NotFinished};
-ghost use Rattle.oer_codec.specs.Scopes.{bits_due, scope_of};
+ghost use Rattle.oer_codec.specs.Scopes.{own_presence, scope_of, unknown_presence};
 
 use crate::additions::Additions;
 use crate::frames::Frame;
@@ -31,15 +31,14 @@ fn finish_additions<'input>(
     rules: EncodingRules,
 ) -> Result<(), DecodeError>
     ensures ok { OnOk result ((k : _) → Ends (freedoms rules) cursor.old
-        (added (bits_due additions.entry) additions.entry.unknown.bits ∷ k) (cursor.new, k)) }
+        (added (own_presence additions.entry) (unknown_presence additions.entry) ∷ k) (cursor.new, k)) }
     ensures only { IfErr result (NotFinished (freedoms rules)
-        (added (bits_due additions.entry) additions.entry.unknown.bits) cursor.old) }
+        (added (own_presence additions.entry) (unknown_presence additions.entry)) cursor.old) }
 {
-    if !additions.is_empty() {
+    if additions.left > 0 {
         return Err(DecodeError::NotValidCanonicalEncoding);
     }
-    let mut unknown = additions.unknown;
-    skip_additions(cursor, rules, &mut unknown)?;
+    skip_additions(cursor, rules, additions.bitmap)?;
     Ok(())
 }
 

@@ -1,5 +1,5 @@
 //! Open scopes.
-ghost use Rattle.std.specs.Prelude.{◌≡◌, ◌<◌, ◌∷◌, [], length, take, Some, OnOk, IfErr, IfSome, IfNone};
+ghost use Rattle.std.specs.Prelude.{◌≡◌, ◌∷◌, [], Some, OnOk, IfErr, IfSome, IfNone};
 ghost use Rattle.oer_codec_fronts.specs.Takes.{AdditionEnds, Ends, NextPresenceBit, NextMember, components};
 ghost use Rattle.oer_codec_reading.specs.Fronts.{freedoms};
 ghost use Rattle.oer_codec.specs.Refusals.{NoAdditionEnd, NoEnd};
@@ -8,30 +8,17 @@ ghost use Rattle.oer_codec.specs.Scopes.{NextPresent, frame_of, framed, scope_of
 use crate::additions::Additions;
 use crate::endings::finish;
 use asn1_schema_faults::DecodeError;
-use asn1_values_bits::BitReader;
-use oer_codec_reading::{Cursor, EncodingRules, leave_open_type};
+use asn1_values_bits::BitStr;
+use oer_codec_reading::{Cursor, EncodingRules, leave_open_type, take_bit};
 use std::alloc::{AllocError, Global};
 use std::marker::Model;
-
-/// The first bit.
-#[inline(always)]
-#[tactic(auto, using(crate::proofs::Finding::first_taken, crate::proofs::Finding::first_there))]
-pub(crate) fn first_bit(bits: &BitReader<'_>) -> bool
-    requires { 0 < length bits.now.bits }
-    ensures { take 1 bits.now.bits ≡ result ∷ [] }
-{
-    match bits.bits().get(0) {
-        Some(first) => first,
-        None => unreachable!(),
-    }
-}
 
 /// What has begun and has not ended.
 #[derive(Drop)]
 pub(crate) enum Frame<'input> {
     /// The components of a sequence, set or group (X.696 16): the bit of its extension marker, if it has an extension
     /// marker, and the presence bits that are still to come.
-    Components(Option<bool>, BitReader<'input>),
+    Components(Option<bool>, BitStr<'input>),
     /// The additions of such a type (X.696 16.4).
     Added(Additions<'input>),
     /// An open type (X.696 30): its octets stand alone, and those behind it are these.
@@ -216,14 +203,7 @@ impl<'input> Scopes<'input> {
             return None;
         }
         match &mut self.innermost {
-            Some(Frame::Components(_, presence)) => {
-                if presence.is_empty() {
-                    return None;
-                }
-                let first = first_bit(presence);
-                let _first = presence.split(1);
-                Some(first)
-            }
+            Some(Frame::Components(_, presence)) => take_bit(presence),
             _ => None,
         }
     }

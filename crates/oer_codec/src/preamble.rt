@@ -1,35 +1,29 @@
 //! The preamble of a sequence (X.696 16.2).
 ghost use Rattle.std.specs.Prelude.{◌≡◌, ◌+◌, ◌*◌, ◌^◌, ◌<◌, ◌≤◌, [], ◌∷◌, ◌++◌, cond, length, IfOk, IfErr};
+ghost use Rattle.asn1_values_bits.specs.BitStr.{bits_of};
 ghost use Rattle.oer_codec.specs.Preamble.{HasBits, HasPreamble};
 ghost use Rattle.oer_codec.specs.Scopes.{scope_of};
 
-use crate::frames::{Frame, first_bit};
+use crate::frames::Frame;
 use asn1_schema_faults::DecodeError;
-use asn1_values_bits::BitReader;
-use oer_codec_reading::{Cursor, are_zero};
+use asn1_values_bits::BitStr;
+use oer_codec_reading::{Cursor, are_zero, take_bit};
 use oer_codec_writing::preamble_len;
 
 /// Takes off the extension bit, if there is one, and the presence bits.
 #[inline(always)]
 fn take_presence<'input>(
-    bits: &mut BitReader<'input>,
+    bits: &mut BitStr<'input>,
     extensible: bool,
     optional: usize,
 ) -> Frame<'input>
-    requires { cond extensible 1 0 + optional ≤ length bits.old.bits }
-    ensures { HasBits extensible optional (scope_of result) bits.old.bits bits.new.bits }
+    requires { cond extensible 1 0 + optional ≤ length (bits_of bits.old) }
+    ensures { HasBits extensible optional (scope_of result) (bits_of bits.old) (bits_of bits.new) }
 {
-    let extension_bit = if extensible {
-        let first = first_bit(bits);
-        let _first = bits.split(1);
-        Some(first)
-    } else {
-        None
-    };
-    match bits.split(optional) {
-        Ok(presence) => Frame::Components(extension_bit, presence),
-        Err(_) => unreachable!(),
-    }
+    let extension_bit = if extensible { take_bit(bits) } else { None };
+    let (presence, unused) = bits.split_at(optional);
+    *bits = unused;
+    Frame::Components(extension_bit, presence)
 }
 
 /// Reads the preamble of a sequence, with or without an extension marker, of which so many components may be
@@ -53,9 +47,9 @@ pub(crate) fn read_preamble<'input>(
         return Err(DecodeError::Incomplete);
     }
     let octets = cursor.take(count)?;
-    let mut bits = BitReader::from_octets(octets);
+    let mut bits = BitStr::from_slice(octets);
     let frame = take_presence(&mut bits, extensible, optional);
-    if !are_zero(&bits) {
+    if !are_zero(bits) {
         return Err(DecodeError::InvalidPreamble);
     }
     Ok(frame)

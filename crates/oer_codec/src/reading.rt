@@ -20,6 +20,7 @@ use std::alloc::Global;
 /// `OutOfMemory` for want of memory. Any other only if no octets in front, fewer than 2^60, are an encoding of a
 /// value of the type that
 /// nests at most 128 levels.
+#[inline(always)]
 pub fn decode<T: Decode>(
     alloc: Global,
     input: &[u8],
@@ -38,6 +39,7 @@ pub fn decode<T: Decode>(
 /// # Errors
 ///
 /// As `decode`.
+#[inline(always)]
 pub fn decode_with_remainder<'input, T: Decode>(
     alloc: Global,
     input: &'input [u8],

@@ -1,5 +1,5 @@
 -- Bags that begin, go on and end, in the octets and the frames of an encoder.
-use Rattle.std.proofs.Common.{◌≡◌, ℕ, suc, ◌+◌, ◌-◌, Bool, true, false, cond, ltb, List, [], ◌∷◌, ◌++◌, length, map, Option, Some, None, option_map, Vec, Global, refl, ap, subst, sym, ◌∙◌, arith}
+use Rattle.std.proofs.Common.{◌≡◌, ℕ, suc, ◌+◌, ◌-◌, ◌<◌, Bool, true, false, cond, ltb, List, [], ◌∷◌, ◌++◌, length, map, Option, Some, None, option_map, Vec, Box, Global, Result, Ok, Err, MatchResult, refl, ap, subst, sym, ◌∙◌, arith}
 use Rattle.std.proofs.lemmas.List.{append-nil}
 use Rattle.asn1_model.specs.Form.{written, exactly, only_if, given, joined, stands_before, ascending, with_keys, put_in_place}
 use Rattle.asn1_model.specs.Numbers.{is_count_within}
@@ -12,9 +12,12 @@ use Rattle.oer_codec_encoder.specs.Steps.{bag_members, with_open, State, run, ad
 use Rattle.oer_codec_encoder.specs.declared.frame.Bag.{Bag as BagFrame}
 use Rattle.oer_codec_encoder.specs.declared.frame.Frame.{Frame}
 use Rattle.oer_codec_encoder.specs.declared.frame.Frame.TheVariants.{Bag}
-use Rattle.oer_codec_encoder.specs.Holding.{NextOfBag, Holds, Does}
+use Rattle.asn1_schema_faults.specs.declared.EncodeError.{EncodeError}
+use Rattle.oer_codec_encoder.specs.Frames.{NoEnd}
+use Rattle.oer_codec_encoder.specs.Holding.{NextOfBag, BagEnds, IsInBag, Holds, Does, Cannot}
 use Rattle.oer_codec_encoder.specs.Slots.{texts_joined}
 use Rattle.oer_codec_writing.specs.Writing.{Adds}
+use Rattle.oer_codec_encoder.proofs.Refusals.{cannot}
 use Rattle.oer_codec_encoder.proofs.Scopes.{on_top, put_back, appended}
 
 -- ---- a bag begins
@@ -22,8 +25,8 @@ use Rattle.oer_codec_encoder.proofs.Scopes.{on_top, put_back, appended}
 abbrev pub begun : ℕ → Vec ℕ Global → BagFrame
 begun n outer = record { due = n; outer = outer; members = None }
 
-pub does_begin_bag : (fs gs : List Frame) (o p q : List ℕ) (z : Size) (h : Counts) (n : ℕ) (outer : Vec ℕ Global) → is_count_within h n ≡ true → Adds (written (Oer.unsigned n) 0) o p → outer.items ≡ p → q ≡ [] → gs ≡ Bag (begun n outer) ∷ fs → Does (bag_begins z h n) fs o gs q
-does_begin_bag fs gs o p q z h n outer k x r v y = record { after = λ s d. go s d (written (Oer.unsigned n) 0) refl x }
+pub does_begin_bag : (fs gs : List Frame) (o p q : List ℕ) (z : Size) (h : Counts) (n : ℕ) (outer : Vec ℕ Global) (boxed : Box BagFrame Global) → is_count_within h n ≡ true → Adds (written (Oer.unsigned n) 0) o p → outer.items ≡ p → q ≡ [] → boxed.value ≡ begun n outer → gs ≡ Bag boxed ∷ fs → Does (bag_begins z h n) fs o gs q
+does_begin_bag fs gs o p q z h n outer boxed k x r v held y = record { after = λ s d. go s d (written (Oer.unsigned n) 0) refl x }
   where
     told : written (only_if (is_count_within h n) (Oer.unsigned n)) 0 ≡ written (Oer.unsigned n) 0
     told = ap (λ (b : Bool). written (only_if b (Oer.unsigned n)) 0) k
@@ -32,10 +35,11 @@ does_begin_bag fs gs o p q z h n outer k x r v y = record { after = λ s d. go s
     go s d None e a = cc
     go s d (Some w) e a =
         let u : State = ([], bag_members n None (s.0 ++ w) ∷ s.1) in
-        let b : o ++ w ≡ outer.items = (let same : o ++ w ≡ p = cc a in same) ∙ sym r in (
+        let b : o ++ w ≡ outer.items = (let same : o ++ w ≡ p = cc a in same) ∙ sym r in
+        let inside : IsInBag (λ l t. Holds fs l t) (begun n outer) [] u = ((s.0 ++ w, s.1), refl, subst (λ l. Holds fs l (s.0 ++ w, s.1)) b (appended fs o s w d)) in (
           u,
           ap (option_map (λ l. let v : State = ([], bag_members n None (s.0 ++ l) ∷ s.1) in v)) (told ∙ e),
-          subst (λ l. Holds gs l u) (sym v) (put_back gs fs (Bag (begun n outer)) [] u y ((s.0 ++ w, s.1), refl, subst (λ l. Holds fs l (s.0 ++ w, s.1)) b (appended fs o s w d))),
+          subst (λ l. Holds gs l u) (sym v) (put_back gs fs (Bag boxed) [] u y (subst (λ (f : BagFrame). IsInBag (λ l t. Holds fs l t) f [] u) (sym held) inside)),
         )
 
 pub no_begin_bag : (fs : List Frame) (o : List ℕ) (z : Size) (h : Counts) (n : ℕ) → is_count_within h n ≡ false → (s : State) → Holds fs o s → run (bag_begins z h n) s ≡ None
@@ -44,30 +48,37 @@ no_begin_bag fs o z h n k s d = ap (λ (b : Bool). option_map (λ w. let v : Sta
 
 -- ---- it goes on
 
-abbrev ended : BagFrame → BagFrame
-ended b = record { due = 0; outer = b.outer; members = b.members }
+abbrev with_due : ℕ → BagFrame → BagFrame
+with_due k b = record { due = k; outer = b.outer; members = b.members }
 
-pub does_next : (fs rest gs : List Frame) (b c : BagFrame) (o p : List ℕ) (more : Bool) → fs ≡ Bag b ∷ rest → NextOfBag more b o c p → gs ≡ Bag c ∷ rest → Does (further more) fs o gs p
-does_next fs rest gs b c o p false a n y = record { after = λ s h. go s (subst (λ k. Holds (Bag (record { due = k; outer = b.outer; members = b.members }) ∷ rest) o s) n.0 (on_top fs rest (Bag b) o s a h)) }
-  where
-    same : ended b ≡ c
-    same = ap (λ (k : ℕ). let l : BagFrame = record { due = k; outer = b.outer; members = b.members } in l) (sym n.0) ∙ sym n.1
+module _ (fs rest gs : List Frame) (boxed next : Box BagFrame Global) (o p : List ℕ) (a : fs ≡ Bag boxed ∷ rest) (y : gs ≡ Bag next ∷ rest) where
+  of_due : (k : ℕ) → boxed.value.due ≡ k → (s : State) → Holds fs o s → IsInBag (λ l t. Holds rest l t) (with_due k boxed.value) o s
+  of_due k n s h = subst (λ j. IsInBag (λ l t. Holds rest l t) (with_due j boxed.value) o s) n (on_top fs rest (Bag boxed) o s a h)
 
-    go : (s : State) → Holds (Bag (ended b) ∷ rest) o s → (t : State) × (run (further false) s ≡ Some t) × Holds gs p t
-    go s h =
-        let t : State = (o, bag_members 0 b.members h.0.0 ∷ h.0.1) in
-        (t, ap (run (further false)) h.1, put_back gs rest (Bag c) p t y (subst (λ l. Holds (Bag c ∷ rest) l t) (sym n.2) (subst (λ k. Holds (Bag k ∷ rest) o t) same (h.0, refl, h.2))))
-does_next fs rest gs b c o p true a n y = record { after = λ s h. go s (subst (λ k. Holds (Bag (record { due = k; outer = b.outer; members = b.members }) ∷ rest) o s) one (on_top fs rest (Bag b) o s a h)) }
-  where
-    one : b.due ≡ suc (b.due - 1)
-    one = let l = n.0 in omega arith
+  pub does_next : (more : Bool) → NextOfBag more boxed.value o next.value p → Does (further more) fs o gs p
+  does_next false n = record { after = λ s h. go s (of_due 0 n.0 s h) }
+    where
+      same : with_due 0 boxed.value ≡ next.value
+      same = ap (λ (k : ℕ). with_due k boxed.value) (sym n.0) ∙ sym n.1
 
-    go : (s : State) → Holds (Bag (record { due = suc (b.due - 1); outer = b.outer; members = b.members }) ∷ rest) o s → (t : State) × (run (further true) s ≡ Some t) × Holds gs p t
-    go s h =
-        let t : State = ([], bag_members (b.due - 1) (Some (with_open b.members o)) h.0.0 ∷ h.0.1) in
-        let counted : t ≡ ([], bag_members c.due (Some (with_open b.members o)) h.0.0 ∷ h.0.1) = ap (λ k. let l : State = ([], bag_members k (Some (with_open b.members o)) h.0.0 ∷ h.0.1) in l) (sym n.1) in
-        let told : t ≡ ([], bag_members c.due c.members h.0.0 ∷ h.0.1) = counted ∙ ap (λ ws. let l : State = ([], bag_members c.due ws h.0.0 ∷ h.0.1) in l) (sym n.3) in
-        (t, ap (run (further true)) h.1, subst (λ l. Holds gs l t) (sym n.4) (put_back gs rest (Bag c) [] t y (h.0, told, subst (λ v. Holds rest v.items h.0) (sym n.2) h.2)))
+      go : (s : State) → IsInBag (λ l t. Holds rest l t) (with_due 0 boxed.value) o s → (t : State) × (run (further false) s ≡ Some t) × Holds gs p t
+      go s h =
+          let t : State = (o, bag_members 0 boxed.value.members h.0.0 ∷ h.0.1) in
+          let inside : IsInBag (λ l t. Holds rest l t) (with_due 0 boxed.value) o t = (h.0, refl, h.2) in
+          (t, ap (run (further false)) h.1, put_back gs rest (Bag next) p t y (subst (λ l. Holds (Bag next ∷ rest) l t) (sym n.2) (subst (λ k. IsInBag (λ l t. Holds rest l t) k o t) same inside)))
+  does_next true n = record { after = λ s h. go s (of_due (suc (boxed.value.due - 1)) one s h) }
+    where
+      one : boxed.value.due ≡ suc (boxed.value.due - 1)
+      one = let l = n.0 in omega arith
+
+      go : (s : State) → IsInBag (λ l t. Holds rest l t) (with_due (suc (boxed.value.due - 1)) boxed.value) o s → (t : State) × (run (further true) s ≡ Some t) × Holds gs p t
+      go s h =
+          let b = boxed.value in
+          let c = next.value in
+          let t : State = ([], bag_members (b.due - 1) (Some (with_open b.members o)) h.0.0 ∷ h.0.1) in
+          let counted : t ≡ ([], bag_members c.due (Some (with_open b.members o)) h.0.0 ∷ h.0.1) = ap (λ k. let l : State = ([], bag_members k (Some (with_open b.members o)) h.0.0 ∷ h.0.1) in l) (sym n.1) in
+          let told : t ≡ ([], bag_members c.due c.members h.0.0 ∷ h.0.1) = counted ∙ ap (λ ws. let l : State = ([], bag_members c.due ws h.0.0 ∷ h.0.1) in l) (sym n.3) in
+          (t, ap (run (further true)) h.1, subst (λ l. Holds gs l t) (sym n.4) (put_back gs rest (Bag next) [] t y (h.0, told, subst (λ v. Holds rest v.items h.0) (sym n.2) h.2)))
 
 -- ---- it ends
 
@@ -148,22 +159,33 @@ adds_none : (old : List ℕ) → Adds (bag_text []) old old
 unfolding written Oer.in_any_order
 adds_none old = ap Some (append-nil old)
 
-does_end_bag : (b : BagFrame) (k : List Frame) (o p : List ℕ) → b.due ≡ 0 → Adds (bag_text (with_open b.members o)) b.outer.items p → Does ends (Bag b ∷ k) o k p
-does_end_bag b k o p n x = record { after = λ s h. go s (subst (λ i. Holds (Bag (record { due = i; outer = b.outer; members = b.members }) ∷ k) o s) n h) (bag_text (with_open b.members o)) refl x }
+does_end_bag : (boxed : Box BagFrame Global) (k : List Frame) (o p : List ℕ) → BagEnds boxed.value o p → Does ends (Bag boxed ∷ k) o k p
+does_end_bag boxed k o p n = record { after = λ s h. go s (subst (λ i. IsInBag (λ l t. Holds k l t) (with_due i boxed.value) o s) n.0 h) (bag_text (with_open boxed.value.members o)) refl n.1 }
   where
-    go : (s : State) → Holds (Bag (record { due = 0; outer = b.outer; members = b.members }) ∷ k) o s → (t : Option (List ℕ)) → bag_text (with_open b.members o) ≡ t → Adds t b.outer.items p → (u : State) × (run ends s ≡ Some u) × Holds k p u
+    go : (s : State) → IsInBag (λ l t. Holds k l t) (with_due 0 boxed.value) o s → (t : Option (List ℕ)) → bag_text (with_open boxed.value.members o) ≡ t → Adds t boxed.value.outer.items p → (u : State) × (run ends s ≡ Some u) × Holds k p u
     go s h None e y = cc
     go s h (Some w) e y =
         let u : State = (h.0.0 ++ w, h.0.1) in
-        let q : b.outer.items ++ w ≡ p = cc y in
-        (u, ap (run ends) h.1 ∙ ap (λ t. adds_text t h.0) e, subst (λ l. Holds k l u) q (appended k b.outer.items h.0 w h.2))
+        let q : boxed.value.outer.items ++ w ≡ p = cc y in
+        (u, ap (run ends) h.1 ∙ ap (λ t. adds_text t h.0) e, subst (λ l. Holds k l u) q (appended k boxed.value.outer.items h.0 w h.2))
+
+no_end_of_bag : (boxed : Box BagFrame Global) (k : List Frame) (o : List ℕ) → 0 < boxed.value.due → (s : State) → Holds (Bag boxed ∷ k) o s → run ends s ≡ None
+no_end_of_bag boxed k o n s h = ap (run ends) (subst (λ j. IsInBag (λ l t. Holds k l t) (with_due j boxed.value) o s) one h).1
+  where
+    one : boxed.value.due ≡ suc (boxed.value.due - 1)
+    one = omega arith
+
+-- whatever is around it
+pub bag_ends : (f : Frame) (boxed : Box BagFrame Global) (o p : List ℕ) (r : Result (Unit {0}) EncodeError) → f ≡ Bag boxed → MatchResult r (λ _. BagEnds boxed.value o p) (NoEnd boxed.value.due) → MatchResult r (λ _. (k : List Frame) → Does ends (f ∷ k) o k p) (λ e. (k : List Frame) → Cannot ends (f ∷ k) o e)
+bag_ends f boxed o p (Ok u) x m = λ k. subst (λ g. Does ends (g ∷ k) o k p) (sym x) (does_end_bag boxed k o p m)
+bag_ends f boxed o p (Err e) x m = λ k. subst (λ g. Cannot ends (g ∷ k) o e) (sym x) (cannot ends (Bag boxed ∷ k) o e m.0 (λ n. no_end_of_bag boxed k o (m.1 n)))
 
 -- a member is open
-pub ends_with_open : (b : BagFrame) (k : List Frame) (o p q w : List ℕ) (ms : List (List ℕ)) → b.due ≡ 0 → b.members ≡ Some ms → w ≡ o → q ≡ b.outer.items → Adds (bag_text (ms ++ w ∷ [])) q p → Does ends (Bag b ∷ k) o k p
-ends_with_open b k o p q w ms n e f g x =
-    does_end_bag b k o p n (subst (λ l. Adds (bag_text l) b.outer.items p) (ap (λ l. ms ++ l ∷ []) f ∙ ap (λ m. with_open m o) (sym e)) (subst (λ l. Adds (bag_text (ms ++ w ∷ [])) l p) g x))
+pub ends_with_open : (b : BagFrame) (o p q w : List ℕ) (ms : List (List ℕ)) → b.due ≡ 0 → b.members ≡ Some ms → w ≡ o → q ≡ b.outer.items → Adds (bag_text (ms ++ w ∷ [])) q p → BagEnds b o p
+ends_with_open b o p q w ms n e f g x =
+    (n, subst (λ l. Adds (bag_text l) b.outer.items p) (ap (λ l. ms ++ l ∷ []) f ∙ ap (λ m. with_open m o) (sym e)) (subst (λ l. Adds (bag_text (ms ++ w ∷ [])) l p) g x))
 
 -- no member was told
-pub ends_without : (b : BagFrame) (k : List Frame) (o p : List ℕ) → b.due ≡ 0 → b.members ≡ None → p ≡ b.outer.items → Does ends (Bag b ∷ k) o k p
-ends_without b k o p n e g =
-    does_end_bag b k o p n (subst (λ l. Adds (bag_text l) b.outer.items p) (ap (λ m. with_open m o) (sym e)) (subst (λ l. Adds (bag_text []) b.outer.items l) (sym g) (adds_none b.outer.items)))
+pub ends_without : (b : BagFrame) (o p : List ℕ) → b.due ≡ 0 → b.members ≡ None → p ≡ b.outer.items → BagEnds b o p
+ends_without b o p n e g =
+    (n, subst (λ l. Adds (bag_text l) b.outer.items p) (ap (λ m. with_open m o) (sym e)) (subst (λ l. Adds (bag_text []) b.outer.items l) (sym g) (adds_none b.outer.items)))

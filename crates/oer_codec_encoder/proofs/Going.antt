@@ -1,5 +1,5 @@
 -- What goes on where nothing encloses one value alone, in the octets and the frames of an encoder.
-use Rattle.std.proofs.Common.{◌≡◌, ℕ, Bool, List, ◌∷◌, reverse, Option, Some, None, Result, Ok, Err, MatchResult, ap, ◌∙◌}
+use Rattle.std.proofs.Common.{◌≡◌, ℕ, Bool, List, ◌∷◌, reverse, Option, Some, None, Box, Global, Result, Ok, Err, MatchResult, ap, ◌∙◌}
 use Rattle.asn1_schema_faults.specs.declared.EncodeError.{EncodeError}
 use Rattle.asn1_schema_presented.specs.Records.{further}
 use Rattle.oer_codec_encoder.specs.declared.frame.Bag.{Bag as BagFrame}
@@ -14,6 +14,6 @@ use Rattle.oer_codec_encoder.proofs.Refusals.{cannot, no_member_of_bag}
 pub none_encloses : (e : Option Enclosing) (i : Option Frame) (f : Frame) (fs : List Frame) → e ≡ None → i ≡ Some f → frames_of e i fs ≡ f ∷ reverse fs
 none_encloses e i f fs a b = ap (λ x. frames_of x i fs) a ∙ ap (λ x. others_of x fs) b
 
-pub bag_goes_on : (more : Bool) (fs rest gs : List Frame) (b c : BagFrame) (o p : List ℕ) (r : Result (Unit {0}) EncodeError) → fs ≡ Bag b ∷ rest → MatchResult r (λ _. NextOfBag more b o c p) (NoMember more b.due) → gs ≡ Bag c ∷ rest → MatchResult r (λ _. Does (further more) fs o gs p) (Cannot (further more) fs o)
-bag_goes_on more fs rest gs b c o p (Ok u) a m d = does_next fs rest gs b c o p more a m d
+pub bag_goes_on : (more : Bool) (fs rest gs : List Frame) (b c : Box BagFrame Global) (o p : List ℕ) (r : Result (Unit {0}) EncodeError) → fs ≡ Bag b ∷ rest → MatchResult r (λ _. NextOfBag more b.value o c.value p) (NoMember more b.value.due) → gs ≡ Bag c ∷ rest → MatchResult r (λ _. Does (further more) fs o gs p) (Cannot (further more) fs o)
+bag_goes_on more fs rest gs b c o p (Ok u) a m d = does_next fs rest gs b c o p a d more m
 bag_goes_on more fs rest gs b c o p (Err e) a m d = cannot (further more) fs o e m.0 (λ n. no_member_of_bag fs rest b o more a (m.1 n))

@@ -1,18 +1,18 @@
 -- Why records are refused, by the octets and the frames of an encoder.
-use Rattle.std.proofs.Common.{◌≡◌, ℕ, zero, suc, not, ltb, Bool, true, false, List, [], ◌∷◌, None, Result, Ok, Err, MatchResult, refl, ap, subst, sym, ◌∙◌, arith}
+use Rattle.std.proofs.Common.{◌≡◌, ℕ, zero, suc, not, ltb, Bool, true, false, List, [], ◌∷◌, None, Box, Global, Result, Ok, Err, MatchResult, refl, ap, subst, sym, ◌∙◌, arith}
 use Rattle.std.specs.Result.{IsErr, IsErrAnd}
 use Rattle.std.proofs.lemmas.Bool.{lt-ltb}
 use Rattle.asn1_schema_faults.specs.declared.EncodeError.{EncodeError}
 use Rattle.asn1_schema_faults.specs.declared.EncodeError.TheVariants.{ValueConstraintNotSatisfied, SizeConstraintNotSatisfied, AlphabetConstraintNotSatisfied, TooLongValue, LengthExceedsPlatformSize, CallOutOfPlace, OutOfMemory, AlreadyFailed}
 use Rattle.asn1_schema_presented.specs.Records.{Record, presence_bit, additions_begin, addition, addition_ends, further}
-use Rattle.oer_codec_encoder.specs.Steps.{components, open_type, added, bag_members, State, run}
+use Rattle.oer_codec_encoder.specs.Steps.{components, open_type, bag_members, State, run}
 use Rattle.oer_codec_encoder.specs.declared.frame.Additions.{Additions}
 use Rattle.oer_codec_encoder.specs.declared.frame.Bag.{Bag as BagFrame}
 use Rattle.oer_codec_encoder.specs.declared.frame.Frame.{Frame}
 use Rattle.oer_codec_encoder.specs.declared.frame.Frame.TheVariants.{Components, Added, OpenType, Members, Bag, Alternative}
 use Rattle.oer_codec_encoder.specs.declared.frame.Preamble.{Preamble}
 use Rattle.oer_codec_encoder.specs.Holding.{Holds, Cannot}
-use Rattle.oer_codec_encoder.proofs.Scopes.{on_top}
+use Rattle.oer_codec_encoder.proofs.Scopes.{on_top, behind_root}
 
 -- what a `?` passes on
 pub passed_on : {T E : Type 0} (P : T → Type 0) (Q : E → Type 0) (x : E) (r : Result T E) → IsErr r → IsErrAnd r (λ y. y ≡ x) → Q x → MatchResult r P Q
@@ -32,10 +32,14 @@ cannot r fs o LengthExceedsPlatformSize n h = h (λ e. cc)
 cannot r fs o CallOutOfPlace n h = h (λ e. cc)
 cannot r fs o AlreadyFailed n h = absurd (n refl)
 
-pub no_addition_due : (fs rest : List Frame) (a : Additions) (o : List ℕ) (present : Bool) → fs ≡ Added a ∷ rest → a.due ≡ 0 → (s : State) → Holds fs o s → run (addition present) s ≡ None
-no_addition_due fs rest a o present e n s h =
-    let i = on_top fs rest (Added a) o s e h in
-    ap (run (addition present)) (i.3 ∙ ap (λ k. let m : State = (o, added k i.1.presence_bits i.1.inner a.present i.1.outer.0 ∷ i.1.outer.1) in m) n)
+pub no_addition_due : (fs : List Frame) (o : List ℕ) (present : Bool) → ((a : Additions) (k : List Frame) → fs ≡ Added a ∷ k → a.due ≡ 0) → (s : State) → Holds fs o s → run (addition present) s ≡ None
+no_addition_due [] o present n s h = ap (run (addition present)) h
+no_addition_due (Components c ∷ k) o present n s h = ap (run (addition present)) h.is
+no_addition_due (Added a ∷ k) o present n s h = ap (run (addition present)) (h.is ∙ ap (λ d. behind_root d h.has.inner h.preamble.presence_bits h.preamble.inner h.has.presence_bits h.outer) (n a k refl))
+no_addition_due (OpenType start ∷ k) o present n s h = ap (run (addition present)) h.is
+no_addition_due (Members due ∷ k) o present n s h = ap (run (addition present)) h.1
+no_addition_due (Bag b ∷ k) o present n s h = ap (run (addition present)) h.1
+no_addition_due (Alternative ∷ k) o present n s h = ap (run (addition present)) h.1
 
 pub no_member_due : (fs rest : List Frame) (due : ℕ) (o : List ℕ) (more : Bool) → fs ≡ Members due ∷ rest → more ≡ not (ltb 0 due) → (s : State) → Holds fs o s → run (further more) s ≡ None
 no_member_due fs rest due o more e n s h = go due more n (on_top fs rest (Members due) o s e h)
@@ -46,10 +50,10 @@ no_member_due fs rest due o more e n s h = go due more n (on_top fs rest (Member
     go (suc k) true n h = absurd (apart n (ap not (lt-ltb 0 (suc k) (omega arith))))
     go (suc k) false n h = ap (run (further false)) h.1
 
-pub no_member_of_bag : (fs rest : List Frame) (b : BagFrame) (o : List ℕ) (more : Bool) → fs ≡ Bag b ∷ rest → more ≡ not (ltb 0 b.due) → (s : State) → Holds fs o s → run (further more) s ≡ None
-no_member_of_bag fs rest b o more e n s h = let i = on_top fs rest (Bag b) o s e h in go b.due more n i.0 i.1
+pub no_member_of_bag : (fs rest : List Frame) (b : Box BagFrame Global) (o : List ℕ) (more : Bool) → fs ≡ Bag b ∷ rest → more ≡ not (ltb 0 b.value.due) → (s : State) → Holds fs o s → run (further more) s ≡ None
+no_member_of_bag fs rest b o more e n s h = let i = on_top fs rest (Bag b) o s e h in go b.value.due more n i.0 i.1
   where
-    go : (due : ℕ) (more : Bool) → more ≡ not (ltb 0 due) → (t : State) → s ≡ (o, bag_members due b.members t.0 ∷ t.1) → run (further more) s ≡ None
+    go : (due : ℕ) (more : Bool) → more ≡ not (ltb 0 due) → (t : State) → s ≡ (o, bag_members due b.value.members t.0 ∷ t.1) → run (further more) s ≡ None
     go zero true n t h = ap (run (further true)) h
     go zero false n t h = cc
     go (suc k) true n t h = absurd (apart n (ap not (lt-ltb 0 (suc k) (omega arith))))
@@ -69,8 +73,8 @@ no_addition_end fs rest o start e n s h = go rest n (on_top fs rest (OpenType st
 
 pub no_presence_bit_due : (fs : List Frame) (o : List ℕ) (present : Bool) → ((p : Preamble) (k : List Frame) → fs ≡ Components p ∷ k → p.due ≡ 0) → (s : State) → Holds fs o s → run (presence_bit present) s ≡ None
 no_presence_bit_due [] o present n s h = ap (run (presence_bit present)) h
-no_presence_bit_due (Components c ∷ k) o present n s h = ap (run (presence_bit present)) (h.is ∙ ap (λ d. let l : State = (h.inner, components c.extensible d h.presence_bits h.outer.0 ∷ h.outer.1) in l) (n c k refl))
-no_presence_bit_due (Added a ∷ k) o present n s h = ap (run (presence_bit present)) h.3
+no_presence_bit_due (Components c ∷ k) o present n s h = ap (run (presence_bit present)) (h.is ∙ ap (λ d. let l : State = (h.has.inner, components c.extensible d h.has.presence_bits h.outer.0 ∷ h.outer.1) in l) (n c k refl))
+no_presence_bit_due (Added a ∷ k) o present n s h = ap (run (presence_bit present)) h.is
 no_presence_bit_due (OpenType start ∷ k) o present n s h = ap (run (presence_bit present)) h.is
 no_presence_bit_due (Members due ∷ k) o present n s h = ap (run (presence_bit present)) h.1
 no_presence_bit_due (Bag b ∷ k) o present n s h = ap (run (presence_bit present)) h.1
@@ -79,7 +83,7 @@ no_presence_bit_due (Alternative ∷ k) o present n s h = ap (run (presence_bit 
 pub no_root : (fs : List Frame) (o : List ℕ) (count : ℕ) → ((p : Preamble) (k : List Frame) → fs ≡ Components p ∷ k → ⊥) → (s : State) → Holds fs o s → run (additions_begin count) s ≡ None
 no_root [] o count n s h = ap (run (additions_begin count)) h
 no_root (Components c ∷ k) o count n s h = absurd (n c k refl)
-no_root (Added a ∷ k) o count n s h = ap (run (additions_begin count)) h.3
+no_root (Added a ∷ k) o count n s h = ap (run (additions_begin count)) h.is
 no_root (OpenType start ∷ k) o count n s h = ap (run (additions_begin count)) h.is
 no_root (Members due ∷ k) o count n s h = ap (run (additions_begin count)) h.1
 no_root (Bag b ∷ k) o count n s h = ap (run (additions_begin count)) h.1
@@ -88,7 +92,7 @@ no_root (Alternative ∷ k) o count n s h = ap (run (additions_begin count)) h.1
 pub no_open_type : (fs : List Frame) (o : List ℕ) → ((start : ℕ) (k : List Frame) → fs ≡ OpenType start ∷ k → ⊥) → (s : State) → Holds fs o s → run addition_ends s ≡ None
 no_open_type [] o n s h = ap (run addition_ends) h
 no_open_type (Components c ∷ k) o n s h = ap (run addition_ends) h.is
-no_open_type (Added a ∷ k) o n s h = ap (run addition_ends) h.3
+no_open_type (Added a ∷ k) o n s h = ap (run addition_ends) h.is
 no_open_type (OpenType start ∷ k) o n s h = absurd (n start k refl)
 no_open_type (Members due ∷ k) o n s h = ap (run addition_ends) h.1
 no_open_type (Bag b ∷ k) o n s h = ap (run addition_ends) h.1

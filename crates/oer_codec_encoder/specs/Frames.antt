@@ -1,11 +1,10 @@
 -- The frames of an encoder, and how they go on.
-use Rattle.std.specs.Prelude.{◌≡◌, ℕ, ◌+◌, ◌-◌, ◌<◌, Bool, ◌||◌, List, [], ◌∷◌, ◌++◌, reverse, not, ltb, Option, Some}
-use Rattle.std.specs.Prelude.{None}
+use Rattle.std.specs.Prelude.{◌≡◌, ℕ, ◌+◌, ◌-◌, ◌<◌, Bool, ◌||◌, List, [], ◌∷◌, reverse, not, ltb, Option, Some, None}
 use Rattle.asn1_schema_faults.specs.declared.EncodeError.{EncodeError}
 use Rattle.asn1_schema_faults.specs.declared.EncodeError.TheVariants.{AlreadyFailed, OutOfMemory}
 use Rattle.oer_codec_encoder.specs.declared.frame.Additions.{Additions}
 use Rattle.oer_codec_encoder.specs.declared.frame.Frame.{Frame}
-use Rattle.oer_codec_encoder.specs.declared.frame.Frame.TheVariants.{Added, OpenType, Alternative}
+use Rattle.oer_codec_encoder.specs.declared.frame.Frame.TheVariants.{OpenType, Alternative}
 use Rattle.oer_codec_encoder.specs.declared.frame.Preamble.{Preamble}
 use Rattle.oer_codec_encoder.specs.declared.frames.Enclosing.{Enclosing}
 use Rattle.oer_codec_encoder.specs.declared.frames.Enclosing.TheVariants.{Alternative as EnclosingAlternative}
@@ -29,32 +28,23 @@ frames_of (Some e) i fs = frame_of e ∷ others_of i fs
 
 -- A preamble behind its next presence bit.
 abbrev pub told : Preamble → Preamble
-told p = record {
-  extensible = p.extensible;
-  due = p.due - 1;
-  given = p.given + 1;
-  start = p.start;
-  content =
-      p.content;
+told p = record { extensible = p.extensible; due = p.due - 1; given = p.given + 1; start = p.start }
+
+-- The additions behind the next one, of which it was told whether it is there.
+abbrev pub with_next : Bool → Additions → Additions
+with_next here a = record {
+  due = a.due - 1;
+  given = a.given + 1;
+  any = a.any || here;
+  bitmap = a.bitmap;
+  optional = a.optional;
+  start = a.start;
+  root_end = a.root_end;
 }
 
--- The additions behind the next one: one fewer is due, and whether it is there was told.
-pub record Next (here : Bool) (a b : Additions) : Type 0 where
-  pub one : 0 < a.due
-  pub counts : b.due ≡ a.due - 1
-  pub preamble : b.preamble ≡ a.preamble
-  pub outer : b.outer ≡ a.outer
-  pub present : b.present ≡ a.present ++ here ∷ []
-  pub any : b.any ≡ (a.any || here)
-
--- The next addition of the innermost sequence is counted.
-abbrev pub CountsAddition : Bool → List Frame → List Frame → Type 0
-CountsAddition present (Added a ∷ k) after = (b : Additions) × Next present a b × (after ≡ Added b ∷ k)
-CountsAddition present k after = ⊥
-
--- Why no addition comes where so many are due: memory was refused, or none is due.
-abbrev pub NoAddition : ℕ → EncodeError → Type 0
-NoAddition due e = ¬ (e ≡ AlreadyFailed) × (¬ (e ≡ OutOfMemory) → due ≡ 0)
+-- Why a bag of which so many members are due does not end: memory was refused, or one is due.
+abbrev pub NoEnd : ℕ → EncodeError → Type 0
+NoEnd due e = ¬ (e ≡ AlreadyFailed) × (¬ (e ≡ OutOfMemory) → 0 < due)
 
 -- Why no member, or no end of the members, comes where so many are due: memory was refused, or it is not what is due.
 abbrev pub NoMember : Bool → ℕ → EncodeError → Type 0

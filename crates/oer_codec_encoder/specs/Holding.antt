@@ -1,22 +1,30 @@
 -- How the octets and the frames of an encoder stand for what a writer holds. The frames are given the innermost first.
-use Rattle.std.specs.Prelude.{◌≡◌, ℕ, ◌+◌, ◌-◌, ◌^◌, ◌<◌, Bool, true, false, List, [], ◌∷◌, ◌++◌, length, take, drop}
-use Rattle.std.specs.Prelude.{replicate, Some, None, slice_index}
+use Rattle.std.specs.Prelude.{◌≡◌, ℕ, ◌+◌, ◌-◌, ◌/◌, ◌^◌, ◌<◌, Bool, true, false, cond, List, [], ◌∷◌, ◌++◌, length}
+use Rattle.std.specs.Prelude.{take, drop, map, replicate, Some, None, slice_index}
+use Rattle.asn1_model.specs.Form.{written, exactly, joined}
 use Rattle.asn1_model.specs.Numbers.{octet_bits}
+use Rattle.asn1_model.specs.Oer
 use Rattle.asn1_values_bits.specs.Octets.{padded}
 use Rattle.asn1_schema_faults.specs.declared.EncodeError.{EncodeError}
 use Rattle.asn1_schema_faults.specs.declared.EncodeError.TheVariants.{AlreadyFailed, OutOfMemory}
 use Rattle.asn1_schema_presented.specs.Records.{Record}
 use Rattle.oer_codec_encoder.specs.Steps.{components, added, open_type, members, bag_members, alternative, with_open}
 use Rattle.oer_codec_encoder.specs.Steps.{is_any_set, State, run}
+use Rattle.oer_codec_encoder.specs.declared.frame.Additions.{Additions}
 use Rattle.oer_codec_encoder.specs.declared.frame.Bag.{Bag as BagFrame}
 use Rattle.oer_codec_encoder.specs.declared.frame.Frame.{Frame}
 use Rattle.oer_codec_encoder.specs.declared.frame.Frame.TheVariants.{Components, Added, OpenType, Members, Bag}
 use Rattle.oer_codec_encoder.specs.declared.frame.Frame.TheVariants.{Alternative}
+use Rattle.oer_codec_writing.specs.Writing.{Adds, bits_heading}
 
 -- The bits of a preamble: the extension marker, which is not set, where there is one, and the presence bits.
 abbrev pub presence : Bool → List Bool → List Bool
 presence true ms = false ∷ ms
 presence false ms = ms
+
+-- How many octets an extension bit, where there is one, and so many presence bits fill.
+abbrev pub octets_filled : Bool → ℕ → ℕ
+octets_filled e n = (n + cond e 1 0 + 7) / 8
 
 -- The presence bits that were given, behind the extension marker, where there is one.
 abbrev pub given_bits : Bool → ℕ → ℕ → List ℕ → List Bool
@@ -26,13 +34,16 @@ given_bits e given start o = take given (drop (length (presence e [])) (octet_bi
 abbrev pub shown : List Frame → List ℕ → State
 shown [] o = (o, [])
 shown (Components c ∷ fs) o =
-    let below = shown fs (take c.start o) in
-    (drop c.content o, components c.extensible c.due (given_bits c.extensible c.given c.start o) below.0 ∷ below.1)
+    let below = shown fs (take c.start o) in (
+      drop (c.start + octets_filled c.extensible (c.given + c.due)) o,
+      components c.extensible c.due (given_bits c.extensible c.given c.start o) below.0 ∷ below.1,
+    )
 shown (Added a ∷ fs) o =
-    let below = shown fs (take a.preamble.start a.outer.items) in (
-      o,
-      added a.due (given_bits true a.preamble.given a.preamble.start a.outer.items)
-          (drop a.preamble.content a.outer.items) a.present below.0 ∷ below.1,
+    let root = take a.root_end o in
+    let below = shown fs (take a.start root) in (
+      drop (a.bitmap + octets_filled false (a.given + a.due)) o,
+      added a.due (given_bits true a.optional a.start root) (drop (a.start + octets_filled true a.optional) root)
+          (given_bits false a.given a.bitmap o) below.0 ∷ below.1,
     )
 shown (OpenType start ∷ fs) o =
     let below = shown fs (take start o) in
@@ -40,31 +51,50 @@ shown (OpenType start ∷ fs) o =
 shown (Members due ∷ fs) o =
     let below = shown fs o in
     (below.0, members due ∷ below.1)
-shown (Bag b ∷ fs) o =
+shown (Bag boxed ∷ fs) o =
+    let b = boxed.value in
     let below = shown fs b.outer.items in
     (o, bag_members b.due b.members below.0 ∷ below.1)
 shown (Alternative ∷ fs) o =
     let below = shown fs o in
     (below.0, alternative ∷ below.1)
 
--- The octets are those in front of an open sequence, its preamble, in which the bits that are due are not set, and
--- those behind it.
-pub record IsOpen (below : List ℕ → State → Type 0) (e : Bool) (due given start content : ℕ) (o : List ℕ)
-    (s : State) : Type 0 where
+-- The octets are those in front of some presence bits; these, in whole octets, behind an extension bit that is not set,
+-- where there is one, and those that are due not set either; and those behind.
+pub record HasBits (e : Bool) (due given start : ℕ) (o : List ℕ) : Type 0 where
   pub front : List ℕ
-  pub preamble : List ℕ
+  pub bitmap : List ℕ
   pub inner : List ℕ
   pub presence_bits : List Bool
-  pub outer : State
-  pub text : o ≡ front ++ (preamble ++ inner)
+  pub text : o ≡ front ++ (bitmap ++ inner)
   pub starts : length front ≡ start
-  pub begins : start + length preamble ≡ content
   pub told : length presence_bits ≡ given
   pub counts : given + due < 2 ^ 64
-  pub bits : octet_bits preamble ≡ padded (presence e (presence_bits ++ replicate due false))
-  pub small : (k : ℕ) → k < length preamble → slice_index preamble k < 256
-  pub under : below front outer
-  pub is : s ≡ (inner, components e due presence_bits outer.0 ∷ outer.1)
+  pub bits : octet_bits bitmap ≡ padded (presence e (presence_bits ++ replicate due false))
+  pub small : (k : ℕ) → k < length bitmap → slice_index bitmap k < 256
+
+-- The octets are those in front of an open sequence, its preamble, and those behind it.
+pub record IsOpen (below : List ℕ → State → Type 0) (e : Bool) (due given start : ℕ) (o : List ℕ)
+    (s : State) : Type 0 where
+  pub has : HasBits e due given start o
+  pub outer : State
+  pub under : below has.front outer
+  pub is : s ≡ (has.inner, components e due has.presence_bits outer.0 ∷ outer.1)
+
+-- The octets are those up to the end of a root, behind a preamble whose extension bit is not set; the presence bitmap
+-- of the additions, behind what stands in front of its bits; and those of the additions.
+pub record IsExtended (below : List ℕ → State → Type 0) (a : Additions) (o : List ℕ) (s : State) : Type 0 where
+  pub has : HasBits false a.due a.given a.bitmap o
+  pub root : List ℕ
+  pub heading : List ℕ
+  pub text : has.front ≡ root ++ heading
+  pub ends : length root ≡ a.root_end
+  pub heads : written (bits_heading (a.given + a.due)) 0 ≡ Some heading
+  pub preamble : HasBits true 0 a.optional a.start root
+  pub outer : State
+  pub under : below preamble.front outer
+  pub any : a.any ≡ is_any_set has.presence_bits
+  pub is : s ≡ (has.inner, added a.due preamble.presence_bits preamble.inner has.presence_bits outer.0 ∷ outer.1)
 
 -- The octets are those in front of an open type, room for one octet, and those of the open type.
 pub record IsApart (below : List ℕ → State → Type 0) (start : ℕ) (o : List ℕ) (s : State) : Type 0 where
@@ -77,18 +107,19 @@ pub record IsApart (below : List ℕ → State → Type 0) (start : ℕ) (o : Li
   pub under : below front outer
   pub is : s ≡ (inner, open_type outer.0 ∷ outer.1)
 
+-- The octets are those of the open member of a bag, which has those in front of it.
+abbrev pub IsInBag : (List ℕ → State → Type 0) → BagFrame → List ℕ → State → Type 0
+IsInBag below b o s = (outer : State) × (s ≡ (o, bag_members b.due b.members outer.0 ∷ outer.1))
+    × below b.outer.items outer
+
 -- The octets and the frames stand for a state.
 abbrev pub Holds : List Frame → List ℕ → State → Type 0
 Holds [] o s = s ≡ (o, [])
-Holds (Components c ∷ fs) o s = IsOpen (λ p t. Holds fs p t) c.extensible c.due c.given c.start c.content o s
-Holds (Added a ∷ fs) o s = (root : State)
-    × (h : IsOpen (λ p t. Holds fs p t) true 0 a.preamble.given a.preamble.start a.preamble.content a.outer.items
-    root) × (a.any ≡ is_any_set a.present)
-    × (s ≡ (o, added a.due h.presence_bits h.inner a.present h.outer.0 ∷ h.outer.1))
+Holds (Components c ∷ fs) o s = IsOpen (λ p t. Holds fs p t) c.extensible c.due c.given c.start o s
+Holds (Added a ∷ fs) o s = IsExtended (λ p t. Holds fs p t) a o s
 Holds (OpenType start ∷ fs) o s = IsApart (λ p t. Holds fs p t) start o s
 Holds (Members due ∷ fs) o s = (below : State) × (s ≡ (below.0, members due ∷ below.1)) × Holds fs o below
-Holds (Bag b ∷ fs) o s = (below : State) × (s ≡ (o, bag_members b.due b.members below.0 ∷ below.1))
-    × Holds fs b.outer.items below
+Holds (Bag boxed ∷ fs) o s = IsInBag (λ p t. Holds fs p t) boxed.value o s
 Holds (Alternative ∷ fs) o s = (below : State) × (s ≡ (below.0, alternative ∷ below.1)) × Holds fs o below
 
 -- The octets and the frames stand for some state.
@@ -111,3 +142,8 @@ abbrev pub NextOfBag : Bool → BagFrame → List ℕ → BagFrame → List ℕ 
 NextOfBag true b o c p = (0 < b.due) × (c.due ≡ b.due - 1) × (c.outer ≡ b.outer)
     × (c.members ≡ Some (with_open b.members o)) × (p ≡ [])
 NextOfBag false b o c p = (b.due ≡ 0) × (c ≡ b) × (p ≡ o)
+
+-- No member of a bag is due, and they are added in the ascending order of their octets.
+abbrev pub BagEnds : BagFrame → List ℕ → List ℕ → Type 0
+BagEnds b o p = (b.due ≡ 0) × Adds
+    (written (Oer.in_any_order (map (λ w. exactly w) (with_open b.members o)) (λ xs. joined xs)) 0) b.outer.items p

@@ -1,20 +1,18 @@
 //! Additions of sequences and of sets, each an open type (X.696 16 and 30).
 ghost use Rattle.std.specs.Prelude.{◌≡◌, MatchResult};
 ghost use Rattle.asn1_schema_presented.specs.Records.{additions_begin, addition, addition_ends};
-ghost use Rattle.oer_codec_encoder.specs.Frames.{Next, NoAddition};
 ghost use Rattle.oer_codec_encoder.specs.Holding.{AreSound, Does, Cannot};
 
 use crate::frame::{Additions, Frame};
 use crate::frames::Frames;
 use crate::open_types::{open_in_place, put_length};
-use crate::room::take_room;
+use crate::sequences::{push_zeros, raise_bit};
 use asn1_schema_faults::EncodeError;
-use asn1_values_bits::BitBuffer;
+use oer_codec_writing::{preamble_len, push_bits_heading};
 use std::alloc::Global;
-use std::mem;
 
-/// Begins the additions behind the root of a sequence or of a set with an extension marker (X.696 16): their
-/// octets stand alone, in the worker's room.
+/// Begins the additions behind the root of a sequence or of a set with an extension marker (X.696 16), with their
+/// presence bitmap, in which no bit is set.
 ///
 /// # Errors
 ///
@@ -22,9 +20,7 @@ use std::mem;
 #[inline(always)]
 pub(crate) fn begin_additions(
     octets: &mut Vec<u8>,
-    worker: &mut Vec<u8>,
     frames: &mut Frames,
-    alloc: Global,
     count: usize,
 ) -> Result<(), EncodeError>
     ensures { MatchResult result (λ _. Does (additions_begin count) frames.old octets.old.items frames.new
@@ -36,31 +32,24 @@ pub(crate) fn begin_additions(
     if !preamble.extensible || preamble.due > 0 {
         return Err(EncodeError::CallOutOfPlace);
     }
+    let root_end = octets.len();
+    push_bits_heading(octets, count)?;
+    let bitmap = octets.len();
+    push_zeros(octets, preamble_len(false, count))?;
     frames.replace(Frame::Added(Additions {
         due: count,
-        preamble,
-        outer: mem::replace(octets, take_room(worker, alloc)),
-        present: BitBuffer::new(alloc),
+        given: 0,
         any: false,
+        bitmap,
+        optional: preamble.given,
+        start: preamble.start,
+        root_end,
     }));
     Ok(())
 }
 
-/// Counts the next addition, and keeps whether it is there.
-#[inline(always)]
-pub(crate) fn count_addition(additions: &mut Additions, present: bool) -> Result<(), EncodeError>
-    ensures { MatchResult result (λ _. Next present additions.old additions.new) (NoAddition additions.old.due) }
-{
-    if additions.due == 0 {
-        return Err(EncodeError::CallOutOfPlace);
-    }
-    additions.present.push(present)?;
-    additions.due -= 1;
-    additions.any = additions.any || present;
-    Ok(())
-}
-
-/// Whether the next addition is there (X.696 16.4): its octets then stand behind those in front, as an open type.
+/// Whether the next addition is there (X.696 16.4): its bit is then set, and its octets stand behind those in front, as
+/// an open type.
 ///
 /// # Errors
 ///
@@ -71,11 +60,15 @@ pub(crate) fn put_addition(
     frames: &mut Frames,
     present: bool,
 ) -> Result<(), EncodeError>
+    requires { AreSound frames.old octets.old.items }
     ensures { MatchResult result (λ _. Does (addition present) frames.old octets.old.items frames.new
         octets.new.items) (Cannot (addition present) frames.old octets.old.items) }
 {
-    frames.next_addition(present)?;
+    let Some(additions) = frames.next_addition(present) else {
+        return Err(EncodeError::CallOutOfPlace);
+    };
     if present {
+        raise_bit(octets, additions.bitmap, additions.given);
         open_in_place(octets, frames)?;
     }
     Ok(())

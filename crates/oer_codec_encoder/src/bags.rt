@@ -43,11 +43,13 @@ pub(crate) fn begin_bag(
     }
     push_count(octets, count)?;
     let outer = mem::replace(octets, Vec::new(alloc));
-    frames.open(Frame::Bag(Bag {
+    let bag = Bag {
         due: count,
         outer,
         members: None,
-    }))?;
+    };
+    let boxed = Box::new(alloc, bag)?;
+    frames.open(Frame::Bag(boxed))?;
     Ok(())
 }
 

@@ -7,7 +7,6 @@ ghost use Rattle.oer_codec_encoder.specs.Stepping.{Puts};
 use crate::additions::{begin_additions, end_addition, put_addition};
 use crate::alternatives::begin_choice;
 use crate::bags::begin_bag;
-use crate::ends::end_scope;
 use crate::frames::Frames;
 use crate::options::EncoderOptions;
 use crate::sequences::{begin_components, begin_members, put_presence_bit};
@@ -30,13 +29,11 @@ use std::mem;
 
 /// Writes values in the canonical octet encoding rules (X.696) into one buffer.
 ///
-/// Additions stand behind a bitmap that tells which of them are there, so their octets are written apart, into the
-/// room of a worker that is lent for this: with one worker for many messages such octets take memory for the longest
-/// of them alone, and not for each.
+/// All stands in the buffer from the first: the octets of additions too, behind a bitmap that tells which of them are
+/// there. The members of a bag alone are written apart, since their order is known at its end.
 #[derive(Drop)]
 pub struct Encoder<'buffer> {
     output: &'buffer mut Vec<u8>,
-    worker: &'buffer mut Vec<u8>,
     frames: Frames,
     failed: bool,
     alloc: Global,
@@ -58,20 +55,19 @@ impl<'buffer> Model for Encoder<'buffer> {
 impl<'buffer> Encoder<'buffer> {
     /// An encoder that writes behind what stands in the buffer. It takes no memory.
     ///
-    /// What the worker holds does not matter, and its octets are overwritten. An empty one serves, and has room
-    /// afterwards if an addition was written.
+    /// The worker is not touched. It is a parameter so that a call has the form that it has where additions are written
+    /// apart.
     #[inline]
     pub fn from_buffer(
         alloc: Global,
         _options: EncoderOptions,
         output: &'buffer mut Vec<u8>,
-        worker: &'buffer mut Vec<u8>,
+        _worker: &'buffer mut Vec<u8>,
     ) -> Self
         ensures { result ≡ record { state = (output.entry.now.items, []); failed = false } }
     {
         Encoder {
             output,
-            worker,
             frames: Frames::new(alloc),
             failed: false,
             alloc,
@@ -296,16 +292,7 @@ impl<'buffer> asn1_schema_encode::Encoder for Encoder<'buffer> {
 
     #[inline(always)]
     fn begin_additions(&mut self, count: usize) -> Result<(), EncodeError> {
-        record!(
-            self,
-            begin_additions(
-                self.output,
-                self.worker,
-                &mut self.frames,
-                self.alloc,
-                count,
-            )
-        )
+        record!(self, begin_additions(self.output, &mut self.frames, count))
     }
 
     #[inline(always)]
@@ -345,10 +332,7 @@ impl<'buffer> asn1_schema_encode::Encoder for Encoder<'buffer> {
 
     #[inline(always)]
     fn end(&mut self) -> Result<(), EncodeError> {
-        record!(
-            self,
-            end_scope(self.output, self.worker, &mut self.frames, self.alloc)
-        )
+        record!(self, self.frames.end_innermost(self.output, self.alloc))
     }
 
     ghost one_after = { puts_one };

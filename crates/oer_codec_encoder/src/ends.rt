@@ -1,100 +1,104 @@
 //! What ends.
 ghost use Rattle.std.specs.Prelude.{◌≡◌, ◌<◌, ◌∷◌, MatchResult, vec_len};
 ghost use Rattle.asn1_schema_presented.specs.Records.{ends};
-ghost use Rattle.oer_codec_encoder.specs.declared.frame.Frame.TheVariants.{Added, Bag as BagFrame};
-ghost use Rattle.oer_codec_encoder.specs.Holding.{AreSound, Does, Cannot};
+ghost use Rattle.oer_codec_encoder.specs.declared.frame.Frame.TheVariants.{Added};
+ghost use Rattle.oer_codec_encoder.specs.Frames.{frame_of, NoEnd};
+ghost use Rattle.oer_codec_encoder.specs.Holding.{AreSound, BagEnds, Does, Cannot};
 
 use crate::bags::push_members;
-use crate::bitmaps::push_additions;
 use crate::frame::{Additions, Bag, Frame};
-use crate::frames::{Enclosing, Frames};
+use crate::frames::Enclosing;
 use crate::open_types::put_length;
+use crate::sequences::raise_bit;
 use asn1_schema_faults::EncodeError;
 use std::alloc::Global;
 use std::mem;
 
-/// Ends a sequence or a set behind its root (X.696 16), of which no addition is due. The worker gets back the room of
-/// the additions.
+/// Ends a sequence or a set behind its root (X.696 16), of which no addition is due: with one that is there the
+/// extension bit is set, and with none the presence bitmap is taken off again.
 #[inline(always)]
-fn end_added(
-    octets: &mut Vec<u8>,
-    worker: &mut Vec<u8>,
-    additions: Additions,
-) -> Result<(), EncodeError>
-    requires { additions.preamble.start < vec_len additions.outer }
+fn end_added(octets: &mut Vec<u8>, additions: Additions) -> Result<(), EncodeError>
+    requires { additions.start < vec_len octets.old }
     ensures { MatchResult result (λ _. (k : _) → Does ends (Added additions ∷ k) octets.old.items k octets.new.items)
         (λ e. (k : _) → Cannot ends (Added additions ∷ k) octets.old.items e) }
 {
     if additions.due > 0 {
         return Err(EncodeError::CallOutOfPlace);
     }
-    let all = mem::replace(octets, additions.outer);
-    push_additions(
-        octets,
-        additions.preamble.start,
-        additions.any,
-        &additions.present,
-        all.as_slice(),
-    )?;
-    *worker = all;
+    if !additions.any {
+        octets.truncate(additions.root_end);
+        return Ok(());
+    }
+    raise_bit(octets, additions.start, 0);
     Ok(())
 }
 
 /// Ends a bag (X.696 19), of which no member is due.
-#[inline(always)]
-fn end_bag(octets: &mut Vec<u8>, alloc: Global, bag: Bag) -> Result<(), EncodeError>
-    ensures { MatchResult result (λ _. (k : _) → Does ends (BagFrame bag ∷ k) octets.old.items k octets.new.items)
-        (λ e. (k : _) → Cannot ends (BagFrame bag ∷ k) octets.old.items e) }
+fn end_bag(octets: &mut Vec<u8>, alloc: Global, bag: &mut Bag) -> Result<(), EncodeError>
+    ensures { MatchResult result (λ _. BagEnds bag.old octets.old.items octets.new.items) (NoEnd bag.old.due) }
 {
     if bag.due > 0 {
         return Err(EncodeError::CallOutOfPlace);
     }
-    let last = mem::replace(octets, bag.outer);
-    let Some(members) = bag.members else {
+    let outer = mem::replace(&mut bag.outer, Vec::new(alloc));
+    let last = mem::replace(octets, outer);
+    let Some(members) = bag.members.take() else {
         return Ok(());
     };
     push_members(octets, alloc, members, last.as_slice())?;
     Ok(())
 }
 
-/// Ends what is innermost (X.696 16, 17, 19, 20 and 30): of a sequence without an extension marker no presence bit is
-/// due, of one with an extension marker no addition, and of a list and a bag no member. The worker gets back the room
-/// of additions.
+/// Ends what encloses one value alone (X.696 20 and 30).
 ///
 /// # Errors
 ///
-/// `CallOutOfPlace` if nothing that is open takes this call, and `OutOfMemory`.
+/// `OutOfMemory`, and no other.
 #[inline(always)]
-pub(crate) fn end_scope(
+pub(crate) fn end_enclosing(
     octets: &mut Vec<u8>,
-    worker: &mut Vec<u8>,
-    frames: &mut Frames,
     alloc: Global,
+    enclosing: Enclosing,
 ) -> Result<(), EncodeError>
-    requires { AreSound frames.old octets.old.items }
-    ensures { MatchResult result (λ _. Does ends frames.old octets.old.items frames.new octets.new.items)
-        (Cannot ends frames.old octets.old.items) }
+    requires { (k : _) × AreSound (frame_of enclosing ∷ k) octets.old.items }
+    ensures { MatchResult result
+        (λ _. (k : _) → Does ends (frame_of enclosing ∷ k) octets.old.items k octets.new.items)
+        (λ e. (k : _) → Cannot ends (frame_of enclosing ∷ k) octets.old.items e) }
 {
-    if let Some(enclosing) = frames.close_enclosing() {
-        if let Enclosing::OpenType { start } = enclosing {
-            put_length(octets, alloc, start)?;
-        }
-        return Ok(());
+    match enclosing {
+        Enclosing::Alternative => Ok(()),
+        Enclosing::OpenType { start } => put_length(octets, alloc, start),
     }
-    match frames.close() {
-        Some(Frame::Components(preamble)) => {
+}
+
+/// Ends a frame within which nothing is open (X.696 16, 17, 19, 20 and 30): of a sequence without an extension marker
+/// no presence bit is due, of one with an extension marker no addition, and of a list and a bag no member. The frame is
+/// only looked at, but for a bag, of which nothing is left.
+///
+/// # Errors
+///
+/// `CallOutOfPlace` if something is due, and `OutOfMemory`.
+#[inline(always)]
+pub(crate) fn end_frame(
+    octets: &mut Vec<u8>,
+    alloc: Global,
+    frame: &mut Frame,
+) -> Result<(), EncodeError>
+    requires { (k : _) × AreSound (frame.old ∷ k) octets.old.items }
+    ensures { MatchResult result (λ _. (k : _) → Does ends (frame.old ∷ k) octets.old.items k octets.new.items)
+        (λ e. (k : _) → Cannot ends (frame.old ∷ k) octets.old.items e) }
+{
+    match frame {
+        Frame::Components(preamble) => {
             if preamble.extensible || preamble.due > 0 {
                 return Err(EncodeError::CallOutOfPlace);
             }
             Ok(())
         }
-        Some(Frame::Added(additions)) => end_added(octets, worker, additions),
-        Some(Frame::OpenType { start }) => {
-            put_length(octets, alloc, start)?;
-            Ok(())
-        }
-        Some(Frame::Members { due: 0 }) | Some(Frame::Alternative) => Ok(()),
-        Some(Frame::Bag(bag)) => end_bag(octets, alloc, bag),
-        _ => Err(EncodeError::CallOutOfPlace),
+        Frame::Added(additions) => end_added(octets, *additions),
+        Frame::OpenType { start } => put_length(octets, alloc, *start),
+        Frame::Members { due: 0 } | Frame::Alternative => Ok(()),
+        Frame::Members { .. } => Err(EncodeError::CallOutOfPlace),
+        Frame::Bag(bag) => end_bag(octets, alloc, bag),
     }
 }

@@ -1,9 +1,9 @@
 //! What may be open.
 
 use asn1_schema_order::Encodings;
-use asn1_values_bits::BitBuffer;
 
 /// The preamble of a sequence, a set or a group of additions (X.696 16.2), whose presence bits are told one at a time.
+/// The components stand behind it.
 #[derive(Clone, Copy)]
 pub(crate) struct Preamble {
     /// Whether it has an extension marker.
@@ -14,24 +14,26 @@ pub(crate) struct Preamble {
     pub(crate) given: usize,
     /// Where it stands.
     pub(crate) start: usize,
-    /// Where the components begin behind it.
-    pub(crate) content: usize,
 }
 
-/// The additions of a sequence or of a set (X.696 16.4 and 16.5), whose octets stand alone until it ends, one behind
-/// the other.
-#[derive(Drop)]
+/// The additions of a sequence or of a set (X.696 16.4 and 16.5). The presence bitmap stands behind the root, with a
+/// bit for each, and behind it the octets of those that are there, one behind the other.
+#[derive(Clone, Copy)]
 pub(crate) struct Additions {
     /// How many are due.
     pub(crate) due: usize,
-    /// The preamble, of which no bit is due.
-    pub(crate) preamble: Preamble,
-    /// The octets up to the end of the root.
-    pub(crate) outer: Vec<u8>,
-    /// Which of those that were told are there.
-    pub(crate) present: BitBuffer,
-    /// Whether one of them is there.
+    /// Of how many it was told whether they are there.
+    pub(crate) given: usize,
+    /// Whether one of these is there.
     pub(crate) any: bool,
+    /// Where the bits stand that tell which are there.
+    pub(crate) bitmap: usize,
+    /// How many presence bits the preamble has.
+    pub(crate) optional: usize,
+    /// Where the preamble stands.
+    pub(crate) start: usize,
+    /// Where the root ends.
+    pub(crate) root_end: usize,
 }
 
 /// A bag (X.696 19), of whose members the open one stands alone.
@@ -62,8 +64,8 @@ pub(crate) enum Frame {
         /// How many members are due.
         due: usize,
     },
-    /// A bag.
-    Bag(Bag),
+    /// A bag. It stands apart, as it is larger than the others.
+    Bag(Box<Bag>),
     /// An alternative of the root of a choice.
     Alternative,
 }

@@ -1,18 +1,17 @@
 //! All that is open.
-ghost use Rattle.std.specs.Prelude.{◌≡◌, ◌+◌, ◌^◌, ◌<◌, ◌∷◌, [], List, ℕ, OnOk, IfErr, IfSome, IfNone, MatchResult};
-ghost use Rattle.asn1_schema_presented.specs.Records.{addition, further};
+ghost use Rattle.std.specs.Prelude.{◌≡◌, ◌+◌, ◌^◌, ◌<◌, ◌∷◌, [], List, OnOk, IfSome, IfNone, MatchResult};
+ghost use Rattle.asn1_schema_presented.specs.Records.{ends, further};
 ghost use Rattle.oer_codec_encoder.specs.declared.frame.Frame.TheVariants.{Added, Components, OpenType};
-ghost use Rattle.oer_codec_encoder.specs.Frames.{frame_of, others_of, frames_of, told, CountsAddition};
-ghost use Rattle.oer_codec_encoder.specs.Holding.{Does, Cannot};
+ghost use Rattle.oer_codec_encoder.specs.Frames.{frame_of, others_of, frames_of, told, with_next};
+ghost use Rattle.oer_codec_encoder.specs.Holding.{AreSound, Does, Cannot};
 
-use crate::additions::count_addition;
 use crate::bags::next_of_bag;
+use crate::ends::{end_enclosing, end_frame};
 use crate::frame::{Additions, Frame, Preamble};
 use crate::sequences::count_member;
 use asn1_schema_faults::EncodeError;
 use std::alloc::{AllocError, Global};
 use std::marker::Model;
-use std::mem;
 
 /// What encloses one value alone, and takes no more than one number.
 #[derive(Clone, Copy)]
@@ -112,6 +111,57 @@ fn settle(
     Ok(())
 }
 
+/// Leaves the innermost frame, where nothing encloses one value alone.
+#[inline(always)]
+fn leave(innermost: &mut Option<Frame>, outer: &mut Vec<Frame>)
+    ensures { (f : _) → innermost.old ≡ Some f → others_of innermost.old outer.old.items
+        ≡ f ∷ others_of innermost.new outer.new.items }
+{
+    if outer.is_empty() {
+        *innermost = None;
+    } else {
+        *innermost = outer.pop();
+    }
+}
+
+/// Leaves the innermost frame, where nothing encloses one value alone, if it is an open type, and answers where the
+/// room for its number is.
+#[inline(always)]
+fn leave_open_type(innermost: &mut Option<Frame>, outer: &mut Vec<Frame>) -> Option<usize>
+    ensures some { IfSome result (λ start. others_of innermost.old outer.old.items
+        ≡ OpenType start ∷ others_of innermost.new outer.new.items) }
+    ensures none { IfNone result
+        ((start : _) (k : _) → others_of innermost.old outer.old.items ≡ OpenType start ∷ k → ⊥) }
+{
+    let Some(Frame::OpenType { start }) = innermost else {
+        return None;
+    };
+    let start = *start;
+    leave(innermost, outer);
+    Some(start)
+}
+
+/// Ends the innermost frame, where nothing encloses one value alone.
+#[inline(always)]
+fn end_other(
+    octets: &mut Vec<u8>,
+    alloc: Global,
+    innermost: &mut Option<Frame>,
+    outer: &mut Vec<Frame>,
+) -> Result<(), EncodeError>
+    requires { AreSound (others_of innermost.old outer.old.items) octets.old.items }
+    ensures { MatchResult result (λ _. Does ends (others_of innermost.old outer.old.items) octets.old.items
+        (others_of innermost.new outer.new.items) octets.new.items)
+        (Cannot ends (others_of innermost.old outer.old.items) octets.old.items) }
+{
+    let Some(frame) = innermost else {
+        return Err(EncodeError::CallOutOfPlace);
+    };
+    end_frame(octets, alloc, frame)?;
+    leave(innermost, outer);
+    Ok(())
+}
+
 impl Frames {
     /// Nothing is open. It takes no memory.
     #[inline(always)]
@@ -158,47 +208,42 @@ impl Frames {
         Ok(())
     }
 
-    /// Closes the innermost frame, if there is one.
-    #[inline(always)]
-    pub(crate) fn close(&mut self) -> Option<Frame>
-        ensures some { IfSome result (λ frame. self.old ≡ frame ∷ self.new) }
-        ensures none { IfNone result (self.old ≡ []) }
-    {
-        if let Some(enclosing) = self.enclosing {
-            self.enclosing = None;
-            return Some(enclosing.frame());
-        }
-        if self.outer.is_empty() {
-            return self.innermost.take();
-        }
-        mem::replace(&mut self.innermost, self.outer.pop())
-    }
-
-    /// Closes the innermost frame, if it encloses one value alone.
-    #[inline(always)]
-    pub(crate) fn close_enclosing(&mut self) -> Option<Enclosing>
-        ensures some { IfSome result (λ enclosing. self.old ≡ frame_of enclosing ∷ self.new) }
-        ensures none { IfNone result (self.new ≡ self.old) }
-    {
-        let enclosing = self.enclosing;
-        self.enclosing = None;
-        enclosing
-    }
-
     /// Closes the innermost frame, if it is an open type, and answers where the room for its number is.
     #[inline(always)]
     pub(crate) fn close_open_type(&mut self) -> Option<usize>
         ensures some { IfSome result (λ start. self.old ≡ OpenType start ∷ self.new) }
         ensures none { IfNone result ((start : _) (k : _) → self.old ≡ OpenType start ∷ k → ⊥) }
     {
-        match self.close_enclosing() {
-            Some(Enclosing::OpenType { start }) => Some(start),
+        match self.enclosing {
+            Some(Enclosing::OpenType { start }) => {
+                self.enclosing = None;
+                Some(start)
+            }
             Some(Enclosing::Alternative) => None,
-            None => match self.close() {
-                Some(Frame::OpenType { start }) => Some(start),
-                _ => None,
-            },
+            None => leave_open_type(&mut self.innermost, &mut self.outer),
         }
+    }
+
+    /// Ends what is innermost (X.696 16, 17, 19, 20 and 30).
+    ///
+    /// # Errors
+    ///
+    /// `CallOutOfPlace` if nothing that is open takes this call, and `OutOfMemory`.
+    #[inline(always)]
+    pub(crate) fn end_innermost(
+        &mut self,
+        octets: &mut Vec<u8>,
+        alloc: Global,
+    ) -> Result<(), EncodeError>
+        requires { AreSound self.old octets.old.items }
+        ensures { MatchResult result (λ _. Does ends self.old octets.old.items self.new octets.new.items)
+            (Cannot ends self.old octets.old.items) }
+    {
+        if let Some(enclosing) = self.enclosing {
+            self.enclosing = None;
+            return end_enclosing(octets, alloc, enclosing);
+        }
+        end_other(octets, alloc, &mut self.innermost, &mut self.outer)
     }
 
     /// The preamble of the innermost sequence, if it is not behind its root.
@@ -268,17 +313,27 @@ impl Frames {
         Ok(())
     }
 
-    /// Counts the next addition of the innermost sequence, and keeps whether it is there.
+    /// Counts the next addition of the innermost sequence, and gives the additions as they were in front of it.
     #[inline(always)]
-    pub(crate) fn next_addition(&mut self, present: bool) -> Result<(), EncodeError>
-        ensures ok { OnOk result (CountsAddition present self.old self.new) }
-        ensures only { IfErr result (λ e. (o : List ℕ) → Cannot (addition present) self.old o e) }
+    pub(crate) fn next_addition(&mut self, present: bool) -> Option<Additions>
+        requires { (a : _) (k : _) → self.old ≡ Added a ∷ k → a.given + a.due < 2 ^ 64 }
+        ensures some { IfSome result (λ a. (k : _) × (self.old ≡ Added a ∷ k) × (0 < a.due)
+            × (self.new ≡ Added (with_next present a) ∷ k)) }
+        ensures none { IfNone result ((a : _) (k : _) → self.old ≡ Added a ∷ k → a.due ≡ 0) }
     {
         match (&self.enclosing, &mut self.innermost) {
-            (None, Some(Frame::Added(additions))) => count_addition(additions, present)?,
-            _ => return Err(EncodeError::CallOutOfPlace),
+            (None, Some(Frame::Added(additions))) => {
+                if additions.due == 0 {
+                    return None;
+                }
+                let before = *additions;
+                additions.due -= 1;
+                additions.given += 1;
+                additions.any = additions.any || present;
+                Some(before)
+            }
+            _ => None,
         }
-        Ok(())
     }
 
     /// The additions of the innermost sequence, if it is behind its root.

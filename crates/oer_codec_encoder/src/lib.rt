@@ -6,14 +6,12 @@
 mod additions;
 mod alternatives;
 mod bags;
-mod bitmaps;
 mod encoder;
 mod ends;
 mod frame;
 mod frames;
 mod open_types;
 mod options;
-mod room;
 mod sequences;
 pub mod step_laws;
 

@@ -15,7 +15,8 @@ use asn1_schema_faults::EncodeError;
 use oer_codec_writing::{preamble_len, push_count};
 
 /// Adds so many octets of zero bits.
-fn push_zeros(octets: &mut Vec<u8>, count: usize) -> Result<(), EncodeError>
+#[inline]
+pub(crate) fn push_zeros(octets: &mut Vec<u8>, count: usize) -> Result<(), EncodeError>
     ensures { MatchResult result (λ _. octets.new.items ≡ octets.old.items ++ replicate count 0)
         (λ e. e ≡ EncodeError.OutOfMemory) }
 {
@@ -48,7 +49,6 @@ pub(crate) fn begin_components(
         due: optional,
         given: 0,
         start,
-        content: octets.len(),
     }))?;
     Ok(())
 }

@@ -1,5 +1,5 @@
 -- What stands in front where a presence bitmap does.
-use Rattle.std.proofs.Common.{◌≡◌, ℕ, ◌+◌, ◌/◌, ◌%◌, ◌^◌, ◌<◌, ◌==◌, Bool, false, inl, List, [], ◌∷◌, ◌++◌, length, replicate, refl, sym, ap, ◌∙◌, subst, arith, append_assoc}
+use Rattle.std.proofs.Common.{◌≡◌, ℕ, ◌+◌, ◌/◌, ◌%◌, ◌^◌, ◌<◌, ◌==◌, Bool, false, inl, List, [], ◌∷◌, ◌++◌, drop, length, replicate, Some, None, slice_get, refl, sym, ap, ◌∙◌, subst, arith, append_assoc}
 use Rattle.std.proofs.Math.Nat.{mod-eq_of_lt}
 use Rattle.std.proofs.lemmas.Bool.{eqb-true}
 use Rattle.asn1_model.specs.Form.{Reads}
@@ -14,6 +14,15 @@ use Rattle.oer_codec_reading.specs.Fronts.{freedoms, Stands, NoneStands, Misses}
 use Rattle.oer_codec_reading.proofs.Fronts.{if_front, misses_also, varied_stands}
 use Rattle.oer_codec_reading.proofs.LengthFronts.{length_one}
 use Rattle.oer_codec_reading.proofs.BitStringFronts.{wrong_bits}
+
+-- the first bit, and those behind it
+pub first_and_others : (bs : List Bool) (b : Bool) → slice_get bs 0 ≡ Some b → bs ≡ b ∷ drop 1 bs
+first_and_others [] b e = cc
+first_and_others (c ∷ bs) b e = let f : c ≡ b = cc in ap (λ x. x ∷ bs) f
+
+pub no_first : (bs : List Bool) → slice_get bs 0 ≡ None → bs ≡ []
+no_first [] e = refl
+no_first (b ∷ bs) e = cc
 
 -- a number of no set bit
 pub zero_bits : (w n : ℕ) (bs : List Bool) → n < 2 ^ w → binary w n ≡ bs → bs ≡ replicate w false → n ≡ 0
@@ -65,8 +74,8 @@ module _ (r : EncodingRules) where
       let b : u ≡ missing (length bs) = sym f ∙ ap missing (sym l) in
       counted_stands (freedoms r) bs w mid rest (subst (λ x. Stands (freedoms r) (length_form x) w (missing (length bs) ∷ mid)) a (subst (λ x. Stands (freedoms r) (length_form n) w (x ∷ mid)) b h)) i.1
 
-  pub bitmap_read : (bs cs : List Bool) (w mid new rest : List ℕ) (n u k : ℕ) → cs ≡ bs → mid ≡ u ∷ new → (k + 7) / 8 + 1 ≡ n → missing k ≡ u → Stands (freedoms r) (length_form n) w mid → Stands (freedoms r) (bits_in k bs) new rest → Stands (freedoms r) (counted_bits cs) w rest
-  bitmap_read bs cs w mid new rest n u k d e f g h s = subst (λ b. Stands (freedoms r) (counted_bits b) w rest) (sym d) (some_bits w new rest n u k bs (subst (λ m. Stands (freedoms r) (length_form n) w m) e h) f g s)
+  pub bitmap_read : (bs : List Bool) (w mid new rest : List ℕ) (n u k : ℕ) → mid ≡ u ∷ new → (k + 7) / 8 + 1 ≡ n → missing k ≡ u → Stands (freedoms r) (length_form n) w mid → Stands (freedoms r) (bits_in k bs) new rest → Stands (freedoms r) (counted_bits bs) w rest
+  bitmap_read bs w mid new rest n u k e f g h s = some_bits w new rest n u k bs (subst (λ m. Stands (freedoms r) (length_form n) w m) e h) f g s
 
   pub bitmap_refused : (x : DecodeError) (w mid new : List ℕ) (n u k : ℕ) → (n ≡ 0 → ⊥) → mid ≡ u ∷ new → (k + 7) / 8 + 1 ≡ n → missing k ≡ u → Stands (freedoms r) (length_form n) w mid → Misses (freedoms r) (bits_in k) new x → Misses (freedoms r) counted_bits w x
   bitmap_refused x w mid new n u k z e f g h m = misses_also (freedoms r) (bits_in k) counted_bits new w x (λ none. no_bitmap w (wrong_bits r w mid new n u k z e f g h none)) m

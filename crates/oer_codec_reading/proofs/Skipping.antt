@@ -1,5 +1,5 @@
 -- Unknown additions that are passed over.
-use Rattle.std.proofs.Common.{Result, Ok, Err, IsOk, IfOk, ◌≡◌, ℕ, ◌^◌, ◌-◌, ◌<◌, ◌≤◌, Bool, true, false, List, [], ◌∷◌, length, take, drop, Some, None, refl, sym, ap, ◌∙◌, subst, arith, take_all}
+use Rattle.std.proofs.Common.{◌≡◌, ℕ, ◌^◌, ◌-◌, ◌<◌, Bool, true, false, List, [], ◌∷◌, length, take, Some, None, refl, sym, ap, ◌∙◌, subst, arith, take_all}
 use Rattle.asn1_laws_fronts.proofs.OerNumbers.{counted_alike}
 use Rattle.asn1_model.specs.Form.{joined, present_ones}
 use Rattle.asn1_model.specs.Oer
@@ -56,32 +56,35 @@ all_taken l h = take_all (2 ^ 60 - 1) l (omega (arith, h))
 
 -- ---- one turn of the loop
 
-first_is : (us : List Bool) (b : Bool) → take 1 us ≡ b ∷ [] → us ≡ b ∷ drop 1 us
-first_is [] b e = cc e
-first_is (u ∷ us) b e = let f : u ≡ b = cc e in ap (λ x. x ∷ us) f
-
 -- what stands in front before the turn and what stands in front after it go together
 abbrev pub Together : (Oer.Freedom → Bool) → List Bool → List Bool → List ℕ → List ℕ → Type 0
 Together free us vs os mid = ((rest : List ℕ) → Skips free vs mid rest → Skips free us os rest) × ((rest : List ℕ) → Skips free us os rest → Skips free vs mid rest)
 
-pub one_present : (free : Oer.Freedom → Bool) (us vs : List Bool) (b : Bool) (l os mid : List ℕ) → take 1 us ≡ b ∷ [] → b ≡ true → vs ≡ drop 1 us → Stands free (Oer.counted l) os mid → Together free us vs os mid
-one_present free us vs b l os mid e t d h =
-    let f : us ≡ true ∷ vs = first_is us b e ∙ ap (λ x. x ∷ drop 1 us) t ∙ ap (λ x. true ∷ x) (sym d) in
+pub together_at_first : (free : Oer.Freedom → Bool) (us : List Bool) (os : List ℕ) → Together free us us os os
+together_at_first free us os = (λ rest s. s, λ rest s. s)
+
+pub together_on : (free : Oer.Freedom → Bool) (us vs ws : List Bool) (os mid new : List ℕ) → Together free us vs os mid → Together free vs ws mid new → Together free us ws os new
+together_on free us vs ws os mid new t u = (λ rest s. t.0 rest (u.0 rest s), λ rest s. u.1 rest (t.1 rest s))
+
+pub one_present : (free : Oer.Freedom → Bool) (us vs : List Bool) (b : Bool) (l os mid : List ℕ) → us ≡ b ∷ vs → b ≡ true → Stands free (Oer.counted l) os mid → Together free us vs os mid
+one_present free us vs b l os mid e t h =
+    let f : us ≡ true ∷ vs = e ∙ ap (λ x. x ∷ vs) t in
     subst (λ ws. Together free ws vs os mid) (sym f) (λ rest s. skip_present free vs l os mid rest h s, λ rest s. skipped_present free vs l os mid rest h s)
 
-pub one_absent : (free : Oer.Freedom → Bool) (us vs : List Bool) (b : Bool) (os mid : List ℕ) → take 1 us ≡ b ∷ [] → b ≡ false → vs ≡ drop 1 us → mid ≡ os → Together free us vs os mid
-one_absent free us vs b os mid e t d h =
-    let f : us ≡ false ∷ vs = first_is us b e ∙ ap (λ x. x ∷ drop 1 us) t ∙ ap (λ x. false ∷ x) (sym d) in
-    subst (λ m. Together free us vs os m) (sym h) (subst (λ ws. Together free ws vs os os) (sym f) (λ rest s. skip_absent free vs os rest s, λ rest s. skipped_absent free vs os rest s))
+pub one_absent : (free : Oer.Freedom → Bool) (us vs : List Bool) (b : Bool) (os : List ℕ) → us ≡ b ∷ vs → b ≡ false → Together free us vs os os
+one_absent free us vs b os e t =
+    let f : us ≡ false ∷ vs = e ∙ ap (λ x. x ∷ vs) t in
+    subst (λ ws. Together free ws vs os os) (sym f) (λ rest s. skip_absent free vs os rest s, λ rest s. skipped_absent free vs os rest s)
 
-pub first_missed : (free : Oer.Freedom → Bool) (us : List Bool) (b : Bool) (os : List ℕ) (e : DecodeError) → take 1 us ≡ b ∷ [] → b ≡ true → Misses free Oer.counted os e → SkipsNone free us os e
-first_missed free us b os e f t m =
-    let g : us ≡ true ∷ drop 1 us = first_is us b f ∙ ap (λ x. x ∷ drop 1 us) t in
-    subst (λ ws. SkipsNone free ws os e) (sym g) (none_present free (drop 1 us) os e m)
+pub first_missed : (free : Oer.Freedom → Bool) (us vs : List Bool) (b : Bool) (os : List ℕ) (e : DecodeError) → us ≡ b ∷ vs → b ≡ true → Misses free Oer.counted os e → SkipsNone free us os e
+first_missed free us vs b os e f t m =
+    let g : us ≡ true ∷ vs = f ∙ ap (λ x. x ∷ vs) t in
+    subst (λ ws. SkipsNone free ws os e) (sym g) (none_present free vs os e m)
 
-pub one_long : (us : List Bool) (b : Bool) → take 1 us ≡ b ∷ [] → 1 ≤ length us
-one_long us b e = let l = ap length (first_is us b e) in omega (arith, l)
+-- where those of later bits are not passed over, neither are all
+pub stopped : (free : Oer.Freedom → Bool) (us vs : List Bool) (os mid : List ℕ) (e : DecodeError) → Together free us vs os mid → SkipsNone free vs mid e → SkipsNone free us os e
+stopped free us vs os mid e t m = record { none = λ i rest s. m.none i rest (t.1 rest s); fresh = m.fresh }
 
-pub when_ok : {X E : Type 0} {P : Type 0} (r : Result X E) → IsOk r → IfOk r (λ x. P) → P
-when_ok (Ok x) o p = p
-when_ok (Err e) o p = cc o
+-- none are left
+pub all_skipped : (free : Oer.Freedom → Bool) (us vs : List Bool) (os mid : List ℕ) → Together free us vs os mid → vs ≡ [] → Skips free us os mid
+all_skipped free us vs os mid t n = t.0 mid (subst (λ ws. Skips free ws mid mid) (sym n) (skip_none free mid))

@@ -1,21 +1,37 @@
 //! Presence bitmaps (X.696 16.4).
-ghost use Rattle.std.specs.Prelude.{◌≡◌, ◌<◌, replicate, length, false, IsTrue, ◌↔◌, IfOk, IfErr};
+ghost use Rattle.std.specs.Prelude.{◌≡◌, ◌<◌, [], ◌∷◌, replicate, length, false, IsTrue, ◌↔◌, IfOk, IfErr};
+ghost use Rattle.std.specs.Prelude.{IfSome, IfNone};
 ghost use Rattle.asn1_model.specs.Oer.{counted_bits};
+ghost use Rattle.asn1_values_bits.specs.BitStr.{bits_of};
 ghost use Rattle.oer_codec_reading.specs.Fronts.{freedoms, Misses, Stands};
 
 use crate::bit_strings::{bit_count, read_bits_of_octets};
 use crate::lengths::read_length;
 use crate::{Cursor, EncodingRules};
 use asn1_schema_faults::DecodeError;
-use asn1_values_bits::BitReader;
+use asn1_values_bits::BitStr;
+
+/// Takes off the first bit, if there is one.
+#[inline(always)]
+pub fn take_bit(bits: &mut BitStr<'_>) -> Option<bool>
+    ensures some { IfSome result (λ bit. bits_of bits.old ≡ bit ∷ bits_of bits.new) }
+    ensures none { IfNone result ((bits_of bits.old ≡ []) × (bits.new ≡ bits.old)) }
+{
+    let Some(first) = bits.get(0) else {
+        return None;
+    };
+    let (_first, rest) = bits.split_at(1);
+    *bits = rest;
+    Some(first)
+}
 
 /// Whether no bit is set.
 #[inline(always)]
-pub fn are_zero(bits: &BitReader<'_>) -> bool
-    requires { length bits.now.bits < 8 }
-    ensures { IsTrue result ↔ (bits.now.bits ≡ replicate (length bits.now.bits) false) }
+pub fn are_zero(bits: BitStr<'_>) -> bool
+    requires { length (bits_of bits) < 8 }
+    ensures { IsTrue result ↔ (bits_of bits.entry ≡ replicate (length (bits_of bits.entry)) false) }
 {
-    bits.first_bits(bits.len() as u32) == 0
+    bits.first_number(bits.len() as u32) == 0
 }
 
 /// Reads a presence bitmap (X.696 16.4), a BIT STRING of varying size, with as many bits as it has.
@@ -29,8 +45,8 @@ pub fn are_zero(bits: &BitReader<'_>) -> bool
 pub fn read_bitmap<'input>(
     cursor: &mut Cursor<'input>,
     rules: EncodingRules,
-) -> Result<BitReader<'input>, DecodeError>
-    ensures ok { IfOk result (λ bits. Stands (freedoms rules) (counted_bits bits.bits) cursor.old cursor.new) }
+) -> Result<BitStr<'input>, DecodeError>
+    ensures ok { IfOk result (λ bits. Stands (freedoms rules) (counted_bits (bits_of bits)) cursor.old cursor.new) }
     ensures only { IfErr result (Misses (freedoms rules) counted_bits cursor.old) }
 {
     let length = read_length(cursor, rules)?;
@@ -45,5 +61,5 @@ pub fn read_bitmap<'input>(
         return Err(DecodeError::InvalidExtensionHeader);
     };
     let bits = read_bits_of_octets(cursor, rules, count)?;
-    Ok(BitReader::new(bits))
+    Ok(bits)
 }

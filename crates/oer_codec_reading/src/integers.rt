@@ -12,8 +12,8 @@ ghost use Rattle.oer_codec_reading.specs.Whole.{sign_under, width_under};
 use crate::numbers::read_number;
 use crate::{Cursor, EncodingRules};
 use asn1_schema_constraints::Constraints;
-use asn1_schema_faults::DecodeError;
-use asn1_values_integers::{IntegerError, IntegerType};
+use asn1_schema_faults::{DecodeError, held_number, number_from_octets};
+use asn1_values_integers::IntegerType;
 use asn1_values_natives::Wide;
 use oer_codec_reading_lengths::magnitudes::short_number;
 use std::alloc::Global;
@@ -75,38 +75,6 @@ fn is_admitted(constraints: Constraints, number: i128) -> bool
     constraint.extensible.is_some() || constraint.constraint.value.contains(&number)
 }
 
-/// The number that octets are, in a type of the program, if that holds it.
-fn value_of<I: IntegerType>(alloc: Global, signed: bool, octets: &[u8]) -> Result<I, DecodeError>
-    requires { 0 < length octets.now }
-    ensures value { IfOk result (λ x. I.value x ≡ own_number signed octets.now) }
-    ensures held { OnOk result (is_within I.held (own_number signed octets.now) ≡ true) }
-    ensures refused { IfErr result (λ e. (e ≡ DecodeError.OutOfMemory)
-        ⊎ (is_within I.held (own_number signed octets.now) ≡ false)) }
-    ensures fresh { IfErr result (λ e. e ≡ DecodeError.AlreadyFailed → ⊥) }
-{
-    if signed {
-        return match I::try_from_signed_bytes(alloc, octets) {
-            Ok(value) => Ok(value),
-            Err(error) => Err(fault_of(error)),
-        };
-    }
-    match I::try_from_unsigned_bytes(alloc, octets) {
-        Ok(value) => Ok(value),
-        Err(error) => Err(fault_of(error)),
-    }
-}
-
-/// Why a number is not read in a type of the program.
-fn fault_of(error: IntegerError) -> DecodeError
-    ensures memory { error ≡ IntegerError.Memory → result ≡ DecodeError.OutOfMemory }
-    ensures fresh { result ≡ DecodeError.AlreadyFailed → ⊥ }
-{
-    match error {
-        IntegerError::Memory => DecodeError::OutOfMemory,
-        IntegerError::Overflow | IntegerError::Empty => DecodeError::IntegerOverflow,
-    }
-}
-
 /// A number that 128 bits do not hold, in a type of the program: no value constraint admits it.
 #[inline(never)]
 fn value_past<I: IntegerType>(
@@ -128,7 +96,7 @@ fn value_past<I: IntegerType>(
     if constraints.value.is_some() {
         return Err(DecodeError::ValueConstraintNotSatisfied);
     }
-    value_of(alloc, signed, octets)
+    number_from_octets(alloc, signed, octets)
 }
 
 /// The number that octets are, in a type of the program, if a value constraint, where there is one, admits it and the
@@ -155,10 +123,7 @@ fn admitted_value<I: IntegerType>(
     if !is_admitted(constraints, number) {
         return Err(DecodeError::ValueConstraintNotSatisfied);
     }
-    match I::from_i128(number) {
-        Some(value) => Ok(value),
-        None => Err(DecodeError::IntegerOverflow),
-    }
+    held_number(number)
 }
 
 /// Reads a whole number (X.696 10) under a value constraint, in a type of the program.

@@ -21,7 +21,7 @@ pub mod tags;
 pub mod texts;
 pub mod units;
 
-pub use bitmaps::{are_zero, read_bitmap};
+pub use bitmaps::{are_zero, read_bitmap, take_bit};
 pub use characters::read_characters;
 pub use enumerated::read_enumerated;
 pub use oer_codec_reading_lengths::{Cursor, EncodingRules, lengths};

@@ -1,14 +1,15 @@
 //! Open types (X.696 30), and additions that are passed over by their lengths.
 ghost use Rattle.std.specs.Prelude.{◌≡◌, ◌⊎◌, [], IsTrue, OnOk, IfOk, IfErr};
 ghost use Rattle.asn1_model.specs.Oer.{counted, octets_behind};
+ghost use Rattle.asn1_values_bits.specs.BitStr.{bits_of};
 ghost use Rattle.oer_codec_fronts.specs.Takes.{Skips};
 ghost use Rattle.oer_codec_reading.specs.Fronts.{freedoms, Misses, Stands};
 ghost use Rattle.oer_codec_reading.specs.Skipping.{SkipsNone};
 
 use crate::lengths::{read_counted, read_length};
-use crate::{Cursor, EncodingRules};
+use crate::{Cursor, EncodingRules, take_bit};
 use asn1_schema_faults::DecodeError;
-use asn1_values_bits::BitReader;
+use asn1_values_bits::BitStr;
 use std::mem;
 
 /// Enters an open type (X.696 30): the cursor goes to its octets, and the answer is where those behind it begin.
@@ -60,16 +61,15 @@ pub fn leave_open_type<'input>(
 pub fn skip_additions(
     cursor: &mut Cursor<'_>,
     rules: EncodingRules,
-    presence: &mut BitReader<'_>,
+    mut presence_bits: BitStr<'_>,
 ) -> Result<(), DecodeError>
-    ensures ok { OnOk result (Skips (freedoms rules) presence.old.bits cursor.old cursor.new) }
-    ensures only { IfErr result (SkipsNone (freedoms rules) presence.old.bits cursor.old) }
+    ensures ok { OnOk result (Skips (freedoms rules) (bits_of presence_bits.entry) cursor.old cursor.new) }
+    ensures only { IfErr result (SkipsNone (freedoms rules) (bits_of presence_bits.entry) cursor.old) }
 {
-    'unknown: while !presence.is_empty() {
-        if presence.first_bit() {
+    while let Some(is_there) = take_bit(&mut presence_bits) {
+        if is_there {
             let _passed_over = read_counted(cursor, rules)?;
         }
-        let _first = presence.split(1);
     }
     Ok(())
 }

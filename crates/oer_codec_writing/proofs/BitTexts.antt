@@ -9,7 +9,7 @@ use Rattle.asn1_model.specs.Numbers.{binary, missing, packed}
 use Rattle.asn1_model.specs.Oer
 use Rattle.asn1_values_bits.specs.Octets.{padded}
 use Rattle.asn1_values_bits.proofs.Leading.{octet_leads}
-use Rattle.oer_codec_writing.specs.Writing.{Adds}
+use Rattle.oer_codec_writing.specs.Writing.{Adds, bits_heading}
 use Rattle.oer_codec_writing.proofs.ScalarTexts.{if_true, if_false}
 
 if_it_is : (b : Bool) (os : List ℕ) (p : ℕ) → b ≡ true → written {F = Oer.Freedom} {D = Oer.Detail} {A = ℕ} (only_if b (exactly os)) p ≡ Some os
@@ -38,17 +38,46 @@ pub bit_string_none : (z : Size) (h : Counts) (bs : List Bool) → Oer.admits z 
 unfolding Oer.form
 bit_string_none z h bs e = if_false (Oer.admits z h (length bs)) (Oer.bit_string_form (Oer.is_fixed z) bs) e
 
-pub adds_counted_bits : (bs : List Bool) (old mid next new : List ℕ) (n u : ℕ) → n ≡ (length bs + 7) / 8 + 1 → u ≡ missing (length bs) → Adds (written (Oer.length_form n) 0) old mid → next ≡ mid ++ u ∷ [] → new ≡ next ++ packed (padded bs) → Adds (written (Oer.bit_string_form false bs) 0) old new
-adds_counted_bits bs old mid next new n u e f a b c = go (written (Oer.length_form n) 0) refl a
+heading_text : (n : ℕ) → written (bits_heading n) 0 ≡ option_and_then (λ a. option_map (λ b. a ++ b) (Some (missing n ∷ []))) (written (Oer.length_form ((n + 7) / 8 + 1)) 0)
+unfolding written
+heading_text n = refl
+
+pub adds_heading : (n : ℕ) (old mid new : List ℕ) (k u : ℕ) → k ≡ (n + 7) / 8 + 1 → u ≡ missing n → Adds (written (Oer.length_form k) 0) old mid → new ≡ mid ++ u ∷ [] → Adds (written (bits_heading n) 0) old new
+adds_heading n old mid new k u e f a b = go (written (Oer.length_form k) 0) refl a
   where
-    go : (o : Option (List ℕ)) → written (Oer.length_form n) 0 ≡ o → Adds o old mid → Adds (written (Oer.bit_string_form false bs) 0) old new
+    go : (o : Option (List ℕ)) → written (Oer.length_form k) 0 ≡ o → Adds o old mid → Adds (written (bits_heading n) 0) old new
     go None d x = cc
     go (Some w) d x =
         let m : old ++ w ≡ mid = cc x in
-        let t = counted_bits_text bs w (ap (λ k. written (Oer.length_form k) 0) (sym e) ∙ d) in
+        let t : written (Oer.length_form ((n + 7) / 8 + 1)) 0 ≡ Some w = ap (λ j. written (Oer.length_form j) 0) (sym e) ∙ d in
+        let heading : written (bits_heading n) 0 ≡ Some (w ++ missing n ∷ []) = heading_text n ∙ ap (λ o. option_and_then (λ a. option_map (λ b. a ++ b) (Some (missing n ∷ []))) o) t in
+        ap (option_map (λ l. old ++ l)) heading ∙ ap Some (sym (append_assoc old w (missing n ∷ [])) ∙ ap (λ l. l ++ missing n ∷ []) m ∙ ap (λ j. mid ++ j ∷ []) (sym f) ∙ sym b)
+
+pub headed_bits : (bs : List Bool) (h : List ℕ) → written (bits_heading (length bs)) 0 ≡ Some h → written (Oer.bit_string_form false bs) 0 ≡ Some (h ++ packed (padded bs))
+headed_bits bs h e = go (written (Oer.length_form ((length bs + 7) / 8 + 1)) 0) refl
+  where
+    last : List ℕ
+    last = missing (length bs) ∷ []
+
+    by_length : (o : Option (List ℕ)) → written (Oer.length_form ((length bs + 7) / 8 + 1)) 0 ≡ o → option_and_then (λ a. option_map (λ b. a ++ b) (Some last)) o ≡ Some h
+    by_length o d = sym (heading_text (length bs) ∙ ap (λ x. option_and_then (λ a. option_map (λ b. a ++ b) (Some last)) x) d) ∙ e
+
+    go : (o : Option (List ℕ)) → written (Oer.length_form ((length bs + 7) / 8 + 1)) 0 ≡ o → written (Oer.bit_string_form false bs) 0 ≡ Some (h ++ packed (padded bs))
+    go None d = let f : None ≡ Some h = by_length None d in cc
+    go (Some w) d =
+        let f : Some (w ++ last) ≡ Some h = by_length (Some w) d in
+        let g : w ++ last ≡ h = cc f in
+        counted_bits_text bs w d ∙ ap Some (sym (append_assoc w last (packed (padded bs))) ∙ ap (λ l. l ++ packed (padded bs)) g)
+
+pub adds_headed_bits : (bs : List Bool) (old mid new : List ℕ) → Adds (written (bits_heading (length bs)) 0) old mid → new ≡ mid ++ packed (padded bs) → Adds (written (Oer.bit_string_form false bs) 0) old new
+adds_headed_bits bs old mid new a b = go (written (bits_heading (length bs)) 0) refl a
+  where
+    go : (o : Option (List ℕ)) → written (bits_heading (length bs)) 0 ≡ o → Adds o old mid → Adds (written (Oer.bit_string_form false bs) 0) old new
+    go None d x = cc
+    go (Some h) d x =
+        let m : old ++ h ≡ mid = cc x in
         let p : List ℕ = packed (padded bs) in
-        ap (option_map (λ l. old ++ l)) t
-        ∙ ap Some (sym (c ∙ ap (λ l. l ++ p) b ∙ append_assoc mid (u ∷ []) p ∙ ap (λ l. l ++ (u ∷ p)) (sym m) ∙ append_assoc old w (u ∷ p) ∙ ap (λ k. old ++ (w ++ k ∷ p)) f))
+        ap (option_map (λ l. old ++ l)) (headed_bits bs h d) ∙ ap Some (sym (append_assoc old h p) ∙ ap (λ l. l ++ p) m ∙ sym b)
 
 pub bits_moved : (old octets new : List ℕ) (bs rest : List Bool) (few v x : ℕ) → octets ++ packed (padded bs) ≡ old → 0 < length bs → few ≡ min (length bs) 8 → binary few v ≡ take few bs → v < 2 ^ few → x ≡ v * 2 ^ (8 - few) → new ≡ octets ++ x ∷ [] → rest ≡ drop few bs → new ++ packed (padded rest) ≡ old
 bits_moved old octets new bs rest few v x h some e d b y n r =

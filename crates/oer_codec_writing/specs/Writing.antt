@@ -1,7 +1,15 @@
 -- What a writer of octets did: it added a text behind what stood there, or there is no text, or memory was refused.
-use Rattle.std.specs.Prelude.{◌≡◌, ℕ, List, ◌++◌, Option, Some, None, option_map}
+use Rattle.std.specs.Prelude.{◌≡◌, ℕ, ◌+◌, ◌/◌, List, [], ◌∷◌, ◌++◌, Option, Some, None, option_map}
+use Rattle.asn1_model.specs.Form.{exactly, both}
+use Rattle.asn1_model.specs.Numbers.{missing}
+use Rattle.asn1_model.specs.Oer
 use Rattle.asn1_schema_faults.specs.declared.EncodeError.{EncodeError}
 use Rattle.asn1_schema_faults.specs.declared.EncodeError.TheVariants.{AlreadyFailed, OutOfMemory}
+
+-- What stands in front of so many bits where their number is not fixed: the length of what follows, and the number of
+-- unused bits (X.696 13).
+abbrev pub bits_heading : ℕ → Oer.OctetForm
+bits_heading n = both (Oer.length_form ((n + 7) / 8 + 1)) (exactly (missing n ∷ []))
 
 -- The text stands behind what stood there before.
 abbrev pub Adds : Option (List ℕ) → List ℕ → List ℕ → Type 0

@@ -9,7 +9,7 @@ ghost use Rattle.asn1_schema_constraints.specs.Bounds.{counts_of};
 ghost use Rattle.asn1_schema_constraints.specs.Terms.{sizes_of};
 ghost use Rattle.asn1_values_bits.specs.BitStr.{bits_of};
 ghost use Rattle.asn1_values_bits.specs.Octets.{padded};
-ghost use Rattle.oer_codec_writing.specs.Writing.{Adds, Refuses};
+ghost use Rattle.oer_codec_writing.specs.Writing.{Adds, Refuses, bits_heading};
 
 use crate::lengths::push_length;
 use asn1_schema_constraints::{Bounded, Constraints};
@@ -38,12 +38,24 @@ fn push_bits(octets: &mut Vec<u8>, value: BitStr) -> Result<(), EncodeError>
     Ok(())
 }
 
-/// Adds bits, behind a length and the number of unused bits unless there is one size (X.696 13).
+/// Adds what stands in front of so many bits where their number is not fixed: the length of what follows, and the
+/// number of unused bits (X.696 13).
 ///
 /// # Errors
 ///
 /// `OutOfMemory`, and no other.
-pub fn push_sized_bits(octets: &mut Vec<u8>, fixed: bool, value: BitStr) -> Result<(), EncodeError>
+#[inline(always)]
+pub fn push_bits_heading(octets: &mut Vec<u8>, count: usize) -> Result<(), EncodeError>
+    ensures { MatchResult result (λ _. Adds (written (bits_heading count) 0) octets.old.items octets.new.items)
+        (λ e. e ≡ EncodeError.OutOfMemory) }
+{
+    push_length(octets, count / 8 + (count % 8 + 7) / 8 + 1)?;
+    octets.push(unused_bits(count))?;
+    Ok(())
+}
+
+/// Adds bits, behind a length and the number of unused bits unless there is one size (X.696 13).
+fn push_sized_bits(octets: &mut Vec<u8>, fixed: bool, value: BitStr) -> Result<(), EncodeError>
     ensures { MatchResult result (λ _. Adds (written (bit_string_form fixed (bits_of value.entry)) 0) octets.old.items
         octets.new.items) (λ e. e ≡ EncodeError.OutOfMemory) }
 {
@@ -51,9 +63,7 @@ pub fn push_sized_bits(octets: &mut Vec<u8>, fixed: bool, value: BitStr) -> Resu
         push_bits(octets, value)?;
         return Ok(());
     }
-    let count = value.len();
-    push_length(octets, count / 8 + (count % 8 + 7) / 8 + 1)?;
-    octets.push(unused_bits(count))?;
+    push_bits_heading(octets, value.len())?;
     push_bits(octets, value)?;
     Ok(())
 }

@@ -15,7 +15,7 @@ mod scalars;
 mod strings;
 mod tags;
 
-pub use bits::{push_bit_string, push_sized_bits};
+pub use bits::{push_bit_string, push_bits_heading};
 pub use identifiers::push_identifier;
 pub use integers::push_integer;
 pub use item_numbers::push_item;

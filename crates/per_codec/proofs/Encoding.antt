@@ -1,14 +1,14 @@
 -- What an encoder holds behind the records of a value.
-use Rattle.std.proofs.Common.{◌≡◌, ℕ, ◌<◌, ◌≤◌, ◌^◌, ltb, suc, Bool, true, false, cond, List, [], ◌∷◌, length, Option, Some, None, option_and_then, Result, Ok, Err, Vec, Global, IfOk, IfErr, MatchResult, refl, sym, ◌∙◌, ap, subst, arith}
-use Rattle.std.proofs.lemmas.Bool.{le-leb, leb-true}
+use Rattle.std.proofs.Common.{◌≡◌, ℕ, Bool, true, false, cond, List, [], ◌∷◌, Option, Some, None, option_and_then, refl, sym, ◌∙◌, ap, subst, arith}
 use Rattle.asn1_model.specs.Schema.{Schema}
 use Rattle.asn1_model.specs.Value.{Value, depth}
 use Rattle.asn1_model.specs.Normal.{normal}
 use Rattle.asn1_model.specs.Rules.{uper, aper, uper_strict, aper_strict, per, encoding, of_moderate_length}
 use Rattle.asn1_schema_faults.specs.declared.EncodeError.{EncodeError}
-use Rattle.asn1_schema_faults.specs.declared.EncodeError.TheVariants.{TooLongValue, OutOfMemory}
+use Rattle.asn1_schema_faults.specs.declared.EncodeError.TheVariants.{OutOfMemory}
 use Rattle.asn1_schema_faults.proofs.Passing.{PassedOn, never_long, no_memory_before}
 use Rattle.asn1_schema_encode.specs.Writes.{Writes, CannotWrite}
+use Rattle.asn1_schema_encode.specs.Written.{HasTextIn}
 use Rattle.asn1_schema_presented.specs.Records.{Record}
 use Rattle.asn1_schema_presented.specs.Presents.{presents, Fits}
 use Rattle.asn1_schema_presented.specs.Chains.{Chain}
@@ -19,7 +19,7 @@ use Rattle.per_codec_encoder.specs.Ties.{octets_of}
 use Rattle.per_codec_encoder.specs.Written.{IsWriter, HasOctets}
 use Rattle.per_codec_encoder.proofs.Chains.{messages}
 use Rattle.per_codec_encoder.proofs.Written.{writes_the_octets, refuses_only_none}
-use Rattle.per_codec.specs.Encoded.{IsEncoded, HasText, NotEncoded}
+use Rattle.per_codec.specs.Encoded.{packed_rules, NotEncoded}
 
 -- the encoder is a writer
 held : Written → State
@@ -70,16 +70,16 @@ by_variant true s v = (refl, refl)
 by_variant false s v = (refl, refl)
 
 -- the message of a value, by the state behind its records
-as_text : (al : Bool) (schema : ℕ → Schema) (v : Value) (o : Option (List ℕ)) → IsValue schema v → ((n : ℕ) → Fits (schema n) v → option_and_then octets_of (runs al (presents (schema n) v) ([], [])) ≡ o) → HasText al schema v o
+as_text : (al : Bool) (schema : ℕ → Schema) (v : Value) (o : Option (List ℕ)) → IsValue schema v → ((n : ℕ) → Fits (schema n) v → option_and_then octets_of (runs al (presents (schema n) v) ([], [])) ≡ o) → HasTextIn (packed_rules al) schema v o
 as_text al schema v o i h n f =
     let m : per al (schema n) (normal (schema n) v) ≡ o = ap (per al (schema n)) (i.normal n) ∙ sym (messages al (schema n) v) ∙ h n f in
     let b = by_variant al (schema n) (normal (schema n) v) in
     (b.0 ∙ m, b.1 ∙ m)
 
-text_written : (al : Bool) (schema : ℕ → Schema) (v : Value) (new : Written) → IsValue schema v → Writes Puts schema v (nothing_held al) new → HasText al schema v (octets_of new.state)
+text_written : (al : Bool) (schema : ℕ → Schema) (v : Value) (new : Written) → IsValue schema v → Writes Puts schema v (nothing_held al) new → HasTextIn (packed_rules al) schema v (octets_of new.state)
 text_written al schema v new i w = as_text al schema v (octets_of new.state) i (λ n f. ap (option_and_then octets_of) (runs_held (presents (schema n) v) (nothing_held al) new (w.chain n f)))
 
-no_text : (al : Bool) (schema : ℕ → Schema) (v : Value) (e : EncodeError) → IsValue schema v → ¬ (e ≡ OutOfMemory) → CannotWrite Puts schema v (nothing_held al) e → HasText al schema v None
+no_text : (al : Bool) (schema : ℕ → Schema) (v : Value) (e : EncodeError) → IsValue schema v → ¬ (e ≡ OutOfMemory) → CannotWrite Puts schema v (nothing_held al) e → HasTextIn (packed_rules al) schema v None
 no_text al schema v e i y c = as_text al schema v None i (λ n f. ap (option_and_then octets_of) (go n f (runs al (presents (schema n) v) ([], [])) refl))
   where
     go : (n : ℕ) → Fits (schema n) v → (o : Option State) → runs al (presents (schema n) v) ([], []) ≡ o → o ≡ None
@@ -89,7 +89,7 @@ no_text al schema v e i y c = as_text al schema v None i (λ n f. ap (option_and
 -- ---- what the calls answer
 
 -- behind the records of a value stand its bits
-pub written_all : (al : Bool) (schema : ℕ → Schema) (v : Value) (start new : Written) → start ≡ nothing_held al → IsValue schema v → Writes Puts schema v start new → (new.failed ≡ false) × (new.state.1 ≡ []) × HasOctets al schema v (option_and_then of_moderate_length (octets_of new.state)) × HasText al schema v (octets_of new.state)
+pub written_all : (al : Bool) (schema : ℕ → Schema) (v : Value) (start new : Written) → start ≡ nothing_held al → IsValue schema v → Writes Puts schema v start new → (new.failed ≡ false) × (new.state.1 ≡ []) × HasOctets al schema v (option_and_then of_moderate_length (octets_of new.state)) × HasTextIn (packed_rules al) schema v (octets_of new.state)
 unfolding held aligned
 written_all al schema v start new e i w =
     let x : Writes Puts schema v (nothing_held al) new = subst (λ s. Writes Puts schema v s new) e w in
@@ -106,38 +106,3 @@ refused_all al schema v start x e k i c p =
       long = λ h. absurd (never_long x e p h);
       bare = λ n m. no_text al schema v x i (no_memory_before x e p n) y;
     }
-
--- want of memory says nothing of a value
-pub wants_memory : (al : Bool) (schema : ℕ → Schema) (v : Value) (e : EncodeError) → e ≡ OutOfMemory → NotEncoded al schema v e
-wants_memory al schema v e h = record {
-  none = λ n. absurd (n h);
-  long = λ k. let q : OutOfMemory ≡ TooLongValue = sym h ∙ k in cc;
-  bare = λ n m. absurd (n h);
-}
-
--- the bound on the length of an encoding
-short_enough : (w : List ℕ) → length w < 2 ^ 60 → of_moderate_length w ≡ Some w
-short_enough w h = ap (λ b. cond b (Some w) None) (le-leb (suc (length w)) (2 ^ 60) h)
-
-too_long : (w : List ℕ) → 2 ^ 60 ≤ length w → of_moderate_length w ≡ None
-too_long w h = go (ltb (length w) (2 ^ 60)) refl
-  where
-    go : (b : Bool) → ltb (length w) (2 ^ 60) ≡ b → of_moderate_length w ≡ None
-    go false e = ap (λ b. cond b (Some w) None) e
-    go true e = let l = leb-true (suc (length w)) (2 ^ 60) e in absurd (omega (arith, h, l))
-
--- what is answered: the octets, or that they are too many
-abbrev pub Kept : List ℕ → Result (Vec ℕ Global) EncodeError → Type 0
-Kept w r = MatchResult r (λ kept. (kept.items ≡ w) × (length w < 2 ^ 60)) (λ e. (e ≡ TooLongValue) × (2 ^ 60 ≤ length w))
-
-pub encoded : (al : Bool) (schema : ℕ → Schema) (v : Value) (o : Option (List ℕ)) (os : List ℕ) (r : Result (Vec ℕ Global) EncodeError) → HasOctets al schema v (option_and_then of_moderate_length o) → o ≡ Some os → Kept os r → IfOk r (λ octets. IsEncoded al schema v octets.items)
-encoded al schema v o os (Ok kept) h e k = subst (HasOctets al schema v) (ap (option_and_then of_moderate_length) e ∙ short_enough os k.1 ∙ ap Some (sym k.0)) h
-encoded al schema v o os (Err x) h e k = tt
-
-pub not_encoded : (al : Bool) (schema : ℕ → Schema) (v : Value) (o : Option (List ℕ)) (os : List ℕ) (r : Result (Vec ℕ Global) EncodeError) → HasOctets al schema v (option_and_then of_moderate_length o) → HasText al schema v o → o ≡ Some os → Kept os r → IfErr r (NotEncoded al schema v)
-not_encoded al schema v o os (Ok kept) h t e k = tt
-not_encoded al schema v o os (Err x) h t e k = record {
-  none = λ n. subst (HasOctets al schema v) (ap (option_and_then of_moderate_length) e ∙ too_long os k.1) h;
-  long = λ _. record { text = os; has = subst (HasText al schema v) e t; beyond = k.1 };
-  bare = λ n m. absurd (m k.0);
-}

@@ -1,35 +1,20 @@
 -- What the calls that write answer.
-use Rattle.std.specs.Prelude.{◌≡◌, ◌≤◌, ◌^◌, ℕ, Bool, cond, List, length, Option, Some, None}
+use Rattle.std.specs.Prelude.{ℕ, Bool, cond, List, [], ◌∷◌, Some}
 use Rattle.asn1_model.specs.Schema.{Schema}
 use Rattle.asn1_model.specs.Value.{Value}
-use Rattle.asn1_model.specs.Normal.{normal}
-use Rattle.asn1_model.specs.Rules.{uper, aper, uper_strict, aper_strict, encoding}
+use Rattle.asn1_model.specs.Rules.{Rules, uper, aper, uper_strict, aper_strict}
 use Rattle.asn1_schema_faults.specs.declared.EncodeError.{EncodeError}
-use Rattle.asn1_schema_faults.specs.declared.EncodeError.TheVariants.{TooLongValue, OutOfMemory}
-use Rattle.asn1_schema_presented.specs.Presents.{Fits}
-use Rattle.per_codec_encoder.specs.Written.{HasOctets}
+use Rattle.asn1_schema_encode.specs.Written.{IsWrittenIn, NotWrittenIn}
+
+-- The rules of a variant, which have one writer.
+abbrev pub packed_rules : Bool → List Rules
+packed_rules al = cond al aper uper ∷ cond al aper_strict uper_strict ∷ []
 
 -- These octets are the canonical encoding of the value (X.691), in the aligned variant or in the other, in whatever
 -- depth its type is unfolded.
 abbrev pub IsEncoded : Bool → (ℕ → Schema) → Value → List ℕ → Type 0
-IsEncoded al schema v w = HasOctets al schema v (Some w)
+IsEncoded al schema v w = IsWrittenIn (packed_rules al) schema v (Some w)
 
--- The same before the bound on the length of an encoding: these octets, however many they are, or none, where the value
--- itself is refused.
-abbrev pub HasText : Bool → (ℕ → Schema) → Value → Option (List ℕ) → Type 0
-HasText al schema v w = (n : ℕ) → Fits (schema n) v
-    → (encoding (cond al aper uper) (schema n) (normal (schema n) v) ≡ w)
-    × (encoding (cond al aper_strict uper_strict) (schema n) (normal (schema n) v) ≡ w)
-
--- The value is not refused, but its octets are 2 ^ 60 or more.
-pub record IsTooLong (al : Bool) (schema : ℕ → Schema) (v : Value) : Type 0 where
-  pub text : List ℕ
-  pub has : HasText al schema v (Some text)
-  pub beyond : 2 ^ 60 ≤ length text
-
--- Why a value is not written: want of memory, or it has no canonical encoding, as its octets would be 2 ^ 60 or more
--- (TooLongValue), or as the value itself is refused (each other error).
-pub record NotEncoded (al : Bool) (schema : ℕ → Schema) (v : Value) (e : EncodeError) : Type 0 where
-  pub none : ¬ (e ≡ OutOfMemory) → HasOctets al schema v None
-  pub long : e ≡ TooLongValue → IsTooLong al schema v
-  pub bare : ¬ (e ≡ OutOfMemory) → ¬ (e ≡ TooLongValue) → HasText al schema v None
+-- Why it is not written in that variant.
+abbrev pub NotEncoded : Bool → (ℕ → Schema) → Value → EncodeError → Type 0
+NotEncoded al schema v e = NotWrittenIn (packed_rules al) schema v e

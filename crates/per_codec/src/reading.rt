@@ -18,6 +18,7 @@ use std::alloc::Global;
 ///
 /// `OutOfMemory` for want of memory. Any other only if no octets in front, fewer than 2^60, are an encoding of a
 /// value of the type that nests at most 128 levels.
+#[inline(always)]
 pub fn decode<T: Decode>(alloc: Global, input: &[u8], variant: Variant) -> Result<T, DecodeError>
     ensures ok { IfOk result (λ x. (rest : List ℕ) × Tells (rules_of variant) T.schema (T.meaning x) input.now rest) }
     ensures only { IfErr result (NoMessage (rules_of variant) T.schema input.now) }

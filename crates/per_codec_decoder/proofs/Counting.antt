@@ -1,5 +1,5 @@
 -- Length determinants of members in front.
-use Rattle.std.proofs.Common.{◌≡◌, ℕ, zero, ◌-◌, ◌*◌, ◌≤◌, ltb, leb, Bool, true, false, cond, ◌||◌, ◌&&◌, IsTrue, inl, inr, List, [], ◌∷◌, Option, Some, None, refl, sym, ◌∙◌, ap, subst, arith}
+use Rattle.std.proofs.Common.{◌≡◌, ℕ, zero, ◌-◌, ◌*◌, ◌≤◌, ltb, leb, Bool, true, false, cond, ◌||◌, ◌&&◌, IsTrue, inl, inr, List, [], ◌∷◌, Option, Some, None, Box, Global, refl, sym, ◌∙◌, ap, subst, arith}
 use Rattle.std.proofs.lemmas.Bool.{and_parts, and_from, leb-true, le-leb}
 use Rattle.asn1_model.specs.Schema.{Counts, Size}
 use Rattle.asn1_model.specs.Numbers.{binary, is_count_to, is_count_within}
@@ -21,13 +21,17 @@ use Rattle.per_codec_reading.specs.Sizes.{admitted, determinant_form, heading_fo
 use Rattle.per_codec_reading.specs.declared.sizes.Heading.{Heading}
 use Rattle.per_codec_reading.specs.declared.sizes.LengthDeterminant.{LengthDeterminant}
 use Rattle.per_codec_reading.specs.declared.sizes.LengthDeterminant.TheVariants.{Constrained, General}
-use Rattle.per_codec_decoder.specs.Members.{HasMembers, NoMembers, NoDeterminant, NoFurther}
+use Rattle.per_codec_decoder.specs.Members.{HasMembers, NoMembers, NoDeterminant, NoFurther, tally_in}
 
 -- want of memory aside, what is missed does not stand in front
 pub missed : {X : Type 0} (free : Per.Freedom → Bool) (f : X → Per.BitForm) (a : Place) (e : DecodeError) → Misses free f a e → ¬ (e ≡ OutOfMemory) → NoneStands free f a
 missed free f a OutOfMemory m n = absurd (n refl)
 missed free f a AlreadyFailed m n = absurd m
 missed free f a e m n = m
+
+-- what is known of a list is what stands behind the pointer
+pub held_tally : (o : Option (Box Tally Global)) (boxed : Box Tally Global) (t : Tally) → o ≡ Some boxed → t ≡ boxed.value → tally_in o ≡ Some t
+held_tally o boxed t e f = ap tally_in e ∙ ap (λ x. Some x) (sym f)
 
 -- what a number of members is between
 pub between : (h : Counts) (most n : ℕ) → h.high ≡ Some most → is_count_within h n ≡ true → (h.low ≤ n) × (n ≤ most)

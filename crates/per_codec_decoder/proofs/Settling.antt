@@ -1,5 +1,5 @@
 -- How a decoder goes on behind what a reader found, and fails as it did.
-use Rattle.std.proofs.Common.{◌≡◌, ℕ, zero, suc, ◌+◌, Bool, IsTrue, inl, inr, List, [], ◌∷◌, ◌++◌, Option, Some, None, Result, Ok, Err, IfOk, IfErr, refl, sym, ◌∙◌, ap, subst, arith}
+use Rattle.std.proofs.Common.{◌≡◌, ℕ, zero, suc, ◌+◌, Bool, true, IsTrue, inl, inr, List, [], ◌∷◌, ◌++◌, Option, Some, None, Result, Ok, Err, IfOk, IfErr, refl, sym, ◌∙◌, ap, subst, arith}
 use Rattle.std.specs.Prelude.{OnOk}
 use Rattle.asn1_schema_presented.specs.Levels.{level}
 use Rattle.asn1_model.specs.Schema.{Counts, Size, Alphabet, StringKind, Schema, character_string}
@@ -122,6 +122,10 @@ found_member (Ok x) (Ok y) old now mid new here there n k l same ready h p r z b
     let w = member_led (freedoms now.variant) (is_aligned now.variant) y here now.scopes (there, k) f in
     let j = moves_led mid new here there n (h ∙ sym (ap (λ (q : Held). q.place) z)) p w m in
     steps old now new there k now.levels (further y) now.stands same ready i refl refl (j ∙ ap (λ (q : Held). let t : Held = record { place = there; scopes = q.scopes; levels = q.levels; most = q.most; failed = q.failed; variant = q.variant; stands = q.stands } in t) z ∙ ap (λ (x : List Storage). let t : Held = record { place = there; scopes = k; levels = now.levels; most = now.most; failed = now.failed; variant = now.variant; stands = x } in t) b)
+
+-- a member that is due takes nothing in front
+pub due_member : (old now new : Held) (k : List Scope) (l : List Storage) → now ≡ old → IsReady old → l ≡ now.stands → ((al : Bool) (free : Per.Freedom → Bool) (p : Place) → NextMember al free true p now.scopes (p, k)) → new ≡ record { place = now.place; scopes = k; levels = now.levels; most = now.most; failed = now.failed; variant = now.variant; stands = l } → Finds old (further true) new
+due_member old now new k l same ready b t f = steps old now new now.place k now.levels (further true) l same ready (t (is_aligned now.variant) (freedoms now.variant) now.place) refl b f
 
 -- ---- characters
 pub uncharacters : {T : Type 0} (answer result : Result T DecodeError) (c : StringKind) (z : Size) (l : Alphabet) (h : Counts) (old now : Held) (here : Place) → now ≡ old → here ≡ now.place → result ≡ answer → IfErr answer (Misses (freedoms now.variant) (Per.form (is_aligned now.variant) (character_string c z l h)) here) → IfErr result (NoRecord Finds (asks_characters c z l h) old)

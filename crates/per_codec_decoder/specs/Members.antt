@@ -1,5 +1,6 @@
 -- What stands in front of the members of a list (X.691 20), and why nothing does.
-use Rattle.std.specs.Prelude.{◌≡◌, ℕ, Bool, List, ◌∷◌, Option}
+use Rattle.std.specs.Prelude.{◌≡◌, ℕ, Bool, List, ◌∷◌, Option, Some, None}
+use Rattle.std.proofs.Common.{Box, Global}
 use Rattle.asn1_model.specs.Schema.{Counts, Size}
 use Rattle.asn1_model.specs.Per
 use Rattle.asn1_schema_faults.specs.declared.DecodeError.{DecodeError}
@@ -17,6 +18,11 @@ use Rattle.per_codec_reading.specs.declared.lengths.Length.{Length}
 pub record Due : Type 0 where
   pub due : ℕ
   pub tally : Option Tally
+
+-- What is known of a list stands behind a pointer.
+abbrev pub tally_in : Option (Box Tally Global) → Option Tally
+tally_in None = None
+tally_in (Some boxed) = Some boxed.value
 
 -- The extension bit of the size, if it has one, and the first length determinant: so many members are due behind it.
 abbrev pub HasMembers : Bool → (Per.Freedom → Bool) → Size → Counts → ℕ → Option Tally → Place → Place → Type 0

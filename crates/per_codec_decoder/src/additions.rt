@@ -15,6 +15,7 @@ pub struct Additions<'input> {
 
 impl Additions<'_> {
     /// Whether the next addition is there, if one is due. Those past the bits of the bitmap are not.
+    #[inline(always)]
     pub(crate) fn next(&mut self) -> Option<bool>
         ensures some { IfSome result (λ is_there. TellsOf is_there self.old self.new) }
         ensures none { IfNone result (self.old.left ≡ 0) }

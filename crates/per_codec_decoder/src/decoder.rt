@@ -9,7 +9,7 @@ ghost use Rattle.per_codec_decoder.specs.Endings.{Passes, NotPassed};
 ghost use Rattle.per_codec_decoder.specs.Scopes.{scope_of, stands_in};
 ghost use Rattle.asn1_schema_constraints.specs.Bounds.{counts_of, members_of};
 ghost use Rattle.asn1_schema_decode.specs.Reads.{NoRecord};
-ghost use Rattle.asn1_schema_presented.specs.Records.{octets, asks_octets};
+ghost use Rattle.asn1_schema_presented.specs.Records.{octets, asks_octets, further, asks_further};
 ghost use Rattle.asn1_schema_constraints.specs.Terms.{size_of};
 ghost use Rattle.asn1_model.specs.Numbers.{octet_bits, is_count_within};
 ghost use Rattle.asn1_values_bits.specs.BitStr.{bits_of};
@@ -306,6 +306,22 @@ impl<'input> Decoder<'input> {
         self.enter(Frame::Members(members))
     }
 
+    // Whether a further member comes, behind the next length determinant where none is due before it.
+    fn find_further(&mut self) -> Result<bool, DecodeError>
+        ensures ok { IfOk result (λ more. Finds self.old (further more) self.new) }
+        ensures level { OnOk result (self.new.levels ≡ self.old.levels) }
+        ensures only { IfErr result (NoRecord Finds asks_further self.old) }
+        ensures failed { OnErr result (HasFailed self.new) }
+        ensures already { HasFailed self.old → result ≡ Err DecodeError.AlreadyFailed }
+        ensures after { result ≡ Err DecodeError.AlreadyFailed → HasFailed self.old }
+    {
+        record!(
+            self,
+            cursor,
+            self.scopes.next_member(&mut cursor, self.variant)
+        )
+    }
+
     // Begins a sequence, set or group.
     #[inline(always)]
     fn enter_components(&mut self, extensible: bool, optional: usize) -> Result<(), DecodeError>
@@ -519,11 +535,11 @@ impl<'input> asn1_schema_decode::Decoder for Decoder<'input> {
 
     #[inline(always)]
     fn get_further(&mut self) -> Result<bool, DecodeError> {
-        record!(
-            self,
-            cursor,
-            self.scopes.next_member(&mut cursor, self.variant)
-        )
+        self.begin_record()?;
+        if self.scopes.take_due_member() {
+            return Ok(true);
+        }
+        self.find_further()
     }
 
     #[inline(always)]
@@ -585,6 +601,7 @@ impl<'input> asn1_schema_decode::Decoder for Decoder<'input> {
         }
     }
 
+    #[inline(always)]
     fn get_addition(&mut self) -> Result<bool, DecodeError> {
         self.begin_record()?;
         let Some(is_there) = self.scopes.next_addition() else {

@@ -1,5 +1,5 @@
 //! Open scopes.
-ghost use Rattle.std.specs.Prelude.{◌≡◌, ◌∷◌, [], OnOk, IfOk, IfErr, IfSome, IfNone, MatchBool};
+ghost use Rattle.std.specs.Prelude.{◌≡◌, ◌∷◌, [], true, false, OnOk, IfOk, IfErr, IfSome, IfNone, MatchBool};
 ghost use Rattle.per_codec_fronts.specs.Takes.{NextPresenceBit, NextMember, open_type};
 ghost use Rattle.per_codec_reading.specs.Fronts.{freedoms, is_aligned, IsFresh};
 ghost use Rattle.per_codec_decoder.specs.Members.{NoFurther};
@@ -91,32 +91,22 @@ fn put<'input>(
     ensures behind { OnOk result (behind_in innermost.new outer.new.items ≡ behind_frame frame.entry
         (behind_in innermost.old outer.old.items)) }
 {
-    match innermost.take() {
-        Some(around) => outer.push(around)?,
-        None => outer.clear(),
+    if innermost.is_none() {
+        if !outer.is_empty() {
+            outer.clear();
+        }
+        *innermost = Some(frame);
+        return Ok(());
     }
-    *innermost = Some(frame);
+    if let Some(around) = innermost.replace(frame) {
+        outer.push(around)?;
+    }
     Ok(())
 }
 
-/// Opens what encloses one value alone as a frame inside the others. It is seldom called: where something begins in an
-/// open type or in an alternative.
+/// Moves what encloses one value alone to the frames: the scopes stay the same. It is seldom called: where something
+/// begins in an open type or in an alternative.
 #[cold]
-fn put_enclosing<'input>(
-    innermost: &mut Option<Frame<'input>>,
-    outer: &mut Vec<Frame<'input>>,
-    enclosing: Enclosing<'input>,
-) -> Result<(), AllocError>
-    ensures scopes { OnOk result (scopes_in innermost.new outer.new.items
-        ≡ scope_around enclosing.entry ∷ scopes_in innermost.old outer.old.items) }
-    ensures behind { OnOk result (behind_in innermost.new outer.new.items ≡ behind_around enclosing.entry
-        (behind_in innermost.old outer.old.items)) }
-{
-    put(innermost, outer, enclosing.frame())
-}
-
-/// Moves what encloses one value alone to the frames: the scopes stay the same.
-#[inline(always)]
 fn settle<'input>(
     enclosing: &mut Option<Enclosing<'input>>,
     innermost: &mut Option<Frame<'input>>,
@@ -129,7 +119,7 @@ fn settle<'input>(
         ≡ behind_of enclosing.old innermost.old outer.old.items) }
 {
     if let Some(around) = enclosing.take() {
-        put_enclosing(innermost, outer, around)?;
+        put(innermost, outer, around.frame())?;
     }
     Ok(())
 }
@@ -183,6 +173,9 @@ impl<'input> Scopes<'input> {
         ensures scopes { OnOk result (self.new.scopes ≡ scope_of frame.entry ∷ self.old.scopes) }
         ensures behind { OnOk result (self.new.behind ≡ behind_frame frame.entry self.old.behind) }
     {
+        if self.enclosing.is_none() {
+            return put(&mut self.innermost, &mut self.outer, frame);
+        }
         settle(&mut self.enclosing, &mut self.innermost, &mut self.outer)?;
         put(&mut self.innermost, &mut self.outer, frame)
     }
@@ -197,6 +190,10 @@ impl<'input> Scopes<'input> {
         ensures scopes { OnOk result (self.new.scopes ≡ scope_around enclosing.entry ∷ self.old.scopes) }
         ensures behind { OnOk result (self.new.behind ≡ behind_around enclosing.entry self.old.behind) }
     {
+        if self.enclosing.is_none() {
+            self.enclosing = Some(enclosing);
+            return Ok(());
+        }
         settle(&mut self.enclosing, &mut self.innermost, &mut self.outer)?;
         self.enclosing = Some(enclosing);
         Ok(())
@@ -220,6 +217,7 @@ impl<'input> Scopes<'input> {
     }
 
     /// The extension bit of the innermost sequence or set, all of whose root components have passed.
+    #[inline(always)]
     pub fn extension_bit(&self) -> Option<bool>
         ensures some { IfSome result (λ bit. HasExtensionBit bit self.now.scopes) }
         ensures none { IfNone result (NoAdditions self.now.scopes) }
@@ -234,6 +232,7 @@ impl<'input> Scopes<'input> {
     }
 
     /// The innermost sequence or set, all of whose root components have passed, gives place to another scope.
+    #[inline(always)]
     pub fn replace(&mut self, frame: Frame<'input>)
         requires { (bit : _) × HasExtensionBit bit self.old.scopes }
         ensures scopes { (s : _) (k : _) → self.old.scopes ≡ s ∷ k → self.new.scopes ≡ scope_of frame.entry ∷ k }
@@ -244,6 +243,7 @@ impl<'input> Scopes<'input> {
 
     /// Whether the next addition of the innermost sequence or set is there, if one is due. Those past the bits of the
     /// bitmap are not.
+    #[inline(always)]
     pub fn next_addition(&mut self) -> Option<bool>
         ensures some { IfSome result (λ is_there. Flags is_there self.old.scopes self.new.scopes) }
         ensures behind { self.new.behind ≡ self.old.behind }
@@ -275,6 +275,7 @@ impl<'input> Scopes<'input> {
     }
 
     /// Whether the innermost scope is that of additions.
+    #[inline(always)]
     fn is_in_additions(&self) -> bool
         ensures { MatchBool result (IsAdded self.now.scopes) (IsAdded self.now.scopes → ⊥) }
     {
@@ -305,6 +306,7 @@ impl<'input> Scopes<'input> {
 
     /// Closes the innermost scope, if it is an addition: the place behind its open type. Where it is none, the scopes
     /// are of no more use.
+    #[inline(always)]
     pub fn leave_addition(&mut self) -> Option<Stretch<'input>>
         ensures some { IfSome result (λ behind. LeavesAddition behind.place self.old.scopes self.new.scopes) }
         ensures behind { IfSome result (λ behind. self.old.behind ≡ behind.storage ∷ self.new.behind) }
@@ -315,6 +317,23 @@ impl<'input> Scopes<'input> {
             return None;
         }
         Some(place)
+    }
+
+    /// Takes a member of the innermost list that is due before any further length determinant, if there is one.
+    #[inline(always)]
+    pub fn take_due_member(&mut self) -> bool
+        ensures there { result ≡ true → (al : _) (free : _) (p : _) → NextMember al free true p self.old.scopes
+            (p, self.new.scopes) }
+        ensures behind { self.new.behind ≡ self.old.behind }
+        ensures none { result ≡ false → self.new ≡ self.old }
+    {
+        if self.enclosing.is_some() {
+            return false;
+        }
+        match &mut self.innermost {
+            Some(Frame::Members(members)) => members.take_due(),
+            _ => false,
+        }
     }
 
     /// Whether a member of the innermost list is still to come, behind the next length determinant if none is due.

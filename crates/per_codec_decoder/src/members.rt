@@ -1,5 +1,5 @@
 //! How many members a list or bag has (X.691 20 and 22): behind their number, or in fragments.
-ghost use Rattle.std.specs.Prelude.{◌≡◌, ◌+◌, ◌*◌, ◌^◌, ◌≤◌, ◌<◌, ◌∷◌, true, None, IsTrue};
+ghost use Rattle.std.specs.Prelude.{◌≡◌, ◌+◌, ◌*◌, ◌^◌, ◌≤◌, ◌<◌, ◌∷◌, true, false, None, IsTrue};
 ghost use Rattle.std.specs.Prelude.{◌↔◌, IfOk, IfErr, IfSome, IfNone};
 ghost use Rattle.asn1_schema_constraints.specs.Bounds.{members_of};
 ghost use Rattle.asn1_schema_constraints.specs.Terms.{size_of};
@@ -42,19 +42,20 @@ impl Model for Tally {
 }
 
 /// The members that stand behind one length determinant: how many are due, and what is known of the list if a further
-/// length determinant stands behind these.
+/// length determinant stands behind these. That stands behind a pointer: few lists come in fragments, and what is open
+/// is moved at each scope.
 #[derive(Drop)]
 pub struct DueMembers {
     due: usize,
-    tally: Option<Tally>,
+    tally: Option<Box<Tally>>,
 }
 
 impl Model for DueMembers {
-    ghost use Rattle.per_codec_decoder.specs.Members.{Due};
+    ghost use Rattle.per_codec_decoder.specs.Members.{Due, tally_in};
 
     ghost Value = { Due };
 
-    ghost view = { λ members. record { due = members.due; tally = members.tally } };
+    ghost view = { λ members. record { due = members.due; tally = tally_in members.tally } };
 }
 
 impl Tally {
@@ -87,7 +88,9 @@ impl Tally {
             Length::Fragment(multiple) => {
                 self.fragments.push(multiple as u8)?;
                 let due = multiple * FRAGMENT;
-                let tally = Some(self);
+                let alloc = *self.fragments.allocator();
+                let boxed = Box::new(alloc, self)?;
+                let tally = Some(boxed);
                 Ok(DueMembers { due, tally })
             }
             Length::Short(due) => {
@@ -133,13 +136,28 @@ impl DueMembers {
             return Ok(true);
         }
         match self.tally.take() {
-            Some(tally) => {
+            Some(boxed) => {
+                let tally = Box::into_inner(boxed);
                 let length = read_length(cursor, variant)?;
                 *self = tally.behind(length)?;
                 Ok(self.take_member())
             }
             None => Ok(false),
         }
+    }
+
+    /// Takes a member that is due before any further length determinant, if there is one.
+    #[inline(always)]
+    pub(crate) fn take_due(&mut self) -> bool
+        ensures there { result ≡ true → (al : _) (free : _) (p : _) (k : _) → NextMember al free true p
+            (members self.old.due self.old.tally ∷ k) (p, members self.new.due self.new.tally ∷ k) }
+        ensures none { result ≡ false → self.new ≡ self.old }
+    {
+        if self.due == 0 {
+            return false;
+        }
+        self.due -= 1;
+        true
     }
 
     /// Takes one of the members that are due, if there is one.

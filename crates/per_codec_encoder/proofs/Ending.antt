@@ -1,7 +1,7 @@
 -- Ends of what is open, in the bits and the frames of an encoder.
-use Rattle.std.proofs.Common.{◌≡◌, ℕ, zero, suc, ◌+◌, ◌-◌, ◌<◌, ◌≤◌, Bool, true, false, cond, List, [], ◌∷◌, ◌++◌, length, take, drop, get_or, reverse, is_some, Option, Some, None, option_map, option_and_then, refl, ap, subst, sym, ◌∙◌, arith, append_assoc, length-append}
+use Rattle.std.proofs.Common.{◌≡◌, ℕ, zero, suc, ◌+◌, ◌-◌, ◌<◌, ◌≤◌, Bool, true, false, cond, List, [], ◌∷◌, ◌++◌, length, take, drop, get_or, reverse, Option, Some, None, option_map, option_and_then, refl, ap, subst, sym, ◌∙◌, arith, append_assoc, length-append}
 use Rattle.std.proofs.lemmas.List.{append-nil}
-use Rattle.asn1_model.specs.Form.{exactly, is_any_present}
+use Rattle.asn1_model.specs.Form.{exactly, is_any_present, is_present}
 use Rattle.asn1_model.specs.Per
 use Rattle.asn1_schema_presented.specs.Records.{ends}
 use Rattle.per_codec_packing.specs.Texts.{Text, bit, padding, as_text, plain, on, text_at}
@@ -171,17 +171,17 @@ root_ends fs rest f ad o a b q =
 
 -- ---- whether an addition is there
 
-pub slot_there : (slots : List (Option (List Bool))) (i : ℕ) (x : Option (List Bool)) → i < length slots → x ≡ get_or slots i x → is_some x ≡ true → is_any_present (drop i slots) ≡ true
+pub slot_there : (slots : List (Option (List Bool))) (i : ℕ) (x : Option (List Bool)) → i < length slots → x ≡ get_or slots i x → is_present x ≡ true → is_any_present (drop i slots) ≡ true
 slot_there slots i x h e s = ap is_any_present (from_here slots i x h e) ∙ go x s
   where
-    go : (y : Option (List Bool)) → is_some y ≡ true → is_any_present (y ∷ drop (i + 1) slots) ≡ true
+    go : (y : Option (List Bool)) → is_present y ≡ true → is_any_present (y ∷ drop (i + 1) slots) ≡ true
     go None s = cc
     go (Some w) s = refl
 
-pub slot_absent : (slots : List (Option (List Bool))) (i : ℕ) (x : Option (List Bool)) → i < length slots → x ≡ get_or slots i x → is_some x ≡ false → is_any_present (drop i slots) ≡ is_any_present (drop (i + 1) slots)
+pub slot_absent : (slots : List (Option (List Bool))) (i : ℕ) (x : Option (List Bool)) → i < length slots → x ≡ get_or slots i x → is_present x ≡ false → is_any_present (drop i slots) ≡ is_any_present (drop (i + 1) slots)
 slot_absent slots i x h e s = ap is_any_present (from_here slots i x h e) ∙ go x s
   where
-    go : (y : Option (List Bool)) → is_some y ≡ false → is_any_present (y ∷ drop (i + 1) slots) ≡ is_any_present (drop (i + 1) slots)
+    go : (y : Option (List Bool)) → is_present y ≡ false → is_any_present (y ∷ drop (i + 1) slots) ≡ is_any_present (drop (i + 1) slots)
     go None s = refl
     go (Some w) s = cc
 

@@ -1,8 +1,14 @@
 -- The frames of an encoder, and how the additions of the innermost go on.
-use Rattle.std.specs.Prelude.{◌≡◌, ◌-◌, ◌<◌, Bool, cond, List, [], ◌∷◌, ◌++◌, Some, None}
+use Rattle.std.specs.Prelude.{◌≡◌, ◌-◌, ◌<◌, Bool, cond, List, [], ◌∷◌, ◌++◌, Option, Some, None}
 use Rattle.per_codec_encoder.specs.declared.frame.Additions.{Additions}
 use Rattle.per_codec_encoder.specs.declared.frame.Frame.{Frame}
-use Rattle.per_codec_encoder.specs.declared.frame.Frame.TheVariants.{Added}
+use Rattle.per_codec_packing.specs.Packed.{Packed}
+use Rattle.per_codec_encoder.specs.declared.frame.Frame.TheVariants.{Added, OpenType}
+
+-- An open type, if there is one, is open within others: the text in front of it is given.
+abbrev pub enclosed : Option Packed → List Frame → List Frame
+enclosed None fs = fs
+enclosed (Some o) fs = fs ++ OpenType o ∷ []
 
 -- The additions behind the next one: one fewer is due, and one that is not there has its place.
 pub record Next (here : Bool) (a b : Additions) : Type 0 where

@@ -6,8 +6,10 @@ ghost use Rattle.per_codec_encoder.specs.Holding.{Does, Cannot};
 
 use crate::frame::{Additions, Frame, Place};
 use crate::frames::Frames;
+use crate::nested::Nested;
 use asn1_schema_faults::EncodeError;
 use per_codec_packing::Packing;
+use per_codec_writing::Slot;
 use std::alloc::Global;
 use std::mem;
 
@@ -17,9 +19,9 @@ use std::mem;
 ///
 /// `CallOutOfPlace` where no sequence or set with an extension bit is innermost, or a presence bit of it is due;
 /// `OutOfMemory`.
-pub(crate) fn begin_additions(
+pub(crate) fn open_additions(
     output: &Packing,
-    frames: &mut Frames,
+    frames: &mut Nested,
     alloc: Global,
     count: usize,
 ) -> Result<(), EncodeError>
@@ -64,7 +66,7 @@ pub(crate) fn count_addition(additions: &mut Additions, present: bool) -> Result
         return Err(EncodeError::CallOutOfPlace);
     }
     if !present {
-        additions.slots.push(None)?;
+        additions.slots.push(Slot::absent())?;
     }
     additions.due -= 1;
     Ok(())
@@ -88,8 +90,7 @@ pub(crate) fn put_addition(
 {
     frames.next_addition(present)?;
     if present {
-        let outer = mem::replace(output, Packing::new(alloc));
-        frames.push(Frame::OpenType { outer })?;
+        frames.open_type(output, alloc)?;
     }
     Ok(())
 }

@@ -13,7 +13,6 @@ use per_codec_limits::Variant;
 use per_codec_packing::Packing;
 use per_codec_writing::push_place;
 use std::alloc::Global;
-use std::mem;
 
 /// Begins an alternative of a choice with so many in its root: one of these stands behind its place, an added one
 /// behind its place as an open type (X.691 23).
@@ -39,8 +38,7 @@ pub(crate) fn begin_alternative(
 {
     push_place(output, variant, roots, extensible, chosen)?;
     if chosen.added {
-        let outer = mem::replace(output, Packing::new(alloc));
-        frames.push(Frame::OpenType { outer })?;
+        frames.open_type(output, alloc)?;
         return Ok(());
     }
     frames.push(Frame::Alternative)?;

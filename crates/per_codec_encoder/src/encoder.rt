@@ -6,14 +6,14 @@ ghost use Rattle.per_codec_packing.specs.Texts.{as_text};
 ghost use Rattle.per_codec_encoder.specs.Ties.{octets_of};
 ghost use Rattle.per_codec_encoder.specs.Stepping.{Puts, is_aligned as are_aligned};
 
-use crate::additions::{begin_additions, end_addition, put_addition};
+use crate::additions::{end_addition, put_addition};
 use crate::alternatives::begin_alternative;
 use crate::bags::begin_bag;
 use crate::ends::end_scope;
 use crate::frames::Frames;
 use crate::members::begin_members;
 use crate::options::EncoderOptions;
-use crate::sequences::{begin_components, put_further, put_presence_bit};
+use crate::sequences::begin_components;
 use asn1_schema_constraints::{Bounded, Constraints};
 use asn1_schema_encode::{begin_record, go_on};
 use asn1_schema_faults::{CodecKind, EncodeError};
@@ -330,13 +330,8 @@ impl asn1_schema_encode::Encoder for Encoder {
     fn put_further(&mut self, more: bool) -> Result<(), EncodeError> {
         record!(
             self,
-            put_further(
-                &mut self.output,
-                &mut self.frames,
-                self.alloc,
-                self.variant,
-                more,
-            )
+            self.frames
+                .put_further(&mut self.output, self.alloc, self.variant, more)
         )
     }
 
@@ -378,7 +373,7 @@ impl asn1_schema_encode::Encoder for Encoder {
     fn put_presence_bit(&mut self, present: bool) -> Result<(), EncodeError> {
         record!(
             self,
-            put_presence_bit(&mut self.output, &mut self.frames, present)
+            self.frames.put_presence_bit(&mut self.output, present)
         )
     }
 
@@ -386,7 +381,7 @@ impl asn1_schema_encode::Encoder for Encoder {
     fn begin_additions(&mut self, count: usize) -> Result<(), EncodeError> {
         record!(
             self,
-            begin_additions(&self.output, &mut self.frames, self.alloc, count)
+            self.frames.begin_additions(&self.output, self.alloc, count)
         )
     }
 

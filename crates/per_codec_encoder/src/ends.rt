@@ -15,19 +15,18 @@ use crate::bags::end_bag;
 use crate::frame::{Additions, Frame};
 use crate::frames::Frames;
 use asn1_schema_faults::EncodeError;
-use asn1_values_bits::BitBuffer;
 use per_codec_limits::Variant;
 use per_codec_packing::Packing;
-use per_codec_writing::{push_additions, push_open_type};
+use per_codec_writing::{Slot, push_additions, push_open_type};
 use std::alloc::Global;
 use std::mem;
 
 /// Whether an addition is there.
-fn is_extended(slots: &[Option<BitBuffer>]) -> bool
+fn is_extended(slots: &[Slot]) -> bool
     ensures { result ≡ is_any_present slots.now }
 {
     for slot in slots {
-        if slot.is_some() {
+        if slot.is_present() {
             return true;
         }
     }
@@ -41,7 +40,7 @@ fn push_extension(
     variant: Variant,
     alloc: Global,
     extension_bit: usize,
-    slots: &[Option<BitBuffer>],
+    slots: &[Slot],
 ) -> Result<(), EncodeError>
     requires { extension_bit < length (solid output.old.text) }
     ensures only { IfErr result (λ e. e ≡ EncodeError.OutOfMemory) }

@@ -3,9 +3,8 @@ ghost use Rattle.std.specs.Prelude.{◌≡◌, ◌+◌, length};
 ghost use Rattle.per_codec_packing.specs.Packed.{solid};
 
 use asn1_schema_constraints::{Bounded, Sizes};
-use asn1_values_bits::BitBuffer;
 use per_codec_packing::{Packing, Texts};
-use per_codec_writing::Due;
+use per_codec_writing::{Due, Slot};
 
 /// A place in a text.
 #[derive(Clone, Copy, PartialEq, Eq)]
@@ -69,8 +68,8 @@ pub(crate) struct Additions {
     pub start: Place,
     /// Where the root ends.
     pub end: Place,
-    /// The bits of each addition that is there.
-    pub slots: Vec<Option<BitBuffer>>,
+    /// Those that were told: the bits of each that is there.
+    pub slots: Vec<Slot>,
 }
 
 /// A bag. Each of its members stands alone until the bag ends, which puts them in their order (X.691 22).

@@ -9,6 +9,7 @@ use crate::bags::next_of_bag;
 use crate::frame::{Frame, Place};
 use crate::frames::Frames;
 use crate::members::next_of_list;
+use crate::nested::Nested;
 use asn1_schema_faults::EncodeError;
 use per_codec_limits::Variant;
 use per_codec_packing::Packing;
@@ -60,9 +61,9 @@ pub(crate) fn begin_components(
 ///
 /// `CallOutOfPlace` where no sequence, set or group is innermost of which a presence bit is due.
 #[inline(always)]
-pub(crate) fn put_presence_bit(
+pub(crate) fn set_presence_bit(
     output: &mut Packing,
-    frames: &mut Frames,
+    frames: &mut Nested,
     present: bool,
 ) -> Result<(), EncodeError>
     requires { AreSound frames.old output.old }
@@ -118,9 +119,9 @@ fn next_of_frame(
 ///
 /// `CallOutOfPlace` where no list or bag is innermost, or more or fewer members come than were told; `OutOfMemory`.
 #[inline(always)]
-pub(crate) fn put_further(
+pub(crate) fn next_member(
     output: &mut Packing,
-    frames: &mut Frames,
+    frames: &mut Nested,
     alloc: Global,
     variant: Variant,
     more: bool,

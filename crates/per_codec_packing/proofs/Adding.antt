@@ -34,7 +34,7 @@ place_plus p w = go p.placed
 pub behind : (old mid : Packed) (w : Text) → plus old w ≡ mid → place mid ≡ on (place old) w
 behind old mid w e = ap (λ p. place p) (sym e) ∙ place_plus old w
 
-both_text : (x y : Per.BitForm) (q : Option ℕ) (a b : Text) → text_at x q ≡ Some a → text_at y (on q a) ≡ Some b → text_at (both x y) q ≡ Some (a ++ b)
+pub both_text : (x y : Per.BitForm) (q : Option ℕ) (a b : Text) → text_at x q ≡ Some a → text_at y (on q a) ≡ Some b → text_at (both x y) q ≡ Some (a ++ b)
 unfolding text_at
 both_text x y q a b e f = ap (λ o. option_and_then (λ c. option_map (λ d. c ++ d) (text_at y (on q c))) o) e ∙ ap (option_map (λ d. a ++ d)) f
 

@@ -12,7 +12,7 @@ use Rattle.per_codec_packing.proofs.Adding.{added}
 use Rattle.per_codec_packing.proofs.Bits.{solid-bits}
 
 -- the bits of a text behind nothing
-bits_at_start : (o : Option (List Bool)) (w : Text) → option_map as_text o ≡ Some w → o ≡ Some (solid w)
+pub bits_at_start : (o : Option (List Bool)) (w : Text) → option_map as_text o ≡ Some w → o ≡ Some (solid w)
 bits_at_start None w e = cc
 bits_at_start (Some l) w e = let f : as_text l ≡ w = cc in ap Some (sym (solid-bits l) ∙ ap solid f)
 

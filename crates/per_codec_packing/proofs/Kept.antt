@@ -1,11 +1,16 @@
 -- What is kept shows the text.
-use Rattle.std.proofs.Common.{◌≡◌, ℕ, ◌+◌, ◌-◌, ◌≤◌, Bool, true, false, cond, List, [], ◌∷◌, ◌++◌, length, take, replicate, set, Some, None, refl, ap, sym, subst, ◌∙◌, length-append, length-set, arith}
-use Rattle.asn1_model.specs.Numbers.{binary, missing}
+use Rattle.std.proofs.Common.{◌≡◌, ℕ, ◌+◌, ◌-◌, ◌≤◌, Bool, true, false, cond, List, [], ◌∷◌, ◌++◌, length, take, replicate, set, get_or, Some, None, refl, ap, sym, subst, ◌∙◌, append-nil, length-append, length-set, arith}
+use Rattle.asn1_model.specs.Numbers.{binary, missing, octet_bits}
 use Rattle.per_codec_packing.specs.Texts.{Text, padding, as_text, plain}
 use Rattle.per_codec_packing.proofs.Formed.{plain_text, length-text}
 use Rattle.per_codec_packing.specs.Packed.{Packed, place, plus, padding_at, solid, with_bit}
 use Rattle.per_codec_packing.specs.Spread.{spread, shown, Ascend, ArePaddings}
 use Rattle.per_codec_packing.proofs.Spread.{up_to, one_place, all_taken, spread-bits, spread-padding, spread-set, solid-spread}
+
+pub one_octet : (os : List ℕ) (d : ℕ) → length os ≡ 1 → binary 8 (get_or os 0 d) ≡ octet_bits os
+one_octet [] d h = absurd (omega arith)
+one_octet (o ∷ []) d h = sym (append-nil (binary 8 o))
+one_octet (o ∷ p ∷ os) d h = absurd (omega arith)
 
 -- bits behind others are all added as one number that has as many digits
 pub as_number : (bits w new : List Bool) (count n : ℕ) → length w ≤ count → binary count n ≡ take count w → new ≡ bits ++ binary count n → new ≡ bits ++ w

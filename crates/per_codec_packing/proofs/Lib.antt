@@ -9,3 +9,4 @@ pub mod Cutting
 pub mod Sharing
 pub mod Formed
 pub mod Forms
+pub mod Whole

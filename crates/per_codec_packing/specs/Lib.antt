@@ -1,6 +1,7 @@
 pub mod Packed
 pub mod Spread
 pub mod Viewed
+pub mod Whole
 pub mod Parts
 pub mod Texts
 pub mod Laws

@@ -151,6 +151,10 @@ impl Packing {
         ensures ok { OnOk result (self.new ≡ plus self.old (as_text (octet_bits bytes.now))) }
         ensures err { OnErr result (self.new ≡ self.old) }
     {
+        if bytes.len() == 1 {
+            self.bits.push_bits(bytes[0] as u128, 8)?;
+            return Ok(());
+        }
         if bytes.len() <= NUMBER_OCTETS && self.bits.len() % 8 > 0 {
             push_number(&mut self.bits, BitStr::front_of(bytes, bytes.len() * 8))?;
             return Ok(());

@@ -1,7 +1,12 @@
 //! A view of a text.
-ghost use Rattle.std.specs.Prelude.{length};
+ghost use Rattle.std.specs.Prelude.{◌≡◌, length, IsTrue, Some, IfSome};
+ghost use Rattle.asn1_model.specs.Form.{written};
+ghost use Rattle.asn1_model.specs.Numbers.{octet_bits};
+ghost use Rattle.asn1_model.specs.Per.{complete};
 ghost use Rattle.asn1_values_bits.specs.BitStr.{bits_of};
 ghost use Rattle.per_codec_packing.specs.Spread.{AscendIn, ascend_prop};
+ghost use Rattle.per_codec_packing.specs.Texts.{as_form};
+ghost use Rattle.per_codec_packing.specs.Whole.{AreWhole};
 
 use asn1_values_bits::BitStr;
 
@@ -13,4 +18,33 @@ pub struct TextView<'a> {
     // How many of them stand in front of each padding.
     pub(crate) paddings: &'a [usize],
     ghost ascend: { AscendIn (bits_of bits) paddings.now } by { ascend_prop 0 paddings.now (length (bits_of bits)) },
+}
+
+/// Whether whole octets stand in front of each padding.
+fn are_whole(paddings: &[usize]) -> bool
+    ensures { IsTrue result → AreWhole paddings.now }
+{
+    for padding in paddings {
+        if *padding % 8 > 0 {
+            return false;
+        }
+    }
+    true
+}
+
+impl<'a> TextView<'a> {
+    ghost use Rattle.per_codec_packing.specs.Viewed.{text_of};
+
+    /// The complete encoding of a text that stands alone (X.691 11.1), where it has whole octets, at least one, and
+    /// none of its padding adds a bit: the octets in which it stands.
+    #[inline]
+    pub fn complete_octets(&self) -> Option<&'a [u8]>
+        ensures { IfSome result (λ octets. written (complete (as_form (text_of self.now))) 0 ≡ Some
+            (octet_bits octets.now)) }
+    {
+        if self.bits.is_empty() || !are_whole(self.paddings) {
+            return None;
+        }
+        self.bits.aligned_octets()
+    }
 }

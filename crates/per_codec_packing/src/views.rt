@@ -19,11 +19,21 @@ pub(crate) fn push_number(buffer: &mut BitBuffer, bits: BitStr<'_>) -> Result<()
     Ok(())
 }
 
-// Adds the bits of a view, few of them as one number. The only error is want of memory; nothing is changed then.
+// Adds the bits of a view: whole octets behind whole octets as such, others as one number where they are few. The only
+// error is want of memory; nothing is changed then.
 pub(crate) fn push_view(buffer: &mut BitBuffer, bits: BitStr<'_>) -> Result<(), AllocError>
     ensures ok { OnOk result (buffer.new ≡ buffer.old ++ bits_of bits.entry) }
     ensures err { OnErr result (buffer.new ≡ buffer.old) }
 {
+    if bits.is_empty() {
+        return Ok(());
+    }
+    if buffer.len() % 8 == 0 {
+        if let Some(octets) = bits.aligned_octets() {
+            buffer.extend_from_bytes(octets)?;
+            return Ok(());
+        }
+    }
     if bits.len() <= NUMBER_BITS {
         return push_number(buffer, bits);
     }

@@ -61,6 +61,7 @@ fn read_bitmap<'input>(
 /// # Errors
 ///
 /// `Incomplete` if the bits end early, the errors of a length, and `OutOfMemory`.
+#[inline(always)]
 pub(crate) fn read_octets<'input>(
     alloc: Global,
     cursor: &mut Cursor<'input>,

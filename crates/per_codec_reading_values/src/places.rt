@@ -19,6 +19,7 @@ use std::alloc::Global;
 /// # Errors
 ///
 /// `ValueConstraintNotSatisfied` if there is none at the place, and the errors of a number.
+#[inline(always)]
 fn read_root(cursor: &mut Cursor<'_>, variant: Variant, count: usize) -> Result<usize, DecodeError>
     ensures ok { IfOk result (λ place. Front (freedoms variant)
         (root_form (fronts.is_aligned variant) count place) cursor.old cursor.new) }
@@ -59,6 +60,7 @@ fn read_added(
 /// # Errors
 ///
 /// `ValueConstraintNotSatisfied` if there is none at the place, and the errors of a number.
+#[inline(always)]
 fn read_place(
     alloc: Global,
     cursor: &mut Cursor<'_>,
@@ -112,6 +114,7 @@ pub(crate) fn read_place_of_item(
 /// # Errors
 ///
 /// `InvalidTagVariantOnChoice` if the type has no alternative at the place, and the errors of a number.
+#[inline(always)]
 pub fn read_place_of_alternative(
     alloc: Global,
     cursor: &mut Cursor<'_>,

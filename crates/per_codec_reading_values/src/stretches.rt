@@ -99,6 +99,7 @@ fn take_field<'input>(
 
 /// Takes octets behind their number, behind so many lent bits, and tells the position behind them. In one run the same
 /// octets lend them.
+#[inline(always)]
 fn take_lent_octets<'input>(
     alloc: Global,
     bits: BitStr<'input>,
@@ -140,6 +141,7 @@ fn take_held_octets(
 }
 
 /// Takes octets behind their number, behind so many of the bits, and tells the position behind them.
+#[inline(always)]
 fn take_octets<'input>(
     alloc: Global,
     bits: &RunBits<'input>,
@@ -295,6 +297,7 @@ impl<'input> Stretch<'input> {
     /// # Errors
     ///
     /// `Incomplete` if the bits end early, the errors of a length, and `OutOfMemory`.
+    #[inline(always)]
     pub fn take_open_type(
         &mut self,
         alloc: Global,

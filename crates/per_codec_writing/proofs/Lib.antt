@@ -20,3 +20,4 @@ pub mod CharacterTexts
 pub mod OctetTexts
 pub mod Refused
 pub mod CharacterStringTexts
+pub mod KeptSlots

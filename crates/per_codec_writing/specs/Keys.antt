@@ -1,5 +1,5 @@
 -- Texts beside their complete encodings.
-use Rattle.std.specs.Prelude.{◌≡◌, ℕ, ⊤, true, List, [], ◌∷◌, Some}
+use Rattle.std.specs.Prelude.{◌≡◌, ℕ, ⊤, true, List, [], ◌∷◌, ◌++◌, Some}
 use Rattle.asn1_model.specs.Form.{written}
 use Rattle.asn1_model.specs.Numbers.{octet_bits}
 use Rattle.asn1_model.specs.Strings.{each_is, is_octet}
@@ -10,6 +10,12 @@ use Rattle.per_codec_packing.specs.Texts.{Text, as_form}
 pub record IsKeyed (t : Text) (w : List ℕ) : Type 0 where
   pub octets : each_is is_octet w ≡ true
   pub key : written (complete (as_form t)) 0 ≡ Some (octet_bits w)
+
+-- The complete encoding of a text stands behind those of others.
+pub record AddsKey (t : Text) (old new : List (List ℕ)) : Type 0 where
+  pub key : List ℕ
+  pub keyed : IsKeyed t key
+  pub added : new ≡ old ++ key ∷ []
 
 -- These are the complete encodings of the texts.
 abbrev pub AreKeyed : List Text → List (List ℕ) → Type 0

@@ -5,4 +5,5 @@ pub mod Members
 pub mod Keys
 pub mod Places
 pub mod Additions
+pub mod Slots
 pub mod Characters

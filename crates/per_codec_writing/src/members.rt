@@ -1,11 +1,12 @@
 //! Members of a bag in the ascending order of their complete encodings.
-ghost use Rattle.std.specs.Prelude.{◌≡◌, true, Some, MatchResult, IfOk};
+ghost use Rattle.std.specs.Prelude.{◌≡◌, true, Some, MatchResult, IfOk, OnOk};
 ghost use Rattle.asn1_model.specs.Form.{ascending, joined, stands_before, written};
 ghost use Rattle.asn1_model.specs.Per.{bit_less, complete};
 ghost use Rattle.asn1_model.specs.Strings.{each_is, is_octet};
 ghost use Rattle.per_codec_packing.specs.Texts.{text_at};
 ghost use Rattle.per_codec_writing.specs.Writing.{Adds, place};
-ghost use Rattle.per_codec_writing.specs.Keys.{AreKeyed};
+ghost use Rattle.per_codec_packing.specs.Viewed.{text_of};
+ghost use Rattle.per_codec_writing.specs.Keys.{AddsKey, AreKeyed};
 ghost use Rattle.per_codec_writing.specs.Members.{forms, forms_of};
 
 use asn1_schema_faults::EncodeError;
@@ -18,16 +19,35 @@ fn are_octets(octets: &[u8])
     ensures { each_is is_octet octets.now ≡ true }
 {}
 
+/// Adds the complete encoding of a member (X.691 11.1) to those of others. Where its octets do not stand so in the
+/// member, it is written in `room`, which is cleared first; the room is given back.
+#[inline(always)]
+fn push_encoding(
+    encodings: &mut Encodings,
+    member: TextView<'_>,
+    room: Vec<u8>,
+) -> Result<Vec<u8>, AllocError>
+    ensures { OnOk result (AddsKey (text_of member.entry) encodings.old encodings.new) }
+{
+    if let Some(octets) = member.complete_octets() {
+        are_octets(octets);
+        encodings.push(octets)?;
+        return Ok(room);
+    }
+    let octets = complete_in(member, room)?;
+    are_octets(octets.as_slice());
+    encodings.push(octets.as_slice())?;
+    Ok(octets)
+}
+
 /// The complete encodings of the members (X.691 11.1), which tell their places.
 fn encodings_of(alloc: Global, members: &Texts) -> Result<Encodings, AllocError>
     ensures { IfOk result (λ encodings. AreKeyed members.now encodings) }
 {
     let mut encodings = Encodings::new(alloc);
-    let mut octets = Vec::new(alloc);
+    let mut room = Vec::new(alloc);
     for index in 0..members.len() {
-        octets = complete_in(members.get(index), octets)?;
-        are_octets(octets.as_slice());
-        encodings.push(octets.as_slice())?;
+        room = push_encoding(&mut encodings, members.get(index), room)?;
     }
     Ok(encodings)
 }

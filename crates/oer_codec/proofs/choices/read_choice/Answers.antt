@@ -1,4 +1,3 @@
-use Rattle.std.proofs.Common.{map}
 use Rattle.asn1_schema_presented.proofs.Joined.{raised}
 use Rattle.asn1_schema_tags.specs.Tags.{tag_of}
 use Rattle.oer_codec_reading.specs.Fronts.{freedoms}

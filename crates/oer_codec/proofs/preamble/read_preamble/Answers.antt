@@ -1,5 +1,6 @@
 use Rattle.std.proofs.Common.{rules, ◌≡◌, ◌*◌, false, ◌∙◌, ap, subst, length, replicate, arith}
 use Rattle.asn1_schema_presented.proofs.Joined.{raised}
+use Rattle.asn1_values_bits.specs.BitStr.{bits_of}
 use Rattle.asn1_values_bits.proofs.Binary.{length-octet_bits}
 use Rattle.oer_codec.specs.Preamble.{HasBits}
 use Rattle.oer_codec.specs.Scopes.{scope_of}
@@ -14,7 +15,7 @@ returns-then-count-len-clause-only c = λ s rest h. not_short c.args.extensible 
 
 pub take_presence-frame-requires : goal.take_presence-frame-requires
 take_presence-frame-requires c =
-    let a : length c.from_octets-bits.result.bits ≡ length c.in_ok-octets.octets.now * 8 = ap length c.from_octets-bits.ensures.bits ∙ length-octet_bits c.in_ok-octets.octets.now in
+    let a : length (bits_of c.from_slice-bits.result) ≡ length c.in_ok-octets.octets.now * 8 = ap length c.from_slice-bits.ensures.bits ∙ length-octet_bits c.in_ok-octets.octets.now in
     let b : length c.in_ok-octets.octets.now ≡ c.preamble_len-count.result = c.in_ok-octets.ensures.count in
     let l = c.preamble_len-count.ensures in
     omega (arith, a, b, l)
@@ -22,16 +23,16 @@ take_presence-frame-requires c =
 pub are_zero-requires : goal.are_zero-requires
 are_zero-requires c =
     let b : length c.in_ok-octets.octets.now ≡ c.preamble_len-count.result = c.in_ok-octets.ensures.count in
-    less_than_octet c.args.extensible c.args.optional (scope_of c.take_presence-frame.result) c.in_ok-octets.octets.now c.take_presence-frame.new.bits.bits (subst (λ bs. HasBits c.args.extensible c.args.optional (scope_of c.take_presence-frame.result) bs c.take_presence-frame.new.bits.bits) c.from_octets-bits.ensures.bits c.take_presence-frame.ensures) (ap (λ k. k * 8) b ∙ c.preamble_len-count.ensures)
+    less_than_octet c.args.extensible c.args.optional (scope_of c.take_presence-frame.result) c.in_ok-octets.octets.now (bits_of c.take_presence-frame.new.bits) (subst (λ bs. HasBits c.args.extensible c.args.optional (scope_of c.take_presence-frame.result) bs (bits_of c.take_presence-frame.new.bits)) c.from_slice-bits.ensures.bits c.take_presence-frame.ensures) (ap (λ k. k * 8) b ∙ c.preamble_len-count.ensures)
 
 pub returns-then-not-are_zero-clause-only : goal.returns-then-not-are_zero-clause-only
 returns-then-not-are_zero-clause-only c = λ s rest h.
     let b : length c.in_ok-octets.octets.now ≡ c.preamble_len-count.result = c.in_ok-octets.ensures.count in
-    let z : c.take_presence-frame.new.bits.bits ≡ replicate (length c.take_presence-frame.new.bits.bits) false = other_unused_bits c.args.extensible c.args.optional (scope_of c.take_presence-frame.result) s c.in_ok-octets.octets.now c.take.new.self rest c.args.cursor.now c.take_presence-frame.new.bits.bits (subst (λ bs. HasBits c.args.extensible c.args.optional (scope_of c.take_presence-frame.result) bs c.take_presence-frame.new.bits.bits) c.from_octets-bits.ensures.bits c.take_presence-frame.ensures) (ap (λ k. k * 8) b ∙ c.preamble_len-count.ensures) c.in_ok-octets.ensures.octets h in
+    let z : (bits_of c.take_presence-frame.new.bits) ≡ replicate (length (bits_of c.take_presence-frame.new.bits)) false = other_unused_bits c.args.extensible c.args.optional (scope_of c.take_presence-frame.result) s c.in_ok-octets.octets.now c.take.new.self rest c.args.cursor.now (bits_of c.take_presence-frame.new.bits) (subst (λ bs. HasBits c.args.extensible c.args.optional (scope_of c.take_presence-frame.result) bs (bits_of c.take_presence-frame.new.bits)) c.from_slice-bits.ensures.bits c.take_presence-frame.ensures) (ap (λ k. k * 8) b ∙ c.preamble_len-count.ensures) c.in_ok-octets.ensures.octets h in
     search rules
 
 pub returns-clause-ok : goal.returns-clause-ok
 returns-clause-ok c =
     let b : length c.in_ok-octets.octets.now ≡ c.preamble_len-count.result = c.in_ok-octets.ensures.count in
-    let z : c.take_presence-frame.new.bits.bits ≡ replicate (length c.take_presence-frame.new.bits.bits) false = search rules in
-    zero_unused_bits c.args.extensible c.args.optional (scope_of c.take_presence-frame.result) c.in_ok-octets.octets.now c.take.new.self c.args.cursor.now c.take_presence-frame.new.bits.bits c.in_ok-octets.ensures.small (subst (λ bs. HasBits c.args.extensible c.args.optional (scope_of c.take_presence-frame.result) bs c.take_presence-frame.new.bits.bits) c.from_octets-bits.ensures.bits c.take_presence-frame.ensures) (ap (λ k. k * 8) b ∙ c.preamble_len-count.ensures) z c.in_ok-octets.ensures.octets
+    let z : (bits_of c.take_presence-frame.new.bits) ≡ replicate (length (bits_of c.take_presence-frame.new.bits)) false = search rules in
+    zero_unused_bits c.args.extensible c.args.optional (scope_of c.take_presence-frame.result) c.in_ok-octets.octets.now c.take.new.self c.args.cursor.now (bits_of c.take_presence-frame.new.bits) c.in_ok-octets.ensures.small (subst (λ bs. HasBits c.args.extensible c.args.optional (scope_of c.take_presence-frame.result) bs (bits_of c.take_presence-frame.new.bits)) c.from_slice-bits.ensures.bits c.take_presence-frame.ensures) (ap (λ k. k * 8) b ∙ c.preamble_len-count.ensures) z c.in_ok-octets.ensures.octets

@@ -1,13 +1,12 @@
-use Rattle.std.proofs.Common.{ℕ, List, length}
-use Rattle.oer_codec_fronts.specs.Takes.{Skips}
+use Rattle.std.proofs.Common.{length}
+use Rattle.asn1_values_bits.specs.BitStr.{bits_of}
 use Rattle.oer_codec_reading.specs.Fronts.{freedoms}
+use Rattle.oer_codec_reading.proofs.Skipping.{Together}
 use Rattle.oer_codec_reading.proofs.open_types.skip_additions.Given as goal
 
-abbrev pub invariant-unknown : goal.invariant-unknown
-invariant-unknown l = record {
-  taken : (rest : List ℕ) → Skips (freedoms l.rules) l.presence.bits l.cursor rest → Skips (freedoms l.rules) l.fn.presence.bits l.fn.cursor rest;
-  left : (rest : List ℕ) → Skips (freedoms l.rules) l.fn.presence.bits l.fn.cursor rest → Skips (freedoms l.rules) l.presence.bits l.cursor rest;
-}
+-- the additions of the presence bits so far are passed over
+abbrev pub invariant-loop-is_there : goal.invariant-loop-is_there
+invariant-loop-is_there l = Together (freedoms l.rules) (bits_of l.fn.presence_bits) (bits_of l.presence_bits) l.fn.cursor l.cursor
 
-abbrev pub decreases-unknown : goal.decreases-unknown
-decreases-unknown l = length l.presence.bits
+abbrev pub decreases-loop-is_there : goal.decreases-loop-is_there
+decreases-loop-is_there l = length (bits_of l.presence_bits)

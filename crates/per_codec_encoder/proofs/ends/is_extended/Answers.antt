@@ -5,12 +5,12 @@ use Rattle.per_codec_encoder.proofs.ends.is_extended.Goals as goal
 pub loop-slot-preserved : goal.loop-slot-preserved
 loop-slot-preserved c =
     let within : c.loop-slot.slot-index < length c.args.slots.now = omega (arith, c.loop-slot-test.true, c.loop-slot.auto.slot-index-end) in
-    c.loop-slot.invariant ∙ slot_absent c.args.slots.now c.loop-slot.slot-index c.slot-item.result within c.slot-item.is (sym c.is_some.ensures ∙ c.if-is_some.false)
+    c.loop-slot.invariant ∙ slot_absent c.args.slots.now c.loop-slot.slot-index c.slot-item.result within c.slot-item.is (sym c.is_present.ensures ∙ c.if-is_present.false)
 
-pub returns-then-is_some : goal.returns-then-is_some
-returns-then-is_some c =
+pub returns-then-is_present : goal.returns-then-is_present
+returns-then-is_present c =
     let within : c.loop-slot.slot-index < length c.args.slots.now = omega (arith, c.loop-slot-test.true, c.loop-slot.auto.slot-index-end) in
-    sym (c.loop-slot.invariant ∙ slot_there c.args.slots.now c.loop-slot.slot-index c.slot-item.result within c.slot-item.is (sym c.is_some.ensures ∙ c.if-is_some.true))
+    sym (c.loop-slot.invariant ∙ slot_there c.args.slots.now c.loop-slot.slot-index c.slot-item.result within c.slot-item.is (sym c.is_present.ensures ∙ c.if-is_present.true))
 
 pub returns : goal.returns
 returns c = sym (c.loop-slot.invariant ∙ none_left c.args.slots.now c.loop-slot.slot-index (omega (arith, c.loop-slot-test.false, c.loop-slot.auto.slot-index-end)))

@@ -25,7 +25,7 @@ returns-in_default-clause-ok g c =
     let a = c.args.cursor.now in
     let h = g.I.IntegerType.held in
     let v = c.as_slice.ensures.value in
-    rw c.in_default.is (plain_read f al c.value_of.result g.I.IntegerType.value h c.as_slice.result.now a c.read_number_octets.new.cursor (longer_number_is_free c.args.variant) c.value_of.ensures.value c.value_of.ensures.held (rw v c.in_ok-octets.ensures.ok))
+    rw c.in_default.is (plain_read f al c.number_from_octets.result g.I.IntegerType.value h c.as_slice.result.now a c.read_number_octets.new.cursor (longer_number_is_free c.args.variant) c.number_from_octets.ensures.value c.number_from_octets.ensures.held (rw v c.in_ok-octets.ensures.ok))
 
 pub returns-in_default-clause-only : goal.returns-in_default-clause-only
 returns-in_default-clause-only g c =
@@ -34,7 +34,7 @@ returns-in_default-clause-only g c =
     let a = c.args.cursor.now in
     let h = g.I.IntegerType.held in
     let v = c.as_slice.ensures.value in
-    rw c.in_default.is (plain_refused f al c.value_of.result h c.as_slice.result.now a c.read_number_octets.new.cursor c.value_of.ensures.refused c.value_of.ensures.fresh (rw v c.in_ok-octets.ensures.ok))
+    rw c.in_default.is (plain_refused f al c.number_from_octets.result h c.as_slice.result.now a c.read_number_octets.new.cursor c.number_from_octets.ensures.refused c.number_from_octets.ensures.fresh (rw v c.in_ok-octets.ensures.ok))
 
 pub returns-in_err-number-clause-only : goal.returns-in_err-number-clause-only
 returns-in_err-number-clause-only g c =

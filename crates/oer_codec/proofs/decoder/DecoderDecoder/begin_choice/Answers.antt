@@ -1,6 +1,5 @@
-use Rattle.std.proofs.Common.{◌∙◌, refl, map}
+use Rattle.std.proofs.Common.{◌∙◌, refl}
 use Rattle.asn1_schema_presented.specs.Records.{choice_begins}
-use Rattle.asn1_schema_tags.specs.Tags.{tag_of}
 use Rattle.oer_codec.specs.Scopes.{frame_of, scope_of}
 use Rattle.oer_codec.proofs.Finding.{opens}
 use Rattle.oer_codec.proofs.Records.{not_chosen}

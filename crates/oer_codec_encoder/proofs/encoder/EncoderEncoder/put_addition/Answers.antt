@@ -1,5 +1,8 @@
-use Rattle.oer_codec_encoder.proofs.Stepped.{stays_sound, puts}
+use Rattle.oer_codec_encoder.proofs.Stepped.{is_sound, stays_sound, puts}
 use Rattle.oer_codec_encoder.proofs.encoder.EncoderEncoder.put_addition.Goals as goal
+
+pub put_addition-requires : goal.put_addition-requires
+put_addition-requires c = is_sound c.self.inside.frames c.self.inside.output.now.items (c.self.invariant c.in_ok-begin_record.ensures.ok)
 
 pub invariant_of-self-2 : goal.invariant_of-self-2
 invariant_of-self-2 c _ = stays_sound _ c.self.inside.frames c.put_addition.new.frames c.self.inside.output.now.items c.put_addition.new.octets.items (c.self.invariant c.in_ok-begin_record.ensures.ok) c.in_ok-put_addition.ensures

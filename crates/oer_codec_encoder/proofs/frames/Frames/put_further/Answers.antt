@@ -1,5 +1,9 @@
-use Rattle.std.proofs.Common.{◌≡◌, Some, reverse, refl, sym, ◌∙◌}
+use Rattle.std.proofs.Common.{◌≡◌, MatchResult, Some, reverse, refl, subst, sym, ◌∙◌}
+use Rattle.std.specs.Box.{with_value}
+use Rattle.oer_codec_encoder.specs.declared.frame.Bag.{Bag as BagFrame}
 use Rattle.oer_codec_encoder.specs.declared.frame.Frame.TheVariants.{Members, Bag}
+use Rattle.oer_codec_encoder.specs.Frames.{NoMember}
+use Rattle.oer_codec_encoder.specs.Holding.{NextOfBag}
 use Rattle.oer_codec_encoder.proofs.Going.{none_encloses, bag_goes_on}
 use Rattle.oer_codec_encoder.proofs.Scopes.{does_whether_further}
 use Rattle.oer_codec_encoder.proofs.frames.Frames.put_further.Goals as goal
@@ -7,11 +11,15 @@ use Rattle.oer_codec_encoder.proofs.frames.Frames.put_further.Goals as goal
 pub returns-in-None-Some-Bag : goal.returns-in-None-Some-Bag
 returns-in-None-Some-Bag c =
     let f = c.in-None-Some-Bag in
-    let b = c.next_of_bag.new.bag in
+    let more = c.args.more in
+    let o = c.args.octets.now.items in
+    let next = with_value f.bag c.next_of_bag.new.bag in
+    let p = c.next_of_bag.new.octets.items in
     let i = c.self.inside in
     let at : i.innermost ≡ Some (Bag f.bag) = cc in
     let old = sym c.self.view_is ∙ none_encloses i.enclosing i.innermost (Bag f.bag) i.outer.items f.is-0 at in
-    bag_goes_on c.args.more c.args.self.now (reverse i.outer.items) _ f.bag b c.args.octets.now.items c.next_of_bag.new.octets.items c.next_of_bag.result old c.next_of_bag.ensures (none_encloses i.enclosing (Some (Bag b)) (Bag b) i.outer.items f.is-0 refl)
+    let goes : MatchResult c.next_of_bag.result (λ _. NextOfBag more f.bag.value o next.value p) (NoMember more f.bag.value.due) = subst (λ (b : BagFrame). MatchResult c.next_of_bag.result (λ _. NextOfBag more b o next.value p) (NoMember more b.due)) c.deref_mut.ensures.value c.next_of_bag.ensures in
+    bag_goes_on more c.args.self.now (reverse i.outer.items) _ f.bag next o p c.next_of_bag.result old goes (none_encloses i.enclosing (Some (Bag next)) (Bag next) i.outer.items f.is-0 refl)
 
 pub returns : goal.returns
 returns c =

@@ -2,7 +2,6 @@ use Rattle.std.proofs.Common.{◌∙◌, ap, sym, subst, length}
 use Rattle.asn1_schema_presented.proofs.Joined.{raised}
 use Rattle.per_codec_fronts.specs.Takes.{Front}
 use Rattle.per_codec_reading.specs.Fronts.{freedoms, is_aligned, Misses}
-use Rattle.std.proofs.Common.{map}
 use Rattle.asn1_laws_fronts.proofs.PerNumbers.{length_of_map}
 use Rattle.asn1_schema_tags.specs.Tags.{tag_of}
 use Rattle.asn1_schema_variants.specs.declared.chosen.Chosen.{Chosen}

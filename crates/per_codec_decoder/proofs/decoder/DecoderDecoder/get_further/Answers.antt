@@ -1,7 +1,6 @@
 use Rattle.std.proofs.Common.{◌∙◌, ◌∷◌, ap, refl}
-use Rattle.per_codec_decoder.proofs.Settling.{found_member}
-use Rattle.per_codec_decoder.proofs.Opening.{on_ok}
+use Rattle.per_codec_decoder.proofs.Settling.{due_member}
 use Rattle.per_codec_decoder.proofs.decoder.DecoderDecoder.get_further.Goals as goal
 
-pub returns-clause-ok : goal.returns-clause-ok
-returns-clause-ok c = found_member c.next_member-answer.result c.settle.result _ _ _ _ c.cursor-cursor.result c.next_member-answer.new.cursor c.position-position.result c.next_member-answer.new.self.scopes (c.self.inside.place.storage ∷ c.next_member-answer.new.self.behind) (c.self.view_is ∙ c.in_ok-begin_record.ensures.ok.1) c.in_ok-begin_record.ensures.ok.0 c.cursor-cursor.ensures c.position-position.ensures c.settle.ensures.same refl (on_ok c.next_member-answer.result c.next_member-answer.ensures.behind (λ e. ap (λ l. c.self.inside.place.storage ∷ l) e)) c.next_member-answer.ensures.ok c.settle.ensures.moved
+pub returns-then-take_due_member-clause-ok : goal.returns-then-take_due_member-clause-ok
+returns-then-take_due_member-clause-ok c = due_member _ _ _ c.take_due_member.new.self.scopes (c.self.inside.place.storage ∷ c.take_due_member.new.self.behind) (c.self.view_is ∙ c.in_ok-begin_record.ensures.ok.1) c.in_ok-begin_record.ensures.ok.0 (ap (λ l. c.self.inside.place.storage ∷ l) c.take_due_member.ensures.behind) (c.take_due_member.ensures.there c.if-take_due_member.true) refl

@@ -5,10 +5,10 @@ use Rattle.per_codec_limits.specs.Variants.{is_aligned}
 use Rattle.per_codec_encoder.proofs.encoder.EncoderEncoder.put_further.Goals as goal
 
 pub invariant_of-self-2 : goal.invariant_of-self-2
-invariant_of-self-2 c _ = stays_sound (is_aligned c.self.inside.variant) _ c.self.inside.frames c.put_further.new.frames c.self.inside.output c.put_further.new.output (c.self.invariant c.in_ok-begin_record.ensures.ok) c.in_ok-put_further.ensures
+invariant_of-self-2 c _ = stays_sound (is_aligned c.self.inside.variant) _ c.self.inside.frames c.put_further.new.self c.self.inside.output c.put_further.new.output (c.self.invariant c.in_ok-begin_record.ensures.ok) c.in_ok-put_further.ensures
 
 pub returns-clause-ok : goal.returns-clause-ok
-returns-clause-ok c = puts (is_aligned c.self.inside.variant) _ c.self.inside.frames c.put_further.new.frames c.self.inside.output c.put_further.new.output c.self.inside.failed c.args.self.now c.self.view_is c.in_ok-begin_record.ensures.ok (c.self.invariant c.in_ok-begin_record.ensures.ok) c.in_ok-put_further.ensures
+returns-clause-ok c = puts (is_aligned c.self.inside.variant) _ c.self.inside.frames c.put_further.new.self c.self.inside.output c.put_further.new.output c.self.inside.failed c.args.self.now c.self.view_is c.in_ok-begin_record.ensures.ok (c.self.invariant c.in_ok-begin_record.ensures.ok) c.in_ok-put_further.ensures
 
 pub returns-in_err-put_further-clause-only : goal.returns-in_err-put_further-clause-only
 returns-in_err-put_further-clause-only c =

@@ -1,0 +1,13 @@
+use Rattle.std.proofs.Common.{◌≡◌, ◌∷◌, ap, reverse, subst, sym}
+use Rattle.asn1_schema_presented.specs.Records.{ends}
+use Rattle.oer_codec_encoder.specs.Frames.{others_of}
+use Rattle.oer_codec_encoder.specs.Holding.{Cannot}
+use Rattle.oer_codec_encoder.proofs.Refusals.{passed_on}
+use Rattle.oer_codec_encoder.proofs.frames.end_other.Goals as goal
+
+pub returns-in_err-end_frame : goal.returns-in_err-end_frame
+returns-in_err-end_frame c =
+    let o = c.args.octets.now.items in
+    let k = reverse c.args.outer.now.items in
+    let e : others_of c.args.innermost.now c.args.outer.now.items ≡ c.in-Some.frame ∷ k = ap (λ i. others_of i c.args.outer.now.items) c.in-Some.is in
+    passed_on _ (Cannot ends (others_of c.args.innermost.now c.args.outer.now.items) o) _ _ c.from_residual.ensures.0 c.from_residual.ensures.1 (subst (λ l. Cannot ends l o c.in_err-end_frame.field-0.0) (sym e) (c.in_err-end_frame.ensures k))

@@ -1,0 +1,162 @@
+//! What is open but for an open type innermost of all, from the outermost on.
+ghost use Rattle.std.specs.Prelude.{◌≡◌, ◌++◌, ◌∷◌, [], Bool, List, MatchOption, OnOk, IfErr, Some, option_to_list};
+ghost use Rattle.asn1_schema_presented.specs.Records.{addition, addition_ends};
+ghost use Rattle.per_codec_packing.specs.Packed.{Packed};
+ghost use Rattle.per_codec_encoder.specs.declared.frame.Frame.{Frame};
+ghost use Rattle.per_codec_encoder.specs.Frames.{CountsAddition, KeepsAddition};
+ghost use Rattle.per_codec_encoder.specs.Holding.{Cannot};
+
+use crate::additions::count_addition;
+use crate::frame::Frame;
+use asn1_schema_faults::EncodeError;
+use asn1_values_bits::BitBuffer;
+use per_codec_writing::Slot;
+use std::alloc::{AllocError, Global};
+use std::marker::Model;
+use std::mem;
+
+/// What is open, from the outermost on. The innermost stands apart from those around it, so that no memory is taken
+/// before one is opened within another.
+#[derive(Drop)]
+pub(crate) struct Nested {
+    pub(crate) innermost: Option<Frame>,
+    outer: Vec<Frame>,
+}
+
+impl Model for Nested {
+    ghost use Rattle.std.specs.Prelude.{◌≡◌, ◌++◌, List, [], None, option_to_list};
+    ghost use Rattle.per_codec_encoder.specs.declared.frame.Frame.{Frame};
+
+    ghost Value = { List Frame };
+
+    ghost view = { λ f. f.outer.items ++ option_to_list f.innermost };
+
+    ghost invariant = { λ f. f.innermost ≡ None → f.outer.items ≡ [] };
+}
+
+/// An addition that is there, by its bits. Where few of them are kept in place, `room` is their memory then.
+#[inline(always)]
+fn kept_slot(room: &mut Vec<u8>, contents: BitBuffer) -> Slot
+    ensures { result ≡ Some contents }
+{
+    match Slot::in_place(&contents) {
+        Some(slot) => {
+            *room = contents.into_vec();
+            slot
+        }
+        None => Slot::apart(contents),
+    }
+}
+
+impl Nested {
+    /// Nothing is open. It takes no memory before something is opened within another.
+    pub(crate) fn new(alloc: Global) -> Self
+        ensures { result ≡ [] }
+    {
+        Nested {
+            innermost: None,
+            outer: Vec::new(alloc),
+        }
+    }
+
+    /// Leaves nothing open.
+    #[inline(always)]
+    pub(crate) fn clear(&mut self)
+        ensures { self.new ≡ [] }
+    {
+        if self.innermost.is_some() {
+            self.innermost = None;
+        }
+        if !self.outer.is_empty() {
+            self.outer.clear();
+        }
+    }
+
+    /// Opens a frame within what is innermost, which is let go where memory is refused.
+    #[inline(always)]
+    pub(crate) fn push(&mut self, frame: Frame) -> Result<(), AllocError>
+        ensures items { OnOk result (self.new ≡ self.old ++ frame ∷ []) }
+    {
+        if self.innermost.is_none() {
+            self.innermost = Some(frame);
+            return Ok(());
+        }
+        if let Some(outer) = self.innermost.replace(frame) {
+            self.outer.push(outer)?;
+        }
+        Ok(())
+    }
+
+    /// Takes what is innermost, if something is open.
+    #[inline]
+    pub(crate) fn pop(&mut self) -> Option<Frame>
+        ensures items { self.old ≡ self.new ++ option_to_list result }
+        ensures none { result ≡ None → self.old ≡ [] }
+    {
+        if self.outer.is_empty() {
+            return self.innermost.take();
+        }
+        mem::replace(&mut self.innermost, self.outer.pop())
+    }
+
+    /// What is innermost, if something is open.
+    #[inline(always)]
+    pub(crate) fn innermost(&self) -> Option<&Frame>
+        ensures { MatchOption result (self.now ≡ [])
+            (λ frame. (around : List Frame) × (self.now ≡ around ++ frame.now ∷ [])) }
+    {
+        self.innermost.as_ref()
+    }
+
+    /// Puts another in the place of what is innermost.
+    #[inline(always)]
+    pub(crate) fn replace(&mut self, frame: Frame)
+        ensures within { (around : List Frame) (replaced : Frame) → self.old ≡ around ++ replaced ∷ []
+            → self.new ≡ around ++ frame ∷ [] }
+        ensures alone { self.old ≡ [] → self.new ≡ frame ∷ [] }
+    {
+        self.innermost = Some(frame);
+    }
+
+    /// Keeps the bits of an addition of the innermost sequence or set. Where few of them are kept in place, `room` is
+    /// their memory then.
+    ///
+    /// # Errors
+    ///
+    /// `CallOutOfPlace` where no such type is innermost; `OutOfMemory`.
+    #[inline(always)]
+    pub(crate) fn keep_addition(
+        &mut self,
+        room: &mut Vec<u8>,
+        contents: BitBuffer,
+    ) -> Result<(), EncodeError>
+        ensures ok { OnOk result (KeepsAddition contents self.old self.new) }
+        ensures only { IfErr result (λ e. (al : Bool) (outer o : Packed)
+            → Cannot al addition_ends (self.old ++ Frame.OpenType outer ∷ []) o e) }
+    {
+        match &mut self.innermost {
+            Some(Frame::Added(additions)) => {
+                additions.slots.push(kept_slot(room, contents))?;
+            }
+            _ => return Err(EncodeError::CallOutOfPlace),
+        }
+        Ok(())
+    }
+
+    /// Counts the next addition of the innermost sequence or set.
+    ///
+    /// # Errors
+    ///
+    /// `CallOutOfPlace` where no such type is innermost, or no addition of it is due; `OutOfMemory`.
+    #[inline(always)]
+    pub(crate) fn next_addition(&mut self, present: bool) -> Result<(), EncodeError>
+        ensures ok { OnOk result (CountsAddition present self.old self.new) }
+        ensures only { IfErr result (λ e. (al : Bool) (o : Packed) → Cannot al (addition present) self.old o e) }
+    {
+        match &mut self.innermost {
+            Some(Frame::Added(additions)) => count_addition(additions, present)?,
+            _ => return Err(EncodeError::CallOutOfPlace),
+        }
+        Ok(())
+    }
+}
