@@ -1,6 +1,7 @@
 //! SEQUENCE {on BOOLEAN, level INTEGER (0..255) OPTIONAL, step NULL}.
 ghost use Rattle.asn1_schema.specs.Author.{fields, no_constraint, sequence_form, sequence_type};
-ghost use Rattle.asn1_schema.proofs.Author.{refl, [], ◌∷◌, type_sequence, value_sequence};
+ghost use Rattle.std.specs.Prelude.{◌∷◌};
+ghost use Rattle.asn1_schema.proofs.Author.{refl, [], type_sequence, value_sequence};
 
 use asn1_schema::{
     AsnType, ComponentsOf, Constraints, Constructed, Decode, DecodeComponents, DecodeConstructed,
