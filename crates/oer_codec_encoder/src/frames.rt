@@ -14,8 +14,8 @@ use std::alloc::{AllocError, Global};
 use std::marker::Model;
 use std::mem;
 
-/// What encloses one value alone, or a list before a member that is more than one record, which take no more than one
-/// number.
+/// What is innermost of all and takes no more than one number: what encloses one value alone, or a list, while nothing
+/// has begun in a member of it.
 #[derive(Clone, Copy)]
 pub(crate) enum Enclosing {
     /// A list.
@@ -203,7 +203,9 @@ impl Frames {
     #[inline(always)]
     pub(crate) fn let_go(self) {
         let Frames {
-            innermost, outer, ..
+            innermost,
+            outer,
+            ..
         } = self;
         if innermost.is_none() {
             mem::forget(innermost);
