@@ -11,10 +11,11 @@ ghost use Rattle.oer_codec_reading.specs.Fronts.{freedoms};
 
 use crate::additions::read_additions;
 use crate::choices::read_choice;
-use crate::frames::{Enclosing, Frame, Scopes};
+use crate::frames::{Enclosing, Frame};
 use crate::members::read_members;
 use crate::options::DecoderOptions;
 use crate::preamble::read_preamble;
+use crate::scopes::Scopes;
 use asn1_schema_constraints::{Bounded, Constraints};
 use asn1_schema_faults::{CodecKind, DecodeError};
 use asn1_schema_tags::{Tag, TagTables};

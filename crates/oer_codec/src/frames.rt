@@ -1,6 +1,7 @@
 //! Open scopes.
 ghost use Rattle.std.specs.Prelude.{◌≡◌, ◌∷◌, [], Some, OnOk, IfErr, IfSome, IfNone};
-ghost use Rattle.oer_codec_fronts.specs.Takes.{AdditionEnds, Ends, NextPresenceBit, NextMember, components};
+ghost use Rattle.oer_codec_fronts.specs.Takes.{AdditionEnds, Ends, NextPresenceBit, NextMember};
+ghost use Rattle.oer_codec_fronts.specs.Takes.{components, members};
 ghost use Rattle.oer_codec_reading.specs.Fronts.{freedoms};
 ghost use Rattle.oer_codec.specs.Refusals.{NoAdditionEnd, NoEnd};
 ghost use Rattle.oer_codec.specs.Scopes.{NextPresent, frame_of, framed, scope_of};
@@ -114,13 +115,13 @@ fn close_frame_of_addition<'input>(
 /// All that has begun and has not ended: what encloses one value alone, which stands inside all others if it is
 /// there, and the others, the innermost of them and what is around it.
 #[derive(Drop)]
-pub(crate) struct Scopes<'input> {
+pub(crate) struct Nested<'input> {
     enclosing: Option<Enclosing<'input>>,
     innermost: Option<Frame<'input>>,
     outer: Vec<Frame<'input>>,
 }
 
-impl<'input> Model for Scopes<'input> {
+impl<'input> Model for Nested<'input> {
     ghost use Rattle.std.specs.Prelude.{List};
     ghost use Rattle.oer_codec_fronts.specs.Takes.{Scope};
     ghost use Rattle.oer_codec.specs.Scopes.{scopes_of};
@@ -130,13 +131,13 @@ impl<'input> Model for Scopes<'input> {
     ghost view = { λ s. scopes_of s.enclosing s.innermost s.outer.items };
 }
 
-impl<'input> Scopes<'input> {
+impl<'input> Nested<'input> {
     /// Nothing is open.
     #[inline(always)]
     pub(crate) fn new(alloc: Global) -> Self
         ensures { result ≡ [] }
     {
-        Scopes {
+        Nested {
             enclosing: None,
             innermost: None,
             outer: Vec::new(alloc),
@@ -171,6 +172,15 @@ impl<'input> Scopes<'input> {
         ensures { (x : _) (ms : _) (k : _) → self.old ≡ components x ms ∷ k → self.new ≡ scope_of frame.entry ∷ k }
     {
         self.innermost = Some(frame);
+    }
+
+    /// Tells how many members of the innermost list are still to come. It is seldom called: where something begins in a
+    /// member, or the list ends early.
+    #[cold]
+    pub(crate) fn set_due(&mut self, due: usize)
+        ensures { (n : _) (k : _) → self.old ≡ members n ∷ k → self.new ≡ members due ∷ k }
+    {
+        self.innermost = Some(Frame::Members(due));
     }
 
     /// The extension bit of the innermost sequence, where all its presence bits are read.

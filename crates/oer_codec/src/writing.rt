@@ -9,18 +9,18 @@ use asn1_schema_encode::Encode;
 use asn1_schema_faults::{EncodeError, refusal, within_limit};
 use oer_codec_encoder::{Encoder, EncoderOptions};
 use std::alloc::Global;
-use std::mem;
 
 /// How many octets there is room for before the first one is written.
 const FIRST_CAPACITY: usize = 128;
 
-/// No octets, with the room of these, and at least that for those of a small value.
-fn with_room(mut octets: Vec<u8>) -> Result<Vec<u8>, EncodeError>
-    ensures { MatchResult result (λ room. room.items ≡ []) (λ e. e ≡ EncodeError.OutOfMemory) }
+/// Takes all octets off, and makes room for those of a small value at least.
+#[inline(always)]
+fn make_room(octets: &mut Vec<u8>) -> Result<(), EncodeError>
+    ensures { MatchResult result (λ _. octets.new.items ≡ []) (λ e. e ≡ EncodeError.OutOfMemory) }
 {
     octets.clear();
     octets.reserve(FIRST_CAPACITY)?;
-    Ok(octets)
+    Ok(())
 }
 
 /// The canonical encoding of a value (X.696).
@@ -37,23 +37,29 @@ pub fn encode<T: Encode>(alloc: Global, value: &T) -> Result<Vec<u8>, EncodeErro
     ensures fits { IfErr result (λ e. e ≡ EncodeError.LengthExceedsPlatformSize → ⊥) }
     ensures in_place { IfErr result (λ e. e ≡ EncodeError.CallOutOfPlace → ⊥) }
 {
-    encode_into(alloc, value, Vec::new(alloc))
+    let mut room = Vec::new(alloc);
+    encode_into(alloc, value, &mut room)
 }
 
-/// The same in the room of these octets, which are cleared.
-fn encode_into<T: Encode>(alloc: Global, value: &T, room: Vec<u8>) -> Result<Vec<u8>, EncodeError>
+/// The same in the room of a vector, whose octets are not kept. It is left empty, but for a refusal.
+#[inline(always)]
+fn encode_into<T: Encode>(
+    alloc: Global,
+    value: &T,
+    room: &mut Vec<u8>,
+) -> Result<Vec<u8>, EncodeError>
     ensures ok { IfOk result (λ octets. IsEncoded T.schema (T.meaning value.now) octets.items) }
     ensures only { IfErr result (NotEncoded T.schema (T.meaning value.now)) }
     ensures fresh { IfErr result (λ e. e ≡ EncodeError.AlreadyFailed → ⊥) }
     ensures fits { IfErr result (λ e. e ≡ EncodeError.LengthExceedsPlatformSize → ⊥) }
     ensures in_place { IfErr result (λ e. e ≡ EncodeError.CallOutOfPlace → ⊥) }
 {
-    let mut output = with_room(room)?;
+    make_room(room)?;
     let mut worker = Vec::new(alloc);
     let options = EncoderOptions::coer();
-    let mut encoder = Encoder::from_buffer(alloc, options, &mut output, &mut worker);
+    let mut encoder = Encoder::from_buffer(alloc, options, room, &mut worker);
     match value.encode(&mut encoder) {
-        Ok(()) => within_limit(encoder.output()),
+        Ok(()) => within_limit(encoder.into_output()),
         Err(error) => Err(refusal(error)),
     }
 }
@@ -75,14 +81,36 @@ pub fn encode_with_constraints<T: Encode>(
     ensures fits { IfErr result (λ e. e ≡ EncodeError.LengthExceedsPlatformSize → ⊥) }
     ensures in_place { IfErr result (λ e. e ≡ EncodeError.CallOutOfPlace → ⊥) }
 {
-    let mut output = with_room(Vec::new(alloc))?;
+    let mut output = Vec::new(alloc);
+    make_room(&mut output)?;
     let mut worker = Vec::new(alloc);
     let options = EncoderOptions::coer();
     let mut encoder = Encoder::from_buffer(alloc, options, &mut output, &mut worker);
     match value.encode_with_constraints(&mut encoder, constraints) {
-        Ok(()) => within_limit(encoder.output()),
+        Ok(()) => within_limit(encoder.into_output()),
         Err(error) => Err(refusal(error)),
     }
+}
+
+/// Adds the canonical encoding of a value (X.696) behind what stands in a buffer.
+///
+/// # Errors
+///
+/// Those of `encode`; the buffer then holds what it held.
+#[inline(never)]
+fn append<T: Encode>(alloc: Global, value: &T, buffer: &mut Vec<u8>) -> Result<(), EncodeError>
+    ensures ok { OnOk result
+        ((octets : List ℕ)
+        × IsEncoded T.schema (T.meaning value.now) octets × (buffer.new.items ≡ buffer.old.items ++ octets)) }
+    ensures only { IfErr result (NotEncoded T.schema (T.meaning value.now)) }
+    ensures fresh { IfErr result (λ e. e ≡ EncodeError.AlreadyFailed → ⊥) }
+    ensures fits { IfErr result (λ e. e ≡ EncodeError.LengthExceedsPlatformSize → ⊥) }
+    ensures in_place { IfErr result (λ e. e ≡ EncodeError.CallOutOfPlace → ⊥) }
+    ensures same { OnErr result (buffer.new.items ≡ buffer.old.items) }
+{
+    let octets = encode(alloc, value)?;
+    buffer.extend_from_slice(&octets)?;
+    Ok(())
 }
 
 /// Adds the canonical encoding of a value (X.696) behind what stands in the buffer. If nothing does, it is written in
@@ -90,7 +118,7 @@ pub fn encode_with_constraints<T: Encode>(
 ///
 /// # Errors
 ///
-/// Those of `encode`; the buffer then holds what it held, but an empty one has no room any more.
+/// Those of `encode`; the buffer then holds what it held.
 pub fn encode_buf<T: Encode>(
     alloc: Global,
     value: &T,
@@ -105,12 +133,17 @@ pub fn encode_buf<T: Encode>(
     ensures in_place { IfErr result (λ e. e ≡ EncodeError.CallOutOfPlace → ⊥) }
     ensures same { OnErr result (buffer.new.items ≡ buffer.old.items) }
 {
-    if buffer.is_empty() {
-        let room = mem::replace(buffer, Vec::new(alloc));
-        *buffer = encode_into(alloc, value, room)?;
-        return Ok(());
+    if !buffer.is_empty() {
+        return append(alloc, value, buffer);
     }
-    let octets = encode(alloc, value)?;
-    buffer.extend_from_slice(&octets)?;
-    Ok(())
+    match encode_into(alloc, value, buffer) {
+        Ok(octets) => {
+            *buffer = octets;
+            Ok(())
+        }
+        Err(error) => {
+            buffer.clear();
+            Err(error)
+        }
+    }
 }

@@ -83,6 +83,21 @@ impl<'buffer> Encoder<'buffer> {
         self.frames.clear();
         mem::replace(self.output, Vec::new(self.alloc))
     }
+
+    /// The contents of the buffer, of which none are left, as `output` takes them. What is open is let go first.
+    #[inline(always)]
+    pub fn into_output(self) -> Vec<u8>
+        ensures octets { self.entry.failed ≡ false → self.entry.state.1 ≡ [] → result.items ≡ self.entry.state.0 }
+    {
+        let Encoder {
+            output,
+            frames,
+            alloc,
+            ..
+        } = self;
+        frames.let_go();
+        mem::replace(output, Vec::new(alloc))
+    }
 }
 
 // One call: `AlreadyFailed` after a refusal, else what is written of its record, and after a refusal no more.

@@ -49,11 +49,11 @@ fn end_bag(octets: &mut Vec<u8>, alloc: Global, bag: &mut Bag) -> Result<(), Enc
     Ok(())
 }
 
-/// Ends what encloses one value alone (X.696 20 and 30).
+/// Ends what encloses one value alone, or a list (X.696 17, 20 and 30).
 ///
 /// # Errors
 ///
-/// `OutOfMemory`, and no other.
+/// `CallOutOfPlace` if a member of a list is due, and `OutOfMemory`.
 #[inline(always)]
 pub(crate) fn end_enclosing(
     octets: &mut Vec<u8>,
@@ -66,7 +66,8 @@ pub(crate) fn end_enclosing(
         (λ e. (k : _) → Cannot ends (frame_of enclosing ∷ k) octets.old.items e) }
 {
     match enclosing {
-        Enclosing::Alternative => Ok(()),
+        Enclosing::Members { due: 0 } | Enclosing::Alternative => Ok(()),
+        Enclosing::Members { .. } => Err(EncodeError::CallOutOfPlace),
         Enclosing::OpenType { start } => put_length(octets, alloc, start),
     }
 }

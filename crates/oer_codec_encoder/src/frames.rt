@@ -12,10 +12,17 @@ use crate::sequences::count_member;
 use asn1_schema_faults::EncodeError;
 use std::alloc::{AllocError, Global};
 use std::marker::Model;
+use std::mem;
 
-/// What encloses one value alone, and takes no more than one number.
+/// What is innermost of all and takes no more than one number: what encloses one value alone, or a list, while nothing
+/// has begun in a member of it.
 #[derive(Clone, Copy)]
 pub(crate) enum Enclosing {
+    /// A list.
+    Members {
+        /// How many members are due.
+        due: usize,
+    },
     /// An alternative of the root of a choice.
     Alternative,
     /// An addition or an added alternative, whose octets stand behind room for one octet of their number.
@@ -32,14 +39,15 @@ impl Enclosing {
         ensures { result ≡ frame_of self }
     {
         match self {
+            Enclosing::Members { due } => Frame::Members { due },
             Enclosing::Alternative => Frame::Alternative,
             Enclosing::OpenType { start } => Frame::OpenType { start },
         }
     }
 }
 
-/// All that has begun and has not ended. What encloses one value alone is innermost of all, if something does; then
-/// comes the innermost of the other frames, and what is around it. Neither of the two takes memory.
+/// All that has begun and has not ended. What encloses one value alone, or a list, is innermost of all, if something
+/// does; then comes the innermost of the other frames, and what is around it. Neither of the two takes memory.
 #[derive(Drop)]
 pub(crate) struct Frames {
     enclosing: Option<Enclosing>,
@@ -70,7 +78,8 @@ fn put(
         if !outer.is_empty() {
             outer.clear();
         }
-        *innermost = Some(frame);
+        // No frame stood there that is to be let go.
+        mem::forget(innermost.replace(frame));
         return Ok(());
     }
     if let Some(around) = innermost.replace(frame) {
@@ -79,8 +88,8 @@ fn put(
     Ok(())
 }
 
-/// Opens what encloses one value alone as a frame inside all others. It is seldom called: where something begins in
-/// an open type or in an alternative.
+/// Opens what encloses one value alone, or a list, as a frame inside all others. It is seldom called: where something
+/// begins in an open type, in an alternative or in the first member of a list.
 #[cold]
 fn put_enclosing(
     innermost: &mut Option<Frame>,
@@ -189,6 +198,27 @@ impl Frames {
         }
     }
 
+    /// Lets all go that is open. At the end of a message nothing is, and mostly no memory was taken: then there is
+    /// nothing to call.
+    #[inline(always)]
+    pub(crate) fn let_go(self) {
+        let Frames {
+            innermost,
+            outer,
+            ..
+        } = self;
+        if innermost.is_none() {
+            mem::forget(innermost);
+        } else {
+            drop(innermost);
+        }
+        if outer.capacity() == 0 {
+            mem::forget(outer);
+        } else {
+            drop(outer);
+        }
+    }
+
     /// Opens a frame inside all others.
     #[inline(always)]
     pub(crate) fn open(&mut self, frame: Frame) -> Result<(), AllocError>
@@ -219,7 +249,7 @@ impl Frames {
                 self.enclosing = None;
                 Some(start)
             }
-            Some(Enclosing::Alternative) => None,
+            Some(Enclosing::Members { .. } | Enclosing::Alternative) => None,
             None => leave_open_type(&mut self.innermost, &mut self.outer),
         }
     }
@@ -305,7 +335,11 @@ impl Frames {
         ensures { MatchResult result (λ _. Does (further more) self.old octets.old.items self.new octets.new.items)
             (Cannot (further more) self.old octets.old.items) }
     {
-        match (&self.enclosing, &mut self.innermost) {
+        match (&mut self.enclosing, &mut self.innermost) {
+            (Some(Enclosing::Members { due }), _) => {
+                count_member(due, more)?;
+                return Ok(());
+            }
             (None, Some(Frame::Members { due })) => count_member(due, more)?,
             (None, Some(Frame::Bag(bag))) => return next_of_bag(octets, bag, alloc, more),
             _ => return Err(EncodeError::CallOutOfPlace),

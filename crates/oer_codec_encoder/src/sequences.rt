@@ -9,7 +9,7 @@ ghost use Rattle.oer_codec_encoder.specs.Frames.{NoMember};
 ghost use Rattle.oer_codec_encoder.specs.Holding.{AreSound, Does, Cannot};
 
 use crate::frame::{Frame, Preamble};
-use crate::frames::Frames;
+use crate::frames::{Enclosing, Frames};
 use asn1_schema_constraints::{Bounded, Constraints};
 use asn1_schema_faults::EncodeError;
 use oer_codec_writing::{preamble_len, push_count};
@@ -121,7 +121,7 @@ pub(crate) fn begin_members(
         return Err(EncodeError::SizeConstraintNotSatisfied);
     }
     push_count(octets, count)?;
-    frames.open(Frame::Members { due: count })?;
+    frames.enclose(Enclosing::Members { due: count })?;
     Ok(())
 }
 

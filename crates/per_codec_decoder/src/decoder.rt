@@ -138,6 +138,13 @@ impl<'input> Decoder<'input> {
         record!(self, cursor, read_completion(&mut cursor))
     }
 
+    /// Ends the work of the decoder, which has read a message: what memory it took is let go.
+    #[inline(always)]
+    pub fn let_go(self) {
+        let Decoder { scopes, .. } = self;
+        scopes.let_go();
+    }
+
     // The octets of a string (X.680 23) under a size constraint, lent where they stand in the input as they are, in
     // one run (X.691 11.9.4) that begins at an octet of it.
     #[inline(always)]

@@ -15,7 +15,7 @@ use per_codec_reading::{Cursor, Variant};
 use per_codec_reading_values::Stretch;
 use std::alloc::{AllocError, Global};
 use std::marker::Model;
-use std::mem::replace;
+use std::mem::{forget, replace};
 
 /// What has begun and has not ended.
 #[derive(Drop)]
@@ -155,6 +155,27 @@ impl<'input> Scopes<'input> {
             enclosing: None,
             innermost: None,
             outer: Vec::new(alloc),
+        }
+    }
+
+    /// Lets all scopes go. At the end of a message none is open, and mostly no memory was taken: then there is nothing
+    /// to call.
+    #[inline(always)]
+    pub fn let_go(self) {
+        let Scopes {
+            innermost,
+            outer,
+            ..
+        } = self;
+        if innermost.is_none() {
+            forget(innermost);
+        } else {
+            drop(innermost);
+        }
+        if outer.capacity() == 0 {
+            forget(outer);
+        } else {
+            drop(outer);
         }
     }
 

@@ -121,19 +121,21 @@ impl Encoder {
         message(bits)
     }
 
-    /// The octets of the message (X.691 11.1), at least one, as `output` takes them.
+    /// The octets of the message (X.691 11.1), at least one, as `output` takes them. What is open is let go first.
     ///
     /// # Errors
     ///
     /// Those of `output`.
+    #[inline(always)]
     pub fn output_into_vec(self) -> Result<Vec<u8>, EncodeError>
         ensures octets { IfOk result (λ octets. self.failed ≡ false → self.state.1 ≡ []
             → octets_of self.state ≡ Some octets.items) }
         ensures only { IfErr result (λ e. e ≡ EncodeError.OutOfMemory) }
         ensures bare { OnErr result (self.failed ≡ false → self.state.1 ≡ [] → self.state.0 ≡ []) }
     {
-        let mut encoder = self;
-        encoder.output()
+        let Encoder { output, frames, .. } = self;
+        frames.let_go();
+        message(output.into_bits())
     }
 }
 

@@ -78,6 +78,13 @@ impl Frames {
         self.nested.clear();
     }
 
+    /// Lets all go that is open.
+    #[inline(always)]
+    pub(crate) fn let_go(self) {
+        let Frames { nested, .. } = self;
+        nested.let_go();
+    }
+
     /// Opens a frame within what is innermost, which is let go where memory is refused.
     #[inline(always)]
     pub(crate) fn push(&mut self, frame: Frame) -> Result<(), AllocError>

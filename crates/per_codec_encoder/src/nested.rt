@@ -72,6 +72,23 @@ impl Nested {
         }
     }
 
+    /// Lets all go that is open. At the end of a message nothing is, and mostly no memory was taken: then there is
+    /// nothing to call.
+    #[inline(always)]
+    pub(crate) fn let_go(self) {
+        let Nested { innermost, outer } = self;
+        if innermost.is_none() {
+            mem::forget(innermost);
+        } else {
+            drop(innermost);
+        }
+        if outer.capacity() == 0 {
+            mem::forget(outer);
+        } else {
+            drop(outer);
+        }
+    }
+
     /// Opens a frame within what is innermost, which is let go where memory is refused.
     #[inline(always)]
     pub(crate) fn push(&mut self, frame: Frame) -> Result<(), AllocError>
