@@ -1,6 +1,6 @@
 //! Types of strings with an alphabet of their own, and how such a string is made of a text.
-ghost use Rattle.std.specs.Prelude.{◌≡◌, ◌<◌, ℕ, List, [], ◌∷◌, ◌++◌, length, slice_index, IsTrue, IfOk, IfErr, IfSome, OnOk};
-ghost use Rattle.std.specs.Prelude.{OnErr};
+ghost use Rattle.std.specs.Prelude.{◌≡◌, ◌<◌, ℕ, List, [], ◌∷◌, ◌++◌, length, slice_index, IsTrue, IfOk, IfErr, OnOk};
+ghost use Rattle.std.specs.Prelude.{IfSome, OnErr};
 ghost use Rattle.std.specs.Str.{chars};
 ghost use Rattle.asn1_model.specs.Schema.{StringKind};
 ghost use Rattle.asn1_model.specs.Strings.{may_hold};
