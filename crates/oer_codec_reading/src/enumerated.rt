@@ -18,6 +18,11 @@ use asn1_values_natives::Wide;
 fn native_number(octets: &[u8]) -> Option<isize>
     ensures { result ≡ native_of (signed_number octets.now) }
 {
+    if octets.len() == 1 {
+        if octets[0] < 128 {
+            return Some(octets[0] as isize);
+        }
+    }
     let wide = Wide::from_signed_octets(octets)?;
     let number = wide.to_whole(isize::MAX as i128)?;
     Some(number as isize)

@@ -1,7 +1,7 @@
 //! Bits (X.696 13).
 ghost use Rattle.std.specs.Prelude.{◌≡◌, ◌++◌, length, MatchResult};
 ghost use Rattle.asn1_model.specs.Form.{written};
-ghost use Rattle.asn1_model.specs.Numbers.{missing, packed};
+ghost use Rattle.asn1_model.specs.Numbers.{missing, octet_bits, packed};
 ghost use Rattle.asn1_model.specs.Oer.{bit_string_form, form};
 ghost use Rattle.asn1_model.specs.Schema.{bit_string};
 ghost use Rattle.asn1_model.specs.Value.{bit_list};
@@ -23,8 +23,8 @@ fn unused_bits(count: usize) -> u8
     free_bits(count) as u8
 }
 
-/// Adds bits as octets, where the unused bits of the last one are zero (X.696 13).
-fn push_bits(octets: &mut Vec<u8>, value: BitStr) -> Result<(), EncodeError>
+/// Adds bits as octets, one at a time, where the unused bits of the last one are zero.
+fn push_by_octets(octets: &mut Vec<u8>, value: BitStr) -> Result<(), EncodeError>
     ensures { MatchResult result (λ _. octets.new.items ≡ octets.old.items
         ++ packed (padded (bits_of value.entry))) (λ e. e ≡ EncodeError.OutOfMemory) }
 {
@@ -35,6 +35,26 @@ fn push_bits(octets: &mut Vec<u8>, value: BitStr) -> Result<(), EncodeError>
         octets.push(octet)?;
         rest = rest.split_at(few).1;
     }
+    Ok(())
+}
+
+/// Adds whole octets in one run, and the bits behind them as octets.
+fn push_whole(octets: &mut Vec<u8>, whole: &[u8], rest: BitStr) -> Result<(), EncodeError>
+    ensures { MatchResult result (λ _. octets.new.items ≡ octets.old.items
+        ++ packed (padded (octet_bits whole.now ++ bits_of rest.entry))) (λ e. e ≡ EncodeError.OutOfMemory) }
+{
+    octets.extend_from_slice(whole)?;
+    push_by_octets(octets, rest)?;
+    Ok(())
+}
+
+/// Adds bits as octets, where the unused bits of the last one are zero (X.696 13). Whole octets are copied in one run.
+fn push_bits(octets: &mut Vec<u8>, value: BitStr) -> Result<(), EncodeError>
+    ensures { MatchResult result (λ _. octets.new.items ≡ octets.old.items
+        ++ packed (padded (bits_of value.entry))) (λ e. e ≡ EncodeError.OutOfMemory) }
+{
+    let (whole, rest) = value.whole_octets();
+    push_whole(octets, whole, rest)?;
     Ok(())
 }
 

@@ -41,7 +41,7 @@ pub fn push_utf8(
     Ok(())
 }
 
-/// Adds the characters as octets, one for each.
+/// Adds the characters as octets, one for each: in one run where the string keeps them so.
 fn push_narrow<S: StaticPermittedAlphabet>(
     octets: &mut Vec<u8>,
     value: &S,
@@ -50,6 +50,10 @@ fn push_narrow<S: StaticPermittedAlphabet>(
     ensures { MatchResult result (λ _. octets.new.items ≡ octets.old.items ++ S.characters value.now)
         (λ e. e ≡ EncodeError.OutOfMemory) }
 {
+    if let Some(characters) = value.char_octets() {
+        octets.extend_from_slice(characters)?;
+        return Ok(());
+    }
     let count = value.char_count();
     for place in 0..count {
         octets.push(value.char_at(place) as u8)?;
