@@ -5,9 +5,9 @@ ghost use Rattle.asn1_schema.proofs.Author.{sequence_of, sequence_tag};
 use crate::extra::Extra;
 use asn1_schema::{
     AddedGroup, AddedGroupComponent, Components, ComponentsOf, DecodeComponents, DecodeError,
-    Decoder, EncodeComponents, EncodeError, Encoder, Field, FieldPresence, FieldTables, Fields,
-    Heading, Identifier, Marked, MarkedComponents, NoMore, OneAddition, Required,
-    RequiredComponent, Sequence, Tag, TagTree,
+    Decoder, EncodeComponents, EncodeError, Encoder, Field, FieldTables, Fields, Heading,
+    Identifier, Marked, MarkedComponents, NoMore, OneAddition, Required, RequiredComponent,
+    Sequence, Tag, field,
 };
 use std::alloc::Global;
 

@@ -2,29 +2,6 @@
 //! others.
 #![tactic(auto)]
 
-/// A field of a table: its number, its name, its presence and its tag.
-macro_rules! field {
-    ($index:literal, $name:literal, $presence:ident, $tag:expr) => {
-        Field {
-            index: $index,
-            tag: $tag,
-            tag_tree: TagTree::Leaf($tag),
-            presence: FieldPresence::$presence,
-            name: $name,
-        }
-    };
-}
-
-/// A tag of a class (X.680 8.1).
-macro_rules! tagged {
-    ($class:ident, $number:literal) => {
-        Tag {
-            class: Class::$class,
-            value: $number,
-        }
-    };
-}
-
 mod extra;
 mod group;
 mod nest;

@@ -7,8 +7,8 @@ use crate::old::{Old, OldFields};
 use asn1_schema::{
     AddedOptional, AddedOptionalComponent, AdditionsOf, Components, ComponentsOf, DecodeComponents,
     DecodeError, Decoder, Described, EncodeComponents, EncodeError, Encoder, ExtendsComponents,
-    Field, FieldPresence, FieldTables, Fields, Heading, Identifier, Marked, MarkedComponents,
-    NoMore, OneAddition, Required, RequiredComponent, Sequence, Tag, TagTree,
+    Field, FieldTables, Fields, Heading, Identifier, Marked, MarkedComponents, NoMore, OneAddition,
+    Required, RequiredComponent, Sequence, Tag, field,
 };
 use std::alloc::Global;
 

@@ -5,11 +5,10 @@ ghost use Rattle.asn1_schema.proofs.Author.{sequence_of, sequence_tag, sequence_
 
 use crate::old::{Old, OldFields};
 use asn1_schema::{
-    AddedRequired, AddedRequiredComponent, AdditionsOf, Class, Components, ComponentsOf,
-    DecodeComponents, DecodeError, Decoder, Described, EncodeComponents, EncodeError, Encoder,
-    ExtendsComponents, Field, FieldPresence, FieldTables, Fields, Heading, Identifier, Implicit,
-    Marked, MarkedComponents, NoMore, OneAddition, Required, RequiredComponent, Sequence, Tag,
-    TagTree, tag,
+    AddedRequired, AddedRequiredComponent, AdditionsOf, Components, ComponentsOf, DecodeComponents,
+    DecodeError, Decoder, Described, EncodeComponents, EncodeError, Encoder, ExtendsComponents,
+    Field, FieldTables, Fields, Heading, Identifier, Implicit, Marked, MarkedComponents, NoMore,
+    OneAddition, Required, RequiredComponent, Sequence, Tag, field, tag, tagged,
 };
 use std::alloc::Global;
 

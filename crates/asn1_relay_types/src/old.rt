@@ -4,8 +4,8 @@ ghost use Rattle.asn1_schema.proofs.Author.{sequence_of, sequence_tag};
 
 use asn1_schema::{
     Components, ComponentsOf, DecodeComponents, DecodeError, Decoder, EncodeComponents,
-    EncodeError, Encoder, Field, FieldPresence, FieldTables, Fields, Heading, Identifier, Marked,
-    MarkedComponents, NoAddition, NoMore, Required, RequiredComponent, Sequence, Tag, TagTree,
+    EncodeError, Encoder, Field, FieldTables, Fields, Heading, Identifier, Marked,
+    MarkedComponents, NoAddition, NoMore, Required, RequiredComponent, Sequence, Tag, field,
 };
 use std::alloc::Global;
 

@@ -4,6 +4,7 @@
 //! This crate is a face: its items stand in the packages whose names begin with its own.
 #![tactic(auto)]
 
+mod macros;
 pub mod records;
 
 pub use asn1_schema_authored::AddedDefaulted;

@@ -5,31 +5,12 @@ ghost use Rattle.std.specs.Prelude.{refl};
 ghost use Rattle.asn1_schema.proofs.Author.{set_of, set_tag};
 
 use asn1_schema::{
-    AddedOptional, AddedOptionalComponent, Class, Components, ComponentsOf, DecodeComponents,
-    DecodeError, Decoder, EncodeComponents, EncodeError, Encoder, Field, FieldPresence,
-    FieldTables, Fields, Heading, Identifier, Implicit, Marked, MarkedComponents, NoMore, Optional,
-    OptionalComponent, Required, RequiredComponent, Set, Tag, TagTree, TwoAdditions, tag,
+    AddedOptional, AddedOptionalComponent, Components, ComponentsOf, DecodeComponents, DecodeError,
+    Decoder, EncodeComponents, EncodeError, Encoder, Field, FieldTables, Fields, Heading,
+    Identifier, Implicit, Marked, MarkedComponents, NoMore, Optional, OptionalComponent, Required,
+    RequiredComponent, Set, Tag, TwoAdditions, field, tag, tagged,
 };
 use std::alloc::Global;
-
-/// A field of the context (X.680 8.1): its number, its name, its presence and its tag.
-macro_rules! field {
-    ($index:literal, $name:literal, $presence:ident, $number:literal) => {
-        Field {
-            index: $index,
-            tag: Tag {
-                class: Class::Context,
-                value: $number,
-            },
-            tag_tree: TagTree::Leaf(Tag {
-                class: Class::Context,
-                value: $number,
-            }),
-            presence: FieldPresence::$presence,
-            name: $name,
-        }
-    };
-}
 
 /// A set that has grown by two components.
 pub type Grown = Set<GrownFields>;
@@ -100,16 +81,16 @@ impl Components for GrownFields {
 impl FieldTables for GrownFields {
     fn fields() -> Fields<'static> {
         const FIELDS: &'static [Field<'static>] = &[
-            field!(0, "level", Optional, 0),
-            field!(1, "ready", Required, 1),
+            field!(0, "level", Optional, tagged!(Context, 0)),
+            field!(1, "ready", Required, tagged!(Context, 1)),
         ];
         Fields::from_static(FIELDS)
     }
 
     fn extended_fields() -> Option<Fields<'static>> {
         const FIELDS: &'static [Field<'static>] = &[
-            field!(0, "done", Optional, 9),
-            field!(1, "next", Optional, 2),
+            field!(0, "done", Optional, tagged!(Context, 9)),
+            field!(1, "next", Optional, tagged!(Context, 2)),
         ];
         Some(Fields::from_static(FIELDS))
     }
