@@ -25,7 +25,7 @@ pub use new::{New, NewFields};
 pub use new_colour::NewColour;
 pub use new_default::{NewDefault, NewDefaultFields};
 pub use new_required::{NewRequired, NewRequiredFields};
-pub use octets::{Octets, OneToThree};
+pub use octets::Octets;
 pub use old::{Old, OldFields};
 pub use old_colour::OldColour;
 pub use old_default::{OldDefault, OldDefaultFields};
