@@ -40,8 +40,7 @@ impl<const LOW: usize, const HIGH: usize> ConstraintsOf<OctetString> for SizeRan
 }
 
 impl<const LOW: usize, const HIGH: usize> ConstraintsOf<OctetString>
-    for ExtensibleSizeRange<LOW, HIGH>
-{
+    for ExtensibleSizeRange<LOW, HIGH> {
     ghost terms = { sizes_from_to LOW HIGH true };
 
     ghost under = { ⟦<OctetString as Described>⟧.under };
@@ -82,8 +81,7 @@ impl<const LOW: usize, const HIGH: usize> ConstraintsOf<BitString> for SizeRange
 }
 
 impl<const LOW: usize, const HIGH: usize> ConstraintsOf<BitString>
-    for ExtensibleSizeRange<LOW, HIGH>
-{
+    for ExtensibleSizeRange<LOW, HIGH> {
     ghost terms = { sizes_from_to LOW HIGH true };
 
     ghost under = { ⟦<BitString as Described>⟧.under };
@@ -104,8 +102,7 @@ impl<const LOW: usize, const HIGH: usize> ConstraintsOf<BitString>
 }
 
 impl<T: Described, const LOW: usize, const HIGH: usize> ConstraintsOf<Vec<T>>
-    for SizeRange<LOW, HIGH>
-{
+    for SizeRange<LOW, HIGH> {
     ghost terms = { sizes_from_to LOW HIGH false };
 
     ghost under = { ⟦<Vec<T> as Described>⟧.under };
@@ -126,8 +123,7 @@ impl<T: Described, const LOW: usize, const HIGH: usize> ConstraintsOf<Vec<T>>
 }
 
 impl<T: Described, const LOW: usize, const HIGH: usize> ConstraintsOf<Vec<T>>
-    for ExtensibleSizeRange<LOW, HIGH>
-{
+    for ExtensibleSizeRange<LOW, HIGH> {
     ghost terms = { sizes_from_to LOW HIGH true };
 
     ghost under = { ⟦<Vec<T> as Described>⟧.under };
