@@ -6,9 +6,9 @@ ghost use Rattle.asn1_schema.proofs.Author.{set_of, set_tag};
 
 use asn1_schema::{
     AddedOptional, AddedOptionalComponent, Components, ComponentsOf, DecodeComponents, DecodeError,
-    Decoder, EncodeComponents, EncodeError, Encoder, Field, FieldTables, Fields, Heading,
-    Identifier, Implicit, Marked, MarkedComponents, NoMore, Optional, OptionalComponent, Required,
-    RequiredComponent, Set, Tag, TwoAdditions, field, tag, tagged,
+    Decoder, EncodeComponents, EncodeError, Encoder, ExtensibleComponents, ExtensionMarker, Field,
+    FieldTables, Fields, Heading, Identifier, Implicit, NoMore, Optional, OptionalComponent,
+    Required, RequiredComponent, Set, Tag, TwoAdditions, field, tag, tagged,
 };
 use std::alloc::Global;
 
@@ -35,7 +35,10 @@ type Additions = AddedOptionalComponent<
 
 type Form = OptionalComponent<
     Implicit<tag::Context<0>, u8>,
-    RequiredComponent<Implicit<tag::Context<1>, bool>, MarkedComponents<TwoAdditions, Additions>>,
+    RequiredComponent<
+        Implicit<tag::Context<1>, bool>,
+        ExtensibleComponents<TwoAdditions, Additions>,
+    >,
 >;
 
 impl Components for GrownFields {
@@ -61,13 +64,14 @@ impl Components for GrownFields {
 
     fn write_components<E: Encoder>(&self, encoder: &mut E) -> Result<(), EncodeError> {
         let additions = AddedOptional(&self.done, AddedOptional(&self.next, NoMore));
-        let marked = Marked { additions };
-        Optional(&self.level, Required(&self.ready, marked)).encode_components(encoder)
+        let marker = ExtensionMarker { additions };
+        Optional(&self.level, Required(&self.ready, marker)).encode_components(encoder)
     }
 
     fn read_components<D: Decoder>(alloc: Global, decoder: &mut D) -> Result<Self, DecodeError> {
         let form = Form::decode_components(alloc, decoder)?;
-        let OptionalComponent(level, RequiredComponent(ready, MarkedComponents(added, _))) = form;
+        let OptionalComponent(level, RequiredComponent(ready, ExtensibleComponents(added, _))) =
+            form;
         let AddedOptionalComponent(done, AddedOptionalComponent(next, NoMore)) = added;
         Ok(GrownFields {
             level,
