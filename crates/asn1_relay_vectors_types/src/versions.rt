@@ -120,8 +120,10 @@ impl Extends<Old> for Newest {
 /// SEQUENCE {l SEQUENCE (SIZE (1..2)) OF BOOLEAN, ...}.
 pub type OldList = Sequence<OldListForm>;
 
-type OldListForm =
-    RequiredComponent<ListOfOneOrTwo<bool>, ExtensibleComponents<NoAddition, NoMore>>;
+type OldListForm = RequiredComponent<
+    ListOfOneOrTwo<bool>,
+    ExtensibleComponents<NoAddition, NoMore>,
+>;
 
 impl Listed for OldListForm {
     ghost form = { ⟦<OldListForm as ComponentsOf>⟧.table };
@@ -146,8 +148,10 @@ pub type NewList = Sequence<NewListForm>;
 
 type Numbers = AddedOptionalComponent<Integer, NoMore>;
 
-type NewListForm =
-    RequiredComponent<ListOfOneOrTwo<bool>, ExtensibleComponents<OneAddition, Numbers>>;
+type NewListForm = RequiredComponent<
+    ListOfOneOrTwo<bool>,
+    ExtensibleComponents<OneAddition, Numbers>,
+>;
 
 impl Listed for NewListForm {
     ghost form = { ⟦<NewListForm as ComponentsOf>⟧.table };
