@@ -4,8 +4,8 @@ ghost use Rattle.asn1_schema.proofs.Author.{group_of, sequence_of, sequence_tag}
 
 use asn1_schema::{
     Components, ComponentsOf, DecodeComponents, DecodeError, Decoder, EncodeComponents,
-    EncodeError, Encoder, End, Field, FieldPresence, FieldTables, Fields, GroupComponents, Heading,
-    Identifier, Optional, OptionalComponent, Sequence, Tag, TagTree,
+    EncodeError, Encoder, End, Field, FieldTables, Fields, GroupComponents, Heading, Identifier,
+    Optional, OptionalComponent, Sequence, Tag, field,
 };
 use std::alloc::Global;
 

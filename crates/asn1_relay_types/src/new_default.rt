@@ -12,8 +12,7 @@ use crate::old_default::OldDefaultFields;
 use asn1_schema::{
     Components, ComponentsOf, DecodeComponents, DecodeError, Decoder, DefaultOf, Defaulted,
     DefaultedComponent, Described, EncodeComponents, EncodeError, Encoder, End, ExtendsComponents,
-    Field, FieldPresence, FieldTables, Fields, GroupComponents, Heading, Identifier, Sequence, Tag,
-    TagTree,
+    Field, FieldTables, Fields, GroupComponents, Heading, Identifier, Sequence, Tag, field,
 };
 use std::alloc::{AllocError, Global};
 use std::marker::PhantomData;

@@ -7,8 +7,8 @@ ghost use Rattle.asn1_relay_types.specs.Defaults.{true_and, old_true_stands};
 use crate::old::{Old, OldFields};
 use asn1_schema::{
     Components, ComponentsOf, DecodeComponents, DecodeError, Decoder, DefaultOf, Defaulted,
-    DefaultedComponent, EncodeComponents, EncodeError, Encoder, End, Field, FieldPresence,
-    FieldTables, Fields, GroupComponents, Heading, Identifier, Sequence, Tag, TagTree,
+    DefaultedComponent, EncodeComponents, EncodeError, Encoder, End, Field, FieldTables, Fields,
+    GroupComponents, Heading, Identifier, Sequence, Tag, field,
 };
 use std::alloc::{AllocError, Global};
 use std::marker::PhantomData;

@@ -6,7 +6,7 @@ ghost use Rattle.asn1_schema_encode.specs.Writes.{CannotWriteTail, WritesTail};
 use asn1_schema::{
     AddedGroupComponent, AddedOptionalComponent, AddedRequiredComponent, AdditionsOf, ComponentsOf,
     CountOf, DefaultOf, DefaultedComponent, Encode, EncodeComponents, EncodeError, EncodeExtension,
-    EncodeSequence, Encoder, End, Group, MarkedComponents, NoMore, OptionalComponent,
+    EncodeSequence, Encoder, End, ExtensibleComponents, Group, NoMore, OptionalComponent,
     RequiredComponent,
 };
 
@@ -66,7 +66,7 @@ impl<V: DefaultOf<T>, T: Encode, R: WriteComponents> WriteComponents
     }
 }
 
-impl<M: CountOf<A>, A: WriteAdditions> WriteComponents for MarkedComponents<M, A> {
+impl<M: CountOf<A>, A: WriteAdditions> WriteComponents for ExtensibleComponents<M, A> {
     fn write_components<E: Encoder>(&self, encoder: &mut E) -> Result<(), EncodeError> {
         let count = A::count();
         encoder.begin_additions(count)?;

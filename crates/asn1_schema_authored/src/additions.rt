@@ -69,9 +69,9 @@ pub trait CountOf<A: AdditionsOf> {
 /// What stands behind the root components of a type with an extension marker: its additions, as they are read.
 /// The marker says that they can be counted.
 #[derive(Drop)]
-pub struct MarkedComponents<M, A>(pub A, pub PhantomData<M>);
+pub struct ExtensibleComponents<M, A>(pub A, pub PhantomData<M>);
 
-impl<M, A: AdditionsOf> ComponentsOf for MarkedComponents<M, A> {
+impl<M, A: AdditionsOf> ComponentsOf for ExtensibleComponents<M, A> {
     ghost table = { marked_table A.additions };
 
     ghost root = { λ _. end };

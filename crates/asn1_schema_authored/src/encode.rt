@@ -13,7 +13,7 @@ ghost use Rattle.asn1_schema_authored.specs.Writes.{CannotWriteAddition, WritesA
 
 use crate::additions::{AdditionsOf, NoMore};
 use crate::group::Group;
-use crate::written::{AddedDefaulted, AddedGroup, AddedOptional, AddedRequired, Marked};
+use crate::written::{AddedDefaulted, AddedGroup, AddedOptional, AddedRequired, ExtensionMarker};
 use asn1_schema_constraints::Constraints;
 use asn1_schema_encode::{Encode, EncodeComponents, Encoder};
 use asn1_schema_faults::EncodeError;
@@ -71,7 +71,7 @@ impl<'a, G: Group, R: EncodeAdditions> EncodeAdditions for AddedGroup<'a, G, R> 
     }
 }
 
-impl<A: EncodeAdditions> EncodeComponents for Marked<A> {
+impl<A: EncodeAdditions> EncodeComponents for ExtensionMarker<A> {
     fn encode_components<E: Encoder>(&self, encoder: &mut E) -> Result<(), EncodeError> {
         let count = A::count();
         encoder.begin_additions(count)?;

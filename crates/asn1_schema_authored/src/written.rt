@@ -19,13 +19,13 @@ use std::marker::PhantomData;
 
 /// What stands behind the root components of a type with an extension marker: its additions, as they are written.
 #[derive(Drop)]
-pub struct Marked<A: AdditionsOf> {
+pub struct ExtensionMarker<A: AdditionsOf> {
     /// The additions.
     pub additions: A,
     ghost counted: { addition_count A.additions ≤ 18446744073709551615 },
 }
 
-impl<A: AdditionsOf> ComponentsOf for Marked<A> {
+impl<A: AdditionsOf> ComponentsOf for ExtensionMarker<A> {
     ghost table = { marked_table A.additions };
 
     ghost root = { λ _. end };

@@ -33,7 +33,7 @@ more_addition_types ts o {s} {fs} d h k = record {
 
 pub marked_types : {fs : Fields} → AreAdditionTypes fs → AreTypes (marked_table fs)
 unfolding components_at are_lawful are_tidy
-marked_types h = record { lawful = λ n. refl; tidy = λ n. refl; no_group = λ n. refl; lawful_additions = h.lawful; tidy_additions = h.tidy; optional_groups = h.optional_groups; marked = λ n. refl }
+marked_types h = record { lawful = λ n. refl; tidy = λ n. refl; no_group = λ n. refl; lawful_additions = h.lawful; tidy_additions = h.tidy; optional_groups = h.optional_groups; extensible = λ n. refl }
 
 -- ---- values
 

@@ -7,7 +7,7 @@ ghost use Rattle.asn1_values_natives.specs.Octets.{plain};
 
 use crate::items::{Item, Limits, Sizes, is_extensible};
 use asn1_schema_constraints::{Bounded, Constraints};
-use asn1_schema_encode::Encoder;
+use asn1_schema_encode::{Encoder, begin_record, go_on};
 use asn1_schema_faults::{CodecKind, EncodeError};
 use asn1_schema_tags::{Identifier, Tag};
 use asn1_schema_variants::{Chosen, Enumerated};
@@ -67,10 +67,7 @@ impl RecordEncoder {
         ensures already { self.old.failed ≡ true → result ≡ Err EncodeError.AlreadyFailed }
         ensures after { result ≡ Err EncodeError.AlreadyFailed → self.old.failed ≡ true }
     {
-        if self.failed {
-            return Err(EncodeError::AlreadyFailed);
-        }
-        self.failed = true;
+        begin_record(&mut self.failed)?;
         Err(EncodeError::OutOfMemory)
     }
 
@@ -89,9 +86,7 @@ impl RecordEncoder {
         ensures already { self.old.failed ≡ true → result ≡ Err EncodeError.AlreadyFailed }
         ensures after { result ≡ Err EncodeError.AlreadyFailed → self.old.failed ≡ true }
     {
-        if self.failed {
-            return Err(EncodeError::AlreadyFailed);
-        }
+        go_on(self.failed)?;
         match self.items.push(item) {
             Ok(()) => Ok(()),
             Err(_) => self.fail(),

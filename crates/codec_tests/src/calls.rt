@@ -1,8 +1,8 @@
 //! The calls that write and read.
-use crate::five::FiveOctets;
 use asn1_schema_constraints::{Bounded, Constraint, Constraints, Extensible, Size, Value};
 use asn1_schema_encode::Encode;
 use asn1_schema_faults::{DecodeError, EncodeError};
+use asn1_schema_wrapped::{Constrained, SizeRange};
 use asn1_values_bit_strings::BitString;
 use asn1_values_bits::BitStr;
 use asn1_values_octets::OctetString;
@@ -11,6 +11,9 @@ use oer_codec::{coer, oer, writing};
 use oer_codec_reading::EncodingRules;
 use std::alloc::{AllocError, Global};
 use std::test::Fail;
+
+/// OCTET STRING (SIZE (5)).
+type FiveOctets = Constrained<SizeRange<5, 5>, OctetString>;
 
 /// Four octets, where five are wanted.
 fn four(alloc: Global) -> Result<FiveOctets, AllocError> {

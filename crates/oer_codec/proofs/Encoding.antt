@@ -8,16 +8,16 @@ use Rattle.asn1_schema_faults.specs.declared.EncodeError.{EncodeError}
 use Rattle.asn1_schema_faults.specs.declared.EncodeError.TheVariants.{OutOfMemory}
 use Rattle.asn1_schema_faults.proofs.Passing.{PassedOn, never_long, no_memory_before}
 use Rattle.asn1_schema_encode.specs.Writes.{Writes, CannotWrite}
-use Rattle.asn1_schema_encode.specs.Written.{HasTextIn}
+use Rattle.asn1_schema_encode.specs.Written.{IsWrittenIn, HasTextIn}
 use Rattle.asn1_schema_presented.specs.Records.{Record}
 use Rattle.asn1_schema_presented.specs.Presents.{presents, Fits}
 use Rattle.asn1_schema_presented.specs.Chains.{Chain}
 use Rattle.asn1_schema_presented.specs.Tables.{IsValue}
 use Rattle.oer_codec_encoder.specs.Stepping.{Written, Puts}
 use Rattle.oer_codec_encoder.specs.Steps.{State, Step}
-use Rattle.oer_codec_encoder.specs.Written.{IsWriter, HasOctets}
+use Rattle.oer_codec_encoder.specs.Written.{IsWriter, octet_rules}
 use Rattle.oer_codec_encoder.proofs.Written.{written_by_records, refused_by_records, writes_the_octets, refuses_only_none}
-use Rattle.oer_codec.specs.Encoded.{octet_rules, NotEncoded}
+use Rattle.oer_codec.specs.Encoded.{NotEncoded}
 
 -- the encoder is a writer
 held : Written → State
@@ -74,7 +74,7 @@ no_text schema v e i y c = as_text schema v None ((refused_by_records schema v e
 -- ---- what the calls answer
 
 -- behind the records of a value stand its octets
-pub written_all : (schema : ℕ → Schema) (v : Value) (start new : Written) (os : List ℕ) → start ≡ record { state = (os, []); failed = false } → os ≡ [] → IsValue schema v → Writes Puts schema v start new → (new.failed ≡ false) × (new.state.1 ≡ []) × HasOctets schema v (of_moderate_length new.state.0) × HasTextIn octet_rules schema v (Some new.state.0)
+pub written_all : (schema : ℕ → Schema) (v : Value) (start new : Written) (os : List ℕ) → start ≡ record { state = (os, []); failed = false } → os ≡ [] → IsValue schema v → Writes Puts schema v start new → (new.failed ≡ false) × (new.state.1 ≡ []) × IsWrittenIn octet_rules schema v (of_moderate_length new.state.0) × HasTextIn octet_rules schema v (Some new.state.0)
 unfolding held
 written_all schema v start new os e f i w =
     let x : Writes Puts schema v nothing_held new = subst (λ s. Writes Puts schema v s new) (begins start os e f) w in

@@ -1,6 +1,6 @@
 use Rattle.std.proofs.Common.{Some, Err, sym, ap}
 use Rattle.asn1_schema_encode.proofs.Written.{encoded, not_encoded}
-use Rattle.oer_codec.specs.Encoded.{octet_rules}
+use Rattle.oer_codec_encoder.specs.Written.{octet_rules}
 use Rattle.oer_codec.proofs.Encoding.{not_failed, written_all, refused_all}
 use Rattle.oer_codec.proofs.writing.encode_into.Goals as goal
 

@@ -1,6 +1,6 @@
 use Rattle.asn1_schema_encode.proofs.Written.{encoded, not_encoded}
 use Rattle.per_codec_encoder.specs.Stepping.{is_aligned}
-use Rattle.per_codec.specs.Encoded.{packed_rules}
+use Rattle.per_codec_encoder.specs.Written.{packed_rules}
 use Rattle.per_codec.proofs.Encoding.{written_all, refused_all}
 use Rattle.per_codec.proofs.writing.encode_into.Goals as goal
 

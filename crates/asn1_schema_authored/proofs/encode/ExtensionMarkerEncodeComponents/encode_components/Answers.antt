@@ -2,7 +2,7 @@ use Rattle.std.proofs.Common.{◌≡◌, ℕ, ◌≤◌, arith}
 use Rattle.std.specs.Prelude.{min}
 use Rattle.asn1_schema_presented.proofs.Joined.{raised}
 use Rattle.asn1_schema_authored.proofs.Writing.{writes_additions, cannot_additions, cannot_additions_here}
-use Rattle.asn1_schema_authored.proofs.encode.MarkedEncodeComponents.encode_components.Goals as goal
+use Rattle.asn1_schema_authored.proofs.encode.ExtensionMarkerEncodeComponents.encode_components.Goals as goal
 
 counted : (k n : ℕ) → k ≡ min n 18446744073709551615 → n ≤ 18446744073709551615 → k ≡ n
 counted k n e h = omega arith
