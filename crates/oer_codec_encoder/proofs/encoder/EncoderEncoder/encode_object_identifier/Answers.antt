@@ -4,7 +4,7 @@ use Rattle.oer_codec_encoder.proofs.Stepped.{adds_sound, adds_puts}
 use Rattle.oer_codec_encoder.proofs.encoder.EncoderEncoder.encode_object_identifier.Goals as goal
 
 pub invariant_of-self-2 : goal.invariant_of-self-2
-invariant_of-self-2 c _ = adds_sound (identifier c.args.value) _ c.self.inside.frames c.self.inside.output.now.items c.push_identifier.new.octets.items (λ s. refl) (c.self.invariant c.in_ok-begin_record.ensures.ok) c.in_ok-push_identifier.ensures
+invariant_of-self-2 c _ = adds_sound (identifier c.args.value) _ c.self.inside.frames c.self.inside.output.now.items c.push_identifier.new.octets.items (λ s. refl) (c.self.invariant c.in_ok-begin_record.ensures.ok) c.in_ok-push_identifier.ensures.text
 
 pub returns-clause-ok : goal.returns-clause-ok
-returns-clause-ok c = adds_puts (identifier c.args.value) _ c.self.inside.frames c.self.inside.output.now.items c.push_identifier.new.octets.items c.self.inside.failed c.args.self.now (λ s. refl) c.self.view_is c.in_ok-begin_record.ensures.ok (c.self.invariant c.in_ok-begin_record.ensures.ok) c.in_ok-push_identifier.ensures
+returns-clause-ok c = adds_puts (identifier c.args.value) _ c.self.inside.frames c.self.inside.output.now.items c.push_identifier.new.octets.items c.self.inside.failed c.args.self.now (λ s. refl) c.self.view_is c.in_ok-begin_record.ensures.ok (c.self.invariant c.in_ok-begin_record.ensures.ok) c.in_ok-push_identifier.ensures.text
