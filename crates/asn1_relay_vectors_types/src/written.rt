@@ -19,6 +19,7 @@ pub trait WriteComponents: ComponentsOf {
         ensures only { IfErr result
             (CannotWriteTail E.step Self.table (Self.root self.now) (Self.added self.now) encoder.old) }
         ensures failed { OnErr result (E.has_failed encoder.new) }
+        ensures front { E.front encoder.new ≡ E.front encoder.old }
         ensures already { E.has_failed encoder.old → result ≡ Err EncodeError.AlreadyFailed }
         ensures after { result ≡ Err EncodeError.AlreadyFailed → E.has_failed encoder.old };
 }
@@ -30,6 +31,7 @@ pub trait WriteAdditions: AdditionsOf {
         ensures ok { OnOk result (WritesAdded E.step Self.additions (Self.parts self.now) encoder.old encoder.new) }
         ensures only { IfErr result (CannotWriteAdded E.step Self.additions (Self.parts self.now) encoder.old) }
         ensures failed { OnErr result (E.has_failed encoder.new) }
+        ensures front { E.front encoder.new ≡ E.front encoder.old }
         ensures already { E.has_failed encoder.old → result ≡ Err EncodeError.AlreadyFailed }
         ensures after { result ≡ Err EncodeError.AlreadyFailed → E.has_failed encoder.old };
 }

@@ -1,5 +1,6 @@
 //! The encoder that keeps records.
 ghost use Rattle.std.specs.Prelude.{◌≡◌, ◌≤◌, ◌^◌, ◌++◌, [], ◌∷◌, true, false, map, OnOk, OnErr, IfErr, IfOk};
+ghost use Rattle.asn1_schema_encode.specs.Fronts.{no_front};
 ghost use Rattle.asn1_schema_encode.specs.Writes.{Refused};
 ghost use Rattle.asn1_schema_presented.specs.Records.{Record, one_of};
 ghost use Rattle.asn1_schema_records.specs.Kept.{record_of, Puts, Refusal};
@@ -106,6 +107,8 @@ impl Encoder for RecordEncoder {
 
     ghost has_failed = { λ e. e.failed ≡ true };
 
+    ghost front = { no_front };
+
     ghost rules = { λ e. e.rules };
 
     fn codec(&self) -> CodecKind {
@@ -149,6 +152,7 @@ impl Encoder for RecordEncoder {
         ensures only { IfErr result (Refused Puts (one_of T.roots T.extensible T.additions (T.number value.now))
             self.old) }
         ensures failed { OnErr result (self.new.failed ≡ true) }
+        ensures front { no_front self.new ≡ no_front self.old }
         ensures already { self.old.failed ≡ true → result ≡ Err EncodeError.AlreadyFailed }
         ensures after { result ≡ Err EncodeError.AlreadyFailed → self.old.failed ≡ true }
     {

@@ -1,5 +1,6 @@
 //! The encoder.
 ghost use Rattle.std.specs.Prelude.{◌≡◌, OnOk, OnErr, IfOk, IfErr, MatchResult, [], Some, true, false};
+ghost use Rattle.asn1_schema_encode.specs.Fronts.{no_front};
 ghost use Rattle.asn1_schema_encode.specs.Writes.{Refused};
 ghost use Rattle.asn1_schema_presented.specs.Records.{one_of};
 ghost use Rattle.per_codec_packing.specs.Texts.{as_text};
@@ -155,6 +156,8 @@ impl asn1_schema_encode::Encoder for Encoder {
 
     ghost has_failed = { λ e. e.failed ≡ true };
 
+    ghost front = { no_front };
+
     ghost rules = { λ e. rules_of e.aligned };
 
     fn codec(&self) -> CodecKind {
@@ -205,6 +208,7 @@ impl asn1_schema_encode::Encoder for Encoder {
         ensures only { IfErr result (Refused Puts
             (one_of T.roots T.extensible T.additions (T.number value.now)) self.old) }
         ensures failed { OnErr result (self.new.failed ≡ true) }
+        ensures front { no_front self.new ≡ no_front self.old }
         ensures already { self.old.failed ≡ true → result ≡ Err EncodeError.AlreadyFailed }
         ensures after { result ≡ Err EncodeError.AlreadyFailed → self.old.failed ≡ true }
     {
