@@ -1,8 +1,9 @@
 //! All that is open.
-ghost use Rattle.std.specs.Prelude.{◌≡◌, ◌+◌, ◌^◌, ◌<◌, ◌∷◌, [], List, OnOk, IfSome, IfNone, MatchResult};
+ghost use Rattle.std.specs.Prelude.{◌≡◌, ◌+◌, ◌^◌, ◌<◌, ◌∷◌, [], List, reverse, OnOk, OnErr, IfSome, IfNone, MatchResult};
 ghost use Rattle.asn1_schema_presented.specs.Records.{ends, further};
-ghost use Rattle.oer_codec_encoder.specs.declared.frame.Frame.TheVariants.{Added, Components, OpenType};
+ghost use Rattle.oer_codec_encoder.specs.declared.frame.Frame.TheVariants.{Added, Bag, Components, OpenType};
 ghost use Rattle.oer_codec_encoder.specs.Frames.{frame_of, others_of, frames_of, told, with_next};
+ghost use Rattle.oer_codec_encoder.specs.Fronts.{ground, Keeps};
 ghost use Rattle.oer_codec_encoder.specs.Holding.{AreSound, Does, Cannot};
 
 use crate::bags::next_of_bag;
@@ -12,6 +13,7 @@ use crate::sequences::count_member;
 use asn1_schema_faults::EncodeError;
 use std::alloc::{AllocError, Global};
 use std::marker::Model;
+use std::mem;
 
 /// What encloses one value alone, and takes no more than one number.
 #[derive(Clone, Copy)]
@@ -57,14 +59,17 @@ impl Model for Frames {
     ghost view = { λ f. frames_of f.enclosing f.innermost f.outer.items };
 }
 
-/// Opens a frame inside all others, where nothing encloses one value alone.
+/// Opens a frame inside all others, where nothing encloses one value alone. If memory is refused, all is as it was.
 #[inline(always)]
 fn put(
     innermost: &mut Option<Frame>,
     outer: &mut Vec<Frame>,
     frame: Frame,
 ) -> Result<(), AllocError>
-    ensures { OnOk result (others_of innermost.new outer.new.items ≡ frame ∷ others_of innermost.old outer.old.items) }
+    ensures ok { OnOk result
+        (others_of innermost.new outer.new.items ≡ frame ∷ others_of innermost.old outer.old.items) }
+    ensures kept { OnErr result
+        (others_of innermost.new outer.new.items ≡ others_of innermost.old outer.old.items) }
 {
     if innermost.is_none() {
         if !outer.is_empty() {
@@ -73,8 +78,9 @@ fn put(
         *innermost = Some(frame);
         return Ok(());
     }
+    outer.reserve(1)?;
     if let Some(around) = innermost.replace(frame) {
-        outer.push(around)?;
+        outer.push_reserved(around);
     }
     Ok(())
 }
@@ -87,13 +93,15 @@ fn put_enclosing(
     outer: &mut Vec<Frame>,
     enclosing: Enclosing,
 ) -> Result<(), AllocError>
-    ensures { OnOk result (others_of innermost.new outer.new.items ≡ frame_of enclosing
+    ensures ok { OnOk result (others_of innermost.new outer.new.items ≡ frame_of enclosing
         ∷ others_of innermost.old outer.old.items) }
+    ensures kept { OnErr result
+        (others_of innermost.new outer.new.items ≡ others_of innermost.old outer.old.items) }
 {
     put(innermost, outer, enclosing.frame())
 }
 
-/// Moves what encloses one value alone, if something does, to the other frames.
+/// Moves what encloses one value alone, if something does, to the other frames. If memory is refused, all is as it was.
 #[inline(always)]
 fn settle(
     enclosing: &mut Option<Enclosing>,
@@ -103,10 +111,12 @@ fn settle(
     ensures none { OnOk result (enclosing.new ≡ None) }
     ensures same { OnOk result (others_of innermost.new outer.new.items
         ≡ frames_of enclosing.old innermost.old outer.old.items) }
+    ensures kept { OnErr result (frames_of enclosing.new innermost.new outer.new.items
+        ≡ frames_of enclosing.old innermost.old outer.old.items) }
 {
     if let Some(around) = *enclosing {
-        *enclosing = None;
         put_enclosing(innermost, outer, around)?;
+        *enclosing = None;
     }
     Ok(())
 }
@@ -132,6 +142,8 @@ fn leave_open_type(innermost: &mut Option<Frame>, outer: &mut Vec<Frame>) -> Opt
         ≡ OpenType start ∷ others_of innermost.new outer.new.items) }
     ensures none { IfNone result
         ((start : _) (k : _) → others_of innermost.old outer.old.items ≡ OpenType start ∷ k → ⊥) }
+    ensures still { IfNone result
+        (others_of innermost.new outer.new.items ≡ others_of innermost.old outer.old.items) }
 {
     let Some(Frame::OpenType { start }) = innermost else {
         return None;
@@ -150,9 +162,11 @@ fn end_other(
     outer: &mut Vec<Frame>,
 ) -> Result<(), EncodeError>
     requires { AreSound (others_of innermost.old outer.old.items) octets.old.items }
-    ensures { MatchResult result (λ _. Does ends (others_of innermost.old outer.old.items) octets.old.items
+    ensures step { MatchResult result (λ _. Does ends (others_of innermost.old outer.old.items) octets.old.items
         (others_of innermost.new outer.new.items) octets.new.items)
         (Cannot ends (others_of innermost.old outer.old.items) octets.old.items) }
+    ensures kept { OnErr result (Keeps (others_of innermost.old outer.old.items) octets.old.items
+        (others_of innermost.new outer.new.items) octets.new.items) }
 {
     let Some(frame) = innermost else {
         return Err(EncodeError::CallOutOfPlace);
@@ -160,6 +174,24 @@ fn end_other(
     end_frame(octets, alloc, frame)?;
     leave(innermost, outer);
     Ok(())
+}
+
+/// Takes back the octets in front of a frame that has them apart, which a bag alone does.
+fn bring_back(octets: &mut Vec<u8>, frame: &mut Frame)
+    ensures { (k : _) → ground k octets.new.items ≡ ground (frame.old ∷ k) octets.old.items }
+{
+    if let Frame::Bag(bag) = frame {
+        mem::swap(octets, &mut bag.outer);
+    }
+}
+
+/// Takes back the octets in front of the outermost of these frames that has them apart, of which none is left.
+fn bring_all_back(octets: &mut Vec<u8>, frames: &mut Vec<Frame>)
+    ensures { octets.new.items ≡ ground (reverse frames.old.items) octets.old.items }
+{
+    while let Some(mut frame) = frames.pop() {
+        bring_back(octets, &mut frame);
+    }
 }
 
 impl Frames {
@@ -189,19 +221,45 @@ impl Frames {
         }
     }
 
-    /// Opens a frame inside all others.
+    /// Leaves nothing open, and takes back the octets in front of the outermost bag, if one is open.
+    pub(crate) fn bring_back(&mut self, octets: &mut Vec<u8>)
+        ensures octets { octets.new.items ≡ ground self.old octets.old.items }
+        ensures none { self.new ≡ [] }
+    {
+        self.enclosing = None;
+        if let Some(frame) = &mut self.innermost {
+            bring_back(octets, frame);
+            bring_all_back(octets, &mut self.outer);
+        }
+        self.innermost = None;
+    }
+
+    /// Exchanges the octets with those that the innermost frame, a bag, has in front of it.
+    pub(crate) fn set_aside(&mut self, octets: &mut Vec<u8>)
+        requires { (b : _) × (k : _) × (self.old ≡ Bag b ∷ k) }
+        ensures { (b : _) (k : _) → self.old ≡ Bag b ∷ k → let a = b.value in (c : _) × (self.new ≡ Bag c ∷ k)
+            × (c.value ≡ record a { outer = octets.old }) × (octets.new ≡ a.outer) }
+    {
+        if let (None, Some(Frame::Bag(bag))) = (&self.enclosing, &mut self.innermost) {
+            mem::swap(octets, &mut bag.outer);
+        }
+    }
+
+    /// Opens a frame inside all others. If memory is refused, all is as it was.
     #[inline(always)]
     pub(crate) fn open(&mut self, frame: Frame) -> Result<(), AllocError>
-        ensures { OnOk result (self.new ≡ frame ∷ self.old) }
+        ensures ok { OnOk result (self.new ≡ frame ∷ self.old) }
+        ensures kept { OnErr result (self.new ≡ self.old) }
     {
         settle(&mut self.enclosing, &mut self.innermost, &mut self.outer)?;
         put(&mut self.innermost, &mut self.outer, frame)
     }
 
-    /// Opens what encloses one value alone inside all others.
+    /// Opens what encloses one value alone inside all others. If memory is refused, all is as it was.
     #[inline(always)]
     pub(crate) fn enclose(&mut self, enclosing: Enclosing) -> Result<(), AllocError>
-        ensures { OnOk result (self.new ≡ frame_of enclosing ∷ self.old) }
+        ensures ok { OnOk result (self.new ≡ frame_of enclosing ∷ self.old) }
+        ensures kept { OnErr result (self.new ≡ self.old) }
     {
         settle(&mut self.enclosing, &mut self.innermost, &mut self.outer)?;
         self.enclosing = Some(enclosing);
@@ -213,6 +271,7 @@ impl Frames {
     pub(crate) fn close_open_type(&mut self) -> Option<usize>
         ensures some { IfSome result (λ start. self.old ≡ OpenType start ∷ self.new) }
         ensures none { IfNone result ((start : _) (k : _) → self.old ≡ OpenType start ∷ k → ⊥) }
+        ensures still { IfNone result (self.new ≡ self.old) }
     {
         match self.enclosing {
             Some(Enclosing::OpenType { start }) => {
@@ -236,8 +295,9 @@ impl Frames {
         alloc: Global,
     ) -> Result<(), EncodeError>
         requires { AreSound self.old octets.old.items }
-        ensures { MatchResult result (λ _. Does ends self.old octets.old.items self.new octets.new.items)
+        ensures step { MatchResult result (λ _. Does ends self.old octets.old.items self.new octets.new.items)
             (Cannot ends self.old octets.old.items) }
+        ensures kept { OnErr result (Keeps self.old octets.old.items self.new octets.new.items) }
     {
         if let Some(enclosing) = self.enclosing {
             self.enclosing = None;
@@ -274,6 +334,7 @@ impl Frames {
         ensures some { IfSome result (λ p. (k : _) × (self.old ≡ Components p ∷ k) × (0 < p.due)
             × (self.new ≡ Components (told p) ∷ k)) }
         ensures none { IfNone result ((p : _) (k : _) → self.old ≡ Components p ∷ k → p.due ≡ 0) }
+        ensures still { IfNone result (self.new ≡ self.old) }
     {
         match (&self.enclosing, &mut self.innermost) {
             (None, Some(Frame::Components(preamble))) => {
@@ -302,8 +363,10 @@ impl Frames {
         alloc: Global,
         more: bool,
     ) -> Result<(), EncodeError>
-        ensures { MatchResult result (λ _. Does (further more) self.old octets.old.items self.new octets.new.items)
+        ensures step { MatchResult result
+            (λ _. Does (further more) self.old octets.old.items self.new octets.new.items)
             (Cannot (further more) self.old octets.old.items) }
+        ensures kept { OnErr result (Keeps self.old octets.old.items self.new octets.new.items) }
     {
         match (&self.enclosing, &mut self.innermost) {
             (None, Some(Frame::Members { due })) => count_member(due, more)?,
@@ -320,6 +383,7 @@ impl Frames {
         ensures some { IfSome result (λ a. (k : _) × (self.old ≡ Added a ∷ k) × (0 < a.due)
             × (self.new ≡ Added (with_next present a) ∷ k)) }
         ensures none { IfNone result ((a : _) (k : _) → self.old ≡ Added a ∷ k → a.due ≡ 0) }
+        ensures still { IfNone result (self.new ≡ self.old) }
     {
         match (&self.enclosing, &mut self.innermost) {
             (None, Some(Frame::Added(additions))) => {

@@ -1,5 +1,7 @@
-use Rattle.std.proofs.Common.{arith}
+use Rattle.std.proofs.Common.{arith, ap, ◌∷◌, refl}
 use Rattle.oer_codec_encoder.proofs.EndScopes.{enclosing_within, enclosing_ends}
+use Rattle.oer_codec_encoder.specs.Frames.{frame_of}
+use Rattle.oer_codec_encoder.proofs.Fronts.{keeps_room, on_err}
 use Rattle.oer_codec_encoder.proofs.ends.end_enclosing.Goals as goal
 
 pub put_length-requires : goal.put_length-requires
@@ -7,5 +9,8 @@ put_length-requires c =
     let l = enclosing_within c.args.enclosing c.in-OpenType.start c.args.octets.now.items c.requires c.in-OpenType.is in
     omega (arith, l, c.args.octets.now.ok.0)
 
-pub returns-in-OpenType : goal.returns-in-OpenType
-returns-in-OpenType c = enclosing_ends c.args.enclosing c.in-OpenType.start c.args.octets.now.items c.put_length.new.octets.items c.put_length.result c.in-OpenType.is c.put_length.ensures
+pub returns-in-OpenType-clause-step : goal.returns-in-OpenType-clause-step
+returns-in-OpenType-clause-step c = enclosing_ends c.args.enclosing c.in-OpenType.start c.args.octets.now.items c.put_length.new.octets.items c.put_length.result c.in-OpenType.is c.put_length.ensures.text
+
+pub returns-in-OpenType-clause-kept : goal.returns-in-OpenType-clause-kept
+returns-in-OpenType-clause-kept c = on_err _ (λ b k. keeps_room (frame_of c.args.enclosing ∷ k) k k c.args.octets.now.items c.put_length.new.octets.items c.in-OpenType.start (ap (λ e. frame_of e ∷ k) c.in-OpenType.is) refl b) c.put_length.ensures.kept

@@ -1,13 +1,15 @@
-use Rattle.std.proofs.Common.{MatchResult, subst, arith}
+use Rattle.std.proofs.Common.{MatchResult, subst, arith, ap, ◌∷◌, refl}
 use Rattle.oer_codec_encoder.specs.declared.frame.Bag.{Bag}
 use Rattle.oer_codec_encoder.specs.Frames.{NoEnd}
 use Rattle.oer_codec_encoder.specs.Holding.{BagEnds}
 use Rattle.oer_codec_encoder.proofs.BagScopes.{bag_ends}
 use Rattle.oer_codec_encoder.proofs.EndScopes.{components_end, open_frame_within, open_frame_ends, added_frame_within, added_frame_ends}
+use Rattle.oer_codec_encoder.specs.Fronts.{ground}
+use Rattle.oer_codec_encoder.proofs.Fronts.{keeps_bag, keeps_room, keeps_same, on_err}
 use Rattle.oer_codec_encoder.proofs.ends.end_frame.Goals as goal
 
-pub returns-else-preamble-gt0 : goal.returns-else-preamble-gt0
-returns-else-preamble-gt0 c =
+pub returns-else-preamble-gt0-clause-step : goal.returns-else-preamble-gt0-clause-step
+returns-else-preamble-gt0-clause-step c =
     let f = c.in-Components in
     components_end c.args.frame.now f.preamble c.args.octets.now.items f.is c.if-preamble.false (omega (arith, c.if-preamble-gt0.false))
 
@@ -17,8 +19,8 @@ end_added-requires c =
     let l = added_frame_within c.args.frame.now f.additions c.args.octets.now.items c.requires f.is in
     omega (arith, l, c.args.octets.now.ok.0)
 
-pub returns-in-Added : goal.returns-in-Added
-returns-in-Added c = added_frame_ends c.args.frame.now c.in-Added.additions c.args.octets.now.items c.end_added.new.octets.items c.end_added.result c.in-Added.is c.end_added.ensures
+pub returns-in-Added-clause-step : goal.returns-in-Added-clause-step
+returns-in-Added-clause-step c = added_frame_ends c.args.frame.now c.in-Added.additions c.args.octets.now.items c.end_added.new.octets.items c.end_added.result c.in-Added.is c.end_added.ensures.step
 
 pub put_length-requires : goal.put_length-requires
 put_length-requires c =
@@ -26,12 +28,18 @@ put_length-requires c =
     let l = open_frame_within c.args.frame.now f.start c.args.octets.now.items c.requires f.is in
     omega (arith, l, c.args.octets.now.ok.0)
 
-pub returns-in-OpenType : goal.returns-in-OpenType
-returns-in-OpenType c = open_frame_ends c.args.frame.now c.in-OpenType.start c.args.octets.now.items c.put_length.new.octets.items c.put_length.result c.in-OpenType.is c.put_length.ensures
+pub returns-in-OpenType-clause-step : goal.returns-in-OpenType-clause-step
+returns-in-OpenType-clause-step c = open_frame_ends c.args.frame.now c.in-OpenType.start c.args.octets.now.items c.put_length.new.octets.items c.put_length.result c.in-OpenType.is c.put_length.ensures.text
 
-pub returns-in-Bag : goal.returns-in-Bag
-returns-in-Bag c =
+pub returns-in-Bag-clause-step : goal.returns-in-Bag-clause-step
+returns-in-Bag-clause-step c =
     let o = c.args.octets.now.items in
     let p = c.end_bag.new.octets.items in
     let r = c.end_bag.result in
-    bag_ends c.args.frame.now c.in-Bag.bag o p r c.in-Bag.is (subst (λ (b : Bag). MatchResult r (λ _. BagEnds b o p) (NoEnd b.due)) c.deref_mut.ensures.value c.end_bag.ensures)
+    bag_ends c.args.frame.now c.in-Bag.bag o p r c.in-Bag.is (subst (λ (b : Bag). MatchResult r (λ _. BagEnds b o p) (NoEnd b.due)) c.deref_mut.ensures.value c.end_bag.ensures.step)
+
+pub returns-in-Added-clause-kept : goal.returns-in-Added-clause-kept
+returns-in-Added-clause-kept c = on_err _ (λ e k. keeps_same _ _ _ _ refl e) c.end_added.ensures.kept
+
+pub returns-in-OpenType-clause-kept : goal.returns-in-OpenType-clause-kept
+returns-in-OpenType-clause-kept c = on_err _ (λ b k. keeps_room _ k _ c.args.octets.now.items c.put_length.new.octets.items c.in-OpenType.start (ap (λ g. g ∷ k) c.in-OpenType.is) (ap (λ g. ground (g ∷ k) c.put_length.new.octets.items) c.in-OpenType.is) b) c.put_length.ensures.kept

@@ -10,4 +10,4 @@ returns-clause-octets c f n =
     let o = c.self.inside.output.now.items in
     let ready = ap (λ (w : Written). w.failed) c.self.view_is ∙ f in
     let state = ap (λ (w : Written). w.state) c.self.view_is in
-    ap (λ v. v.items) c.replace.ensures.value ∙ nothing_open fs o (shown fs o) (c.self.invariant ready) (ap (λ s. s.1) state ∙ n) ∙ ap (λ s. s.0) state
+    ap (λ v. v.items) c.replace.ensures.value ∙ nothing_open fs o (shown fs o) (c.self.invariant ready).holds (ap (λ s. s.1) state ∙ n) ∙ ap (λ s. s.0) state
