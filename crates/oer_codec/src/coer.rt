@@ -36,7 +36,7 @@ pub fn encode<T: Encode>(alloc: Global, value: &T) -> Result<Vec<u8>, EncodeErro
 ///
 /// # Errors
 ///
-/// Those of `encode`; the buffer then holds what it held, but an empty one has no room any more.
+/// Those of `encode`; the buffer then holds what it held.
 pub fn encode_buf<T: Encode>(
     alloc: Global,
     value: &T,

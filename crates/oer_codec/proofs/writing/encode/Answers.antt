@@ -2,7 +2,7 @@ use Rattle.std.proofs.Common.{Some, Err, sym, ap}
 use Rattle.asn1_schema_encode.proofs.Written.{encoded, not_encoded}
 use Rattle.oer_codec.specs.Encoded.{octet_rules}
 use Rattle.oer_codec.proofs.Encoding.{not_failed, written_all, refused_all}
-use Rattle.oer_codec.proofs.writing.encode_into.Goals as goal
+use Rattle.oer_codec.proofs.writing.encode.Goals as goal
 
 pub returns-clause-only : goal.returns-clause-only
 returns-clause-only g c = refused_all g.T.Described.schema (g.T.Described.meaning c.args.value.now) c.from_buffer-encoder.result _ c.in-Err.error c.refusal.result c.from_buffer-encoder.ensures c.in_ok-output.ensures (g.T.Described.valued c.args.value.now) c.in-Err.ensures.only (record { length = c.refusal.ensures.length; platform = c.refusal.ensures.platform; place = c.refusal.ensures.place; others = c.refusal.ensures.others })
