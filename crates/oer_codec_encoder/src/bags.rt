@@ -21,6 +21,7 @@ use asn1_schema_faults::EncodeError;
 use asn1_schema_order::{Encodings, Entry};
 use oer_codec_writing::push_count;
 use std::alloc::{AllocError, Global};
+use std::mem;
 
 /// Begins a bag with its count (X.696 19), which the program's type has to hold.
 ///
@@ -54,6 +55,15 @@ pub(crate) fn begin_bag(
     frames.open(Frame::Bag(boxed))?;
     frames.set_aside(octets);
     Ok(())
+}
+
+/// Exchanges octets with those in front of a bag.
+#[inline]
+pub(crate) fn exchange(octets: &mut Vec<u8>, bag: &mut Bag)
+    ensures bag { let a = bag.old in bag.new ≡ record a { outer = octets.old } }
+    ensures octets { octets.new ≡ bag.old.outer }
+{
+    mem::swap(octets, &mut bag.outer);
 }
 
 /// Whether a further member of a bag comes (X.696 19): the octets of each stand alone, and as many come as were told.

@@ -7,14 +7,13 @@ ghost use Rattle.oer_codec_encoder.specs.Frames.{frame_of, NoEnd};
 ghost use Rattle.oer_codec_encoder.specs.Fronts.{Keeps};
 ghost use Rattle.oer_codec_encoder.specs.Holding.{AreSound, BagEnds, Does, Cannot};
 
-use crate::bags::push_members;
+use crate::bags::{exchange, push_members};
 use crate::frame::{Additions, Bag, Frame};
 use crate::frames::Enclosing;
 use crate::open_types::put_length;
 use crate::sequences::raise_bit;
 use asn1_schema_faults::EncodeError;
 use std::alloc::Global;
-use std::mem;
 
 /// Ends a sequence or a set behind its root (X.696 16), of which no addition is due: with one that is there the
 /// extension bit is set, and with none the presence bitmap is taken off again.
@@ -47,11 +46,11 @@ fn end_bag(octets: &mut Vec<u8>, alloc: Global, bag: &mut Bag) -> Result<(), Enc
         return Err(EncodeError::CallOutOfPlace);
     }
     let Some(members) = bag.members.take() else {
-        mem::swap(octets, &mut bag.outer);
+        exchange(octets, bag);
         return Ok(());
     };
     push_members(&mut bag.outer, alloc, members, octets.as_slice())?;
-    mem::swap(octets, &mut bag.outer);
+    exchange(octets, bag);
     Ok(())
 }
 

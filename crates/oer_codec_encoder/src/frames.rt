@@ -6,14 +6,13 @@ ghost use Rattle.oer_codec_encoder.specs.Frames.{frame_of, others_of, frames_of,
 ghost use Rattle.oer_codec_encoder.specs.Fronts.{ground, Keeps};
 ghost use Rattle.oer_codec_encoder.specs.Holding.{AreSound, Does, Cannot};
 
-use crate::bags::next_of_bag;
+use crate::bags::{exchange, next_of_bag};
 use crate::ends::{end_enclosing, end_frame};
 use crate::frame::{Additions, Frame, Preamble};
 use crate::sequences::count_member;
 use asn1_schema_faults::EncodeError;
 use std::alloc::{AllocError, Global};
 use std::marker::Model;
-use std::mem;
 
 /// What encloses one value alone, and takes no more than one number.
 #[derive(Clone, Copy)]
@@ -180,8 +179,9 @@ fn end_other(
 fn bring_back(octets: &mut Vec<u8>, frame: &mut Frame)
     ensures { (k : _) → ground k octets.new.items ≡ ground (frame.old ∷ k) octets.old.items }
 {
-    if let Frame::Bag(bag) = frame {
-        mem::swap(octets, &mut bag.outer);
+    match frame {
+        Frame::Bag(bag) => exchange(octets, bag),
+        _ => {}
     }
 }
 
@@ -192,6 +192,17 @@ fn bring_all_back(octets: &mut Vec<u8>, frames: &mut Vec<Frame>)
     while let Some(mut frame) = frames.pop() {
         bring_back(octets, &mut frame);
     }
+}
+
+/// The same of the innermost frame and of those around it.
+fn bring_others_back(octets: &mut Vec<u8>, innermost: &mut Option<Frame>, outer: &mut Vec<Frame>)
+    ensures { octets.new.items ≡ ground (others_of innermost.old outer.old.items) octets.old.items }
+{
+    let Some(frame) = innermost else {
+        return;
+    };
+    bring_back(octets, frame);
+    bring_all_back(octets, outer);
 }
 
 impl Frames {
@@ -226,12 +237,8 @@ impl Frames {
         ensures octets { octets.new.items ≡ ground self.old octets.old.items }
         ensures none { self.new ≡ [] }
     {
-        self.enclosing = None;
-        if let Some(frame) = &mut self.innermost {
-            bring_back(octets, frame);
-            bring_all_back(octets, &mut self.outer);
-        }
-        self.innermost = None;
+        bring_others_back(octets, &mut self.innermost, &mut self.outer);
+        self.clear();
     }
 
     /// Exchanges the octets with those that the innermost frame, a bag, has in front of it.
@@ -240,8 +247,9 @@ impl Frames {
         ensures { (b : _) (k : _) → self.old ≡ Bag b ∷ k → let a = b.value in (c : _) × (self.new ≡ Bag c ∷ k)
             × (c.value ≡ record a { outer = octets.old }) × (octets.new ≡ a.outer) }
     {
-        if let (None, Some(Frame::Bag(bag))) = (&self.enclosing, &mut self.innermost) {
-            mem::swap(octets, &mut bag.outer);
+        match (&self.enclosing, &mut self.innermost) {
+            (None, Some(Frame::Bag(bag))) => exchange(octets, bag),
+            _ => {}
         }
     }
 
