@@ -33,6 +33,13 @@ fn four_are_refused(alloc: Global, buffer: &mut Vec<u8>) -> Result<bool, AllocEr
     Ok(is_refused(alloc, &four, buffer))
 }
 
+/// Whether they refuse a list of four octets so, whose count is written in front of them.
+fn list_of_four_is_refused(alloc: Global, buffer: &mut Vec<u8>) -> Result<bool, AllocError> {
+    let mut list = Vec::new(alloc);
+    list.push(four(alloc)?)?;
+    Ok(is_refused(alloc, &list, buffer))
+}
+
 /// Adds true to what the buffer holds, twice: whether it stands behind that.
 fn adds_true(alloc: Global, buffer: &mut Vec<u8>) -> Result<bool, EncodeError> {
     coer::encode_buf(alloc, &true, buffer)?;
@@ -47,6 +54,7 @@ fn buffers(rt: HostRuntime) -> Result<(), Fail> {
     let alloc = rt.alloc();
     let mut buffer = vec![in alloc; 0xAAu8]?;
     assert!(rt; four_are_refused(alloc, &mut buffer)?);
+    assert!(rt; list_of_four_is_refused(alloc, &mut buffer)?);
     assert!(rt; adds_true(alloc, &mut buffer)?);
     Ok(())
 }
