@@ -148,7 +148,7 @@ leads_ended os (alternative ∷ k) = leads_to _ _ (begins_same _ _ refl)
 
 pub run_leads : (r : Record) (s : State) → Leads (first_of s) (run r s)
 run_leads (flag b) s = leads_text _ s
-run_leads nil s = leads_text _ s
+run_leads nil s = leads_text (Some []) s
 run_leads (whole b h v) s = leads_text _ s
 run_leads (one_of roots e others v) s = leads_text _ s
 run_leads (bits z h bs) s = leads_text _ s
@@ -167,7 +167,8 @@ run_leads is_empty s = leads_none _
 run_leads (additions_begin n) s = leads_extended n s.0 s.1
 run_leads (addition b) s = leads_addition b s.0 s.1
 run_leads addition_ends s = leads_added s.0 s.1
-run_leads (choice_begins roots e others plus i) s = leads_then (first_of s) (tag_at i (tags_among roots e others plus)) _ (λ t. leads_then (first_of s) (written (Oer.tag_form t) 0) _ (λ w. leads_chosen plus w s))
+run_leads (choice_begins roots e others plus i) s =
+    leads_then (first_of s) (tag_at i (tags_among roots e others plus)) (λ t. option_and_then (λ w. chosen_on plus w s) (written (Oer.tag_form t) 0)) (λ t. leads_then (first_of s) (written (Oer.tag_form t) 0) (λ w. chosen_on plus w s) (λ w. leads_chosen plus w s))
 run_leads ends s = leads_ended s.0 s.1
 run_leads mismatch s = leads_none _
 

@@ -1,5 +1,6 @@
 -- What the encoder's calls did, by what they did to the octets and the frames.
-use Rattle.std.proofs.Common.{◌≡◌, ℕ, Bool, true, false, List, ◌++◌, take, Option, Some, None, refl, ap, subst, sym, ◌∙◌}
+use Rattle.std.proofs.Common.{◌≡◌, ℕ, ◌≤◌, Bool, true, false, List, [], ◌++◌, length, take, arith, Option, Some, None, refl, ap, subst, sym, ◌∙◌}
+use Rattle.std.proofs.lemmas.List.{take_all}
 use Rattle.asn1_model.specs.Versions.{Begins}
 use Rattle.asn1_schema_faults.specs.declared.EncodeError.{EncodeError}
 use Rattle.asn1_schema_faults.specs.declared.EncodeError.TheVariants.{ValueConstraintNotSatisfied, SizeConstraintNotSatisfied, AlphabetConstraintNotSatisfied, TooLongValue, LengthExceedsPlatformSize, CallOutOfPlace, OutOfMemory, AlreadyFailed}
@@ -94,3 +95,11 @@ adds_front r x fs o p f w q e h a = same_front r fs fs o p f w e h (does_add r x
 
 pub text_kept : {n : ℕ} (fs : List Frame) (o p : List ℕ) (f : Bool) (w : Written) → holding fs o f n ≡ w → Stands fs o n → Begins o p → take n (ground fs p) ≡ w.front
 text_kept fs o p f w e h b = kept_front fs fs o p f w e h (keeps_behind fs fs o p refl b)
+
+-- ---- an encoder that begins
+
+pub stands_at_first : (o : List ℕ) (n : ℕ) → n ≤ length o → Stands [] o n
+stands_at_first o n h = record { holds = refl; behind = h }
+
+pub holding_at_first : (o : List ℕ) (n : ℕ) → n ≡ length o → holding [] o false n ≡ record { state = (o, []); failed = false; front = o }
+holding_at_first o n h = ap (λ (l : List ℕ). let w : Written = record { state = (o, []); failed = false; front = l } in w) (take_all n o (omega (arith, h)))
