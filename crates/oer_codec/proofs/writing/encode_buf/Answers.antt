@@ -41,4 +41,4 @@ returns-clause-fresh g c h = c.refusal.ensures.fresh (λ k. not_failed c.from_bu
 pub returns-clause-same : goal.returns-clause-same
 returns-clause-same g c =
     let same = ap (λ v. v.items) c.replace-output.ensures.value ∙ c.in_ok-reserve.ensures.items in
-    c.take_front.ensures.octets ∙ c.encode.ensures.front ∙ ap (λ w. w.front) c.from_buffer-encoder.ensures ∙ same
+    c.take_front.ensures.octets ∙ c.in-Err.ensures.front ∙ ap (λ w. w.front) c.from_buffer-encoder.ensures ∙ same

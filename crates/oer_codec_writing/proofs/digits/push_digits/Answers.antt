@@ -20,11 +20,11 @@ returns-in_err-push-in-1-clause-kept c = though_refused _ (begins_same _ _ c.in_
 pub returns-in_err-extend_from_slice-in-2-clause-kept : goal.returns-in_err-extend_from_slice-in-2-clause-kept
 returns-in_err-extend_from_slice-in-2-clause-kept c = though_refused _ (begins_same _ _ c.in_err-extend_from_slice-in-2.ensures.items)
 
-pub returns-in_err-extend_from_slice-2-in-4-clause-kept : goal.returns-in_err-extend_from_slice-2-in-4-clause-kept
-returns-in_err-extend_from_slice-2-in-4-clause-kept c = though_refused _ (begins_same _ _ c.in_err-extend_from_slice-2-in-4.ensures.items)
+pub returns-in_err-extend_from_slice-in-4-clause-kept : goal.returns-in_err-extend_from_slice-in-4-clause-kept
+returns-in_err-extend_from_slice-in-4-clause-kept c = though_refused _ (begins_same _ _ c.in_err-extend_from_slice-in-4.ensures.items)
 
-pub returns-in_err-extend_from_slice-3-in-8-clause-kept : goal.returns-in_err-extend_from_slice-3-in-8-clause-kept
-returns-in_err-extend_from_slice-3-in-8-clause-kept c = though_refused _ (begins_same _ _ c.in_err-extend_from_slice-3-in-8.ensures.items)
+pub returns-in_err-extend_from_slice-in-8-clause-kept : goal.returns-in_err-extend_from_slice-in-8-clause-kept
+returns-in_err-extend_from_slice-in-8-clause-kept c = though_refused _ (begins_same _ _ c.in_err-extend_from_slice-in-8.ensures.items)
 
-pub returns-in_err-extend_from_slice-4-in_default-clause-kept : goal.returns-in_err-extend_from_slice-4-in_default-clause-kept
-returns-in_err-extend_from_slice-4-in_default-clause-kept c = though_refused _ (begins_same _ _ c.in_err-extend_from_slice-4-in_default.ensures.items)
+pub returns-in_err-extend_from_slice-in_default-clause-kept : goal.returns-in_err-extend_from_slice-in_default-clause-kept
+returns-in_err-extend_from_slice-in_default-clause-kept c = though_refused _ (begins_same _ _ c.in_err-extend_from_slice-in_default.ensures.items)
