@@ -1,6 +1,6 @@
 -- The octets in front of all that is open stay, whatever comes of a record.
 use Rattle.std.proofs.Common.{◌≡◌, ℕ, zero, suc, ◌+◌, ◌≤◌, Bool, true, false, ◌-◌, List, [], ◌∷◌, ◌++◌, length, set, take, drop, Box, Global, Result, Ok, Err, OnErr, Option, Some, None, option_map, option_and_then, refl, ap, subst, sym, ◌∙◌, arith, length-append}
-use Rattle.std.proofs.lemmas.List.{set-append_right, take-append-le}
+use Rattle.std.proofs.lemmas.List.{set-append_right, take-append-drop, take-append-le}
 use Rattle.asn1_model.specs.Form.{written, only_if}
 use Rattle.asn1_model.specs.Numbers.{is_count_within}
 use Rattle.asn1_model.specs.Oer
@@ -234,6 +234,12 @@ keeps_raised fs k gs a o p q i y e same changed b = record { keeps = λ s h. go 
         let heading : Begins h.root h.has.front = (_, sym h.text) in
         let front : Begins h.preamble.front q = begins_through _ _ _ root (begins_through _ _ _ heading (begins_through _ _ _ (_, sym raised) b)) in
         rebased _ _ _ (ap first_of h.is) (subst (λ l. Begins (first_of h.outer) l) (sym same) (begins_through _ _ _ (in_front k h.preamble.front h.outer h.under) (ground_on k h.preamble.front q front)))
+
+pub begins_added : (o p w : List ℕ) → p ≡ o ++ w → Begins o p
+begins_added o p w e = (w, sym e)
+
+pub begins_taken : (n : ℕ) (o : List ℕ) → Begins (take n o) o
+begins_taken n o = (drop n o, take-append-drop n o)
 
 -- the octets have more behind them, and the same frames are open
 pub keeps_behind : (fs gs : List Frame) (o p : List ℕ) → gs ≡ fs → Begins o p → Keeps fs o gs p

@@ -247,10 +247,10 @@ impl Frames {
         ensures { (b : _) (k : _) → self.old ≡ Bag b ∷ k → let a = b.value in (c : _) × (self.new ≡ Bag c ∷ k)
             × (c.value ≡ record a { outer = octets.old }) × (octets.new ≡ a.outer) }
     {
-        match (&self.enclosing, &mut self.innermost) {
-            (None, Some(Frame::Bag(bag))) => exchange(octets, bag),
-            _ => {}
-        }
+        let (None, Some(Frame::Bag(bag))) = (&self.enclosing, &mut self.innermost) else {
+            return;
+        };
+        exchange(octets, bag);
     }
 
     /// Opens a frame inside all others. If memory is refused, all is as it was.

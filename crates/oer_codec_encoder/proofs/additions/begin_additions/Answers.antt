@@ -29,3 +29,6 @@ returns-in_err-push_bits_heading-clause-kept c = though_refused _ (keeps_behind 
 
 pub returns-in_err-push_zeros-clause-kept : goal.returns-in_err-push_zeros-clause-kept
 returns-in_err-push_zeros-clause-kept c = though_refused _ (keeps_behind _ _ _ _ refl (begins_behind_text _ c.args.octets.now.items c.push_bits_heading.new.octets.items _ c.in_ok-push_bits_heading.ensures.text (begins_same _ _ c.in_err-push_zeros.ensures.kept)))
+
+pub returns-then-not-preamble-clause-kept : goal.returns-then-not-preamble-clause-kept
+returns-then-not-preamble-clause-kept c = keeps_same _ _ _ _ refl refl

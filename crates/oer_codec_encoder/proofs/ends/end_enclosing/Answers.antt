@@ -1,6 +1,9 @@
-use Rattle.std.proofs.Common.{arith, ap, ◌∷◌, refl}
+use Rattle.std.proofs.Common.{List, take, arith, ap, ◌∷◌, refl}
 use Rattle.oer_codec_encoder.proofs.EndScopes.{enclosing_within, enclosing_ends}
+use Rattle.asn1_model.specs.Versions.{Begins}
 use Rattle.oer_codec_encoder.specs.Frames.{frame_of}
+use Rattle.oer_codec_encoder.specs.Fronts.{Keeps}
+use Rattle.oer_codec_encoder.specs.declared.frame.Frame.{Frame}
 use Rattle.oer_codec_encoder.proofs.Fronts.{keeps_room, on_err}
 use Rattle.oer_codec_encoder.proofs.ends.end_enclosing.Goals as goal
 
@@ -13,4 +16,8 @@ pub returns-in-OpenType-clause-step : goal.returns-in-OpenType-clause-step
 returns-in-OpenType-clause-step c = enclosing_ends c.args.enclosing c.in-OpenType.start c.args.octets.now.items c.put_length.new.octets.items c.put_length.result c.in-OpenType.is c.put_length.ensures.text
 
 pub returns-in-OpenType-clause-kept : goal.returns-in-OpenType-clause-kept
-returns-in-OpenType-clause-kept c = on_err _ (λ b k. keeps_room (frame_of c.args.enclosing ∷ k) k k c.args.octets.now.items c.put_length.new.octets.items c.in-OpenType.start (ap (λ e. frame_of e ∷ k) c.in-OpenType.is) refl b) c.put_length.ensures.kept
+returns-in-OpenType-clause-kept c =
+    let o = c.args.octets.now.items in
+    let p = c.put_length.new.octets.items in
+    let left : Begins (take c.in-OpenType.start o) p → (k : List Frame) → Keeps (frame_of c.args.enclosing ∷ k) o k p = λ b k. keeps_room (frame_of c.args.enclosing ∷ k) k k o p c.in-OpenType.start (ap (λ e. frame_of e ∷ k) c.in-OpenType.is) refl b in
+    on_err c.put_length.result left c.put_length.ensures.kept

@@ -1,10 +1,12 @@
-use Rattle.std.proofs.Common.{MatchResult, subst, arith, ap, ◌∷◌, refl}
+use Rattle.std.proofs.Common.{◌≡◌, List, take, MatchResult, subst, arith, ap, ◌∷◌, refl}
 use Rattle.oer_codec_encoder.specs.declared.frame.Bag.{Bag}
 use Rattle.oer_codec_encoder.specs.Frames.{NoEnd}
 use Rattle.oer_codec_encoder.specs.Holding.{BagEnds}
 use Rattle.oer_codec_encoder.proofs.BagScopes.{bag_ends}
 use Rattle.oer_codec_encoder.proofs.EndScopes.{components_end, open_frame_within, open_frame_ends, added_frame_within, added_frame_ends}
-use Rattle.oer_codec_encoder.specs.Fronts.{ground}
+use Rattle.asn1_model.specs.Versions.{Begins}
+use Rattle.oer_codec_encoder.specs.Fronts.{ground, Keeps}
+use Rattle.oer_codec_encoder.specs.declared.frame.Frame.{Frame}
 use Rattle.oer_codec_encoder.proofs.Fronts.{keeps_bag, keeps_room, keeps_same, on_err}
 use Rattle.oer_codec_encoder.proofs.ends.end_frame.Goals as goal
 
@@ -39,7 +41,18 @@ returns-in-Bag-clause-step c =
     bag_ends c.args.frame.now c.in-Bag.bag o p r c.in-Bag.is (subst (λ (b : Bag). MatchResult r (λ _. BagEnds b o p) (NoEnd b.due)) c.deref_mut.ensures.value c.end_bag.ensures.step)
 
 pub returns-in-Added-clause-kept : goal.returns-in-Added-clause-kept
-returns-in-Added-clause-kept c = on_err _ (λ e k. keeps_same _ _ _ _ refl e) c.end_added.ensures.kept
+returns-in-Added-clause-kept c =
+    let o = c.args.octets.now.items in
+    let p = c.end_added.new.octets.items in
+    let f = c.args.frame.now in
+    let left : p ≡ o → (k : List Frame) → Keeps (f ∷ k) o (f ∷ k) p = λ e k. keeps_same (f ∷ k) (f ∷ k) o p refl e in
+    on_err c.end_added.result left c.end_added.ensures.kept
 
 pub returns-in-OpenType-clause-kept : goal.returns-in-OpenType-clause-kept
-returns-in-OpenType-clause-kept c = on_err _ (λ b k. keeps_room _ k _ c.args.octets.now.items c.put_length.new.octets.items c.in-OpenType.start (ap (λ g. g ∷ k) c.in-OpenType.is) (ap (λ g. ground (g ∷ k) c.put_length.new.octets.items) c.in-OpenType.is) b) c.put_length.ensures.kept
+returns-in-OpenType-clause-kept c =
+    let o = c.args.octets.now.items in
+    let p = c.put_length.new.octets.items in
+    let f = c.args.frame.now in
+    let i = c.in-OpenType in
+    let left : Begins (take i.start o) p → (k : List Frame) → Keeps (f ∷ k) o (f ∷ k) p = λ b k. keeps_room (f ∷ k) k (f ∷ k) o p i.start (ap (λ g. g ∷ k) i.is) (ap (λ g. ground (g ∷ k) p) i.is) b in
+    on_err c.put_length.result left c.put_length.ensures.kept

@@ -1,6 +1,5 @@
 use Rattle.std.proofs.Common.{arith, ◌∙◌, ap, ◌-◌}
 use Rattle.oer_codec_encoder.proofs.RoomTexts.{short_in_room}
-use Rattle.asn1_values_identifiers.proofs.Begins.{though_refused}
 use Rattle.oer_codec_encoder.proofs.open_types.put_length.Goals as goal
 
 pub returns-in-Some-clause-text : goal.returns-in-Some-clause-text
@@ -9,6 +8,3 @@ returns-in-Some-clause-text c =
     let start = c.args.start in
     let s = c.in-Some.ensures.some in
     short_in_room o.items c.put_octet.new.octets.items start c.in-Some.octet (omega (arith, c.requires, o.ok.0)) (s.0 ∙ ap (λ k. k - start - 1) (c.len.ensures ∙ o.ok.0)) (omega (arith, s.0, s.1)) c.put_octet.ensures c.type_inv.octets
-
-pub returns-in_err-put_long_length-clause-kept : goal.returns-in_err-put_long_length-clause-kept
-returns-in_err-put_long_length-clause-kept c = though_refused _ (c.in_err-put_long_length.ensures.kept)

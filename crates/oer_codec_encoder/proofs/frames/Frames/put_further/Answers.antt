@@ -1,5 +1,6 @@
-use Rattle.std.proofs.Common.{◌≡◌, MatchResult, Some, reverse, refl, subst, sym, ◌∙◌, ap}
+use Rattle.std.proofs.Common.{ℕ, Vec, Global, ◌≡◌, MatchResult, Some, reverse, refl, subst, sym, ◌∙◌, ap}
 use Rattle.std.specs.Box.{with_value}
+use Rattle.asn1_model.specs.Versions.{Begins}
 use Rattle.oer_codec_encoder.specs.declared.frame.Bag.{Bag as BagFrame}
 use Rattle.oer_codec_encoder.specs.declared.frame.Frame.TheVariants.{Members, Bag}
 use Rattle.oer_codec_encoder.specs.Frames.{NoMember}
@@ -41,8 +42,10 @@ returns-in-None-Some-Bag-clause-kept c =
     let i = c.self.inside in
     let at : i.innermost ≡ Some (Bag f.bag) = cc in
     let old = sym c.self.view_is ∙ none_encloses i.enclosing i.innermost (Bag f.bag) i.outer.items f.is-0 at in
-    on_err c.next_of_bag.result (λ e. keeps_bag c.args.self.now (reverse i.outer.items) _ f.bag next o c.next_of_bag.new.octets.items old (none_encloses i.enclosing (Some (Bag next)) (Bag next) i.outer.items f.is-0 refl)
-    (begins_same _ _ (ap (λ v. v.items) e ∙ ap (λ (b : BagFrame). b.outer.items) (sym c.deref_mut.ensures.value)))) c.next_of_bag.ensures.kept
+    let gs = none_encloses i.enclosing (Some (Bag next)) (Bag next) i.outer.items f.is-0 refl in
+    let p = c.next_of_bag.new.octets.items in
+    let same : c.next_of_bag.new.bag.outer ≡ c.deref_mut.result.now.outer → Begins f.bag.value.outer.items next.value.outer.items = λ e. begins_same f.bag.value.outer.items next.value.outer.items (ap (λ (v : Vec ℕ Global). v.items) e ∙ ap (λ (b : BagFrame). b.outer.items) c.deref_mut.ensures.value) in
+    on_err c.next_of_bag.result (λ e. keeps_bag c.args.self.now (reverse i.outer.items) _ f.bag next o p old gs (same e)) c.next_of_bag.ensures.kept
 
 pub returns-in_err-count_member-in-None-Some-Members-clause-kept : goal.returns-in_err-count_member-in-None-Some-Members-clause-kept
 returns-in_err-count_member-in-None-Some-Members-clause-kept c = 

@@ -5,8 +5,8 @@ use Rattle.oer_codec_encoder.specs.declared.frame.Frame.TheVariants.{Bag}
 use Rattle.oer_codec_encoder.proofs.Going.{none_encloses, sets_aside}
 use Rattle.oer_codec_encoder.proofs.frames.Frames.set_aside.Goals as goal
 
-pub returns-in-None-Some-Bag : goal.returns-in-None-Some-Bag
-returns-in-None-Some-Bag c b k e =
+pub returns : goal.returns
+returns c b k e =
     let f = c.in-None-Some-Bag in
     let i = c.self.inside in
     let next = with_value f.bag c.exchange.new.bag in
