@@ -1,12 +1,14 @@
-use Rattle.std.proofs.Common.{◌≡◌, List, take, MatchResult, subst, arith, ap, ◌∷◌, refl}
+use Rattle.std.proofs.Common.{rules, sym, ◌≡◌, List, take, MatchResult, subst, arith, ap, ◌∷◌, refl}
 use Rattle.oer_codec_encoder.specs.declared.frame.Bag.{Bag}
 use Rattle.oer_codec_encoder.specs.Frames.{NoEnd}
 use Rattle.oer_codec_encoder.specs.Holding.{BagEnds}
 use Rattle.oer_codec_encoder.proofs.BagScopes.{bag_ends}
 use Rattle.oer_codec_encoder.proofs.EndScopes.{components_end, open_frame_within, open_frame_ends, added_frame_within, added_frame_ends}
 use Rattle.asn1_model.specs.Versions.{Begins}
-use Rattle.oer_codec_encoder.specs.Fronts.{ground, Keeps}
+use Rattle.oer_codec_encoder.specs.Fronts.{Keeps}
 use Rattle.oer_codec_encoder.specs.declared.frame.Frame.{Frame}
+use Rattle.oer_codec_encoder.specs.declared.frame.Frame.TheVariants.{Added, OpenType, Bag as BagOpen}
+use Rattle.std.specs.Box.{with_value}
 use Rattle.oer_codec_encoder.proofs.Fronts.{keeps_bag, keeps_room, keeps_same, on_err}
 use Rattle.oer_codec_encoder.proofs.ends.end_frame.Goals as goal
 
@@ -40,12 +42,19 @@ returns-in-Bag-clause-step c =
     let r = c.end_bag.result in
     bag_ends c.args.frame.now c.in-Bag.bag o p r c.in-Bag.is (subst (λ (b : Bag). MatchResult r (λ _. BagEnds b o p) (NoEnd b.due)) c.deref_mut.ensures.value c.end_bag.ensures.step)
 
+pub returns-then-preamble-clause-kept : goal.returns-then-preamble-clause-kept
+returns-then-preamble-clause-kept c k = keeps_same _ _ _ _ (ap (λ g. g ∷ k) (sym c.in-Components.is)) refl
+
+pub returns-in-Members-clause-kept : goal.returns-in-Members-clause-kept
+returns-in-Members-clause-kept c k = keeps_same _ _ _ _ (ap (λ g. g ∷ k) (search rules)) refl
+
 pub returns-in-Added-clause-kept : goal.returns-in-Added-clause-kept
 returns-in-Added-clause-kept c =
     let o = c.args.octets.now.items in
     let p = c.end_added.new.octets.items in
     let f = c.args.frame.now in
-    let left : p ≡ o → (k : List Frame) → Keeps (f ∷ k) o (f ∷ k) p = λ e k. keeps_same (f ∷ k) (f ∷ k) o p refl e in
+    let i = c.in-Added in
+    let left : p ≡ o → (k : List Frame) → Keeps (f ∷ k) o (Added i.additions ∷ k) p = λ e k. keeps_same (f ∷ k) (Added i.additions ∷ k) o p (ap (λ g. g ∷ k) (sym i.is)) e in
     on_err c.end_added.result left c.end_added.ensures.kept
 
 pub returns-in-OpenType-clause-kept : goal.returns-in-OpenType-clause-kept
@@ -54,5 +63,15 @@ returns-in-OpenType-clause-kept c =
     let p = c.put_length.new.octets.items in
     let f = c.args.frame.now in
     let i = c.in-OpenType in
-    let left : Begins (take i.start o) p → (k : List Frame) → Keeps (f ∷ k) o (f ∷ k) p = λ b k. keeps_room (f ∷ k) k (f ∷ k) o p i.start (ap (λ g. g ∷ k) i.is) (ap (λ g. ground (g ∷ k) p) i.is) b in
+    let left : Begins (take i.start o) p → (k : List Frame) → Keeps (f ∷ k) o (OpenType i.start ∷ k) p = λ b k. keeps_room (f ∷ k) k (OpenType i.start ∷ k) o p i.start (ap (λ g. g ∷ k) i.is) refl b in
     on_err c.put_length.result left c.put_length.ensures.kept
+
+pub returns-in-Bag-clause-kept : goal.returns-in-Bag-clause-kept
+returns-in-Bag-clause-kept c =
+    let o = c.args.octets.now.items in
+    let p = c.end_bag.new.octets.items in
+    let f = c.args.frame.now in
+    let i = c.in-Bag in
+    let next = with_value i.bag c.end_bag.new.bag in
+    let left : Begins c.deref_mut.result.now.outer.items c.end_bag.new.bag.outer.items → (k : List Frame) → Keeps (f ∷ k) o (BagOpen next ∷ k) p = λ b k. keeps_bag (f ∷ k) k (BagOpen next ∷ k) i.bag next o p (ap (λ g. g ∷ k) i.is) refl (subst (λ (x : Bag). Begins x.outer.items next.value.outer.items) c.deref_mut.ensures.value b) in
+    on_err c.end_bag.result left c.end_bag.ensures.kept

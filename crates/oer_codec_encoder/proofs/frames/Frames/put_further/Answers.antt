@@ -1,4 +1,4 @@
-use Rattle.std.proofs.Common.{ℕ, Vec, Global, ◌≡◌, MatchResult, Some, reverse, refl, subst, sym, ◌∙◌, ap}
+use Rattle.std.proofs.Common.{rules, ℕ, Vec, Global, ◌≡◌, MatchResult, Some, reverse, refl, subst, sym, ◌∙◌, ap}
 use Rattle.std.specs.Box.{with_value}
 use Rattle.asn1_model.specs.Versions.{Begins}
 use Rattle.oer_codec_encoder.specs.declared.frame.Bag.{Bag as BagFrame}
@@ -8,7 +8,7 @@ use Rattle.oer_codec_encoder.specs.Holding.{NextOfBag}
 use Rattle.oer_codec_encoder.proofs.Going.{none_encloses, bag_goes_on}
 use Rattle.oer_codec_encoder.proofs.Scopes.{does_whether_further}
 use Rattle.asn1_values_identifiers.proofs.Begins.{begins_same, though_refused}
-use Rattle.oer_codec_encoder.proofs.Fronts.{keeps_bag, keeps_members, on_err}
+use Rattle.oer_codec_encoder.proofs.Fronts.{keeps_bag, keeps_members, keeps_same, on_err}
 use Rattle.oer_codec_encoder.proofs.frames.Frames.put_further.Goals as goal
 
 pub returns-in-None-Some-Bag-clause-step : goal.returns-in-None-Some-Bag-clause-step
@@ -55,3 +55,6 @@ returns-in_err-count_member-in-None-Some-Members-clause-kept c =
     let at : i.innermost ≡ Some (Members f.due) = cc in
     let old = sym c.self.view_is ∙ none_encloses i.enclosing i.innermost (Members f.due) i.outer.items f.is-0 at in
     though_refused _ (keeps_members c.args.self.now (reverse i.outer.items) _ f.due due c.args.octets.now.items old (none_encloses i.enclosing (Some (Members due)) (Members due) i.outer.items f.is-0 refl))
+
+pub returns-in_default-clause-kept : goal.returns-in_default-clause-kept
+returns-in_default-clause-kept c = keeps_same _ _ _ _ (search rules) refl

@@ -12,6 +12,6 @@ returns c b k e =
     let next = with_value f.bag c.exchange.new.bag in
     let at : i.innermost ≡ Some (Bag f.bag) = cc in
     let old = sym c.self.view_is ∙ none_encloses i.enclosing i.innermost (Bag f.bag) i.outer.items f.is-0 at in
-    let held = sym c.deref_mut.ensures.value in
+    let held = c.deref_mut.ensures.value in
     sets_aside c.args.self.now (reverse i.outer.items) _ k b f.bag next c.args.octets.now c.exchange.new.octets old (none_encloses i.enclosing (Some (Bag next)) (Bag next) i.outer.items f.is-0 refl)
     (c.exchange.ensures.bag ∙ ap (λ (x : BagFrame). record x { outer = c.args.octets.now }) held) (c.exchange.ensures.octets ∙ ap (λ (x : BagFrame). x.outer) held) e
