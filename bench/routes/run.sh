@@ -6,7 +6,7 @@ work=${1:-$(mktemp -d)}
 . "$here/shared.sh"
 take_packages $schema asn1_schema_authored asn1_relay_types asn1_relay_core
 make_bench_common
-make_package routes_types "$schema asn1_schema_authored asn1_relay_types bench_common" lib=routes/types.in added=kinds/added.in grown=kinds/grown.in versions=routes/versions.in
+make_package routes_types "$schema asn1_relay_types bench_common" lib=routes/types.in added=kinds/added.in grown=kinds/grown.in versions=routes/versions.in
 make_package routes_bench "routes_types bench_common asn1_relay_core asn1_relay_types anyhow" main=routes/main.in
 prove routes_bench
 : > "$work/times"

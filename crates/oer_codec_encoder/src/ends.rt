@@ -97,7 +97,10 @@ pub(crate) fn end_frame(
 {
     match frame {
         Frame::Components(preamble) => {
-            if preamble.extensible || preamble.due > 0 {
+            if preamble.extensible {
+                return Err(EncodeError::CallOutOfPlace);
+            }
+            if preamble.due > 0 {
                 return Err(EncodeError::CallOutOfPlace);
             }
             Ok(())

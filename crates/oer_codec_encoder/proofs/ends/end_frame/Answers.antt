@@ -45,6 +45,9 @@ returns-in-Bag-clause-step c =
 pub returns-then-preamble-clause-kept : goal.returns-then-preamble-clause-kept
 returns-then-preamble-clause-kept c k = keeps_same _ _ _ _ (ap (λ g. g ∷ k) (sym c.in-Components.is)) refl
 
+pub returns-then-preamble-gt0-clause-kept : goal.returns-then-preamble-gt0-clause-kept
+returns-then-preamble-gt0-clause-kept c k = keeps_same _ _ _ _ (ap (λ g. g ∷ k) (sym c.in-Components.is)) refl
+
 pub returns-in-Members-clause-kept : goal.returns-in-Members-clause-kept
 returns-in-Members-clause-kept c k = keeps_same _ _ _ _ (ap (λ g. g ∷ k) (search rules)) refl
 
