@@ -15,7 +15,7 @@ returns-in_err-end_frame-clause-step c =
     passed_on _ (Cannot ends (others_of c.args.innermost.now c.args.outer.now.items) o) _ _ c.from_residual.ensures.0 c.from_residual.ensures.1 (subst (λ l. Cannot ends l o c.in_err-end_frame.field-0.0) (sym e) (c.in_err-end_frame.ensures.step k))
 
 pub returns-in_err-end_frame-clause-kept : goal.returns-in_err-end_frame-clause-kept
-returns-in_err-end_frame-clause-kept c = 
+returns-in_err-end_frame-clause-kept c =
     let o = c.args.octets.now.items in
     let k = reverse c.args.outer.now.items in
     let e : others_of c.args.innermost.now c.args.outer.now.items ≡ c.in-Some.frame ∷ k = ap (λ i. others_of i c.args.outer.now.items) c.in-Some.is in

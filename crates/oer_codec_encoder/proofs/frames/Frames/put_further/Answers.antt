@@ -35,7 +35,7 @@ returns-clause-step c =
     does_whether_further c.args.self.now (reverse i.outer.items) _ f.due due c.args.octets.now.items c.args.more old counted.0 counted.1 (none_encloses i.enclosing (Some (Members due)) (Members due) i.outer.items f.is-0 refl)
 
 pub returns-in-None-Some-Bag-clause-kept : goal.returns-in-None-Some-Bag-clause-kept
-returns-in-None-Some-Bag-clause-kept c = 
+returns-in-None-Some-Bag-clause-kept c =
     let f = c.in-None-Some-Bag in
     let o = c.args.octets.now.items in
     let next = with_value f.bag c.next_of_bag.new.bag in
@@ -48,7 +48,7 @@ returns-in-None-Some-Bag-clause-kept c =
     on_err c.next_of_bag.result (λ e. keeps_bag c.args.self.now (reverse i.outer.items) _ f.bag next o p old gs (same e)) c.next_of_bag.ensures.kept
 
 pub returns-in_err-count_member-in-None-Some-Members-clause-kept : goal.returns-in_err-count_member-in-None-Some-Members-clause-kept
-returns-in_err-count_member-in-None-Some-Members-clause-kept c = 
+returns-in_err-count_member-in-None-Some-Members-clause-kept c =
     let f = c.in-None-Some-Members in
     let due = c.count_member.new.due in
     let i = c.self.inside in
