@@ -75,7 +75,9 @@ static int get_item(struct input *in, struct scalar *s)
 
 static int put_bits_of(struct buffer *b, const struct scalar *s)
 {
-    return oer_put_length(b, s->count + 1) && put_octet(b, (uint8_t)(8 * s->count - s->number)) && put_octets(b, s->octets, s->count);
+    return oer_put_length(b, s->count + 1)
+        && put_octet(b, (uint8_t)(8 * s->count - s->number))
+        && put_octets(b, s->octets, s->count);
 }
 
 static int get_bits_of(struct input *in, struct scalar *s)

@@ -171,7 +171,9 @@ static int get_visible(struct input *in, struct scalar *s)
     int more;
     if (IS_ALIGNED)
         return get_run_of(in, s) && are_visible(s->octets, s->count);
-    if (!get_count(in, &s->count, &more) || more || 8 * in->count < in->bits + 7 * s->count || !(s->octets = malloc(s->count + 1)))
+    if (!get_count(in, &s->count, &more) || more || 8 * in->count < in->bits + 7 * s->count)
+        return 0;
+    if (!(s->octets = malloc(s->count + 1)))
         return 0;
     for (i = 0; i < s->count; i++) {
         if (!get_bits(in, 7, &bits))

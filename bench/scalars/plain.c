@@ -1,4 +1,5 @@
-/* Lists of values of each scalar type written and read by one set of rules in plain C: OER, or with PACKED those of PER. */
+/* Lists of values of each scalar type written and read by one set of rules in plain C: OER, or with PACKED those of
+ * PER. */
 #include "scalars.h"
 
 #ifdef PACKED

@@ -1,10 +1,11 @@
-/* What the benchmarks of lists of scalar types in C share: values without a pattern, and sums of what they hold. A set of rules defines put_count_of,
- * get_count_of and put_* and get_* of each kind. */
+/* What the benchmarks of lists of scalar types in C share: values without a pattern, and sums of what they hold. A set of
+ * rules defines put_count_of, get_count_of and put_* and get_* of each kind. */
 #include "../buffer.h"
 
 #define ARCS 5u
 
-/* A value of whichever kind: a truth value, a number or an item, or octets, of which there are so many bits, or the arcs of an identifier. */
+/* A value of whichever kind: a truth value, a number or an item, or octets, of which there are so many bits, or the arcs
+ * of an identifier. */
 struct scalar {
     uint64_t number;
     uint8_t *octets;
@@ -135,14 +136,25 @@ static int are_visible(const uint8_t *octets, size_t count)
     return 1;
 }
 
+/* How many octets of a character of UTF-8 come behind its first one; 4 where none begins so. */
+static unsigned octets_behind(uint8_t first)
+{
+    if (first < 0x80)
+        return 0;
+    if (first < 0xC2 || first >= 0xF5)
+        return 4;
+    return first < 0xE0 ? 1 : first < 0xF0 ? 2 : 3;
+}
+
 /* Whether octets are UTF-8. */
 static int are_utf8(const uint8_t *octets, size_t count)
 {
     size_t i = 0;
     while (i < count) {
         uint8_t first = octets[i++];
-        unsigned more = first < 0x80 ? 0 : first >= 0xC2 && first < 0xE0 ? 1 : first >= 0xE0 && first < 0xF0 ? 2 : first >= 0xF0 && first < 0xF5 ? 3 : 4;
-        uint8_t low = first == 0xE0 ? 0xA0 : first == 0xF0 ? 0x90 : 0x80, high = first == 0xED ? 0x9F : first == 0xF4 ? 0x8F : 0xBF;
+        unsigned more = octets_behind(first);
+        uint8_t low = first == 0xE0 ? 0xA0 : first == 0xF0 ? 0x90 : 0x80;
+        uint8_t high = first == 0xED ? 0x9F : first == 0xF4 ? 0x8F : 0xBF;
         if (more == 4 || more > count - i)
             return 0;
         for (; more > 0; more--, i++) {
