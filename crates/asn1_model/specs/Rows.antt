@@ -6,10 +6,11 @@ use Rattle.asn1_model.specs.Schema.{boolean, null, integer, enumerated, object_i
 use Rattle.asn1_model.specs.Rules.{uper, aper, coer}
 use Rattle.asn1_model.specs.Types.{Writes, WritesNothing, minus, from_to, any_size, sizes, sizes_or_more, whole}
 use Rattle.asn1_model.specs.Types.{between, at_least, bit_text, octet_text, list, context, one_of, yes, num, below}
-use Rattle.asn1_model.specs.Types.{set_bits, bits_of, signed_items, octet_number, marked_number, word_number, from_zero}
-use Rattle.asn1_model.specs.Types.{at_most_5, min_to_max, marked_min_to_max, colour_old, numbers_from, any_bits}
-use Rattle.asn1_model.specs.Types.{marked_octets, flagged, one_or_two, only_tagged, marked_choice, null_alternatives}
-use Rattle.asn1_model.specs.Types.{yes_and, list_of, null_list, octets}
+use Rattle.asn1_model.specs.Types.{set_bits, bits_of, signed_items, octet_number, extensible_number}
+use Rattle.asn1_model.specs.Types.{word_number, from_zero}
+use Rattle.asn1_model.specs.Types.{at_most_5, min_to_max, extensible_min_to_max, colour_old, numbers_from, any_bits}
+use Rattle.asn1_model.specs.Types.{extensible_octets, flagged, one_or_two, only_tagged, extensible_choice}
+use Rattle.asn1_model.specs.Types.{null_alternatives, yes_and, list_of, null_list, octets}
 
 -- bounds at which a form changes
 abbrev pub RangeRows : Type 0
@@ -97,15 +98,15 @@ RangeRows =
     × WritesNothing uper min_to_max (num (2 ^ 127))
     × WritesNothing aper min_to_max (num (2 ^ 127))
     × WritesNothing coer min_to_max (num (2 ^ 127))
-    × Writes uper marked_min_to_max (num 7) (0x00 ∷ 0x83 ∷ 0x80 ∷ [])
-    × Writes aper marked_min_to_max (num 7) (0x00 ∷ 0x01 ∷ 0x07 ∷ [])
-    × Writes coer marked_min_to_max (num 7) (0x01 ∷ 0x07 ∷ [])
-    × WritesNothing uper marked_min_to_max (num (2 ^ 127))
-    × WritesNothing aper marked_min_to_max (num (2 ^ 127))
-    × WritesNothing coer marked_min_to_max (num (2 ^ 127))
-    × WritesNothing uper marked_number (num (2 ^ 127))
-    × WritesNothing coer marked_number (num (2 ^ 127))
-    × Writes coer marked_number (below (2 ^ 127)) (0x10 ∷ 0x80 ∷ replicate 15 0x00)
+    × Writes uper extensible_min_to_max (num 7) (0x00 ∷ 0x83 ∷ 0x80 ∷ [])
+    × Writes aper extensible_min_to_max (num 7) (0x00 ∷ 0x01 ∷ 0x07 ∷ [])
+    × Writes coer extensible_min_to_max (num 7) (0x01 ∷ 0x07 ∷ [])
+    × WritesNothing uper extensible_min_to_max (num (2 ^ 127))
+    × WritesNothing aper extensible_min_to_max (num (2 ^ 127))
+    × WritesNothing coer extensible_min_to_max (num (2 ^ 127))
+    × WritesNothing uper extensible_number (num (2 ^ 127))
+    × WritesNothing coer extensible_number (num (2 ^ 127))
+    × Writes coer extensible_number (below (2 ^ 127)) (0x10 ∷ 0x80 ∷ replicate 15 0x00)
     -- no constraint: any number
     × Writes uper whole (num (2 ^ 127)) (0x11 ∷ 0x00 ∷ 0x80 ∷ replicate 15 0x00)
     × Writes aper (flagged whole) (yes_and (below 129)) (0x80 ∷ 0x02 ∷ 0xFF ∷ 0x7F ∷ [])
@@ -208,8 +209,8 @@ TableRows =
     (0xBF ∷ 0x41 ∷ 0x00 ∷ [])
     × WritesNothing uper (one_of (null_alternatives 0 3)) (chosen false 3 nothing)
     × WritesNothing coer (one_of (null_alternatives 0 3)) (chosen false 3 nothing)
-    × WritesNothing uper marked_choice (chosen true 1 (num 1))
-    × WritesNothing coer marked_choice (chosen true 1 (num 1))
+    × WritesNothing uper extensible_choice (chosen true 1 (num 1))
+    × WritesNothing coer extensible_choice (chosen true 1 (num 1))
     × WritesNothing uper (one_of (null_alternatives 0 3)) (chosen true 0 nothing)
     × WritesNothing coer (one_of (null_alternatives 0 3)) (chosen true 0 nothing)
 
@@ -236,8 +237,8 @@ SizeRows =
     × Writes coer (bit_text (sizes_or_more 16 16)) (set_bits 16) (0x03 ∷ 0x00 ∷ 0xFF ∷ 0xFF ∷ [])
     × Writes coer (bit_text (sizes 16 16)) (set_bits 16) (0xFF ∷ 0xFF ∷ [])
     × Writes coer (octet_text (sizes_or_more 2 2)) (octets (1 ∷ 2 ∷ [])) (0x02 ∷ 0x01 ∷ 0x02 ∷ [])
-    × Writes aper (flagged marked_octets) (yes_and (octets (1 ∷ []))) (0x80 ∷ 0x01 ∷ [])
-    × Writes aper (flagged marked_octets) (yes_and (octets (1 ∷ 2 ∷ 3 ∷ 4 ∷ [])))
+    × Writes aper (flagged extensible_octets) (yes_and (octets (1 ∷ []))) (0x80 ∷ 0x01 ∷ [])
+    × Writes aper (flagged extensible_octets) (yes_and (octets (1 ∷ 2 ∷ 3 ∷ 4 ∷ [])))
     (0xC0 ∷ 0x04 ∷ 0x01 ∷ 0x02 ∷ 0x03 ∷ 0x04 ∷ [])
     × WritesNothing coer (bit_text (sizes 16 16)) (set_bits 17)
     × WritesNothing uper (bit_text (sizes 16 16)) (set_bits 17)

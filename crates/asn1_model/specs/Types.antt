@@ -3,7 +3,7 @@ use Rattle.std.specs.Prelude.{◌≡◌, ℕ, zero, suc, ◌+◌, ◌-◌, ◌^�
 use Rattle.std.specs.Prelude.{replicate, Option, Some, None}
 use Rattle.asn1_model.specs.Value.{Value, truth, nothing, number, bit_list, octet_list, text, members, bag, fields}
 use Rattle.asn1_model.specs.Value.{chosen, Values, no_more, member, values_of, Parts, end, absent, present}
-use Rattle.asn1_model.specs.Schema.{Tag, Range, Bounds, Counts, Size, Alphabet, StringKind, visible, utf8, required}
+use Rattle.asn1_model.specs.Schema.{Tag, Range, Bounds, Size, Alphabet, StringKind, visible, utf8, required}
 use Rattle.asn1_model.specs.Schema.{optional, by_default, Schema, cut, boolean, null, integer, enumerated, bit_string}
 use Rattle.asn1_model.specs.Schema.{octet_string, character_string, sequence_of, set_of, sequence, set, group, choice}
 use Rattle.asn1_model.specs.Schema.{Components, no_component, component, Alternatives, no_alternative, alternative}
@@ -126,8 +126,8 @@ bits_of ds = bit_list (map (λ d. elim d [ zero ↦ false | suc n ↦ true ]) ds
 abbrev pub octet_number : Schema
 octet_number = between (pos 0) (pos 255)
 
-abbrev pub marked_number : Schema
-marked_number = integer (from_to (Some (pos 0)) (Some (pos 255)) true) any_number
+abbrev pub extensible_number : Schema
+extensible_number = integer (from_to (Some (pos 0)) (Some (pos 255)) true) any_number
 
 -- INTEGER (0..65535)
 abbrev pub word_number : Schema
@@ -150,8 +150,8 @@ abbrev pub min_to_max : Schema
 min_to_max =
     integer (from_to None None false) (record { low = Some (minus (2 ^ 127)); high = Some (pos (2 ^ 127 - 1)) })
 
-abbrev pub marked_min_to_max : Schema
-marked_min_to_max = integer (from_to None None true) any_number
+abbrev pub extensible_min_to_max : Schema
+extensible_min_to_max = integer (from_to None None true) any_number
 
 -- ENUMERATED {yes (1000), no (-1000)}
 abbrev pub yes_or_no : Schema
@@ -180,8 +180,8 @@ any_bits = bit_text any_size
 abbrev pub any_octets : Schema
 any_octets = octet_text any_size
 
-abbrev pub marked_octets : Schema
-marked_octets = octet_text (sizes_or_more 1 3)
+abbrev pub extensible_octets : Schema
+extensible_octets = octet_text (sizes_or_more 1 3)
 
 -- VisibleString with these characters alone
 abbrev pub visible_of : List ℕ → Schema
@@ -243,12 +243,14 @@ abbrev pub only_tagged : Tag → Schema
 only_tagged t = one_of (alternative t null no_alternative)
 
 -- CHOICE {a [0] INTEGER, b [1] INTEGER, ..., c [2] INTEGER}, and a choice that has it as an alternative
-abbrev pub marked_choice : Schema
-marked_choice = choice (or_tagged 0 whole (or_tagged 1 whole no_alternative)) true (or_tagged 2 whole no_alternative)
+abbrev pub extensible_choice : Schema
+extensible_choice =
+    choice (or_tagged 0 whole (or_tagged 1 whole no_alternative)) true (or_tagged 2 whole no_alternative)
 
 abbrev pub choice_of_choice : Schema
 choice_of_choice =
-    choice (or_tagged 0 boolean (or_tagged 2 marked_choice no_alternative)) true (or_tagged 1 boolean no_alternative)
+    choice (or_tagged 0 boolean (or_tagged 2 extensible_choice no_alternative)) true
+    (or_tagged 1 boolean no_alternative)
 
 -- so many alternatives, each NULL
 abbrev pub null_alternatives : ℕ → ℕ → Alternatives

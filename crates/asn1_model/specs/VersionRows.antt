@@ -8,7 +8,8 @@ use Rattle.asn1_model.specs.Lawful.{is_lawful}
 use Rattle.asn1_model.specs.Versions.{Extends, drop, grow, IsClash}
 use Rattle.asn1_model.specs.Types.{minus, any_count, any_size, sizes, letters, between, octet_text, list, context}
 use Rattle.asn1_model.specs.Types.{needs, may_have, closed, open_behind, or_tagged, one_of, num, roots, colour_old}
-use Rattle.asn1_model.specs.Types.{colour_new, defaulted, marked_choice, new_type, old_type, required_new, default_old}
+use Rattle.asn1_model.specs.Types.{colour_new, defaulted, extensible_choice, new_type, old_type}
+use Rattle.asn1_model.specs.Types.{required_new, default_old}
 use Rattle.asn1_model.specs.Types.{default_new, grouped, nest, nest_added, nested, yes_with, yes_without, yes_alone}
 use Rattle.asn1_model.specs.Types.{null_alternatives, bag_of, bag_with, set_of_three, set_with_choice, whole}
 use Rattle.asn1_model.specs.Types.{has_default, only_tagged, yes}
@@ -70,7 +71,7 @@ abbrev pub LawfulRows : Type 0
 LawfulRows =
     (is_lawful new_type ≡ true) × (is_lawful grouped ≡ true) × (is_lawful (nest 128) ≡ true)
     × (is_lawful defaulted ≡ true)
-    × (is_lawful marked_choice ≡ true) × (is_lawful colour_new ≡ true)
+    × (is_lawful extensible_choice ≡ true) × (is_lawful colour_new ≡ true)
     × (is_lawful (closed (needs 0 boolean (needs 0 boolean no_component))) ≡ false)
     × (is_lawful (one_of no_alternative) ≡ false)
     × (is_lawful (one_of (or_tagged 1 null (or_tagged 0 null no_alternative))) ≡ false)
@@ -157,9 +158,9 @@ VersionRows =
     × (grow (closed (may_have 0 old_type no_component)) (closed (may_have 0 required_new no_component))
     (roots (present yes_alone end)) ≡ None)
     -- an alternative that the older version lacks: none where it stands, and no matter inside what is lost
-    × (drop choice_old marked_choice (chosen true 0 (num 1)) ≡ None)
-    × (drop choice_old marked_choice (chosen false 0 (num 1)) ≡ Some (chosen false 0 (num 1)))
-    × (drop old_type (open_behind (needs 0 boolean no_component) (may_have 1 marked_choice no_component))
+    × (drop choice_old extensible_choice (chosen true 0 (num 1)) ≡ None)
+    × (drop choice_old extensible_choice (chosen false 0 (num 1)) ≡ Some (chosen false 0 (num 1)))
+    × (drop old_type (open_behind (needs 0 boolean no_component) (may_have 1 extensible_choice no_component))
     (yes_with (chosen true 0 (num 1))) ≡ Some yes_alone)
     -- a group that turns empty by the loss
     × IsClash (group_of default_old) (group_of default_new) (yes_with (roots (present (yes_with (num 7)) end)))

@@ -10,9 +10,9 @@ use Rattle.asn1_model.specs.Rules.{Rules, lenient, strict_per, strict_oer, IsEnc
 use Rattle.asn1_model.specs.Rules.{aper_strict, oer, coer}
 use Rattle.asn1_model.specs.Types.{minus, from_to, any_size, sizes, whole, between, small, bit_text, string, list}
 use Rattle.asn1_model.specs.Types.{bag_of, context, or_tagged, one_of, yes, no, num, below, roots, bits_of, set_bits}
-use Rattle.asn1_model.specs.Types.{octet_number, marked_number, wide_number, from_zero, colour_old, colour_new}
-use Rattle.asn1_model.specs.Types.{any_bits, any_octets, marked_octets, flagged, defaulted, one_or_two, many_nulls}
-use Rattle.asn1_model.specs.Types.{only_tagged, marked_choice, new_type, old_type, required_new, default_added}
+use Rattle.asn1_model.specs.Types.{octet_number, extensible_number, wide_number, from_zero, colour_old, colour_new}
+use Rattle.asn1_model.specs.Types.{any_bits, any_octets, extensible_octets, flagged, defaulted, one_or_two, many_nulls}
+use Rattle.asn1_model.specs.Types.{only_tagged, extensible_choice, new_type, old_type, required_new, default_added}
 use Rattle.asn1_model.specs.Types.{null_added, two_added, default_old, grouped, yes_and, yes_with, yes_without}
 use Rattle.asn1_model.specs.Types.{yes_alone, list_of, bag_with, null_list, octets, foo}
 
@@ -29,8 +29,8 @@ ReadingRows =
     × IsEncoding uper whole (num 7) (0x02 ∷ 0x00 ∷ 0x07 ∷ [])
     × IsEncoding oer whole (num 7) (0xFF ∷ replicate 126 0x00 ++ 0x01 ∷ 0x07 ∷ [])
     × IsEncoding aper wide_number (num 256) (0x40 ∷ 0x00 ∷ 0x00 ∷ [])
-    × IsEncoding uper marked_number (num 7) (0x80 ∷ 0x83 ∷ 0x80 ∷ [])
-    × IsEncoding uper marked_octets (octets (1 ∷ [])) (0x80 ∷ 0x80 ∷ 0x80 ∷ [])
+    × IsEncoding uper extensible_number (num 7) (0x80 ∷ 0x83 ∷ 0x80 ∷ [])
+    × IsEncoding uper extensible_octets (octets (1 ∷ [])) (0x80 ∷ 0x80 ∷ 0x80 ∷ [])
     × IsEncoding uper any_octets (octets (1 ∷ 2 ∷ 3 ∷ [])) (0x80 ∷ 0x03 ∷ 0x01 ∷ 0x02 ∷ 0x03 ∷ [])
     × IsEncoding uper many_nulls (null_list 32768) (0xC1 ∷ 0xC1 ∷ 0x00 ∷ [])
     × IsEncoding oer (string visible any_size) foo (0x81 ∷ 0x03 ∷ 0x66 ∷ 0x6F ∷ 0x6F ∷ [])
@@ -68,7 +68,7 @@ ReadingRows =
     × IsEncoding uper new_type (yes_with (num 7)) (0xC0 ∷ 0x40 ∷ 0x81 ∷ 0xEA ∷ 0x80 ∷ [])
     × IsEncoding uper grouped (yes_with (roots (absent end))) (0xC0 ∷ 0x40 ∷ 0x40 ∷ 0x00 ∷ [])
     × IsEncoding oer grouped (yes_with (roots (absent end))) (0x80 ∷ 0xFF ∷ 0x02 ∷ 0x07 ∷ 0x80 ∷ 0x01 ∷ 0x00 ∷ [])
-    × IsEncoding uper marked_choice (chosen true 0 (num 333)) (0xC0 ∷ 0x40 ∷ 0x00 ∷ 0xC0 ∷ 0x80 ∷ 0x53 ∷ 0x40 ∷ [])
+    × IsEncoding uper extensible_choice (chosen true 0 (num 333)) (0xC0 ∷ 0x40 ∷ 0x00 ∷ 0xC0 ∷ 0x80 ∷ 0x53 ∷ 0x40 ∷ [])
     × IsEncoding uper (bag_of octet_number) (bag_with (num 3 ∷ num 1 ∷ num 2 ∷ [])) (0x03 ∷ 0x01 ∷ 0x03 ∷ 0x02 ∷ [])
     × IsEncoding aper_strict (bag_of octet_number) (bag_with (num 3 ∷ num 1 ∷ num 2 ∷ []))
     (0x03 ∷ 0x01 ∷ 0x03 ∷ 0x02 ∷ [])
@@ -147,8 +147,8 @@ RefusedRows =
     × IsNoEncoding aper_strict (flagged octet_number) (yes_and (num 9)) (0xAA ∷ 0x09 ∷ [])
     × IsNoEncoding uper_strict whole (num 7) (0x02 ∷ 0x00 ∷ 0x07 ∷ [])
     × IsNoEncoding uper_strict whole (num 7) (0x80 ∷ 0x01 ∷ 0x07 ∷ [])
-    × IsNoEncoding uper_strict marked_number (num 7) (0x80 ∷ 0x83 ∷ 0x80 ∷ [])
-    × IsNoEncoding uper_strict marked_octets (octets (1 ∷ [])) (0x80 ∷ 0x80 ∷ 0x80 ∷ [])
+    × IsNoEncoding uper_strict extensible_number (num 7) (0x80 ∷ 0x83 ∷ 0x80 ∷ [])
+    × IsNoEncoding uper_strict extensible_octets (octets (1 ∷ [])) (0x80 ∷ 0x80 ∷ 0x80 ∷ [])
     × IsNoEncoding aper_strict wide_number (num 256) (0x40 ∷ 0x00 ∷ 0x00 ∷ [])
     × IsNoEncoding uper_strict defaulted (roots (present (num 0) (absent end))) (0x80 ∷ 0x40 ∷ 0x00 ∷ [])
     × IsNoEncoding uper_strict colour_new (item (pos 1)) (0xC0 ∷ 0x40 ∷ 0x00 ∷ [])

@@ -10,10 +10,11 @@ use Rattle.asn1_model.specs.Per.{largest_first}
 use Rattle.asn1_model.specs.Types.{Writes, WritesNothing, minus, any_count, any_size, sizes, sizes_or_more, letters}
 use Rattle.asn1_model.specs.Types.{whole, between, small, bit_text, octet_text, string, list, bag_of, needs}
 use Rattle.asn1_model.specs.Types.{has_default, closed, open_behind, or_tagged, one_of, yes, no, num, below, roots}
-use Rattle.asn1_model.specs.Types.{set_bits, bits_of, octet_number, marked_number, word_number, wide_number, from_zero}
-use Rattle.asn1_model.specs.Types.{yes_or_no, colour_new, any_bits, any_octets, marked_octets, visible_of, flagged}
-use Rattle.asn1_model.specs.Types.{defaulted, chained, optional_numbers, absent_parts, person, two_lists, one_or_two}
-use Rattle.asn1_model.specs.Types.{many_nulls, two_booleans, three_numbers, marked_choice, choice_of_choice}
+use Rattle.asn1_model.specs.Types.{set_bits, bits_of, octet_number, extensible_number, word_number, wide_number}
+use Rattle.asn1_model.specs.Types.{from_zero, yes_or_no, colour_new, any_bits, any_octets, extensible_octets}
+use Rattle.asn1_model.specs.Types.{visible_of, flagged, defaulted, chained, optional_numbers, absent_parts, person}
+use Rattle.asn1_model.specs.Types.{two_lists, one_or_two, many_nulls, two_booleans, three_numbers}
+use Rattle.asn1_model.specs.Types.{extensible_choice, choice_of_choice}
 use Rattle.asn1_model.specs.Types.{set_of_three, set_with_choice, new_type, old_type, required_new, default_added}
 use Rattle.asn1_model.specs.Types.{null_added, default_new, grouped, default_grouped, dated, octets_and_null, listed}
 use Rattle.asn1_model.specs.Types.{null_additions, nest, nest_added, nested, yes_and, yes_with, yes_without, yes_alone}
@@ -76,11 +77,11 @@ NumberRows =
     × WritesNothing coer from_zero (num (2 ^ 128))
     × WritesNothing uper from_zero (num (2 ^ 128))
     × WritesNothing coer from_zero (num (2 ^ 127))
-    × Writes uper marked_number (num 7) (0x03 ∷ 0x80 ∷ [])
-    × Writes uper marked_number (num 300) (0x81 ∷ 0x00 ∷ 0x96 ∷ 0x00 ∷ [])
-    × Writes aper marked_number (num 7) (0x00 ∷ 0x07 ∷ [])
-    × Writes aper marked_number (num 300) (0x80 ∷ 0x02 ∷ 0x01 ∷ 0x2C ∷ [])
-    × Writes coer marked_number (num 300) (0x02 ∷ 0x01 ∷ 0x2C ∷ [])
+    × Writes uper extensible_number (num 7) (0x03 ∷ 0x80 ∷ [])
+    × Writes uper extensible_number (num 300) (0x81 ∷ 0x00 ∷ 0x96 ∷ 0x00 ∷ [])
+    × Writes aper extensible_number (num 7) (0x00 ∷ 0x07 ∷ [])
+    × Writes aper extensible_number (num 300) (0x80 ∷ 0x02 ∷ 0x01 ∷ 0x2C ∷ [])
+    × Writes coer extensible_number (num 300) (0x02 ∷ 0x01 ∷ 0x2C ∷ [])
     × Writes uper wide_number (num 1234567) (0x96 ∷ 0xAC ∷ 0x38 ∷ [])
     × Writes aper wide_number (num 1234567) (0x80 ∷ 0x12 ∷ 0xD5 ∷ 0x87 ∷ [])
     × Writes coer wide_number (num 1234567) (0x00 ∷ 0x12 ∷ 0xD6 ∷ 0x87 ∷ [])
@@ -122,10 +123,10 @@ StringRows =
     × Writes coer (string numeric any_size) (text (0x31 ∷ 0x32 ∷ 0x33 ∷ [])) (0x03 ∷ 0x31 ∷ 0x32 ∷ 0x33 ∷ [])
     × Writes aper (string numeric any_size) (text (0x31 ∷ 0x32 ∷ 0x33 ∷ [])) (0x03 ∷ 0x23 ∷ 0x40 ∷ [])
     × Writes coer (string visible any_size) foo (0x03 ∷ 0x66 ∷ 0x6F ∷ 0x6F ∷ [])
-    × Writes coer marked_octets (octets (1 ∷ 2 ∷ 3 ∷ 4 ∷ [])) (0x04 ∷ 0x01 ∷ 0x02 ∷ 0x03 ∷ 0x04 ∷ [])
-    × Writes aper marked_octets (octets (1 ∷ 2 ∷ 3 ∷ 4 ∷ [])) (0x80 ∷ 0x04 ∷ 0x01 ∷ 0x02 ∷ 0x03 ∷ 0x04 ∷ [])
-    × Writes uper marked_octets (octets (1 ∷ 2 ∷ 3 ∷ 4 ∷ [])) (0x82 ∷ 0x00 ∷ 0x81 ∷ 0x01 ∷ 0x82 ∷ 0x00 ∷ [])
-    × Writes uper marked_octets (octets (1 ∷ [])) (0x00 ∷ 0x20 ∷ [])
+    × Writes coer extensible_octets (octets (1 ∷ 2 ∷ 3 ∷ 4 ∷ [])) (0x04 ∷ 0x01 ∷ 0x02 ∷ 0x03 ∷ 0x04 ∷ [])
+    × Writes aper extensible_octets (octets (1 ∷ 2 ∷ 3 ∷ 4 ∷ [])) (0x80 ∷ 0x04 ∷ 0x01 ∷ 0x02 ∷ 0x03 ∷ 0x04 ∷ [])
+    × Writes uper extensible_octets (octets (1 ∷ 2 ∷ 3 ∷ 4 ∷ [])) (0x82 ∷ 0x00 ∷ 0x81 ∷ 0x01 ∷ 0x82 ∷ 0x00 ∷ [])
+    × Writes uper extensible_octets (octets (1 ∷ [])) (0x00 ∷ 0x20 ∷ [])
     × Writes uper (string visible any_size) john (0x04 ∷ 0x95 ∷ 0xBF ∷ 0x46 ∷ 0xE0 ∷ [])
     × Writes aper (string visible any_size) john (0x04 ∷ 0x4A ∷ 0x6F ∷ 0x68 ∷ 0x6E ∷ [])
     × Writes coer (string visible any_size) john (0x04 ∷ 0x4A ∷ 0x6F ∷ 0x68 ∷ 0x6E ∷ [])
@@ -227,8 +228,8 @@ StructureRows =
 
 abbrev pub AdditionRows : Type 0
 AdditionRows =
-    Writes coer marked_choice (chosen true 0 (num 333)) (0x82 ∷ 0x03 ∷ 0x02 ∷ 0x01 ∷ 0x4D ∷ [])
-    × Writes uper marked_choice (chosen true 0 (num 333)) (0x80 ∷ 0x03 ∷ 0x02 ∷ 0x01 ∷ 0x4D ∷ [])
+    Writes coer extensible_choice (chosen true 0 (num 333)) (0x82 ∷ 0x03 ∷ 0x02 ∷ 0x01 ∷ 0x4D ∷ [])
+    × Writes uper extensible_choice (chosen true 0 (num 333)) (0x80 ∷ 0x03 ∷ 0x02 ∷ 0x01 ∷ 0x4D ∷ [])
     × Writes coer octets_and_null (fields (present (octets (0 ∷ 1 ∷ 2 ∷ [])) end) (present nothing end))
     (0xC0 ∷ 0x03 ∷ 0x00 ∷ 0x01 ∷ 0x02 ∷ 0x02 ∷ 0x07 ∷ 0x80 ∷ 0x00 ∷ [])
     × Writes coer new_type (yes_with (num 7)) (0x80 ∷ 0xFF ∷ 0x02 ∷ 0x07 ∷ 0x80 ∷ 0x01 ∷ 0x07 ∷ [])

@@ -11,7 +11,7 @@ use Rattle.asn1_schema_presented.proofs.Defaults.{boolean_default}
 use Rattle.asn1_schema_types.proofs.SequenceDefaults.{AreDefaultParts, no_default_parts, more_default_parts}
 use Rattle.asn1_schema_types.proofs.SequenceDefaults.{sequence_default}
 use Rattle.asn1_schema_presented.specs.Additions.{AreAdditionValues}
-use Rattle.asn1_schema_presented.proofs.Additions.{no_addition_values, more_addition_values, marked_values}
+use Rattle.asn1_schema_presented.proofs.Additions.{no_addition_values, more_addition_values, extensible_values}
 use Rattle.asn1_relay_types.specs.Schemas.{universal}
 
 -- The tag of the BOOLEAN, and that of an addition.
@@ -38,7 +38,7 @@ are_values : (gs : Fields) (qs : Parts) → AreAdditionValues gs qs
     → AreValues (flag_table gs) (present (truth true) end) qs
 are_values gs qs a =
     let p = part_required (boolean_type {ts = flag_tags} refl) (boolean_value true) in
-    more_values flag_tags p (marked_values a)
+    more_values flag_tags p (extensible_values a)
 
 true_stands : (gs : Fields) (qs : Parts) → AreAdditionValues gs qs → AreDefaultParts gs qs
     → IsDefault (sequence_type (flag_table gs)) (true_and qs)

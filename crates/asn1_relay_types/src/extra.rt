@@ -4,8 +4,8 @@ ghost use Rattle.asn1_schema.proofs.Author.{group_of, sequence_of, sequence_tag}
 
 use asn1_schema::{
     Components, ComponentsOf, DecodeComponents, DecodeError, Decoder, EncodeComponents,
-    EncodeError, Encoder, End, Field, FieldPresence, FieldTables, Fields, GroupComponents, Heading,
-    Identifier, Optional, OptionalComponent, Sequence, Tag, TagTree,
+    EncodeError, Encoder, End, Field, FieldTables, Fields, GroupComponents, Heading, Identifier,
+    Optional, OptionalComponent, Sequence, Tag, field,
 };
 use std::alloc::Global;
 
@@ -57,7 +57,7 @@ impl FieldTables for ExtraFields {
 
 impl GroupComponents for ExtraFields {
     ghost group = { group_of ⟦<ExtraFields as Components>⟧.shape refl
-        (record { unmarked = refl; no_additions = refl; tagged = refl }) (λ _. refl) };
+        (record { not_extensible = refl; no_additions = refl; tagged = refl }) (λ _. refl) };
 
     fn is_empty(&self) -> bool {
         self.x.is_none()

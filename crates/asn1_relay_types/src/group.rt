@@ -5,9 +5,9 @@ ghost use Rattle.asn1_schema.proofs.Author.{sequence_of, sequence_tag};
 use crate::extra::Extra;
 use asn1_schema::{
     AddedGroup, AddedGroupComponent, Components, ComponentsOf, DecodeComponents, DecodeError,
-    Decoder, EncodeComponents, EncodeError, Encoder, Field, FieldPresence, FieldTables, Fields,
-    Heading, Identifier, Marked, MarkedComponents, NoMore, OneAddition, Required,
-    RequiredComponent, Sequence, Tag, TagTree,
+    Decoder, EncodeComponents, EncodeError, Encoder, ExtensibleComponents, ExtensionMarker, Field,
+    FieldTables, Fields, Heading, Identifier, NoMore, OneAddition, Required, RequiredComponent,
+    Sequence, Tag, field,
 };
 use std::alloc::Global;
 
@@ -25,7 +25,7 @@ pub struct GroupFields {
 
 type Additions = AddedGroupComponent<Extra, NoMore>;
 
-type Form = RequiredComponent<bool, MarkedComponents<OneAddition, Additions>>;
+type Form = RequiredComponent<bool, ExtensibleComponents<OneAddition, Additions>>;
 
 impl Components for GroupFields {
     const TAG: Tag = Tag::SEQUENCE;
@@ -43,12 +43,13 @@ impl Components for GroupFields {
 
     fn write_components<E: Encoder>(&self, encoder: &mut E) -> Result<(), EncodeError> {
         let additions = AddedGroup(&self.extra, NoMore);
-        Required(&self.a, Marked { additions }).encode_components(encoder)
+        Required(&self.a, ExtensionMarker { additions }).encode_components(encoder)
     }
 
     fn read_components<D: Decoder>(alloc: Global, decoder: &mut D) -> Result<Self, DecodeError> {
         let form = Form::decode_components(alloc, decoder)?;
-        let RequiredComponent(a, MarkedComponents(AddedGroupComponent(extra, NoMore), _)) = form;
+        let RequiredComponent(a, ExtensibleComponents(AddedGroupComponent(extra, NoMore), _)) =
+            form;
         Ok(GroupFields { a, extra })
     }
 }

@@ -2,29 +2,6 @@
 //! others.
 #![tactic(auto)]
 
-/// A field of a table: its number, its name, its presence and its tag.
-macro_rules! field {
-    ($index:literal, $name:literal, $presence:ident, $tag:expr) => {
-        Field {
-            index: $index,
-            tag: $tag,
-            tag_tree: TagTree::Leaf($tag),
-            presence: FieldPresence::$presence,
-            name: $name,
-        }
-    };
-}
-
-/// A tag of a class (X.680 8.1).
-macro_rules! tagged {
-    ($class:ident, $number:literal) => {
-        Tag {
-            class: Class::$class,
-            value: $number,
-        }
-    };
-}
-
 mod extra;
 mod group;
 mod nest;
@@ -48,7 +25,7 @@ pub use new::{New, NewFields};
 pub use new_colour::NewColour;
 pub use new_default::{NewDefault, NewDefaultFields};
 pub use new_required::{NewRequired, NewRequiredFields};
-pub use octets::{Octets, OneToThree};
+pub use octets::Octets;
 pub use old::{Old, OldFields};
 pub use old_colour::OldColour;
 pub use old_default::{OldDefault, OldDefaultFields};

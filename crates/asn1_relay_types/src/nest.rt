@@ -3,9 +3,9 @@ ghost use Rattle.std.specs.Prelude.{[], ◌∷◌, refl};
 ghost use Rattle.asn1_schema.specs.Author.{context, no_constraint};
 
 use asn1_schema::{
-    Alternatives, AsnType, Choice, Chosen, Class, Constraints, Decode, DecodeAlternatives,
-    DecodeError, Decoder, Described, Encode, EncodeChoice, EncodeError, Encoder, Identifier, Tag,
-    TagPlace, TagTree,
+    Alternatives, AsnType, Choice, Chosen, Constraints, Decode, DecodeAlternatives, DecodeError,
+    Decoder, Described, Encode, EncodeChoice, EncodeError, Encoder, Identifier, Tag, TagPlace,
+    TagTree, tagged,
 };
 use std::alloc::Global;
 
@@ -18,15 +18,9 @@ pub enum Nest {
     More(Box<Nest>),
 }
 
-const LEAF: Tag = Tag {
-    class: Class::Context,
-    value: 0,
-};
+const LEAF: Tag = tagged!(Context, 0);
 
-const MORE: Tag = Tag {
-    class: Class::Context,
-    value: 1,
-};
+const MORE: Tag = tagged!(Context, 1);
 
 impl Described for Nest {
     ghost use Rattle.asn1_relay_types.specs.Nest.{nest_schema, nest_meaning, nest_typed, nest_valued};

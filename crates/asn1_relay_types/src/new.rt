@@ -7,8 +7,8 @@ use crate::old::{Old, OldFields};
 use asn1_schema::{
     AddedOptional, AddedOptionalComponent, AdditionsOf, Components, ComponentsOf, DecodeComponents,
     DecodeError, Decoder, Described, EncodeComponents, EncodeError, Encoder, ExtendsComponents,
-    Field, FieldPresence, FieldTables, Fields, Heading, Identifier, Marked, MarkedComponents,
-    NoMore, OneAddition, Required, RequiredComponent, Sequence, Tag, TagTree,
+    ExtensibleComponents, ExtensionMarker, Field, FieldTables, Fields, Heading, Identifier, NoMore,
+    OneAddition, Required, RequiredComponent, Sequence, Tag, field,
 };
 use std::alloc::Global;
 
@@ -26,7 +26,7 @@ pub struct NewFields {
 
 type Additions = AddedOptionalComponent<u8, NoMore>;
 
-type Form = RequiredComponent<bool, MarkedComponents<OneAddition, Additions>>;
+type Form = RequiredComponent<bool, ExtensibleComponents<OneAddition, Additions>>;
 
 impl Components for NewFields {
     const TAG: Tag = Tag::SEQUENCE;
@@ -44,12 +44,12 @@ impl Components for NewFields {
 
     fn write_components<E: Encoder>(&self, encoder: &mut E) -> Result<(), EncodeError> {
         let additions = AddedOptional(&self.b, NoMore);
-        Required(&self.a, Marked { additions }).encode_components(encoder)
+        Required(&self.a, ExtensionMarker { additions }).encode_components(encoder)
     }
 
     fn read_components<D: Decoder>(alloc: Global, decoder: &mut D) -> Result<Self, DecodeError> {
         let form = Form::decode_components(alloc, decoder)?;
-        let RequiredComponent(a, MarkedComponents(AddedOptionalComponent(b, NoMore), _)) = form;
+        let RequiredComponent(a, ExtensibleComponents(AddedOptionalComponent(b, NoMore), _)) = form;
         Ok(NewFields { a, b })
     }
 }

@@ -12,8 +12,7 @@ use crate::old_default::OldDefaultFields;
 use asn1_schema::{
     Components, ComponentsOf, DecodeComponents, DecodeError, Decoder, DefaultOf, Defaulted,
     DefaultedComponent, Described, EncodeComponents, EncodeError, Encoder, End, ExtendsComponents,
-    Field, FieldPresence, FieldTables, Fields, GroupComponents, Heading, Identifier, Sequence, Tag,
-    TagTree,
+    Field, FieldTables, Fields, GroupComponents, Heading, Identifier, Sequence, Tag, field,
 };
 use std::alloc::{AllocError, Global};
 use std::marker::PhantomData;
@@ -86,7 +85,7 @@ impl FieldTables for NewDefaultFields {
 /// As a group of additions.
 impl GroupComponents for NewDefaultFields {
     ghost group = { group_of ⟦<NewDefaultFields as Components>⟧.shape refl
-        (record { unmarked = refl; no_additions = refl; tagged = refl }) (λ _. refl) };
+        (record { not_extensible = refl; no_additions = refl; tagged = refl }) (λ _. refl) };
 
     fn is_empty(&self) -> bool {
         self.s.value.a && self.s.value.b.is_none()

@@ -5,11 +5,10 @@ ghost use Rattle.asn1_schema.proofs.Author.{sequence_of, sequence_tag, sequence_
 
 use crate::old::{Old, OldFields};
 use asn1_schema::{
-    AddedRequired, AddedRequiredComponent, AdditionsOf, Class, Components, ComponentsOf,
-    DecodeComponents, DecodeError, Decoder, Described, EncodeComponents, EncodeError, Encoder,
-    ExtendsComponents, Field, FieldPresence, FieldTables, Fields, Heading, Identifier, Implicit,
-    Marked, MarkedComponents, NoMore, OneAddition, Required, RequiredComponent, Sequence, Tag,
-    TagTree, tag,
+    AddedRequired, AddedRequiredComponent, AdditionsOf, Components, ComponentsOf, DecodeComponents,
+    DecodeError, Decoder, Described, EncodeComponents, EncodeError, Encoder, ExtendsComponents,
+    ExtensibleComponents, ExtensionMarker, Field, FieldTables, Fields, Heading, Identifier,
+    Implicit, NoMore, OneAddition, Required, RequiredComponent, Sequence, Tag, field, tag, tagged,
 };
 use std::alloc::Global;
 
@@ -27,7 +26,7 @@ pub struct NewRequiredFields {
 
 type Additions = AddedRequiredComponent<Implicit<tag::Context<1>, bool>, NoMore>;
 
-type Form = RequiredComponent<bool, MarkedComponents<OneAddition, Additions>>;
+type Form = RequiredComponent<bool, ExtensibleComponents<OneAddition, Additions>>;
 
 impl Components for NewRequiredFields {
     const TAG: Tag = Tag::SEQUENCE;
@@ -45,12 +44,12 @@ impl Components for NewRequiredFields {
 
     fn write_components<E: Encoder>(&self, encoder: &mut E) -> Result<(), EncodeError> {
         let additions = AddedRequired(&self.r, NoMore);
-        Required(&self.a, Marked { additions }).encode_components(encoder)
+        Required(&self.a, ExtensionMarker { additions }).encode_components(encoder)
     }
 
     fn read_components<D: Decoder>(alloc: Global, decoder: &mut D) -> Result<Self, DecodeError> {
         let form = Form::decode_components(alloc, decoder)?;
-        let RequiredComponent(a, MarkedComponents(AddedRequiredComponent(r, NoMore), _)) = form;
+        let RequiredComponent(a, ExtensibleComponents(AddedRequiredComponent(r, NoMore), _)) = form;
         Ok(NewRequiredFields { a, r })
     }
 }

@@ -4,8 +4,8 @@ ghost use Rattle.asn1_schema.proofs.Author.{sequence_of, sequence_tag};
 
 use asn1_schema::{
     Components, ComponentsOf, DecodeComponents, DecodeError, Decoder, EncodeComponents,
-    EncodeError, Encoder, Field, FieldPresence, FieldTables, Fields, Heading, Identifier, Marked,
-    MarkedComponents, NoAddition, NoMore, Required, RequiredComponent, Sequence, Tag, TagTree,
+    EncodeError, Encoder, ExtensibleComponents, ExtensionMarker, Field, FieldTables, Fields,
+    Heading, Identifier, NoAddition, NoMore, Required, RequiredComponent, Sequence, Tag, field,
 };
 use std::alloc::Global;
 
@@ -19,7 +19,7 @@ pub struct OldFields {
     pub a: bool,
 }
 
-type Form = RequiredComponent<bool, MarkedComponents<NoAddition, NoMore>>;
+type Form = RequiredComponent<bool, ExtensibleComponents<NoAddition, NoMore>>;
 
 impl Components for OldFields {
     const TAG: Tag = Tag::SEQUENCE;
@@ -36,13 +36,13 @@ impl Components for OldFields {
     }
 
     fn write_components<E: Encoder>(&self, encoder: &mut E) -> Result<(), EncodeError> {
-        let marked = Marked { additions: NoMore };
-        Required(&self.a, marked).encode_components(encoder)
+        let marker = ExtensionMarker { additions: NoMore };
+        Required(&self.a, marker).encode_components(encoder)
     }
 
     fn read_components<D: Decoder>(alloc: Global, decoder: &mut D) -> Result<Self, DecodeError> {
         let form = Form::decode_components(alloc, decoder)?;
-        let RequiredComponent(a, MarkedComponents(NoMore, _)) = form;
+        let RequiredComponent(a, ExtensibleComponents(NoMore, _)) = form;
         Ok(OldFields { a })
     }
 }

@@ -7,8 +7,8 @@ ghost use Rattle.asn1_relay_types.specs.Defaults.{true_and, old_true_stands};
 use crate::old::{Old, OldFields};
 use asn1_schema::{
     Components, ComponentsOf, DecodeComponents, DecodeError, Decoder, DefaultOf, Defaulted,
-    DefaultedComponent, EncodeComponents, EncodeError, Encoder, End, Field, FieldPresence,
-    FieldTables, Fields, GroupComponents, Heading, Identifier, Sequence, Tag, TagTree,
+    DefaultedComponent, EncodeComponents, EncodeError, Encoder, End, Field, FieldTables, Fields,
+    GroupComponents, Heading, Identifier, Sequence, Tag, field,
 };
 use std::alloc::{AllocError, Global};
 use std::marker::PhantomData;
@@ -81,7 +81,7 @@ impl FieldTables for OldDefaultFields {
 /// As a group of additions.
 impl GroupComponents for OldDefaultFields {
     ghost group = { group_of ⟦<OldDefaultFields as Components>⟧.shape refl
-        (record { unmarked = refl; no_additions = refl; tagged = refl }) (λ _. refl) };
+        (record { not_extensible = refl; no_additions = refl; tagged = refl }) (λ _. refl) };
 
     fn is_empty(&self) -> bool {
         self.s.value.a

@@ -5,8 +5,8 @@ ghost use Rattle.asn1_schema.proofs.Author.{sequence_of, sequence_tag};
 use crate::small::Small;
 use asn1_schema::{
     Components, ComponentsOf, DecodeComponents, DecodeError, Decoder, EncodeComponents,
-    EncodeError, Encoder, End, Field, FieldPresence, FieldTables, Fields, Heading, Identifier,
-    Required, RequiredComponent, Sequence, Tag, TagTree,
+    EncodeError, Encoder, End, Field, FieldTables, Fields, Heading, Identifier, Required,
+    RequiredComponent, Sequence, Tag, field,
 };
 use std::alloc::Global;
 

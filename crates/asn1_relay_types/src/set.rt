@@ -4,9 +4,9 @@ ghost use Rattle.std.specs.Prelude.{refl};
 ghost use Rattle.asn1_schema.proofs.Author.{set_of, set_tag};
 
 use asn1_schema::{
-    Class, Components, ComponentsOf, DecodeComponents, DecodeError, Decoder, EncodeComponents,
-    EncodeError, Encoder, End, Field, FieldPresence, FieldTables, Fields, Heading, Identifier,
-    Implicit, Optional, OptionalComponent, Tag, TagTree, tag,
+    Components, ComponentsOf, DecodeComponents, DecodeError, Decoder, EncodeComponents,
+    EncodeError, Encoder, End, Field, FieldTables, Fields, Heading, Identifier, Implicit, Optional,
+    OptionalComponent, Tag, field, tag, tagged,
 };
 use asn1_values::Integer;
 use std::alloc::Global;

@@ -82,7 +82,7 @@ impl Limits {
             value: self.value,
             size: self.size,
             permitted_alphabet,
-            is_marked: false,
+            is_extensible: false,
         }
     }
 }

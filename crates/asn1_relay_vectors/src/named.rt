@@ -6,8 +6,8 @@ use asn1_relay_types::{
     Bag, Group, Nest, New, NewColour, NewRequired, Octets, Old, Pair, Set, Small,
 };
 use asn1_relay_vectors_types::{
-    Around, Distant, ListOfOneOrTwo, Marked, Noted, Nothing, Offset, Outer, Person, Scale,
-    Schedule, Spaced, Twelve, Versioned,
+    Around, Distant, ExtensibleInteger, ListOfOneOrTwo, Noted, Nothing, Offset, Outer, Person,
+    Scale, Schedule, Spaced, Twelve, Versioned,
 };
 use asn1_schema_authored::Sequence;
 use asn1_schema_example::answer::Answer;
@@ -107,7 +107,7 @@ type Wide = ConstrainedInteger<256, 1234567>;
 fn judge_components(alloc: Global, line: &Line<'_>) -> Verdict {
     match line.kind {
         "wide" => judge(alloc, &Of::<Wide>(PhantomData), line),
-        "marked" => judge(alloc, &Of::<Marked>(PhantomData), line),
+        "extensible" => judge(alloc, &Of::<ExtensibleInteger>(PhantomData), line),
         "one-or-two-bools" => judge(alloc, &Of::<ListOfOneOrTwo<bool>>(PhantomData), line),
         "person" => judge(alloc, &Of::<Person>(PhantomData), line),
         "station" => judge(alloc, &Of::<Sequence<Station>>(PhantomData), line),

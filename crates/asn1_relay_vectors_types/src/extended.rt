@@ -8,7 +8,7 @@ use crate::sequences::Tagged;
 use crate::written::Lent;
 use asn1_schema::{
     AddedOptionalComponent, AddedRequiredComponent, ComponentsOf, DecodeError, DecodeExtension,
-    Decoder, EncodeError, EncodeExtension, Encoder, MarkedComponents, NoMore, OneAddition,
+    Decoder, EncodeError, EncodeExtension, Encoder, ExtensibleComponents, NoMore, OneAddition,
     OptionalComponent, RequiredComponent, Tag,
 };
 use asn1_values::{Integer, OctetString};
@@ -19,7 +19,7 @@ pub type Noted = Sequence<NotedForm>;
 
 type Note = AddedOptionalComponent<(), NoMore>;
 
-type NotedForm = OptionalComponent<OctetString, MarkedComponents<OneAddition, Note>>;
+type NotedForm = OptionalComponent<OctetString, ExtensibleComponents<OneAddition, Note>>;
 
 impl Listed for NotedForm {
     ghost form = { ⟦<NotedForm as ComponentsOf>⟧.table };
@@ -44,7 +44,7 @@ pub type Schedule = Sequence<ScheduleForm>;
 
 type Today = AddedRequiredComponent<Tagged<3, OctetString>, NoMore>;
 
-type Late = OptionalComponent<Tagged<2, Integer>, MarkedComponents<OneAddition, Today>>;
+type Late = OptionalComponent<Tagged<2, Integer>, ExtensibleComponents<OneAddition, Today>>;
 
 type ScheduleForm = RequiredComponent<
     Tagged<0, Integer>,

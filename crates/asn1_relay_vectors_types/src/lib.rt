@@ -4,9 +4,9 @@
 
 mod choices;
 mod extended;
+mod extensible;
 mod items;
 mod listed;
-mod marked;
 mod sequences;
 mod sizes;
 mod versions;
@@ -14,8 +14,8 @@ mod written;
 
 pub use choices::{Around, Distant, OldVersioned, Spaced, Versioned};
 pub use extended::{Noted, Schedule};
+pub use extensible::ExtensibleInteger;
 pub use items::Scale;
-pub use marked::Marked;
 pub use sequences::{Blocks, Nothing, Offset, Outer, Person, Twelve};
 pub use sizes::ListOfOneOrTwo;
 pub use versions::{

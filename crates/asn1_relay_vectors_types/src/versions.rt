@@ -23,7 +23,7 @@ use asn1_schema::{
     AddedGroupComponent, AddedOptionalComponent, AddedRequiredComponent, AdditionsOf, Components,
     ComponentsOf, DecodeComponents, DecodeError, DecodeExtension, DecodeSequence, Decoder,
     Described, EncodeError, EncodeExtension, EncodeSequence, Encoder, End, Extends,
-    ExtendsComponents, Heading, MarkedComponents, NoAddition, NoMore, OneAddition,
+    ExtendsComponents, ExtensibleComponents, Heading, NoAddition, NoMore, OneAddition,
     OptionalComponent, RequiredComponent, Set, SetOf, Tag, TwoAdditions,
 };
 use asn1_schema_example::grown::GrownFields;
@@ -31,7 +31,7 @@ use asn1_values::{Integer, OctetString};
 use std::alloc::Global;
 
 /// A BOOLEAN, and behind an extension marker these additions.
-type Flagged<M, A> = RequiredComponent<bool, MarkedComponents<M, A>>;
+type Flagged<M, A> = RequiredComponent<bool, ExtensibleComponents<M, A>>;
 
 /// SEQUENCE {a BOOLEAN, ..., n Nest OPTIONAL}.
 pub type Nested = Sequence<NestedForm>;
@@ -120,7 +120,10 @@ impl Extends<Old> for Newest {
 /// SEQUENCE {l SEQUENCE (SIZE (1..2)) OF BOOLEAN, ...}.
 pub type OldList = Sequence<OldListForm>;
 
-type OldListForm = RequiredComponent<ListOfOneOrTwo<bool>, MarkedComponents<NoAddition, NoMore>>;
+type OldListForm = RequiredComponent<
+    ListOfOneOrTwo<bool>,
+    ExtensibleComponents<NoAddition, NoMore>,
+>;
 
 impl Listed for OldListForm {
     ghost form = { ⟦<OldListForm as ComponentsOf>⟧.table };
@@ -145,7 +148,10 @@ pub type NewList = Sequence<NewListForm>;
 
 type Numbers = AddedOptionalComponent<Integer, NoMore>;
 
-type NewListForm = RequiredComponent<ListOfOneOrTwo<bool>, MarkedComponents<OneAddition, Numbers>>;
+type NewListForm = RequiredComponent<
+    ListOfOneOrTwo<bool>,
+    ExtensibleComponents<OneAddition, Numbers>,
+>;
 
 impl Listed for NewListForm {
     ghost form = { ⟦<NewListForm as ComponentsOf>⟧.table };
@@ -379,7 +385,7 @@ type Done = AddedOptionalComponent<Tagged<9, ()>, NoMore>;
 
 type OldGrownForm = OptionalComponent<
     Tagged<0, u8>,
-    RequiredComponent<Tagged<1, bool>, MarkedComponents<OneAddition, Done>>,
+    RequiredComponent<Tagged<1, bool>, ExtensibleComponents<OneAddition, Done>>,
 >;
 
 /// Its components as they are read.

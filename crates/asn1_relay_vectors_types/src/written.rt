@@ -6,7 +6,7 @@ ghost use Rattle.asn1_schema_encode.specs.Writes.{CannotWriteTail, WritesTail};
 use asn1_schema::{
     AddedGroupComponent, AddedOptionalComponent, AddedRequiredComponent, AdditionsOf, ComponentsOf,
     CountOf, DefaultOf, DefaultedComponent, Encode, EncodeComponents, EncodeError, EncodeExtension,
-    EncodeSequence, Encoder, End, Group, MarkedComponents, NoMore, OptionalComponent,
+    EncodeSequence, Encoder, End, ExtensibleComponents, Group, NoMore, OptionalComponent,
     RequiredComponent,
 };
 
@@ -19,6 +19,7 @@ pub trait WriteComponents: ComponentsOf {
         ensures only { IfErr result
             (CannotWriteTail E.step Self.table (Self.root self.now) (Self.added self.now) encoder.old) }
         ensures failed { OnErr result (E.has_failed encoder.new) }
+        ensures front { E.front encoder.new ≡ E.front encoder.old }
         ensures already { E.has_failed encoder.old → result ≡ Err EncodeError.AlreadyFailed }
         ensures after { result ≡ Err EncodeError.AlreadyFailed → E.has_failed encoder.old };
 }
@@ -30,6 +31,7 @@ pub trait WriteAdditions: AdditionsOf {
         ensures ok { OnOk result (WritesAdded E.step Self.additions (Self.parts self.now) encoder.old encoder.new) }
         ensures only { IfErr result (CannotWriteAdded E.step Self.additions (Self.parts self.now) encoder.old) }
         ensures failed { OnErr result (E.has_failed encoder.new) }
+        ensures front { E.front encoder.new ≡ E.front encoder.old }
         ensures already { E.has_failed encoder.old → result ≡ Err EncodeError.AlreadyFailed }
         ensures after { result ≡ Err EncodeError.AlreadyFailed → E.has_failed encoder.old };
 }
@@ -66,7 +68,7 @@ impl<V: DefaultOf<T>, T: Encode, R: WriteComponents> WriteComponents
     }
 }
 
-impl<M: CountOf<A>, A: WriteAdditions> WriteComponents for MarkedComponents<M, A> {
+impl<M: CountOf<A>, A: WriteAdditions> WriteComponents for ExtensibleComponents<M, A> {
     fn write_components<E: Encoder>(&self, encoder: &mut E) -> Result<(), EncodeError> {
         let count = A::count();
         encoder.begin_additions(count)?;

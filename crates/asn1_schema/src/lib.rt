@@ -4,6 +4,7 @@
 //! This crate is a face: its items stand in the packages whose names begin with its own.
 #![tactic(auto)]
 
+mod macros;
 pub mod records;
 
 pub use asn1_schema_authored::AddedDefaulted;
@@ -26,12 +27,12 @@ pub use asn1_schema_authored::EncodeAdditions;
 pub use asn1_schema_authored::EncodeExtension;
 pub use asn1_schema_authored::ExtendsAlternatives;
 pub use asn1_schema_authored::ExtendsComponents;
+pub use asn1_schema_authored::ExtensibleComponents;
+pub use asn1_schema_authored::ExtensionMarker;
 pub use asn1_schema_authored::FieldTables;
 pub use asn1_schema_authored::Group;
 pub use asn1_schema_authored::GroupComponents;
 pub use asn1_schema_authored::Heading;
-pub use asn1_schema_authored::Marked;
-pub use asn1_schema_authored::MarkedComponents;
 pub use asn1_schema_authored::NoAddition;
 pub use asn1_schema_authored::NoMore;
 pub use asn1_schema_authored::OneAddition;
@@ -114,6 +115,7 @@ pub use asn1_schema_wrapped::ConstraintsOf;
 pub use asn1_schema_wrapped::DecodeNamed;
 pub use asn1_schema_wrapped::EncodeNamed;
 pub use asn1_schema_wrapped::Explicit;
+pub use asn1_schema_wrapped::ExtensibleSizeRange;
 pub use asn1_schema_wrapped::Implicit;
 pub use asn1_schema_wrapped::InnerSubtypeConstraint;
 pub use asn1_schema_wrapped::InnerSubtypeConstraintError;
@@ -121,6 +123,7 @@ pub use asn1_schema_wrapped::InstanceOf;
 pub use asn1_schema_wrapped::Open;
 pub use asn1_schema_wrapped::SequenceOf;
 pub use asn1_schema_wrapped::SetOf;
+pub use asn1_schema_wrapped::SizeRange;
 pub use asn1_schema_wrapped::UniversalString;
 pub use asn1_schema_wrapped::Utf8String;
 pub use asn1_schema_wrapped::tag;

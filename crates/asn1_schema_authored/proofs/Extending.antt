@@ -31,7 +31,7 @@ more_fit n ts o s fs (there v) qs f = (f.0, f.1)
 -- what is left of a group: its components, and the end
 pub group_tail : (n : ℕ) {t : Table} → IsGroup t → (ps : Parts) {qs : Parts} → qs ≡ end → tail_records n t ps qs ≡ root_records (components_at n t.root) ps (ends ∷ [])
 unfolding components_at added_records
-group_tail n g ps e = rw (g.unmarked, g.no_additions, e) refl
+group_tail n g ps e = rw (g.not_extensible, g.no_additions, e) refl
 
 pub group_fits : (n : ℕ) {t : Table} → IsGroup t → (ps : Parts) {qs : Parts} → qs ≡ end → PartsFit (components_at n t.root) ps → TailFits n t ps qs
 unfolding components_at PartsFit

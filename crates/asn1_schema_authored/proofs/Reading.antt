@@ -18,7 +18,7 @@ use Rattle.asn1_schema_presented.proofs.Joined.{nothing_noted}
 use Rattle.asn1_schema_presented.proofs.Same.{same_self}
 use Rattle.asn1_schema_decode.specs.Reads.{NoRecord, Reads, Unread, ReadsTail, UnreadTail}
 use Rattle.asn1_schema_decode.proofs.Reading.{reads_as}
-use Rattle.asn1_schema_presented.specs.Additions.{addition_count, marked_table}
+use Rattle.asn1_schema_presented.specs.Additions.{addition_count, extensible_table}
 use Rattle.asn1_schema_authored.specs.Reads.{ReadsEnclosed, ReadsExtension, UnreadExtension, ReadsExtensionDefault, omitted, spelled_out, other_value, UnreadExtensionDefault, ReadsAddition, UnreadAddition, ReadsAdded, UnreadAdded}
 use Rattle.asn1_schema_authored.proofs.Extending.{count_at, enclosed_records, more_records}
 
@@ -97,7 +97,7 @@ module _ {S : Type 0} {step : S → Record → S → Type 0} where
     chain = subst (λ rs. Chain step rs a c) (sym (more_records n ts o s fs h.raw k.raw)) (chain_append step _ _ a b c h.chain k.chain);
   }
 
-  pub reads_additions : {fs : Fields} {n : ℕ} {qs : Parts} {k : ℕ} {a b c : S} → k ≡ addition_count fs → step a (additions_begin k) b → ReadsAdded step fs n qs b c → ReadsTail step (marked_table fs) n end qs a c
+  pub reads_additions : {fs : Fields} {n : ℕ} {qs : Parts} {k : ℕ} {a b c : S} → k ≡ addition_count fs → step a (additions_begin k) b → ReadsAdded step fs n qs b c → ReadsTail step (extensible_table fs) n end qs a c
   unfolding components_at root_records PartsFit normal_parts
   reads_additions {fs} {n} {qs} {k} {a} {b} {c} e h r = record {
     root = end;
@@ -121,7 +121,7 @@ module _ {S : Type 0} {step : S → Record → S → Type 0} where
   pub unread_more_here : (ts : List Tag) {o : Presence} {s : ℕ → Schema} (fs : Fields) {n : ℕ} {a : S} {x : DecodeError} → UnreadAddition step o s n a x → UnreadAdded step (field ts o s fs) n a x
   unread_more_here ts {o} {s} fs {n} {a} h = record { none = λ w qs c f p. let d = parts_of n ts o s fs qs a c f p in h.none w d.0 d.2 d.3 d.5 }
 
-  pub unread_additions_here : {fs : Fields} {n : ℕ} {k : ℕ} {a : S} {x : DecodeError} → k ≡ addition_count fs → NoRecord step (asks_additions k) a x → UnreadTail step (marked_table fs) n a x
+  pub unread_additions_here : {fs : Fields} {n : ℕ} {k : ℕ} {a : S} {x : DecodeError} → k ≡ addition_count fs → NoRecord step (asks_additions k) a x → UnreadTail step (extensible_table fs) n a x
   unread_additions_here {fs} {n} {k} {a} e h = record { none = λ w ps qs c f p. let d = behind_extension_bit step n fs ps qs a c f.0 p in h.none w (additions_begin (addition_count fs)) d.0 (ap asks_additions (sym e)) d.1 }
 
 module _ {S : Type 0} {step : S → Record → S → Type 0} (one : OneRecord step) where
@@ -155,7 +155,7 @@ module _ {S : Type 0} {step : S → Record → S → Type 0} (one : OneRecord st
         k.none w d.1 c d.4 (subst (λ (z : S). Chain step (added_records (components_at n fs) d.1) z c) e d.6);
   }
 
-  pub unread_additions : {fs : Fields} {n : ℕ} {k : ℕ} {a b : S} {x : DecodeError} → k ≡ addition_count fs → step a (additions_begin k) b → UnreadAdded step fs n b x → UnreadTail step (marked_table fs) n a x
+  pub unread_additions : {fs : Fields} {n : ℕ} {k : ℕ} {a b : S} {x : DecodeError} → k ≡ addition_count fs → step a (additions_begin k) b → UnreadAdded step fs n b x → UnreadTail step (extensible_table fs) n a x
   unread_additions {fs} {n} {k} {a} {b} e h r = record {
     none = λ w ps qs c f p.
         let d = behind_extension_bit step n fs ps qs a c f.0 p in

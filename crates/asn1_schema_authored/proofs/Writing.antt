@@ -14,7 +14,7 @@ use Rattle.asn1_schema_presented.proofs.Chains.{chain_append, chain_split, chain
 use Rattle.asn1_schema_presented.proofs.Values.{not_empty}
 use Rattle.asn1_schema_presented.proofs.Joined.{nothing_noted}
 use Rattle.asn1_schema_encode.specs.Writes.{Refused, Writes, CannotWrite, WritesTail, CannotWriteTail}
-use Rattle.asn1_schema_presented.specs.Additions.{addition_count, marked_table}
+use Rattle.asn1_schema_presented.specs.Additions.{addition_count, extensible_table}
 use Rattle.asn1_schema_authored.specs.Writes.{WritesEnclosed, CannotWriteEnclosed, WritesAddition, CannotWriteAddition, WritesAdded, CannotWriteAdded}
 use Rattle.asn1_schema_authored.proofs.Extending.{count_at, enclosed_records, more_records, more_fit}
 
@@ -74,11 +74,11 @@ module _ {S : Type 0} {step : S → Record → S → Type 0} where
   }
 
   -- ---- additions as what is left behind the root
-  pub writes_additions : {fs : Fields} {qs : Parts} {k : ℕ} {a b c : S} → k ≡ addition_count fs → step a (additions_begin k) b → WritesAdded step fs qs b c → WritesTail step (marked_table fs) end qs a c
+  pub writes_additions : {fs : Fields} {qs : Parts} {k : ℕ} {a b c : S} → k ≡ addition_count fs → step a (additions_begin k) b → WritesAdded step fs qs b c → WritesTail step (extensible_table fs) end qs a c
   unfolding components_at root_records
   writes_additions {fs} {qs} {k} {a} {b} {c} e h w = record { chain = λ n f. (b, subst (λ (i : ℕ). step a (additions_begin i) b) (e ∙ sym (count_at n fs)) h, w.chain n f.1) }
 
-  pub cannot_additions_here : {fs : Fields} {k : ℕ} (qs : Parts) {a : S} {x : EncodeError} → k ≡ addition_count fs → Refused step (additions_begin k) a x → CannotWriteTail step (marked_table fs) end qs a x
+  pub cannot_additions_here : {fs : Fields} {k : ℕ} (qs : Parts) {a : S} {x : EncodeError} → k ≡ addition_count fs → Refused step (additions_begin k) a x → CannotWriteTail step (extensible_table fs) end qs a x
   unfolding components_at root_records
   cannot_additions_here {fs} {k} qs {a} e h = record { none = λ w n c f p. h.none w p.0 (subst (λ (i : ℕ). step a (additions_begin i) p.0) (count_at n fs ∙ sym e) p.1) }
 
@@ -100,7 +100,7 @@ module _ {S : Type 0} {step : S → Record → S → Type 0} where
           k.none w n c g.1 (chain_rest step one _ _ a b c (h.chain n g.0) (subst (λ rs. Chain step rs a c) (more_records n ts o s fs x qs) p));
     }
 
-    pub cannot_additions : {fs : Fields} {qs : Parts} {k : ℕ} {a b : S} {x : EncodeError} → k ≡ addition_count fs → step a (additions_begin k) b → CannotWriteAdded step fs qs b x → CannotWriteTail step (marked_table fs) end qs a x
+    pub cannot_additions : {fs : Fields} {qs : Parts} {k : ℕ} {a b : S} {x : EncodeError} → k ≡ addition_count fs → step a (additions_begin k) b → CannotWriteAdded step fs qs b x → CannotWriteTail step (extensible_table fs) end qs a x
     unfolding components_at root_records
     cannot_additions {fs} {qs} {k} {a} {b} e h w = record {
       none = λ m n c f p.

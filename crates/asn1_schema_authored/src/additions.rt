@@ -8,10 +8,10 @@ ghost use Rattle.asn1_schema_presented.specs.Parts.{part_of, part_unless};
 ghost use Rattle.asn1_schema_presented.proofs.Values.{part_required, part_optional, part_default};
 ghost use Rattle.asn1_schema_presented.proofs.Defaults.{has_default};
 ghost use Rattle.asn1_schema_presented.specs.Additions.{HaveDefaults, AreAdditionTypes, AreAdditionValues};
-ghost use Rattle.asn1_schema_presented.specs.Additions.{addition_count, marked_table, group_type, group_part};
+ghost use Rattle.asn1_schema_presented.specs.Additions.{addition_count, extensible_table, group_type, group_part};
 ghost use Rattle.asn1_schema_presented.proofs.Additions.{as_addition, no_addition_types, more_addition_types};
-ghost use Rattle.asn1_schema_presented.proofs.Additions.{marked_types, no_addition_values, more_addition_values};
-ghost use Rattle.asn1_schema_presented.proofs.Additions.{marked_values};
+ghost use Rattle.asn1_schema_presented.proofs.Additions.{extensible_types, no_addition_values, more_addition_values};
+ghost use Rattle.asn1_schema_presented.proofs.Additions.{extensible_values};
 ghost use Rattle.asn1_schema_presented.proofs.Groups.{group_addition, group_valued};
 
 use crate::group::Group;
@@ -69,18 +69,18 @@ pub trait CountOf<A: AdditionsOf> {
 /// What stands behind the root components of a type with an extension marker: its additions, as they are read.
 /// The marker says that they can be counted.
 #[derive(Drop)]
-pub struct MarkedComponents<M, A>(pub A, pub PhantomData<M>);
+pub struct ExtensibleComponents<M, A>(pub A, pub PhantomData<M>);
 
-impl<M, A: AdditionsOf> ComponentsOf for MarkedComponents<M, A> {
-    ghost table = { marked_table A.additions };
+impl<M, A: AdditionsOf> ComponentsOf for ExtensibleComponents<M, A> {
+    ghost table = { extensible_table A.additions };
 
     ghost root = { λ _. end };
 
     ghost added = { λ x. A.parts x.0 };
 
-    ghost typed = { λ d. marked_types (A.typed d) };
+    ghost typed = { λ d. extensible_types (A.typed d) };
 
-    ghost valued = { λ d x. marked_values (A.valued d x.0) };
+    ghost valued = { λ d x. extensible_values (A.valued d x.0) };
 }
 
 /// An addition that is there wherever this version of the type wrote the value, and those behind it, as they are read.

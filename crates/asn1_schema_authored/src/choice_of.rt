@@ -61,6 +61,7 @@ pub trait ChoiceAlternatives: Drop {
         ensures only { IfErr result (CannotWrite E.step (chosen_type shape.table (shape.place self.now))
             (shape.inner self.now) encoder.old) }
         ensures failed { OnErr result (E.has_failed encoder.new) }
+        ensures front { E.front encoder.new ≡ E.front encoder.old }
         ensures already { E.has_failed encoder.old → result ≡ Err EncodeError.AlreadyFailed }
         ensures after { result ≡ Err EncodeError.AlreadyFailed → E.has_failed encoder.old };
 

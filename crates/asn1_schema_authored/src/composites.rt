@@ -98,6 +98,7 @@ pub trait Components: Drop {
         ensures only { IfErr result
             (CannotWriteTail E.step shape.table (shape.root self.now) (shape.added self.now) encoder.old) }
         ensures failed { OnErr result (E.has_failed encoder.new) }
+        ensures front { E.front encoder.new ≡ E.front encoder.old }
         ensures already { E.has_failed encoder.old → result ≡ Err EncodeError.AlreadyFailed }
         ensures after { result ≡ Err EncodeError.AlreadyFailed → E.has_failed encoder.old };
 
@@ -207,6 +208,7 @@ fn begin_written<E: Encoder>(encoder: &mut E, tag: Tag, heading: Heading) -> Res
     ensures only { IfErr result
         (Refused E.step (begins (form_of heading.set) heading.extensible heading.optional) encoder.old) }
     ensures failed { OnErr result (E.has_failed encoder.new) }
+    ensures front { E.front encoder.new ≡ E.front encoder.old }
     ensures already { E.has_failed encoder.old → result ≡ Err EncodeError.AlreadyFailed }
     ensures after { result ≡ Err EncodeError.AlreadyFailed → E.has_failed encoder.old }
 {

@@ -14,7 +14,7 @@ ghost use Rattle.asn1_schema_authored.specs.Reads.{ReadsAdded, UnreadAdded};
 
 use crate::additions::{
     AddedDefaultedComponent, AddedGroupComponent, AddedOptionalComponent, AddedRequiredComponent,
-    AdditionsOf, CountOf, MarkedComponents, NoMore,
+    AdditionsOf, CountOf, ExtensibleComponents, NoMore,
 };
 use crate::group::Group;
 use asn1_schema_constraints::Constraints;
@@ -78,12 +78,12 @@ impl<G: Group, R: DecodeAdditions> DecodeAdditions for AddedGroupComponent<G, R>
     }
 }
 
-impl<M: CountOf<A> + Drop, A: DecodeAdditions> DecodeComponents for MarkedComponents<M, A> {
+impl<M: CountOf<A> + Drop, A: DecodeAdditions> DecodeComponents for ExtensibleComponents<M, A> {
     fn decode_components<D: Decoder>(alloc: Global, decoder: &mut D) -> Result<Self, DecodeError> {
         let count = A::count();
         decoder.begin_additions(count)?;
         let additions = A::decode_additions(alloc, decoder)?;
-        Ok(MarkedComponents(additions, PhantomData))
+        Ok(ExtensibleComponents(additions, PhantomData))
     }
 }
 

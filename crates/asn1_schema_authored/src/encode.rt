@@ -13,7 +13,7 @@ ghost use Rattle.asn1_schema_authored.specs.Writes.{CannotWriteAddition, WritesA
 
 use crate::additions::{AdditionsOf, NoMore};
 use crate::group::Group;
-use crate::written::{AddedDefaulted, AddedGroup, AddedOptional, AddedRequired, Marked};
+use crate::written::{AddedDefaulted, AddedGroup, AddedOptional, AddedRequired, ExtensionMarker};
 use asn1_schema_constraints::Constraints;
 use asn1_schema_encode::{Encode, EncodeComponents, Encoder};
 use asn1_schema_faults::EncodeError;
@@ -27,6 +27,7 @@ pub trait EncodeAdditions: AdditionsOf {
         ensures ok { OnOk result (WritesAdded E.step Self.additions (Self.parts self.now) encoder.old encoder.new) }
         ensures only { IfErr result (CannotWriteAdded E.step Self.additions (Self.parts self.now) encoder.old) }
         ensures failed { OnErr result (E.has_failed encoder.new) }
+        ensures front { E.front encoder.new ≡ E.front encoder.old }
         ensures already { E.has_failed encoder.old → result ≡ Err EncodeError.AlreadyFailed }
         ensures after { result ≡ Err EncodeError.AlreadyFailed → E.has_failed encoder.old };
 }
@@ -71,7 +72,7 @@ impl<'a, G: Group, R: EncodeAdditions> EncodeAdditions for AddedGroup<'a, G, R> 
     }
 }
 
-impl<A: EncodeAdditions> EncodeComponents for Marked<A> {
+impl<A: EncodeAdditions> EncodeComponents for ExtensionMarker<A> {
     fn encode_components<E: Encoder>(&self, encoder: &mut E) -> Result<(), EncodeError> {
         let count = A::count();
         encoder.begin_additions(count)?;
@@ -94,6 +95,7 @@ pub trait EncodeExtension: Encoder {
         ensures only { IfErr result
             (CannotWriteAddition Self.step required T.schema (there (T.meaning value.now)) self.old) }
         ensures failed { OnErr result (Self.has_failed self.new) }
+        ensures front { Self.front self.new ≡ Self.front self.old }
         ensures already { Self.has_failed self.old → result ≡ Err EncodeError.AlreadyFailed }
         ensures after { result ≡ Err EncodeError.AlreadyFailed → Self.has_failed self.old }
     {
@@ -115,6 +117,7 @@ pub trait EncodeExtension: Encoder {
         ensures only { IfErr result
             (CannotWriteEnclosed Self.step (T.under (meant constraints.entry)) (T.meaning value.now) self.old) }
         ensures failed { OnErr result (Self.has_failed self.new) }
+        ensures front { Self.front self.new ≡ Self.front self.old }
         ensures already { Self.has_failed self.old → result ≡ Err EncodeError.AlreadyFailed }
         ensures after { result ≡ Err EncodeError.AlreadyFailed → Self.has_failed self.old }
     {
@@ -136,6 +139,7 @@ pub trait EncodeExtension: Encoder {
         ensures only { IfErr result
             (CannotWriteAddition Self.step optional T.schema (part_of T.meaning value.now) self.old) }
         ensures failed { OnErr result (Self.has_failed self.new) }
+        ensures front { Self.front self.new ≡ Self.front self.old }
         ensures already { Self.has_failed self.old → result ≡ Err EncodeError.AlreadyFailed }
         ensures after { result ≡ Err EncodeError.AlreadyFailed → Self.has_failed self.old }
     {
@@ -162,6 +166,7 @@ pub trait EncodeExtension: Encoder {
             (CannotWriteAddition Self.step (by_default V.value) T.schema
             (part_unless (same (T.meaning value.now) V.value) (T.meaning value.now)) self.old) }
         ensures failed { OnErr result (Self.has_failed self.new) }
+        ensures front { Self.front self.new ≡ Self.front self.old }
         ensures already { Self.has_failed self.old → result ≡ Err EncodeError.AlreadyFailed }
         ensures after { result ≡ Err EncodeError.AlreadyFailed → Self.has_failed self.old }
     {
@@ -182,6 +187,7 @@ pub trait EncodeExtension: Encoder {
         ensures only { IfErr result
             (CannotWrite Self.step (group_type G.components) (fields (G.parts group.now) end) self.old) }
         ensures failed { OnErr result (Self.has_failed self.new) }
+        ensures front { Self.front self.new ≡ Self.front self.old }
         ensures already { Self.has_failed self.old → result ≡ Err EncodeError.AlreadyFailed }
         ensures after { result ≡ Err EncodeError.AlreadyFailed → Self.has_failed self.old }
     {
@@ -200,6 +206,7 @@ pub trait EncodeExtension: Encoder {
         ensures only { IfErr result
             (CannotWriteEnclosed Self.step (group_type G.components) (fields (G.parts group.now) end) self.old) }
         ensures failed { OnErr result (Self.has_failed self.new) }
+        ensures front { Self.front self.new ≡ Self.front self.old }
         ensures already { Self.has_failed self.old → result ≡ Err EncodeError.AlreadyFailed }
         ensures after { result ≡ Err EncodeError.AlreadyFailed → Self.has_failed self.old }
     {
@@ -222,6 +229,7 @@ pub trait EncodeExtension: Encoder {
         ensures only { IfErr result
             (CannotWriteAddition Self.step optional (group_type G.components) (group_part G.parts value.now) self.old) }
         ensures failed { OnErr result (Self.has_failed self.new) }
+        ensures front { Self.front self.new ≡ Self.front self.old }
         ensures already { Self.has_failed self.old → result ≡ Err EncodeError.AlreadyFailed }
         ensures after { result ≡ Err EncodeError.AlreadyFailed → Self.has_failed self.old }
     {
@@ -256,6 +264,7 @@ pub trait EncodeExtension: Encoder {
             (CannotWrite Self.step (sequence_type C.table) (fields (C.root components.now) (C.added components.now))
             self.old) }
         ensures failed { OnErr result (Self.has_failed self.new) }
+        ensures front { Self.front self.new ≡ Self.front self.old }
         ensures already { Self.has_failed self.old → result ≡ Err EncodeError.AlreadyFailed }
         ensures after { result ≡ Err EncodeError.AlreadyFailed → Self.has_failed self.old }
     {

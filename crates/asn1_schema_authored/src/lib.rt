@@ -16,7 +16,7 @@ pub mod written;
 
 pub use additions::{
     AddedDefaultedComponent, AddedGroupComponent, AddedOptionalComponent, AddedRequiredComponent,
-    AdditionsOf, CountOf, MarkedComponents, NoMore,
+    AdditionsOf, CountOf, ExtensibleComponents, NoMore,
 };
 pub use choice_of::{ChoiceAlternatives, ChoiceOf};
 pub use composites::{Components, Composite, FieldTables, Heading, Sequence, Set};
@@ -26,4 +26,4 @@ pub use encode::{EncodeAdditions, EncodeExtension};
 pub use group::Group;
 pub use groups::GroupComponents;
 pub use versions::{ExtendsAlternatives, ExtendsComponents};
-pub use written::{AddedDefaulted, AddedGroup, AddedOptional, AddedRequired, Marked};
+pub use written::{AddedDefaulted, AddedGroup, AddedOptional, AddedRequired, ExtensionMarker};

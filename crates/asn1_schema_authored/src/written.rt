@@ -7,9 +7,9 @@ ghost use Rattle.asn1_schema_presented.specs.Tables.{field, field_tags};
 ghost use Rattle.asn1_schema_presented.specs.Parts.{part_of, part_unless};
 ghost use Rattle.asn1_schema_presented.proofs.Values.{part_required, part_optional, part_default};
 ghost use Rattle.asn1_schema_presented.proofs.Defaults.{has_default};
-ghost use Rattle.asn1_schema_presented.specs.Additions.{addition_count, marked_table, group_type, group_part};
-ghost use Rattle.asn1_schema_presented.proofs.Additions.{as_addition, more_addition_types, marked_types};
-ghost use Rattle.asn1_schema_presented.proofs.Additions.{more_addition_values, marked_values};
+ghost use Rattle.asn1_schema_presented.specs.Additions.{addition_count, extensible_table, group_type, group_part};
+ghost use Rattle.asn1_schema_presented.proofs.Additions.{as_addition, more_addition_types, extensible_types};
+ghost use Rattle.asn1_schema_presented.proofs.Additions.{more_addition_values, extensible_values};
 ghost use Rattle.asn1_schema_presented.proofs.Groups.{group_addition, group_valued};
 
 use crate::additions::AdditionsOf;
@@ -19,22 +19,22 @@ use std::marker::PhantomData;
 
 /// What stands behind the root components of a type with an extension marker: its additions, as they are written.
 #[derive(Drop)]
-pub struct Marked<A: AdditionsOf> {
+pub struct ExtensionMarker<A: AdditionsOf> {
     /// The additions.
     pub additions: A,
     ghost counted: { addition_count A.additions ≤ 18446744073709551615 },
 }
 
-impl<A: AdditionsOf> ComponentsOf for Marked<A> {
-    ghost table = { marked_table A.additions };
+impl<A: AdditionsOf> ComponentsOf for ExtensionMarker<A> {
+    ghost table = { extensible_table A.additions };
 
     ghost root = { λ _. end };
 
     ghost added = { λ x. A.parts x.additions };
 
-    ghost typed = { λ d. marked_types (A.typed d) };
+    ghost typed = { λ d. extensible_types (A.typed d) };
 
-    ghost valued = { λ d x. marked_values (A.valued d x.additions) };
+    ghost valued = { λ d x. extensible_values (A.valued d x.additions) };
 }
 
 /// An addition that is there, and those behind it.

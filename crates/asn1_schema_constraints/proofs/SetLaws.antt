@@ -44,20 +44,20 @@ markers_group false b c = refl
 -- constraints that agree kind by kind are the same
 by_kinds : {v v' : Option (Extensible Value)} {s s' : Option (Extensible Size)} {a a' : Option (Extensible PermittedAlphabet)} {m m' : Bool}
     → v ≡ v' → s ≡ s' → a ≡ a' → m ≡ m'
-    → (let one : Constraints = record { value = v; size = s; permitted_alphabet = a; is_marked = m } in one)
-    ≡ record { value = v'; size = s'; permitted_alphabet = a'; is_marked = m' }
+    → (let one : Constraints = record { value = v; size = s; permitted_alphabet = a; is_extensible = m } in one)
+    ≡ record { value = v'; size = s'; permitted_alphabet = a'; is_extensible = m' }
 by_kinds {v} {v'} {s} {s'} {a} {a'} {m} {m'} e f g h =
-    ap (λ (x : Option (Extensible Value)). let one : Constraints = record { value = x; size = s; permitted_alphabet = a; is_marked = m } in one) e
-    ∙ (ap (λ (x : Option (Extensible Size)). let one : Constraints = record { value = v'; size = x; permitted_alphabet = a; is_marked = m } in one) f
-    ∙ (ap (λ (x : Option (Extensible PermittedAlphabet)). let one : Constraints = record { value = v'; size = s'; permitted_alphabet = x; is_marked = m } in one) g
-    ∙ ap (λ (x : Bool). let one : Constraints = record { value = v'; size = s'; permitted_alphabet = a'; is_marked = x } in one) h))
+    ap (λ (x : Option (Extensible Value)). let one : Constraints = record { value = x; size = s; permitted_alphabet = a; is_extensible = m } in one) e
+    ∙ (ap (λ (x : Option (Extensible Size)). let one : Constraints = record { value = v'; size = x; permitted_alphabet = a; is_extensible = m } in one) f
+    ∙ (ap (λ (x : Option (Extensible PermittedAlphabet)). let one : Constraints = record { value = v'; size = s'; permitted_alphabet = x; is_extensible = m } in one) g
+    ∙ ap (λ (x : Bool). let one : Constraints = record { value = v'; size = s'; permitted_alphabet = a'; is_extensible = x } in one) h))
 
 pub both_groups : (a b c : Constraints) → both (both a b) c ≡ both a (both b c)
 both_groups a b c = by_kinds
     (parts_group met_values values_group a.value b.value c.value)
     (parts_group met_sizes sizes_group a.size b.size c.size)
     (parts_group later_alphabet alphabets_group a.permitted_alphabet b.permitted_alphabet c.permitted_alphabet)
-    (markers_group a.is_marked b.is_marked c.is_marked)
+    (markers_group a.is_extensible b.is_extensible c.is_extensible)
 
 -- ---- no constraint changes nothing
 
@@ -70,7 +70,7 @@ mark_and_none true = refl
 mark_and_none false = refl
 
 pub both_none : (a : Constraints) → both a unconstrained ≡ a
-both_none a = by_kinds (part_and_none met_values a.value) (part_and_none met_sizes a.size) (part_and_none later_alphabet a.permitted_alphabet) (mark_and_none a.is_marked)
+both_none a = by_kinds (part_and_none met_values a.value) (part_and_none met_sizes a.size) (part_and_none later_alphabet a.permitted_alphabet) (mark_and_none a.is_extensible)
 
 -- ---- lists joined
 

@@ -60,19 +60,19 @@ is_extended None = false
 is_extended (Some c) = has_additions c
 
 -- Whether some constraint has an extension marker, or the type itself.
-abbrev pub is_marked : Constraints → Bool
-is_marked c = c.is_marked || (is_extended c.value || (is_extended c.size || is_extended c.permitted_alphabet))
+abbrev pub is_extensible : Constraints → Bool
+is_extensible c = c.is_extensible || (is_extended c.value || (is_extended c.size || is_extended c.permitted_alphabet))
 
 -- The constraints of the program where there are none.
 abbrev pub unconstrained : Constraints
-unconstrained = record { value = None; size = None; permitted_alphabet = None; is_marked = false }
+unconstrained = record { value = None; size = None; permitted_alphabet = None; is_extensible = false }
 
 -- One constraint.
 abbrev pub alone : Constraint → Constraints
 alone (OfValue c) = record unconstrained { value = Some c }
 alone (OfSize c) = record unconstrained { size = Some c }
 alone (OfAlphabet c) = record unconstrained { permitted_alphabet = Some c }
-alone Marker = record unconstrained { is_marked = true }
+alone Marker = record unconstrained { is_extensible = true }
 
 -- What is behind the later extension marker, or else behind the earlier one.
 abbrev pub later_marker : {X : Type 0} → Option X → Option X → Option X
@@ -113,7 +113,7 @@ both a b = record {
   value = both_parts met_values a.value b.value;
   size = both_parts met_sizes a.size b.size;
   permitted_alphabet = both_parts later_alphabet a.permitted_alphabet b.permitted_alphabet;
-  is_marked = a.is_marked || b.is_marked;
+  is_extensible = a.is_extensible || b.is_extensible;
 }
 
 -- What some constraints come to, applied in turn.

@@ -103,6 +103,7 @@ impl<T> Bounded<T> {
     }
 
     /// The least and the greatest value, where there are these.
+    #[inline(always)]
     pub fn start_and_end(&self) -> (Option<&T>, Option<&T>)
         ensures low { option_copied result.0 ≡ lower self.now }
         ensures high { option_copied result.1 ≡ upper self.now }
@@ -238,6 +239,7 @@ impl Bounded<i128> {
     }
 
     /// Whether a number is within the bounds (X.680 51.4).
+    #[inline(always)]
     pub fn contains(&self, element: &i128) -> bool
         ensures { result ≡ admits_number self.now element.now }
     {
@@ -260,6 +262,7 @@ impl Bounded<i128> {
     }
 
     // Whether a number is within the bounds.
+    #[inline(always)]
     fn admits(&self, element: i128) -> bool
         ensures { result ≡ admits_number self.now element }
     {
@@ -348,6 +351,7 @@ impl Bounded<usize> {
     }
 
     /// Whether a count is within the bounds (X.680 51.5).
+    #[inline(always)]
     pub fn contains(&self, element: &usize) -> bool
         ensures { result ≡ admits_count self.now element.now }
     {

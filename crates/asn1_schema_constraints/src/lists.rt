@@ -4,7 +4,7 @@ ghost use Rattle.asn1_model.specs.Strings.{each_is};
 ghost use Rattle.std.specs.Option.{option_copied};
 ghost use Rattle.asn1_schema_constraints.specs.Sets.{alone, kind_of, kind_number, value_part, size_part, alphabet_part};
 ghost use Rattle.asn1_schema_constraints.specs.Sets.{has_marker, unconstrained, both_parts, met_values, met_sizes};
-ghost use Rattle.asn1_schema_constraints.specs.Sets.{later_alphabet, both, all_of, is_marked, admit_number};
+ghost use Rattle.asn1_schema_constraints.specs.Sets.{later_alphabet, both, all_of, is_extensible, admit_number};
 ghost use Rattle.asn1_schema_constraints.specs.Sets.{admit_count};
 ghost use Rattle.asn1_schema_constraints.specs.declared.lists.Constraint.TheVariants.{Value as OfValue, Size as OfSize};
 ghost use Rattle.asn1_schema_constraints.specs.declared.lists.Constraint.TheVariants.{PermittedAlphabet as OfAlphabet};
@@ -222,7 +222,7 @@ pub struct Constraints<'a> {
     /// The constraint on the characters of a string.
     pub permitted_alphabet: Option<Extensible<'a, PermittedAlphabet<'a>>>,
     /// Whether the type itself has an extension marker.
-    pub is_marked: bool,
+    pub is_extensible: bool,
 }
 
 impl<'a> Constraints<'a> {
@@ -231,7 +231,7 @@ impl<'a> Constraints<'a> {
         value: None,
         size: None,
         permitted_alphabet: None,
-        is_marked: false,
+        is_extensible: false,
     };
 
     /// These constraints together, applied in turn.
@@ -258,7 +258,7 @@ impl<'a> Constraints<'a> {
             value: values_in_turn(self.value, rhs.value),
             size: sizes_in_turn(self.size, rhs.size),
             permitted_alphabet: alphabets_in_turn(self.permitted_alphabet, rhs.permitted_alphabet),
-            is_marked: self.is_marked || rhs.is_marked,
+            is_extensible: self.is_extensible || rhs.is_extensible,
         }
     }
 
@@ -278,9 +278,9 @@ impl<'a> Constraints<'a> {
 
     /// Whether there is an extension marker: of the type itself, or of a constraint.
     pub fn extensible(&self) -> bool
-        ensures { result ≡ is_marked self.now }
+        ensures { result ≡ is_extensible self.now }
     {
-        self.is_marked
+        self.is_extensible
             || self.value.is_some_and(|value| value.extensible.is_some())
             || self.size.is_some_and(|size| size.extensible.is_some())
             || self
@@ -322,7 +322,7 @@ impl<'a> From<Constraint<'a>> for Constraints<'a> {
                 ..Constraints::NONE
             },
             Constraint::Extensible => Constraints {
-                is_marked: true,
+                is_extensible: true,
                 ..Constraints::NONE
             },
         }

@@ -22,7 +22,7 @@ pub type_set : {ts : List Tag} (t : Table) → are_tags ts ≡ true → AreTypes
 unfolding scope is_lawful is_tidy
 type_set {ts} t e h d a = record {
   tagged = e;
-  lawful = λ n. elim n as (λ n. is_lawful (scope n (λ m. set (components_at m t.root) t.extensible (components_at m t.additions))) ≡ true) [ zero ↦ refl | suc m ↦ rw (h.marked m, tags_at m t.root, tags_at m t.additions, d, h.no_group m, h.optional_groups m, places_at m t.root, a, h.lawful m) (h.lawful_additions m) ];
+  lawful = λ n. elim n as (λ n. is_lawful (scope n (λ m. set (components_at m t.root) t.extensible (components_at m t.additions))) ≡ true) [ zero ↦ refl | suc m ↦ rw (h.extensible m, tags_at m t.root, tags_at m t.additions, d, h.no_group m, h.optional_groups m, places_at m t.root, a, h.lawful m) (h.lawful_additions m) ];
   tidy = λ n. elim n as (λ n. is_tidy (scope n (λ m. set (components_at m t.root) t.extensible (components_at m t.additions))) ≡ true) [ zero ↦ refl | suc m ↦ rw (h.tidy m) (h.tidy_additions m) ];
   no_group = λ n. elim n as (λ n. is_group (scope n (λ m. set (components_at m t.root) t.extensible (components_at m t.additions))) ≡ false) [ zero ↦ refl | suc m ↦ refl ];
 }

@@ -45,5 +45,5 @@ asks t = asks_choice (tags_of t.root) t.extensible (tags_of t.additions)
 -- The tags and the extension marker that a codec is told are those of the choice.
 pub record AreTold (t : Choices) (roots : List Tag) (extensible : Bool) (additions : List Tag) : Type 0 where
   pub root : roots ≡ tags_of t.root
-  pub marked : extensible ≡ t.extensible
+  pub marker : extensible ≡ t.extensible
   pub added : additions ≡ tags_of t.additions

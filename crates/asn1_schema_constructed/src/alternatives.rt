@@ -61,6 +61,7 @@ pub trait Choice: Alternatives {
         ensures only { IfErr result
             (CannotWrite E.step (chosen_type Self.table (place self.now)) (inner self.now) encoder.old) }
         ensures failed { OnErr result (E.has_failed encoder.new) }
+        ensures front { E.front encoder.new ≡ E.front encoder.old }
         ensures already { E.has_failed encoder.old → result ≡ Err EncodeError.AlreadyFailed }
         ensures after { result ≡ Err EncodeError.AlreadyFailed → E.has_failed encoder.old };
 

@@ -30,6 +30,7 @@ pub trait EncodeBag: Encoder {
             (CannotWrite Self.step (bag_under constraints.entry held T.schema) (bag (values_of T.meaning items.now))
             self.old) }
         ensures failed { OnErr result (Self.has_failed self.new) }
+        ensures front { Self.front self.new ≡ Self.front self.old }
         ensures already { Self.has_failed self.old → result ≡ Err EncodeError.AlreadyFailed }
         ensures after { result ≡ Err EncodeError.AlreadyFailed → Self.has_failed self.old }
     {

@@ -27,6 +27,7 @@ pub trait EncodeChoice: Encoder {
         ensures only { IfErr result
             (CannotWrite Self.step (T.under (meant constraints.entry)) (T.meaning value.now) self.old) }
         ensures failed { OnErr result (Self.has_failed self.new) }
+        ensures front { Self.front self.new ≡ Self.front self.old }
         ensures already { Self.has_failed self.old → result ≡ Err EncodeError.AlreadyFailed }
         ensures after { result ≡ Err EncodeError.AlreadyFailed → Self.has_failed self.old }
     {
@@ -47,6 +48,7 @@ pub trait EncodeChoice: Encoder {
         ensures ok { OnOk result (Self.step self.old (begins C.table chosen.added chosen.place) self.new) }
         ensures only { IfErr result (Refused Self.step (begins C.table chosen.added chosen.place) self.old) }
         ensures failed { OnErr result (Self.has_failed self.new) }
+        ensures front { Self.front self.new ≡ Self.front self.old }
         ensures already { Self.has_failed self.old → result ≡ Err EncodeError.AlreadyFailed }
         ensures after { result ≡ Err EncodeError.AlreadyFailed → Self.has_failed self.old }
     {

@@ -46,6 +46,7 @@ pub trait Constructed: AsnType + Drop {
         ensures ok { OnOk result (WritesTail E.step table (root self.now) (added self.now) encoder.old encoder.new) }
         ensures only { IfErr result (CannotWriteTail E.step table (root self.now) (added self.now) encoder.old) }
         ensures failed { OnErr result (E.has_failed encoder.new) }
+        ensures front { E.front encoder.new ≡ E.front encoder.old }
         ensures already { E.has_failed encoder.old → result ≡ Err EncodeError.AlreadyFailed }
         ensures after { result ≡ Err EncodeError.AlreadyFailed → E.has_failed encoder.old };
 
@@ -82,6 +83,7 @@ pub trait EncodeConstructed: Encoder {
         ensures only { IfErr result
             (CannotWrite Self.step (sequence_type T.table) (fields (T.root value.now) (T.added value.now)) self.old) }
         ensures failed { OnErr result (Self.has_failed self.new) }
+        ensures front { Self.front self.new ≡ Self.front self.old }
         ensures already { Self.has_failed self.old → result ≡ Err EncodeError.AlreadyFailed }
         ensures after { result ≡ Err EncodeError.AlreadyFailed → Self.has_failed self.old }
     {

@@ -34,6 +34,7 @@ pub trait EncodeItems: Encoder {
         ensures ok { OnOk result (Writes Self.step T.schema (T.meaning value.now) self.old self.new) }
         ensures only { IfErr result (CannotWrite Self.step T.schema (T.meaning value.now) self.old) }
         ensures failed { OnErr result (Self.has_failed self.new) }
+        ensures front { Self.front self.new ≡ Self.front self.old }
         ensures already { Self.has_failed self.old → result ≡ Err EncodeError.AlreadyFailed }
         ensures after { result ≡ Err EncodeError.AlreadyFailed → Self.has_failed self.old }
     {

@@ -32,6 +32,7 @@ pub trait EncodeSet: Encoder {
             (CannotWrite Self.step (set_type C.table) (fields (C.root components.now) (C.added components.now))
             self.old) }
         ensures failed { OnErr result (Self.has_failed self.new) }
+        ensures front { Self.front self.new ≡ Self.front self.old }
         ensures already { Self.has_failed self.old → result ≡ Err EncodeError.AlreadyFailed }
         ensures after { result ≡ Err EncodeError.AlreadyFailed → Self.has_failed self.old }
     {
@@ -53,6 +54,7 @@ pub trait EncodeSet: Encoder {
         ensures only { IfErr result
             (CannotWrite Self.step (set_type T.table) (fields (T.root value.now) (T.added value.now)) self.old) }
         ensures failed { OnErr result (Self.has_failed self.new) }
+        ensures front { Self.front self.new ≡ Self.front self.old }
         ensures already { Self.has_failed self.old → result ≡ Err EncodeError.AlreadyFailed }
         ensures after { result ≡ Err EncodeError.AlreadyFailed → Self.has_failed self.old }
     {

@@ -4,6 +4,7 @@
 #![tactic(auto)]
 
 pub mod bmp;
+pub mod calls;
 pub mod characters;
 pub mod components;
 pub mod constrained;
@@ -25,6 +26,7 @@ pub mod strings;
 pub mod values;
 pub mod wide;
 
+pub use calls::go_on;
 pub use components::{DecodeComponents, DecodeSequence};
 pub use decode::{Decode, Decoder, ReadOctets};
 pub use front::FrontReader;

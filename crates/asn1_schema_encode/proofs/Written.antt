@@ -9,10 +9,10 @@ use Rattle.asn1_schema_faults.specs.declared.EncodeError.TheVariants.{TooLongVal
 use Rattle.asn1_schema_encode.specs.Written.{IsWrittenIn, HasTextIn, NotWrittenIn}
 
 -- the bound on the length of an encoding
-short_enough : (w : List ℕ) → length w < 2 ^ 60 → of_moderate_length w ≡ Some w
+pub short_enough : (w : List ℕ) → length w < 2 ^ 60 → of_moderate_length w ≡ Some w
 short_enough w h = ap (λ b. cond b (Some w) None) (le-leb (suc (length w)) (2 ^ 60) h)
 
-too_long : (w : List ℕ) → 2 ^ 60 ≤ length w → of_moderate_length w ≡ None
+pub too_long : (w : List ℕ) → 2 ^ 60 ≤ length w → of_moderate_length w ≡ None
 too_long w h = go (ltb (length w) (2 ^ 60)) refl
   where
     go : (b : Bool) → ltb (length w) (2 ^ 60) ≡ b → of_moderate_length w ≡ None

@@ -1,3 +1,4 @@
+pub mod Fronts
 pub mod Told
 pub mod Writes
 pub mod Written

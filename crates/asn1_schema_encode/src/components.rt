@@ -25,6 +25,7 @@ pub trait EncodeComponents: ComponentsOf {
         ensures only { IfErr result
             (CannotWriteTail E.step Self.table (Self.root self.now) (Self.added self.now) encoder.old) }
         ensures failed { OnErr result (E.has_failed encoder.new) }
+        ensures front { E.front encoder.new ≡ E.front encoder.old }
         ensures already { E.has_failed encoder.old → result ≡ Err EncodeError.AlreadyFailed }
         ensures after { result ≡ Err EncodeError.AlreadyFailed → E.has_failed encoder.old };
 }
@@ -72,6 +73,7 @@ pub trait EncodeSequence: Encoder {
         ensures only { IfErr result
             (CannotWritePart Self.step optional T.schema (there (T.meaning value.now)) self.old) }
         ensures failed { OnErr result (Self.has_failed self.new) }
+        ensures front { Self.front self.new ≡ Self.front self.old }
         ensures already { Self.has_failed self.old → result ≡ Err EncodeError.AlreadyFailed }
         ensures after { result ≡ Err EncodeError.AlreadyFailed → Self.has_failed self.old }
     {
@@ -91,6 +93,7 @@ pub trait EncodeSequence: Encoder {
         ensures only { IfErr result
             (CannotWritePart Self.step optional T.schema (there (T.meaning value.now)) self.old) }
         ensures failed { OnErr result (Self.has_failed self.new) }
+        ensures front { Self.front self.new ≡ Self.front self.old }
         ensures already { Self.has_failed self.old → result ≡ Err EncodeError.AlreadyFailed }
         ensures after { result ≡ Err EncodeError.AlreadyFailed → Self.has_failed self.old }
     {
@@ -112,6 +115,7 @@ pub trait EncodeSequence: Encoder {
         ensures only { IfErr result
             (CannotWritePresent Self.step (T.under (meant constraints.entry)) (T.meaning value.now) self.old) }
         ensures failed { OnErr result (Self.has_failed self.new) }
+        ensures front { Self.front self.new ≡ Self.front self.old }
         ensures already { Self.has_failed self.old → result ≡ Err EncodeError.AlreadyFailed }
         ensures after { result ≡ Err EncodeError.AlreadyFailed → Self.has_failed self.old }
     {
@@ -127,6 +131,7 @@ pub trait EncodeSequence: Encoder {
         ensures ok { OnOk result (WritesPart Self.step optional T.schema left_out self.old self.new) }
         ensures only { IfErr result (CannotWritePart Self.step optional T.schema left_out self.old) }
         ensures failed { OnErr result (Self.has_failed self.new) }
+        ensures front { Self.front self.new ≡ Self.front self.old }
         ensures already { Self.has_failed self.old → result ≡ Err EncodeError.AlreadyFailed }
         ensures after { result ≡ Err EncodeError.AlreadyFailed → Self.has_failed self.old }
     {
@@ -140,6 +145,7 @@ pub trait EncodeSequence: Encoder {
         ensures ok { OnOk result (WritesPart Self.step optional T.schema left_out self.old self.new) }
         ensures only { IfErr result (CannotWritePart Self.step optional T.schema left_out self.old) }
         ensures failed { OnErr result (Self.has_failed self.new) }
+        ensures front { Self.front self.new ≡ Self.front self.old }
         ensures already { Self.has_failed self.old → result ≡ Err EncodeError.AlreadyFailed }
         ensures after { result ≡ Err EncodeError.AlreadyFailed → Self.has_failed self.old }
     {
@@ -156,6 +162,7 @@ pub trait EncodeSequence: Encoder {
         ensures only { IfErr result
             (CannotWritePart Self.step optional T.schema (part_of T.meaning value.now) self.old) }
         ensures failed { OnErr result (Self.has_failed self.new) }
+        ensures front { Self.front self.new ≡ Self.front self.old }
         ensures already { Self.has_failed self.old → result ≡ Err EncodeError.AlreadyFailed }
         ensures after { result ≡ Err EncodeError.AlreadyFailed → Self.has_failed self.old }
     {
@@ -180,6 +187,7 @@ pub trait EncodeSequence: Encoder {
             (CannotWritePart Self.step (by_default V.value) T.schema
             (part_unless (same (T.meaning value.now) V.value) (T.meaning value.now)) self.old) }
         ensures failed { OnErr result (Self.has_failed self.new) }
+        ensures front { Self.front self.new ≡ Self.front self.old }
         ensures already { Self.has_failed self.old → result ≡ Err EncodeError.AlreadyFailed }
         ensures after { result ≡ Err EncodeError.AlreadyFailed → Self.has_failed self.old }
     {
@@ -201,6 +209,7 @@ pub trait EncodeSequence: Encoder {
             (CannotWritePart Self.step (by_default V.value) T.schema
             (part_unless (same (T.meaning value.now) V.value) (T.meaning value.now)) self.old) }
         ensures failed { OnErr result (Self.has_failed self.new) }
+        ensures front { Self.front self.new ≡ Self.front self.old }
         ensures already { Self.has_failed self.old → result ≡ Err EncodeError.AlreadyFailed }
         ensures after { result ≡ Err EncodeError.AlreadyFailed → Self.has_failed self.old }
     {
@@ -223,6 +232,7 @@ pub trait EncodeSequence: Encoder {
             (CannotWriteUnless (same (T.meaning value.now) V.value) Self.step (T.under (meant constraints.entry))
             (T.meaning value.now) self.old) }
         ensures failed { OnErr result (Self.has_failed self.new) }
+        ensures front { Self.front self.new ≡ Self.front self.old }
         ensures already { Self.has_failed self.old → result ≡ Err EncodeError.AlreadyFailed }
         ensures after { result ≡ Err EncodeError.AlreadyFailed → Self.has_failed self.old }
     {
@@ -245,6 +255,7 @@ pub trait EncodeSequence: Encoder {
             (CannotWriteUnless (same (T.meaning value.now) V.value) Self.step (T.under (meant constraints.entry))
             (T.meaning value.now) self.old) }
         ensures failed { OnErr result (Self.has_failed self.new) }
+        ensures front { Self.front self.new ≡ Self.front self.old }
         ensures already { Self.has_failed self.old → result ≡ Err EncodeError.AlreadyFailed }
         ensures after { result ≡ Err EncodeError.AlreadyFailed → Self.has_failed self.old }
     {
@@ -275,6 +286,7 @@ pub trait EncodeSequence: Encoder {
             (CannotWrite Self.step (sequence_type C.table) (fields (C.root components.now) (C.added components.now))
             self.old) }
         ensures failed { OnErr result (Self.has_failed self.new) }
+        ensures front { Self.front self.new ≡ Self.front self.old }
         ensures already { Self.has_failed self.old → result ≡ Err EncodeError.AlreadyFailed }
         ensures after { result ≡ Err EncodeError.AlreadyFailed → Self.has_failed self.old }
     {

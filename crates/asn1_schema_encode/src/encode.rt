@@ -1,5 +1,5 @@
 //! What writes the values of types.
-ghost use Rattle.std.specs.Prelude.{◌≡◌, OnOk, OnErr, IfErr};
+ghost use Rattle.std.specs.Prelude.{◌≡◌, ℕ, List, OnOk, OnErr, IfErr};
 ghost use Rattle.asn1_model.specs.Schema.{utf8};
 ghost use Rattle.asn1_schema_faults.specs.declared.CodecKind.{CodecKind};
 ghost use Rattle.asn1_schema_presented.specs.Records.{Record, flag, nil, one_of, identifier as object_identifier};
@@ -24,14 +24,17 @@ use asn1_values_identifiers::Oid;
 use asn1_values_integers::IntegerType;
 
 /// What takes the records of a value, one a call. An error other than want of memory comes only where nothing
-/// can stand after the record. After an error each call answers `AlreadyFailed`, and no call does before. Tags and
-/// names of types leave no trace.
+/// can stand after the record. After an error each call answers `AlreadyFailed`, and no call does before. No call
+/// changes the octets in front of those that are written (`front`). Tags and names of types leave no trace.
 pub trait Encoder {
     /// How what is held before a record and what is held after it go together.
     ghost step: { Self → Record → Self → Type 0 };
 
     /// An earlier call was refused.
     ghost has_failed: { Self → Type 0 };
+
+    /// The octets in front of those that it writes, which stay what they were, also after a refusal.
+    ghost front: { Self → List ℕ };
 
     /// The rules that are followed.
     ghost rules: { Self → CodecKind };
@@ -50,6 +53,7 @@ pub trait Encoder {
         ensures ok { OnOk result (step self.old (flag value) self.new) }
         ensures only { IfErr result (Refused step (flag value) self.old) }
         ensures failed { OnErr result (has_failed self.new) }
+        ensures front { front self.new ≡ front self.old }
         ensures already { has_failed self.old → result ≡ Err EncodeError.AlreadyFailed }
         ensures after { result ≡ Err EncodeError.AlreadyFailed → has_failed self.old };
 
@@ -58,6 +62,7 @@ pub trait Encoder {
         ensures ok { OnOk result (step self.old nil self.new) }
         ensures only { IfErr result (Refused step nil self.old) }
         ensures failed { OnErr result (has_failed self.new) }
+        ensures front { front self.new ≡ front self.old }
         ensures already { has_failed self.old → result ≡ Err EncodeError.AlreadyFailed }
         ensures after { result ≡ Err EncodeError.AlreadyFailed → has_failed self.old };
 
@@ -72,6 +77,7 @@ pub trait Encoder {
         ensures ok { OnOk result (step self.old (whole_under constraints.entry I.held (I.value value.now)) self.new) }
         ensures only { IfErr result (Refused step (whole_under constraints.entry I.held (I.value value.now)) self.old) }
         ensures failed { OnErr result (has_failed self.new) }
+        ensures front { front self.new ≡ front self.old }
         ensures already { has_failed self.old → result ≡ Err EncodeError.AlreadyFailed }
         ensures after { result ≡ Err EncodeError.AlreadyFailed → has_failed self.old };
 
@@ -87,6 +93,7 @@ pub trait Encoder {
         ensures only { IfErr result
             (Refused step (one_of T.roots T.extensible T.additions (T.number value.now)) self.old) }
         ensures failed { OnErr result (has_failed self.new) }
+        ensures front { front self.new ≡ front self.old }
         ensures already { has_failed self.old → result ≡ Err EncodeError.AlreadyFailed }
         ensures after { result ≡ Err EncodeError.AlreadyFailed → has_failed self.old };
 
@@ -102,6 +109,7 @@ pub trait Encoder {
         ensures ok { OnOk result (step self.old (bits_under constraints.entry held (bits_of value.entry)) self.new) }
         ensures only { IfErr result (Refused step (bits_under constraints.entry held (bits_of value.entry)) self.old) }
         ensures failed { OnErr result (has_failed self.new) }
+        ensures front { front self.new ≡ front self.old }
         ensures already { has_failed self.old → result ≡ Err EncodeError.AlreadyFailed }
         ensures after { result ≡ Err EncodeError.AlreadyFailed → has_failed self.old };
 
@@ -117,6 +125,7 @@ pub trait Encoder {
         ensures ok { OnOk result (step self.old (octets_under constraints.entry held value.now) self.new) }
         ensures only { IfErr result (Refused step (octets_under constraints.entry held value.now) self.old) }
         ensures failed { OnErr result (has_failed self.new) }
+        ensures front { front self.new ≡ front self.old }
         ensures already { has_failed self.old → result ≡ Err EncodeError.AlreadyFailed }
         ensures after { result ≡ Err EncodeError.AlreadyFailed → has_failed self.old };
 
@@ -131,6 +140,7 @@ pub trait Encoder {
         ensures ok { OnOk result (step self.old (characters_under utf8 constraints.entry value.now) self.new) }
         ensures only { IfErr result (Refused step (characters_under utf8 constraints.entry value.now) self.old) }
         ensures failed { OnErr result (has_failed self.new) }
+        ensures front { front self.new ≡ front self.old }
         ensures already { has_failed self.old → result ≡ Err EncodeError.AlreadyFailed }
         ensures after { result ≡ Err EncodeError.AlreadyFailed → has_failed self.old };
 
@@ -148,6 +158,7 @@ pub trait Encoder {
         ensures only { IfErr result
             (Refused step (characters_under S.kind constraints.entry (S.characters value.now)) self.old) }
         ensures failed { OnErr result (has_failed self.new) }
+        ensures front { front self.new ≡ front self.old }
         ensures already { has_failed self.old → result ≡ Err EncodeError.AlreadyFailed }
         ensures after { result ≡ Err EncodeError.AlreadyFailed → has_failed self.old };
 
@@ -161,6 +172,7 @@ pub trait Encoder {
         ensures ok { OnOk result (step self.old (object_identifier value.entry) self.new) }
         ensures only { IfErr result (Refused step (object_identifier value.entry) self.old) }
         ensures failed { OnErr result (has_failed self.new) }
+        ensures front { front self.new ≡ front self.old }
         ensures already { has_failed self.old → result ≡ Err EncodeError.AlreadyFailed }
         ensures after { result ≡ Err EncodeError.AlreadyFailed → has_failed self.old };
 
@@ -176,6 +188,7 @@ pub trait Encoder {
         ensures ok { OnOk result (step self.old (list_begins_under constraints.entry held count) self.new) }
         ensures only { IfErr result (Refused step (list_begins_under constraints.entry held count) self.old) }
         ensures failed { OnErr result (has_failed self.new) }
+        ensures front { front self.new ≡ front self.old }
         ensures already { has_failed self.old → result ≡ Err EncodeError.AlreadyFailed }
         ensures after { result ≡ Err EncodeError.AlreadyFailed → has_failed self.old };
 
@@ -192,6 +205,7 @@ pub trait Encoder {
         ensures ok { OnOk result (step self.old (bag_begins_under constraints.entry held count) self.new) }
         ensures only { IfErr result (Refused step (bag_begins_under constraints.entry held count) self.old) }
         ensures failed { OnErr result (has_failed self.new) }
+        ensures front { front self.new ≡ front self.old }
         ensures already { has_failed self.old → result ≡ Err EncodeError.AlreadyFailed }
         ensures after { result ≡ Err EncodeError.AlreadyFailed → has_failed self.old };
 
@@ -200,6 +214,7 @@ pub trait Encoder {
         ensures ok { OnOk result (step self.old (further more) self.new) }
         ensures only { IfErr result (Refused step (further more) self.old) }
         ensures failed { OnErr result (has_failed self.new) }
+        ensures front { front self.new ≡ front self.old }
         ensures already { has_failed self.old → result ≡ Err EncodeError.AlreadyFailed }
         ensures after { result ≡ Err EncodeError.AlreadyFailed → has_failed self.old };
 
@@ -214,6 +229,7 @@ pub trait Encoder {
         ensures ok { OnOk result (step self.old (sequence_begins extensible optional) self.new) }
         ensures only { IfErr result (Refused step (sequence_begins extensible optional) self.old) }
         ensures failed { OnErr result (has_failed self.new) }
+        ensures front { front self.new ≡ front self.old }
         ensures already { has_failed self.old → result ≡ Err EncodeError.AlreadyFailed }
         ensures after { result ≡ Err EncodeError.AlreadyFailed → has_failed self.old };
 
@@ -223,6 +239,7 @@ pub trait Encoder {
         ensures ok { OnOk result (step self.old (set_begins extensible optional) self.new) }
         ensures only { IfErr result (Refused step (set_begins extensible optional) self.old) }
         ensures failed { OnErr result (has_failed self.new) }
+        ensures front { front self.new ≡ front self.old }
         ensures already { has_failed self.old → result ≡ Err EncodeError.AlreadyFailed }
         ensures after { result ≡ Err EncodeError.AlreadyFailed → has_failed self.old };
 
@@ -231,6 +248,7 @@ pub trait Encoder {
         ensures ok { OnOk result (step self.old (group_begins optional) self.new) }
         ensures only { IfErr result (Refused step (group_begins optional) self.old) }
         ensures failed { OnErr result (has_failed self.new) }
+        ensures front { front self.new ≡ front self.old }
         ensures already { has_failed self.old → result ≡ Err EncodeError.AlreadyFailed }
         ensures after { result ≡ Err EncodeError.AlreadyFailed → has_failed self.old };
 
@@ -239,6 +257,7 @@ pub trait Encoder {
         ensures ok { OnOk result (step self.old (presence_bit present) self.new) }
         ensures only { IfErr result (Refused step (presence_bit present) self.old) }
         ensures failed { OnErr result (has_failed self.new) }
+        ensures front { front self.new ≡ front self.old }
         ensures already { has_failed self.old → result ≡ Err EncodeError.AlreadyFailed }
         ensures after { result ≡ Err EncodeError.AlreadyFailed → has_failed self.old };
 
@@ -248,6 +267,7 @@ pub trait Encoder {
         ensures ok { OnOk result (step self.old (additions_begin count) self.new) }
         ensures only { IfErr result (Refused step (additions_begin count) self.old) }
         ensures failed { OnErr result (has_failed self.new) }
+        ensures front { front self.new ≡ front self.old }
         ensures already { has_failed self.old → result ≡ Err EncodeError.AlreadyFailed }
         ensures after { result ≡ Err EncodeError.AlreadyFailed → has_failed self.old };
 
@@ -256,6 +276,7 @@ pub trait Encoder {
         ensures ok { OnOk result (step self.old (addition present) self.new) }
         ensures only { IfErr result (Refused step (addition present) self.old) }
         ensures failed { OnErr result (has_failed self.new) }
+        ensures front { front self.new ≡ front self.old }
         ensures already { has_failed self.old → result ≡ Err EncodeError.AlreadyFailed }
         ensures after { result ≡ Err EncodeError.AlreadyFailed → has_failed self.old };
 
@@ -264,6 +285,7 @@ pub trait Encoder {
         ensures ok { OnOk result (step self.old addition_ends self.new) }
         ensures only { IfErr result (Refused step addition_ends self.old) }
         ensures failed { OnErr result (has_failed self.new) }
+        ensures front { front self.new ≡ front self.old }
         ensures already { has_failed self.old → result ≡ Err EncodeError.AlreadyFailed }
         ensures after { result ≡ Err EncodeError.AlreadyFailed → has_failed self.old };
 
@@ -280,6 +302,7 @@ pub trait Encoder {
         ensures ok { OnOk result (step self.old (chosen_of roots.now extensible additions.now chosen) self.new) }
         ensures only { IfErr result (Refused step (chosen_of roots.now extensible additions.now chosen) self.old) }
         ensures failed { OnErr result (has_failed self.new) }
+        ensures front { front self.new ≡ front self.old }
         ensures already { has_failed self.old → result ≡ Err EncodeError.AlreadyFailed }
         ensures after { result ≡ Err EncodeError.AlreadyFailed → has_failed self.old };
 
@@ -288,6 +311,7 @@ pub trait Encoder {
         ensures ok { OnOk result (step self.old ends self.new) }
         ensures only { IfErr result (Refused step ends self.old) }
         ensures failed { OnErr result (has_failed self.new) }
+        ensures front { front self.new ≡ front self.old }
         ensures already { has_failed self.old → result ≡ Err EncodeError.AlreadyFailed }
         ensures after { result ≡ Err EncodeError.AlreadyFailed → has_failed self.old };
 
@@ -318,6 +342,7 @@ pub trait Encode: AsnType {
         ensures only { IfErr result
             (CannotWrite E.step (Self.under (meant constraints.entry)) (Self.meaning self.now) encoder.old) }
         ensures failed { OnErr result (E.has_failed encoder.new) }
+        ensures front { E.front encoder.new ≡ E.front encoder.old }
         ensures already { E.has_failed encoder.old → result ≡ Err EncodeError.AlreadyFailed }
         ensures after { result ≡ Err EncodeError.AlreadyFailed → E.has_failed encoder.old };
 
@@ -329,6 +354,7 @@ pub trait Encode: AsnType {
         ensures ok { OnOk result (Writes E.step Self.schema (Self.meaning self.now) encoder.old encoder.new) }
         ensures only { IfErr result (CannotWrite E.step Self.schema (Self.meaning self.now) encoder.old) }
         ensures failed { OnErr result (E.has_failed encoder.new) }
+        ensures front { E.front encoder.new ≡ E.front encoder.old }
         ensures already { E.has_failed encoder.old → result ≡ Err EncodeError.AlreadyFailed }
         ensures after { result ≡ Err EncodeError.AlreadyFailed → E.has_failed encoder.old }
     {
@@ -347,6 +373,7 @@ pub trait Encode: AsnType {
         ensures ok { OnOk result (Writes E.step Self.schema (Self.meaning self.now) encoder.old encoder.new) }
         ensures only { IfErr result (CannotWrite E.step Self.schema (Self.meaning self.now) encoder.old) }
         ensures failed { OnErr result (E.has_failed encoder.new) }
+        ensures front { E.front encoder.new ≡ E.front encoder.old }
         ensures already { E.has_failed encoder.old → result ≡ Err EncodeError.AlreadyFailed }
         ensures after { result ≡ Err EncodeError.AlreadyFailed → E.has_failed encoder.old }
     {
@@ -368,6 +395,7 @@ pub trait Encode: AsnType {
         ensures only { IfErr result
             (CannotWrite E.step (Self.under (meant constraints.entry)) (Self.meaning self.now) encoder.old) }
         ensures failed { OnErr result (E.has_failed encoder.new) }
+        ensures front { E.front encoder.new ≡ E.front encoder.old }
         ensures already { E.has_failed encoder.old → result ≡ Err EncodeError.AlreadyFailed }
         ensures after { result ≡ Err EncodeError.AlreadyFailed → E.has_failed encoder.old }
     {

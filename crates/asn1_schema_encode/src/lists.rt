@@ -28,6 +28,7 @@ pub trait EncodeList: Encoder {
         ensures only { IfErr result (CannotWrite Self.step (list_under constraints.entry held T.schema)
             (members (values_of T.meaning items.now)) self.old) }
         ensures failed { OnErr result (Self.has_failed self.new) }
+        ensures front { Self.front self.new ≡ Self.front self.old }
         ensures already { Self.has_failed self.old → result ≡ Err EncodeError.AlreadyFailed }
         ensures after { result ≡ Err EncodeError.AlreadyFailed → Self.has_failed self.old }
     {

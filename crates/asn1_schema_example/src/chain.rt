@@ -4,7 +4,7 @@ ghost use Rattle.asn1_schema.specs.Author.{end, no_constraint, sequence_form};
 
 use asn1_schema::{
     AsnType, Constraints, Constructed, Decode, DecodeError, Decoder, Described, Encode,
-    EncodeError, EncodeSequence, Encoder, Field, FieldPresence, Fields, Identifier, Tag, TagTree,
+    EncodeError, EncodeSequence, Encoder, Field, Fields, Identifier, Tag, TagTree, field,
 };
 use asn1_values::Integer;
 use std::alloc::Global;
@@ -67,20 +67,8 @@ impl Constructed for Chain {
 
     fn fields() -> Fields<'static> {
         const FIELDS: &'static [Field<'static>] = &[
-            Field {
-                index: 0,
-                tag: Tag::INTEGER,
-                tag_tree: TagTree::Leaf(Tag::INTEGER),
-                presence: FieldPresence::Required,
-                name: "value",
-            },
-            Field {
-                index: 1,
-                tag: Tag::SEQUENCE,
-                tag_tree: TagTree::Leaf(Tag::SEQUENCE),
-                presence: FieldPresence::Optional,
-                name: "next",
-            },
+            field!(0, "value", Required, Tag::INTEGER),
+            field!(1, "next", Optional, Tag::SEQUENCE),
         ];
         Fields::from_static(FIELDS)
     }

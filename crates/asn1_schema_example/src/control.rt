@@ -6,10 +6,10 @@ ghost use Rattle.asn1_schema.proofs.Author.{type_set, value_set};
 
 use crate::power::Power;
 use asn1_schema::{
-    AsnType, Class, ComponentsOf, Constraints, Constructed, Decode, DecodeComponents, DecodeError,
+    AsnType, ComponentsOf, Constraints, Constructed, Decode, DecodeComponents, DecodeError,
     DecodeSet, Decoder, Described, Encode, EncodeComponents, EncodeError, EncodeSet, Encoder, End,
     Field, FieldPresence, Fields, Identifier, Implicit, Required, RequiredComponent, Tag, TagTree,
-    tag,
+    field, tag, tagged,
 };
 use std::alloc::Global;
 
@@ -79,31 +79,13 @@ impl Constructed for Control {
                 index: 0,
                 tag: Tag::CHOICE,
                 tag_tree: TagTree::Choice(&[
-                    TagTree::Leaf(Tag {
-                        class: Class::Context,
-                        value: 1,
-                    }),
-                    TagTree::Leaf(Tag {
-                        class: Class::Context,
-                        value: 7,
-                    }),
+                    TagTree::Leaf(tagged!(Context, 1)),
+                    TagTree::Leaf(tagged!(Context, 7)),
                 ]),
                 presence: FieldPresence::Required,
                 name: "power",
             },
-            Field {
-                index: 1,
-                tag: Tag {
-                    class: Class::Context,
-                    value: 3,
-                },
-                tag_tree: TagTree::Leaf(Tag {
-                    class: Class::Context,
-                    value: 3,
-                }),
-                presence: FieldPresence::Required,
-                name: "level",
-            },
+            field!(1, "level", Required, tagged!(Context, 3)),
         ];
         Fields::from_static(FIELDS)
     }

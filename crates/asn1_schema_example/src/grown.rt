@@ -5,31 +5,12 @@ ghost use Rattle.std.specs.Prelude.{refl};
 ghost use Rattle.asn1_schema.proofs.Author.{set_of, set_tag};
 
 use asn1_schema::{
-    AddedOptional, AddedOptionalComponent, Class, Components, ComponentsOf, DecodeComponents,
-    DecodeError, Decoder, EncodeComponents, EncodeError, Encoder, Field, FieldPresence,
-    FieldTables, Fields, Heading, Identifier, Implicit, Marked, MarkedComponents, NoMore, Optional,
-    OptionalComponent, Required, RequiredComponent, Set, Tag, TagTree, TwoAdditions, tag,
+    AddedOptional, AddedOptionalComponent, Components, ComponentsOf, DecodeComponents, DecodeError,
+    Decoder, EncodeComponents, EncodeError, Encoder, ExtensibleComponents, ExtensionMarker, Field,
+    FieldTables, Fields, Heading, Identifier, Implicit, NoMore, Optional, OptionalComponent,
+    Required, RequiredComponent, Set, Tag, TwoAdditions, field, tag, tagged,
 };
 use std::alloc::Global;
-
-/// A field of the context (X.680 8.1): its number, its name, its presence and its tag.
-macro_rules! field {
-    ($index:literal, $name:literal, $presence:ident, $number:literal) => {
-        Field {
-            index: $index,
-            tag: Tag {
-                class: Class::Context,
-                value: $number,
-            },
-            tag_tree: TagTree::Leaf(Tag {
-                class: Class::Context,
-                value: $number,
-            }),
-            presence: FieldPresence::$presence,
-            name: $name,
-        }
-    };
-}
 
 /// A set that has grown by two components.
 pub type Grown = Set<GrownFields>;
@@ -54,7 +35,10 @@ type Additions = AddedOptionalComponent<
 
 type Form = OptionalComponent<
     Implicit<tag::Context<0>, u8>,
-    RequiredComponent<Implicit<tag::Context<1>, bool>, MarkedComponents<TwoAdditions, Additions>>,
+    RequiredComponent<
+        Implicit<tag::Context<1>, bool>,
+        ExtensibleComponents<TwoAdditions, Additions>,
+    >,
 >;
 
 impl Components for GrownFields {
@@ -80,13 +64,14 @@ impl Components for GrownFields {
 
     fn write_components<E: Encoder>(&self, encoder: &mut E) -> Result<(), EncodeError> {
         let additions = AddedOptional(&self.done, AddedOptional(&self.next, NoMore));
-        let marked = Marked { additions };
-        Optional(&self.level, Required(&self.ready, marked)).encode_components(encoder)
+        let marker = ExtensionMarker { additions };
+        Optional(&self.level, Required(&self.ready, marker)).encode_components(encoder)
     }
 
     fn read_components<D: Decoder>(alloc: Global, decoder: &mut D) -> Result<Self, DecodeError> {
         let form = Form::decode_components(alloc, decoder)?;
-        let OptionalComponent(level, RequiredComponent(ready, MarkedComponents(added, _))) = form;
+        let OptionalComponent(level, RequiredComponent(ready, ExtensibleComponents(added, _))) =
+            form;
         let AddedOptionalComponent(done, AddedOptionalComponent(next, NoMore)) = added;
         Ok(GrownFields {
             level,
@@ -100,16 +85,16 @@ impl Components for GrownFields {
 impl FieldTables for GrownFields {
     fn fields() -> Fields<'static> {
         const FIELDS: &'static [Field<'static>] = &[
-            field!(0, "level", Optional, 0),
-            field!(1, "ready", Required, 1),
+            field!(0, "level", Optional, tagged!(Context, 0)),
+            field!(1, "ready", Required, tagged!(Context, 1)),
         ];
         Fields::from_static(FIELDS)
     }
 
     fn extended_fields() -> Option<Fields<'static>> {
         const FIELDS: &'static [Field<'static>] = &[
-            field!(0, "done", Optional, 9),
-            field!(1, "next", Optional, 2),
+            field!(0, "done", Optional, tagged!(Context, 9)),
+            field!(1, "next", Optional, tagged!(Context, 2)),
         ];
         Some(Fields::from_static(FIELDS))
     }

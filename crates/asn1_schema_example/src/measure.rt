@@ -6,8 +6,8 @@ ghost use Rattle.asn1_schema.proofs.Author.{type_sequence, value_sequence, integ
 use asn1_schema::{
     AsnType, ComponentsOf, Constraints, Constructed, Decode, DecodeComponents, DecodeConstructed,
     DecodeError, Decoder, DefaultOf, Defaulted, DefaultedComponent, Described, Encode,
-    EncodeComponents, EncodeConstructed, EncodeError, Encoder, End, EqualByMeaning, Field,
-    FieldPresence, Fields, Identifier, Optional, OptionalComponent, Tag, TagTree,
+    EncodeComponents, EncodeConstructed, EncodeError, Encoder, End, EqualByMeaning, Field, Fields,
+    Identifier, Optional, OptionalComponent, Tag, TagTree, field,
 };
 use asn1_values::Integer;
 use std::alloc::{AllocError, Global};
@@ -94,20 +94,8 @@ impl Constructed for Measure {
 
     fn fields() -> Fields<'static> {
         const FIELDS: &'static [Field<'static>] = &[
-            Field {
-                index: 0,
-                tag: Tag::INTEGER,
-                tag_tree: TagTree::Leaf(Tag::INTEGER),
-                presence: FieldPresence::Default,
-                name: "offset",
-            },
-            Field {
-                index: 1,
-                tag: Tag::BOOL,
-                tag_tree: TagTree::Leaf(Tag::BOOL),
-                presence: FieldPresence::Optional,
-                name: "exact",
-            },
+            field!(0, "offset", Default, Tag::INTEGER),
+            field!(1, "exact", Optional, Tag::BOOL),
         ];
         Fields::from_static(FIELDS)
     }

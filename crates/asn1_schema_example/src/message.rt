@@ -4,9 +4,9 @@ ghost use Rattle.asn1_schema.specs.Author.{choice_type, chosen_value, context, n
 ghost use Rattle.asn1_schema.proofs.Author.{more_variants, no_variants, type_choice, value_choice};
 
 use asn1_schema::{
-    Alternatives, AsnType, Choice, Chosen, Class, Constraints, Decode, DecodeAlternatives,
-    DecodeChoice, DecodeError, Decoder, Described, Encode, EncodeChoice, EncodeError, Encoder,
-    Identifier, Tag, TagPlace, TagTree,
+    Alternatives, AsnType, Choice, Chosen, Constraints, Decode, DecodeAlternatives, DecodeChoice,
+    DecodeError, Decoder, Described, Encode, EncodeChoice, EncodeError, Encoder, Identifier, Tag,
+    TagPlace, TagTree, tagged,
 };
 use asn1_values::Integer;
 use std::alloc::Global;
@@ -22,20 +22,11 @@ pub enum Message {
     Name(String),
 }
 
-const FLAG: Tag = Tag {
-    class: Class::Context,
-    value: 0,
-};
+const FLAG: Tag = tagged!(Context, 0);
 
-const COUNT: Tag = Tag {
-    class: Class::Context,
-    value: 1,
-};
+const COUNT: Tag = tagged!(Context, 1);
 
-const NAME: Tag = Tag {
-    class: Class::Context,
-    value: 2,
-};
+const NAME: Tag = tagged!(Context, 2);
 
 impl Described for Message {
     ghost use Rattle.asn1_schema_example.specs.declared.message.Message.TheVariants.{Flag, Count, Name};

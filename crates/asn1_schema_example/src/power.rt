@@ -5,9 +5,9 @@ ghost use Rattle.asn1_schema.specs.Author.{chosen_value};
 ghost use Rattle.asn1_schema.proofs.Author.{type_choice, more_variants, no_variants, value_choice, null_value};
 
 use asn1_schema::{
-    Alternatives, AsnType, Choice, Chosen, Class, Constraints, Decode, DecodeAlternatives,
-    DecodeChoice, DecodeError, Decoder, Described, Encode, EncodeChoice, EncodeError, Encoder,
-    Identifier, Tag, TagPlace, TagTree,
+    Alternatives, AsnType, Choice, Chosen, Constraints, Decode, DecodeAlternatives, DecodeChoice,
+    DecodeError, Decoder, Described, Encode, EncodeChoice, EncodeError, Encoder, Identifier, Tag,
+    TagPlace, TagTree, tagged,
 };
 use std::alloc::Global;
 
@@ -20,15 +20,9 @@ pub enum Power {
     On(bool),
 }
 
-const OFF: Tag = Tag {
-    class: Class::Context,
-    value: 1,
-};
+const OFF: Tag = tagged!(Context, 1);
 
-const ON: Tag = Tag {
-    class: Class::Context,
-    value: 7,
-};
+const ON: Tag = tagged!(Context, 7);
 
 impl Described for Power {
     ghost use Rattle.asn1_schema_example.specs.declared.power.Power.TheVariants.{Off, On};

@@ -6,8 +6,8 @@ ghost use Rattle.asn1_schema.proofs.Author.{refl, [], type_sequence, value_seque
 use asn1_schema::{
     AsnType, ComponentsOf, Constraints, Constructed, Decode, DecodeComponents, DecodeConstructed,
     DecodeError, Decoder, Described, Encode, EncodeComponents, EncodeConstructed, EncodeError,
-    Encoder, End, Field, FieldPresence, Fields, Global, Identifier, Optional, OptionalComponent,
-    Required, RequiredComponent, Tag, TagTree,
+    Encoder, End, Field, Fields, Global, Identifier, Optional, OptionalComponent, Required,
+    RequiredComponent, Tag, TagTree, field,
 };
 
 /// A setting.
@@ -75,27 +75,9 @@ impl Constructed for Setting {
 
     fn fields() -> Fields<'static> {
         const FIELDS: &'static [Field<'static>] = &[
-            Field {
-                index: 0,
-                tag: Tag::BOOL,
-                tag_tree: TagTree::Leaf(Tag::BOOL),
-                presence: FieldPresence::Required,
-                name: "on",
-            },
-            Field {
-                index: 1,
-                tag: Tag::INTEGER,
-                tag_tree: TagTree::Leaf(Tag::INTEGER),
-                presence: FieldPresence::Optional,
-                name: "level",
-            },
-            Field {
-                index: 2,
-                tag: Tag::NULL,
-                tag_tree: TagTree::Leaf(Tag::NULL),
-                presence: FieldPresence::Required,
-                name: "step",
-            },
+            field!(0, "on", Required, Tag::BOOL),
+            field!(1, "level", Optional, Tag::INTEGER),
+            field!(2, "step", Required, Tag::NULL),
         ];
         Fields::from_static(FIELDS)
     }

@@ -5,7 +5,7 @@ ghost use Rattle.asn1_schema_example.specs.Tree.{branches_schema, tree_meaning};
 
 use asn1_schema::{
     AsnType, Bounded, Constraints, Constructed, Decode, DecodeError, Decoder, Described, Encode,
-    EncodeError, Encoder, Field, FieldPresence, Fields, Identifier, Tag, TagTree,
+    EncodeError, Encoder, Field, Fields, Identifier, Tag, TagTree, field,
 };
 use asn1_values::Integer;
 use std::alloc::Global;
@@ -69,20 +69,8 @@ impl Constructed for Tree {
 
     fn fields() -> Fields<'static> {
         const FIELDS: &'static [Field<'static>] = &[
-            Field {
-                index: 0,
-                tag: Tag::INTEGER,
-                tag_tree: TagTree::Leaf(Tag::INTEGER),
-                presence: FieldPresence::Required,
-                name: "value",
-            },
-            Field {
-                index: 1,
-                tag: Tag::SEQUENCE,
-                tag_tree: TagTree::Leaf(Tag::SEQUENCE),
-                presence: FieldPresence::Required,
-                name: "branches",
-            },
+            field!(0, "value", Required, Tag::INTEGER),
+            field!(1, "branches", Required, Tag::SEQUENCE),
         ];
         Fields::from_static(FIELDS)
     }

@@ -11,7 +11,7 @@ use Rattle.asn1_schema_presented.specs.Presents.{Part, left_out, there, with_par
 use Rattle.asn1_schema_presented.specs.Tables.{Fields, no_field, field, components_at, IsType}
 use Rattle.asn1_schema_presented.specs.Typed.{AreTypes, AreValues, HasDefault, part_depth, IsPart}
 use Rattle.asn1_schema_presented.proofs.Values.{normal_field, fits_field}
-use Rattle.asn1_schema_presented.specs.Additions.{marked_table, IsAddition, AreAdditionTypes, AreAdditionValues}
+use Rattle.asn1_schema_presented.specs.Additions.{extensible_table, IsAddition, AreAdditionTypes, AreAdditionValues}
 
 -- ---- types
 
@@ -31,9 +31,9 @@ more_addition_types ts o {s} {fs} d h k = record {
   optional_groups = λ n. rw (h.optional_group n) (k.optional_groups n);
 }
 
-pub marked_types : {fs : Fields} → AreAdditionTypes fs → AreTypes (marked_table fs)
+pub extensible_types : {fs : Fields} → AreAdditionTypes fs → AreTypes (extensible_table fs)
 unfolding components_at are_lawful are_tidy
-marked_types h = record { lawful = λ n. refl; tidy = λ n. refl; no_group = λ n. refl; lawful_additions = h.lawful; tidy_additions = h.tidy; optional_groups = h.optional_groups; marked = λ n. refl }
+extensible_types h = record { lawful = λ n. refl; tidy = λ n. refl; no_group = λ n. refl; lawful_additions = h.lawful; tidy_additions = h.tidy; optional_groups = h.optional_groups; extensible = λ n. refl }
 
 -- ---- values
 
@@ -57,6 +57,6 @@ more_addition_values ts {o} {s} {fs} {x} {qs} h k = record {
   normal = λ n. normal_field ts o (s n) (components_at n fs) x qs ∙ ap (λ y. with_part y (normal_parts (components_at n fs) qs)) (h.normal n) ∙ ap (λ rs. with_part x rs) (k.normal n);
 }
 
-pub marked_values : {fs : Fields} {qs : Parts} → AreAdditionValues fs qs → AreValues (marked_table fs) end qs
+pub extensible_values : {fs : Fields} {qs : Parts} → AreAdditionValues fs qs → AreValues (extensible_table fs) end qs
 unfolding components_at PartsFit normal_parts
-marked_values h = record { fits = λ n le. tt; fits_added = h.fits; normal = λ n. refl; normal_added = h.normal }
+extensible_values h = record { fits = λ n le. tt; fits_added = h.fits; normal = λ n. refl; normal_added = h.normal }

@@ -1,11 +1,11 @@
 -- Types that lead back to themselves, and their values.
-use Rattle.std.proofs.Common.{◌≡◌, ℕ, zero, suc, true, List, ◌++◌, Option, Some, None, refl, subst, sym}
+use Rattle.std.proofs.Common.{◌≡◌, ℕ, zero, suc, true, List, ◌++◌, Some, refl}
 use Rattle.asn1_model.specs.Value.{Value}
 use Rattle.asn1_model.specs.Schema.{Tag, Schema, cut, optional}
 use Rattle.asn1_model.specs.Normal.{is_tidy}
-use Rattle.asn1_model.specs.Lawful.{is_lawful, is_group, are_distinct, tag_same}
+use Rattle.asn1_model.specs.Lawful.{is_lawful, are_distinct, tag_same}
 use Rattle.asn1_schema_presented.specs.Presents.{left_out, there}
-use Rattle.asn1_schema_presented.specs.Tables.{Table, sequence_type, field_tags, are_tags, IsType, IsValue}
+use Rattle.asn1_schema_presented.specs.Tables.{Table, field_tags, are_tags, IsType, IsValue}
 use Rattle.asn1_schema_presented.specs.Typed.{AreTypes, IsPart}
 use Rattle.asn1_schema_presented.specs.Recursive.{recursive_sequence}
 use Rattle.asn1_schema_presented.proofs.Values.{type_sequence, part_optional}

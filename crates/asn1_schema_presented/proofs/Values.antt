@@ -18,7 +18,7 @@ not_empty s v e = refl
 
 pub no_types : AreTypes no_table
 unfolding components_at are_lawful are_tidy
-no_types = record { lawful = λ n. refl; tidy = λ n. refl; no_group = λ n. refl; lawful_additions = λ n. refl; tidy_additions = λ n. refl; optional_groups = λ n. refl; marked = λ n. refl }
+no_types = record { lawful = λ n. refl; tidy = λ n. refl; no_group = λ n. refl; lawful_additions = λ n. refl; tidy_additions = λ n. refl; optional_groups = λ n. refl; extensible = λ n. refl }
 
 pub more_types : (ts : List Tag) (o : Presence) {s : ℕ → Schema} {t : Table} → HasDefault o s → IsType ts s → AreTypes t → AreTypes (with_field ts o s t)
 unfolding components_at are_lawful are_tidy
@@ -29,7 +29,7 @@ more_types ts o {s} {t} d h k = record {
   lawful_additions = k.lawful_additions;
   tidy_additions = k.tidy_additions;
   optional_groups = k.optional_groups;
-  marked = k.marked;
+  extensible = k.extensible;
 }
 
 pub no_values : AreValues no_table end end
@@ -96,7 +96,7 @@ pub type_sequence : {ts : List Tag} (t : Table) → are_tags ts ≡ true → Are
 unfolding sequence_type scope is_lawful is_tidy
 type_sequence {ts} t e h d = record {
   tagged = e;
-  lawful = λ n. elim n as (λ n. is_lawful (scope n (λ m. sequence (components_at m t.root) t.extensible (components_at m t.additions))) ≡ true) [ zero ↦ refl | suc m ↦ rw (h.marked m, tags_at m t.root, tags_at m t.additions, d, h.no_group m, h.optional_groups m, h.lawful m) (h.lawful_additions m) ];
+  lawful = λ n. elim n as (λ n. is_lawful (scope n (λ m. sequence (components_at m t.root) t.extensible (components_at m t.additions))) ≡ true) [ zero ↦ refl | suc m ↦ rw (h.extensible m, tags_at m t.root, tags_at m t.additions, d, h.no_group m, h.optional_groups m, h.lawful m) (h.lawful_additions m) ];
   tidy = λ n. elim n as (λ n. is_tidy (scope n (λ m. sequence (components_at m t.root) t.extensible (components_at m t.additions))) ≡ true) [ zero ↦ refl | suc m ↦ rw (h.tidy m) (h.tidy_additions m) ];
   no_group = λ n. elim n as (λ n. is_group (scope n (λ m. sequence (components_at m t.root) t.extensible (components_at m t.additions))) ≡ false) [ zero ↦ refl | suc m ↦ refl ];
 }

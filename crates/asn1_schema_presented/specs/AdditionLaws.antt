@@ -1,21 +1,21 @@
 -- The laws of additions and groups.
 use Rattle.std.specs.Prelude.{◌≡◌, ℕ, true, Some}
 use Rattle.asn1_model.specs.Value.{Parts, fields, end}
-use Rattle.asn1_model.specs.Schema.{Tag, optional}
+use Rattle.asn1_model.specs.Schema.{optional}
 use Rattle.asn1_model.specs.Lawful.{is_lawful}
 use Rattle.asn1_model.specs.Normal.{is_tidy}
 use Rattle.asn1_schema_presented.specs.Tables.{Fields, Table, field_tags, sequence_type, IsValue}
 use Rattle.asn1_schema_presented.specs.Typed.{AreTypes, AreValues, IsPart}
-use Rattle.asn1_schema_presented.specs.Additions.{marked_table, AreAdditionTypes, AreAdditionValues, IsAddition}
+use Rattle.asn1_schema_presented.specs.Additions.{extensible_table, AreAdditionTypes, AreAdditionValues, IsAddition}
 use Rattle.asn1_schema_presented.specs.Additions.{IsGroup, group_type, group_part}
 
 -- Additions whose types may stand there make a table with an extension marker.
 abbrev pub AdditionsAreTyped : Type 0
-AdditionsAreTyped = (fs : Fields) → AreAdditionTypes fs → AreTypes (marked_table fs)
+AdditionsAreTyped = (fs : Fields) → AreAdditionTypes fs → AreTypes (extensible_table fs)
 
 -- Their values are the values of that table.
 abbrev pub AdditionsAreValued : Type 0
-AdditionsAreValued = (fs : Fields) (qs : Parts) → AreAdditionValues fs qs → AreValues (marked_table fs) end qs
+AdditionsAreValued = (fs : Fields) (qs : Parts) → AreAdditionValues fs qs → AreValues (extensible_table fs) end qs
 
 -- The components of a lawful sequence without an extension marker, one or more, whose defaults are in normal form, make
 -- a group that may stand among additions.

@@ -16,8 +16,8 @@ addition_count no_field = 0
 addition_count (field t o s fs) = suc (addition_count fs)
 
 -- What stands behind the root components of a type with an extension marker: these additions.
-abbrev pub marked_table : Fields → Table
-marked_table fs = record { root = no_field; extensible = true; additions = fs }
+abbrev pub extensible_table : Fields → Table
+extensible_table fs = record { root = no_field; extensible = true; additions = fs }
 
 -- Each default of these additions may stand there.
 abbrev pub HaveDefaults : Fields → Type 0
@@ -47,7 +47,7 @@ group_type t n = scope n (λ m. group (components_at m t.root))
 
 -- A table may be that of a group: there is no extension marker, and one component or more.
 pub record IsGroup (t : Table) : Type 0 where
-  pub unmarked : t.extensible ≡ false
+  pub not_extensible : t.extensible ≡ false
   pub no_additions : t.additions ≡ no_field
   pub tagged : are_tags (field_tags t.root) ≡ true
 

@@ -18,7 +18,7 @@ pub record AreTypes (t : Table) : Type 0 where
   pub lawful_additions : (n : ℕ) → are_lawful (components_at n t.additions) ≡ true
   pub tidy_additions : (n : ℕ) → are_tidy (components_at n t.additions) ≡ true
   pub optional_groups : (n : ℕ) → has_optional_groups (components_at n t.additions) ≡ true
-  pub marked : (n : ℕ) → (t.extensible || are_no_components (components_at n t.additions)) ≡ true
+  pub extensible : (n : ℕ) → (t.extensible || are_no_components (components_at n t.additions)) ≡ true
 
 -- A default is a value of its type, in its normal form, for each number of levels.
 abbrev pub HasDefault : Presence → (ℕ → Schema) → Type 0

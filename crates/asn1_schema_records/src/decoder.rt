@@ -31,7 +31,7 @@ ghost use Rattle.asn1_values_alphabets.specs.Permitted.{permits_all};
 
 use crate::{Item, Sizes, is_extensible};
 use asn1_schema_constraints::{Bounded, Constraints};
-use asn1_schema_decode::Decoder;
+use asn1_schema_decode::{Decoder, go_on};
 use asn1_schema_faults::{CodecKind, DecodeError};
 use asn1_schema_tags::{Tag, TagTables};
 use asn1_schema_variants::{Chosen, Enumerated};
@@ -120,9 +120,7 @@ impl RecordDecoder {
         ensures already { self.old.failed ≡ true → result ≡ Err DecodeError.AlreadyFailed }
         ensures after { result ≡ Err DecodeError.AlreadyFailed → self.old.failed ≡ true }
     {
-        if self.failed {
-            return Err(DecodeError::AlreadyFailed);
-        }
+        go_on(self.failed)?;
         match self.items.next() {
             Some(item) => Ok(item),
             None => Err(self.refuse(DecodeError::Incomplete)),
@@ -138,9 +136,7 @@ impl RecordDecoder {
         ensures already { self.old.failed ≡ true → result ≡ Err DecodeError.AlreadyFailed }
         ensures after { result ≡ Err DecodeError.AlreadyFailed → self.old.failed ≡ true }
     {
-        if self.failed {
-            return Err(DecodeError::AlreadyFailed);
-        }
+        go_on(self.failed)?;
         if self.levels == 0 {
             return Err(self.refuse(DecodeError::ExceedsMaxParseDepth));
         }

@@ -1,5 +1,6 @@
 //! The encoder that keeps records.
 ghost use Rattle.std.specs.Prelude.{◌≡◌, ◌≤◌, ◌^◌, ◌++◌, [], ◌∷◌, true, false, map, OnOk, OnErr, IfErr, IfOk};
+ghost use Rattle.asn1_schema_encode.specs.Fronts.{no_front};
 ghost use Rattle.asn1_schema_encode.specs.Writes.{Refused};
 ghost use Rattle.asn1_schema_presented.specs.Records.{Record, one_of};
 ghost use Rattle.asn1_schema_records.specs.Kept.{record_of, Puts, Refusal};
@@ -7,7 +8,7 @@ ghost use Rattle.asn1_values_natives.specs.Octets.{plain};
 
 use crate::items::{Item, Limits, Sizes, is_extensible};
 use asn1_schema_constraints::{Bounded, Constraints};
-use asn1_schema_encode::Encoder;
+use asn1_schema_encode::{Encoder, begin_record, go_on};
 use asn1_schema_faults::{CodecKind, EncodeError};
 use asn1_schema_tags::{Identifier, Tag};
 use asn1_schema_variants::{Chosen, Enumerated};
@@ -67,10 +68,7 @@ impl RecordEncoder {
         ensures already { self.old.failed ≡ true → result ≡ Err EncodeError.AlreadyFailed }
         ensures after { result ≡ Err EncodeError.AlreadyFailed → self.old.failed ≡ true }
     {
-        if self.failed {
-            return Err(EncodeError::AlreadyFailed);
-        }
-        self.failed = true;
+        begin_record(&mut self.failed)?;
         Err(EncodeError::OutOfMemory)
     }
 
@@ -89,9 +87,7 @@ impl RecordEncoder {
         ensures already { self.old.failed ≡ true → result ≡ Err EncodeError.AlreadyFailed }
         ensures after { result ≡ Err EncodeError.AlreadyFailed → self.old.failed ≡ true }
     {
-        if self.failed {
-            return Err(EncodeError::AlreadyFailed);
-        }
+        go_on(self.failed)?;
         match self.items.push(item) {
             Ok(()) => Ok(()),
             Err(_) => self.fail(),
@@ -105,6 +101,8 @@ impl Encoder for RecordEncoder {
     ghost step = { Puts };
 
     ghost has_failed = { λ e. e.failed ≡ true };
+
+    ghost front = { no_front };
 
     ghost rules = { λ e. e.rules };
 
@@ -149,6 +147,7 @@ impl Encoder for RecordEncoder {
         ensures only { IfErr result (Refused Puts (one_of T.roots T.extensible T.additions (T.number value.now))
             self.old) }
         ensures failed { OnErr result (self.new.failed ≡ true) }
+        ensures front { no_front self.new ≡ no_front self.old }
         ensures already { self.old.failed ≡ true → result ≡ Err EncodeError.AlreadyFailed }
         ensures after { result ≡ Err EncodeError.AlreadyFailed → self.old.failed ≡ true }
     {

@@ -52,8 +52,8 @@ module _ (c : ChoiceTags) (t : ModelTag) where
     pub of_the_root : k < n → alternative_of c t ≡ root_at k
     of_the_root l = root_found c.extensible (length c.roots) k (place_of c.roots t) (place_of c.additions t) (joined (Some k) h) (omega (arith, is, l))
 
-    pub unmarked : n ≤ k → c.extensible ≡ false → alternative_of c t ≡ None
-    unmarked l e =
+    pub not_extensible : n ≤ k → c.extensible ≡ false → alternative_of c t ≡ None
+    not_extensible l e =
         ap (λ x. alternative_at x (place_of c.roots t) (place_of c.additions t)) e
         ∙ unmarked_found (length c.roots) k (place_of c.roots t) (place_of c.additions t) within (joined (Some k) h) (omega (arith, is, l))
 

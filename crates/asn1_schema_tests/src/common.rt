@@ -49,8 +49,8 @@ fn is_value(item: &Item, wanted: &Wanted) -> bool {
         (Item::Integer(limits, found), Wanted::Integer(low, high, number)) => {
             are_limits(limits, *low, *high) && found.to_i128() == Some(*number)
         }
-        (Item::OneOf(is_marked, found), Wanted::OneOf(is_extensible, number)) => {
-            is_marked == is_extensible && found == number
+        (Item::OneOf(told, found), Wanted::OneOf(is_extensible, number)) => {
+            told == is_extensible && found == number
         }
         (Item::Bits(sizes, found), Wanted::Bits(len, octets)) => {
             *sizes == ANY_SIZE && found.len() == *len && found.as_bytes() == *octets
@@ -76,18 +76,18 @@ fn is_frame(item: &Item, wanted: &Wanted) -> bool {
             sizes.low == *low && sizes.high == *high && found == count
         }
         (Item::Further(found), Wanted::Further(more)) => found == more,
-        (Item::SequenceBegins(is_marked, found), Wanted::Sequence(is_extensible, optional)) => {
-            is_marked == is_extensible && found == optional
+        (Item::SequenceBegins(told, found), Wanted::Sequence(is_extensible, optional)) => {
+            told == is_extensible && found == optional
         }
-        (Item::SetBegins(is_marked, found), Wanted::Set(is_extensible, optional)) => {
-            is_marked == is_extensible && found == optional
+        (Item::SetBegins(told, found), Wanted::Set(is_extensible, optional)) => {
+            told == is_extensible && found == optional
         }
         (Item::GroupBegins(found), Wanted::Group(optional)) => found == optional,
         (Item::AdditionsBegin(found), Wanted::Additions(count)) => found == count,
         (Item::Addition(found), Wanted::Addition(is_there)) => found == is_there,
         (Item::AdditionEnds, Wanted::AdditionEnds) => true,
-        (Item::ChoiceBegins(is_marked, found), Wanted::Choice(is_extensible, chosen)) => {
-            is_marked == is_extensible && found == chosen
+        (Item::ChoiceBegins(told, found), Wanted::Choice(is_extensible, chosen)) => {
+            told == is_extensible && found == chosen
         }
         (Item::Ends, Wanted::Ends) => true,
         _ => false,

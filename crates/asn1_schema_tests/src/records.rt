@@ -180,8 +180,8 @@ const CHOICES: [Row; 3] = [
 
 /// The alternative that a decoder finds in a choice of a row.
 fn chosen_of<D: Decoder>(decoder: &mut D, row: &Row) -> Result<Chosen, DecodeError> {
-    let (_, roots, is_marked, additions, places, _) = row;
-    let Some(tables) = TagTables::checked(roots, *is_marked, additions, places) else {
+    let (_, roots, is_extensible, additions, places, _) = row;
+    let Some(tables) = TagTables::checked(roots, *is_extensible, additions, places) else {
         return Err(DecodeError::Incomplete);
     };
     decoder.begin_choice(Tag::EOC, &tables)
@@ -228,15 +228,15 @@ fn is_colour_kept(alloc: Global, colour: Colour, number: isize) -> bool {
 }
 
 /// One item of an enumeration, with an extension marker or without, and of this number.
-fn items_of(alloc: Global, is_marked: bool, number: isize) -> Result<Vec<Item>, AllocError> {
+fn items_of(alloc: Global, is_extensible: bool, number: isize) -> Result<Vec<Item>, AllocError> {
     let mut items = Vec::new(alloc);
-    items.push(Item::OneOf(is_marked, number))?;
+    items.push(Item::OneOf(is_extensible, number))?;
     Ok(items)
 }
 
 /// Whether an item with an extension marker or without, and of this number, is no colour for this reason.
-fn is_no_colour(alloc: Global, is_marked: bool, number: isize, wanted: DecodeError) -> bool {
-    match items_of(alloc, is_marked, number) {
+fn is_no_colour(alloc: Global, is_extensible: bool, number: isize, wanted: DecodeError) -> bool {
+    match items_of(alloc, is_extensible, number) {
         Ok(items) => colour_of(&mut RecordDecoder::new(items, CodecKind::Uper)) == Err(wanted),
         Err(AllocError) => false,
     }

@@ -125,12 +125,12 @@ fn are_listed(all: Constraints<'_>) -> bool {
 /// Whether lists of constraints are made.
 fn lists_are_made() -> bool {
     let digits = [48, 49];
-    let marked = Extensible::from(from_to(5, 20)).set_extensible(true);
+    let extensible = Extensible::from(from_to(5, 20)).set_extensible(true);
     let all = Constraints::new(&[
         Constraint::from(from_to(0, 10)),
         Constraint::from(Size::fixed(2)),
         Constraint::from(PermittedAlphabet::new(&digits)),
-        Constraint::from(marked),
+        Constraint::from(extensible),
     ]);
     are_listed(all)
         && !Constraints::default().extensible()

@@ -45,9 +45,9 @@ const NAMED: [(Identifier, &'static str); 35] = named_types![
 
 /// The number of the universal tag that is not of its name, if there is one.
 fn wrong_universal() -> Option<u32> {
-    for (named, marked, number) in universal() {
+    for (named, told, number) in universal() {
         let found = Tag::new(Class::Universal, number);
-        if named != found || marked != found {
+        if named != found || told != found {
             return Some(number);
         }
     }

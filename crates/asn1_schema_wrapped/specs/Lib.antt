@@ -2,3 +2,4 @@ pub mod Instances
 pub mod Equality
 pub mod Hashes
 pub mod Meaning
+pub mod Sizes

@@ -1,6 +1,6 @@
-//! Types around others: under another tag, under constraints of a component's own, SET OF as a type of its members
-//! (X.680 28), a type that is named beside the value, and any value as octets; and the calls of encoders and decoders
-//! by the names of types.
+//! Types around others: under another tag, under constraints of a component's own, of which those of size are types,
+//! SET OF as a type of its members (X.680 28), a type that is named beside the value, and any value as octets; and the
+//! calls of encoders and decoders by the names of types.
 #![tactic(auto)]
 
 pub mod any;
@@ -13,6 +13,7 @@ pub mod named_read;
 pub mod named_written;
 pub mod open;
 pub mod set_of;
+pub mod sizes;
 pub mod tag;
 pub mod tagged;
 
@@ -24,6 +25,7 @@ pub use named_read::DecodeNamed;
 pub use named_written::EncodeNamed;
 pub use open::Open;
 pub use set_of::SetOf;
+pub use sizes::{ExtensibleSizeRange, SizeRange};
 pub use tagged::{Explicit, Implicit};
 
 /// A list of values of one type (X.680 26).

@@ -30,6 +30,7 @@ pub trait EncodeNamed: Encoder {
         ensures ok { OnOk result (Self.step self.old (octets any_size any_count value.now) self.new) }
         ensures only { IfErr result (Refused Self.step (octets any_size any_count value.now) self.old) }
         ensures failed { OnErr result (Self.has_failed self.new) }
+        ensures front { Self.front self.new ≡ Self.front self.old }
         ensures already { Self.has_failed self.old → result ≡ Err EncodeError.AlreadyFailed }
         ensures after { result ≡ Err EncodeError.AlreadyFailed → Self.has_failed self.old }
     {
@@ -55,6 +56,7 @@ pub trait EncodeNamed: Encoder {
         ensures ok { OnOk result (Writes Self.step T.schema (T.meaning value.now) self.old self.new) }
         ensures only { IfErr result (CannotWrite Self.step T.schema (T.meaning value.now) self.old) }
         ensures failed { OnErr result (Self.has_failed self.new) }
+        ensures front { Self.front self.new ≡ Self.front self.old }
         ensures already { Self.has_failed self.old → result ≡ Err EncodeError.AlreadyFailed }
         ensures after { result ≡ Err EncodeError.AlreadyFailed → Self.has_failed self.old }
     {
@@ -75,6 +77,7 @@ pub trait EncodeNamed: Encoder {
         ensures only { IfErr result
             (Refused Self.step (characters_under visible constraints.entry value.now) self.old) }
         ensures failed { OnErr result (Self.has_failed self.new) }
+        ensures front { Self.front self.new ≡ Self.front self.old }
         ensures already { Self.has_failed self.old → result ≡ Err EncodeError.AlreadyFailed }
         ensures after { result ≡ Err EncodeError.AlreadyFailed → Self.has_failed self.old }
     {
@@ -94,6 +97,7 @@ pub trait EncodeNamed: Encoder {
         ensures ok { OnOk result (Self.step self.old (characters_under ia5 constraints.entry value.now) self.new) }
         ensures only { IfErr result (Refused Self.step (characters_under ia5 constraints.entry value.now) self.old) }
         ensures failed { OnErr result (Self.has_failed self.new) }
+        ensures front { Self.front self.new ≡ Self.front self.old }
         ensures already { Self.has_failed self.old → result ≡ Err EncodeError.AlreadyFailed }
         ensures after { result ≡ Err EncodeError.AlreadyFailed → Self.has_failed self.old }
     {
@@ -115,6 +119,7 @@ pub trait EncodeNamed: Encoder {
         ensures only { IfErr result
             (Refused Self.step (characters_under printable constraints.entry value.now) self.old) }
         ensures failed { OnErr result (Self.has_failed self.new) }
+        ensures front { Self.front self.new ≡ Self.front self.old }
         ensures already { Self.has_failed self.old → result ≡ Err EncodeError.AlreadyFailed }
         ensures after { result ≡ Err EncodeError.AlreadyFailed → Self.has_failed self.old }
     {
@@ -135,6 +140,7 @@ pub trait EncodeNamed: Encoder {
         ensures only { IfErr result
             (Refused Self.step (characters_under numeric constraints.entry value.now) self.old) }
         ensures failed { OnErr result (Self.has_failed self.new) }
+        ensures front { Self.front self.new ≡ Self.front self.old }
         ensures already { Self.has_failed self.old → result ≡ Err EncodeError.AlreadyFailed }
         ensures after { result ≡ Err EncodeError.AlreadyFailed → Self.has_failed self.old }
     {
@@ -155,6 +161,7 @@ pub trait EncodeNamed: Encoder {
         ensures only { IfErr result
             (Refused Self.step (characters_under general constraints.entry value.now) self.old) }
         ensures failed { OnErr result (Self.has_failed self.new) }
+        ensures front { Self.front self.new ≡ Self.front self.old }
         ensures already { Self.has_failed self.old → result ≡ Err EncodeError.AlreadyFailed }
         ensures after { result ≡ Err EncodeError.AlreadyFailed → Self.has_failed self.old }
     {
@@ -175,6 +182,7 @@ pub trait EncodeNamed: Encoder {
         ensures only { IfErr result
             (Refused Self.step (characters_under graphic constraints.entry value.now) self.old) }
         ensures failed { OnErr result (Self.has_failed self.new) }
+        ensures front { Self.front self.new ≡ Self.front self.old }
         ensures already { Self.has_failed self.old → result ≡ Err EncodeError.AlreadyFailed }
         ensures after { result ≡ Err EncodeError.AlreadyFailed → Self.has_failed self.old }
     {
@@ -195,6 +203,7 @@ pub trait EncodeNamed: Encoder {
         ensures only { IfErr result
             (Refused Self.step (characters_under teletex constraints.entry value.now) self.old) }
         ensures failed { OnErr result (Self.has_failed self.new) }
+        ensures front { Self.front self.new ≡ Self.front self.old }
         ensures already { Self.has_failed self.old → result ≡ Err EncodeError.AlreadyFailed }
         ensures after { result ≡ Err EncodeError.AlreadyFailed → Self.has_failed self.old }
     {
@@ -214,6 +223,7 @@ pub trait EncodeNamed: Encoder {
         ensures ok { OnOk result (Self.step self.old (characters_under bmp constraints.entry value.now) self.new) }
         ensures only { IfErr result (Refused Self.step (characters_under bmp constraints.entry value.now) self.old) }
         ensures failed { OnErr result (Self.has_failed self.new) }
+        ensures front { Self.front self.new ≡ Self.front self.old }
         ensures already { Self.has_failed self.old → result ≡ Err EncodeError.AlreadyFailed }
         ensures after { result ≡ Err EncodeError.AlreadyFailed → Self.has_failed self.old }
     {

@@ -1,6 +1,6 @@
 //! Types of strings with an alphabet of their own, and how such a string is made of a text.
 ghost use Rattle.std.specs.Prelude.{◌≡◌, ◌<◌, ℕ, List, [], ◌∷◌, ◌++◌, length, slice_index, IsTrue, IfOk, IfErr, OnOk};
-ghost use Rattle.std.specs.Prelude.{OnErr};
+ghost use Rattle.std.specs.Prelude.{IfSome, OnErr};
 ghost use Rattle.std.specs.Str.{chars};
 ghost use Rattle.asn1_model.specs.Schema.{StringKind};
 ghost use Rattle.asn1_model.specs.Strings.{may_hold};
@@ -50,6 +50,10 @@ pub trait StaticPermittedAlphabet: Drop {
     fn char_at(&self, place: usize) -> u32
         requires { place < length (characters self.now) }
         ensures { result ≡ slice_index (characters self.now) place };
+
+    /// The characters as octets, of a type that keeps each in one.
+    fn char_octets(&self) -> Option<&[u8]>
+        ensures { IfSome result (λ octets. octets.now ≡ characters self.now) };
 
     // what the type may hold is what its kind may hold
     ghost holds: { (cs : List ℕ) → may_hold kind cs ≡ permits_all kind cs };

@@ -1,5 +1,5 @@
 -- Bits in a fixed number of octets.
-use Rattle.std.proofs.Common.{◌≡◌, ℕ, zero, suc, ◌+◌, ◌-◌, ◌*◌, ◌<◌, ◌≤◌, inl, inr, Bool, false, List, [], ◌∷◌, ◌++◌, length, take, replicate, get_or, set, refl, ap, sym, ◌∙◌, arith, subst}
+use Rattle.std.proofs.Common.{◌≡◌, ℕ, zero, suc, ◌+◌, ◌-◌, ◌*◌, ◌<◌, ◌≤◌, inl, inr, Bool, false, List, [], ◌++◌, length, take, replicate, get_or, set, refl, ap, sym, ◌∙◌, arith, subst}
 use Rattle.std.proofs.lemmas.Bool.{cases_eq}
 use Rattle.std.proofs.lemmas.List.{replicate-append-replicate, take_all, take_at, length-replicate, append-nil, nil_from_length, get_or-set_same, get_or-set_other, length-take-le}
 use Rattle.asn1_model.specs.Numbers.{octet_bits, packed}

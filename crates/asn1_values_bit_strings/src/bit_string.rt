@@ -46,7 +46,7 @@ impl BitString {
         Ok(BitString { buffer })
     }
 
-    /// The bits of a view.
+    /// The bits of a view. Memory is taken once.
     ///
     /// # Errors
     ///
@@ -54,7 +54,13 @@ impl BitString {
     pub fn from_bitslice(alloc: Global, bits: BitStr<'_>) -> Result<Self, AllocError>
         ensures { IfOk result (λ string. string ≡ bits_of bits.entry) }
     {
+        if let Some(octets) = bits.holding_octets() {
+            let mut buffer = BitBuffer::from_vec(Vec::from_slice(alloc, octets)?);
+            buffer.truncate(bits.len());
+            return Ok(BitString { buffer });
+        }
         let mut buffer = BitBuffer::new(alloc);
+        buffer.reserve_bytes(bits.len().div_ceil(8))?;
         buffer.extend_from_bitslice(bits)?;
         Ok(BitString { buffer })
     }

@@ -3,7 +3,7 @@ use Rattle.std.proofs.Common.{◌≡◌, ℕ, ◌+◌, ◌-◌, ◌*◌, ◌/◌
 use Rattle.std.proofs.lemmas.Nat.{pow_pos, or_shifted, one_shl, and_mask, mod_below, shl_whole, mul-add-lt, pow-add}
 use Rattle.std.proofs.lemmas.List.{take_at, drop_at, take-append-drop, drop-drop, drop_more, drop-take, length-take-le, take-take}
 use Rattle.asn1_model.specs.Numbers.{binary, octet_bits}
-use Rattle.asn1_values_bits.proofs.Binary.{length-binary, binary_split, binary_join, binary_low, length-octet_bits, octet_bits-append}
+use Rattle.asn1_values_bits.proofs.Binary.{length-binary, binary_split, binary_join, length-octet_bits, octet_bits-append}
 
 pub octet_bits-drop : (k : ℕ) (os : List ℕ) → k ≤ length os → octet_bits (drop k os) ≡ drop (k * 8) (octet_bits os)
 octet_bits-drop k os h =
@@ -38,16 +38,6 @@ joined_digits w few v p limit h n m =
 
 pub joined_small : (w few v p : ℕ) → v < 2 ^ w → v * 2 ^ few + p % 2 ^ few < 2 ^ (w + few)
 joined_small w few v p h = let e : w + few ≡ few + w = omega arith in rw (e, pow-add 2 few w) (mul-add-lt v (2 ^ few) (p % 2 ^ few) (2 ^ w) h (mod_below p (2 ^ few) (pow_pos few)))
-
--- one turn of reading
-pub read_on : (B done all : List Bool) (w few left place v p n : ℕ) → few ≤ left → take few (drop place B) ≡ binary few p → n ≡ v * 2 ^ few + p % 2 ^ few → binary w v ++ take left (drop place B) ≡ all → binary (w + few) n ++ take (left - few) (drop (place + few) B) ≡ all
-read_on B done all w few left place v p n h t e r =
-    let split : take left (drop place B) ≡ take few (drop place B) ++ take (left - few) (drop (place + few) B) =
-    ap (λ k. take k (drop place B)) (omega arith) ∙ take_two few (left - few) (drop place B) ∙ ap (λ k. take few (drop place B) ++ take (left - few) k) (drop-drop few place B) in
-    ap (λ k. binary (w + few) k ++ take (left - few) (drop (place + few) B)) e
-    ∙ ap (λ k. k ++ take (left - few) (drop (place + few) B)) (sym (binary_join w few v (p % 2 ^ few) (mod_below p (2 ^ few) (pow_pos few))) ∙ ap (λ k. binary w v ++ k) (binary_low few p ∙ sym t))
-    ∙ append_assoc (binary w v) (take few (drop place B)) (take (left - few) (drop (place + few) B))
-    ∙ ap (λ k. binary w v ++ k) (sym split) ∙ r
 
 -- a number read in two parts
 pub wide_is : (w h l : ℕ) → h < 2 ^ w → w ≤ 64 → l < 2 ^ 64 → bit_or (h * 2 ^ 64 % 2 ^ 128) l ≡ h * 2 ^ 64 + l

@@ -1,6 +1,6 @@
 -- The bits of views.
 use Rattle.std.proofs.Common.{◌≡◌, ◌≤◌, ◌+◌, ◌*◌, ◌/◌, ◌%◌, ◌++◌, ℕ, List, Bool, length, take, drop, replicate, false, suc, min, ◌-◌, ◌^◌, arith, ap, sym, ◌∙◌, append_assoc, inl, inr, [], ◌<◌, set}
-use Rattle.std.proofs.lemmas.List.{take-append-le, take_at, take_more_set, length-take, length-drop, drop-drop, drop_all, take_all, append-nil, take-append-drop, replicate-append-replicate}
+use Rattle.std.proofs.lemmas.List.{take-append-le, take-take, take_at, take_more_set, length-take, length-drop, drop-drop, drop_all, take_all, append-nil, take-append-drop, replicate-append-replicate}
 use Rattle.std.proofs.lemmas.Bool.{cases_lt}
 use Rattle.asn1_model.specs.Numbers.{octet_bits, binary}
 use Rattle.asn1_values_bits.specs.declared.bit_str.BitStr.{BitStr}
@@ -25,6 +25,12 @@ whole_and_rest os first len start count h s n =
     ∙ ap (λ l. take (count * 8) (drop first B) ++ take (len % 8) l) (sym (drop-drop (count * 8) first B))
     ∙ sym (take_two (count * 8) (len % 8) (drop first B))
     ∙ ap (λ k. take k (drop first B)) all
+
+-- the octets that hold bits
+pub held : (os : List ℕ) (first len start count : ℕ) → first + len ≤ length os * 8 → first ≡ start * 8 → count ≡ len / 8 + (len % 8 + 7) / 8 → take len (octet_bits (take count (drop start os))) ≡ take len (drop first (octet_bits os))
+held os first len start count h s n =
+    ap (take len) (octets_at os start count (omega arith)) ∙ take-take len (count * 8) (drop (start * 8) (octet_bits os)) (omega arith)
+    ∙ ap (λ k. take len (drop k (octet_bits os))) (sym s)
 
 -- the bits that octets to come are made of: so many, and zero bits behind them
 abbrev pub to_come : ℕ → List Bool → List Bool

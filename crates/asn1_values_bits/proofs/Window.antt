@@ -57,22 +57,30 @@ digits_inside a c b n =
 pub nine_is : (f x : ℕ) → f < 2 ^ 64 → x < 2 ^ 8 → bit_or (f * 2 ^ 8 % 2 ^ 128) x ≡ f * 2 ^ 8 + x
 nine_is f x h l = ap (λ n. bit_or n x) (shl_whole f 64 8 128 h (omega arith)) ∙ or_shifted f 8 x l
 
+-- digits of a number whose digits are bits from the beginning of an octet on
+pub inside_read : (B : List Bool) (p s o c past w n : ℕ) → p ≡ s * 8 + o → o + (c + past) ≡ w → binary w n ≡ take w (drop (s * 8) B) → binary c (n / 2 ^ past) ≡ take c (drop p B)
+inside_read B p s o c past w n e all b =
+    let left : o + (w - o) ≡ w = omega arith in
+    sym (digits_inside o c past n)
+    ∙ ap (λ k. take c (drop o (binary k n))) all ∙ ap (λ k. take c (drop o k)) b
+    ∙ ap (λ k. take c (drop o (take k (drop (s * 8) B)))) (sym left) ∙ ap (take c) (drop-take o (w - o) (drop (s * 8) B))
+    ∙ take-take c (w - o) (drop o (drop (s * 8) B)) (omega arith)
+    ∙ ap (take c) (drop-drop o (s * 8) B ∙ ap (λ k. drop k B) (sym e))
+
 pub nine_read : (os : List ℕ) (p s o c f x : ℕ) → p ≡ s * 8 + o → o < 8 → c ≤ 64 → s + 9 ≤ length os → x < 2 ^ 8 → x ≡ get_or os (s + 8) x → binary 64 f ≡ take 64 (drop (s * 8) (octet_bits os)) → binary c ((f * 2 ^ 8 + x) / 2 ^ (72 - o - c)) ≡ take c (drop p (octet_bits os))
 nine_read os p s o c f x e h n l small r b =
     let B : List Bool = octet_bits os in
     let past : ℕ = 72 - o - c in
-    let all : o + (c + past) ≡ 72 = omega arith in
-    let left : o + (72 - o) ≡ 72 = omega arith in
     let last : take 8 (drop (s * 8 + 64) B) ≡ binary 8 (x / 2 ^ (8 - 0 - 8)) = bits_within os (s * 8 + 64) (s + 8) 0 8 x (omega arith) (omega arith) r (omega arith) in
     let same : x / 2 ^ (8 - 0 - 8) ≡ x = omega arith in
     let nine : binary 72 (f * 2 ^ 8 + x) ≡ take 72 (drop (s * 8) B) =
     sym (binary_join 64 8 f x small) ∙ ap (λ k. k ++ binary 8 x) b ∙ ap (λ k. take 64 (drop (s * 8) B) ++ binary 8 k) (sym same)
     ∙ ap (λ k. take 64 (drop (s * 8) B) ++ k) (sym last ∙ ap (take 8) (ap (λ k. drop k B) (omega arith) ∙ sym (drop-drop 64 (s * 8) B))) ∙ sym (take_two 64 8 (drop (s * 8) B)) in
-    sym (digits_inside o c past (f * 2 ^ 8 + x))
-    ∙ ap (λ k. take c (drop o (binary k (f * 2 ^ 8 + x)))) all ∙ ap (λ k. take c (drop o k)) nine
-    ∙ ap (λ k. take c (drop o (take k (drop (s * 8) B)))) (sym left) ∙ ap (take c) (drop-take o (72 - o) (drop (s * 8) B))
-    ∙ take-take c (72 - o) (drop o (drop (s * 8) B)) (omega arith)
-    ∙ ap (take c) (drop-drop o (s * 8) B ∙ ap (λ k. drop k B) (sym e))
+    inside_read B p s o c past 72 (f * 2 ^ 8 + x) e (omega arith) nine
+
+-- .. of the octets that hold the bits
+pub few_read : (os : List ℕ) (p s o c u past f : ℕ) → p ≡ s * 8 + o → o + (c + past) ≡ u * 8 → s + u ≤ length os → binary (u * 8) f ≡ octet_bits (take u (drop s os)) → binary c (f / 2 ^ past) ≡ take c (drop p (octet_bits os))
+few_read os p s o c u past f e all h b = inside_read (octet_bits os) p s o c past (u * 8) f e all (b ∙ octets_at os s u h)
 
 -- the low digits of a number, masked off
 pub masked : (c n : ℕ) → c ≤ 64 → bit_and n (1 * 2 ^ c % 2 ^ 128 - 1) ≡ n % 2 ^ c

@@ -320,11 +320,14 @@ impl BitBuffer {
         Ok(())
     }
 
-    // Adds the bits of a view: first those that fill the last octet.
+    // Adds the bits of a view: as one number where they are few, else those that fill the last octet first.
     fn extend_shifted(&mut self, bits: BitStr<'_>) -> Result<(), AllocError>
         ensures ok { OnOk result (self.new ≡ self.old ++ bits_of bits.entry) }
         ensures err { OnErr result (self.new ≡ self.old) }
     {
+        if bits.len() <= 64 {
+            return self.push_view(bits);
+        }
         let before = self.len();
         let few = bits.len().min(free_bits(before) as usize);
         let (first, rest) = bits.split_at(few);

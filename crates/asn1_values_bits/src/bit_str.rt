@@ -164,6 +164,23 @@ impl<'a> BitStr<'a> {
         Some(&self.octets[start..end])
     }
 
+    /// The octets that hold the bits, where they begin at an octet. In the last one others may stand behind them.
+    pub fn holding_octets(&self) -> Option<&'a [u8]>
+        ensures bits { IfSome result (λ octets. take (length (bits_of self.now)) (octet_bits octets.now)
+            ≡ bits_of self.now) }
+        ensures short { IfSome result (λ octets. length octets.now < 2 ^ 61) }
+    {
+        if self.first % 8 > 0 {
+            return None;
+        }
+        let count = self.len / 8 + (self.len % 8 + 7) / 8;
+        if count > usize::MAX / 8 {
+            return None;
+        }
+        let start = self.first / 8;
+        Some(&self.octets[start..start + count])
+    }
+
     /// Copies the first bits into octets, as many as these have.
     pub fn copy_to(&self, octets: &mut [u8])
         requires { length octets.old * 8 ≤ length (bits_of self.now) }

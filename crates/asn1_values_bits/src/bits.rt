@@ -12,11 +12,13 @@ pub fn read_bits(octets: &[u8], position: usize, count: u32) -> u64
     ensures digits { binary count result ≡ take count (drop position (octet_bits octets.now)) }
     ensures fits { result < 2 ^ count }
 {
-    let octet = position / 8;
-    if octet < octets.len() && octets.len() - octet > 8 {
+    if octets.len() > position / 8 + 8 {
         return read_of_nine(octets, position, count);
     }
-    read_by_octets(octets, position, count)
+    if octets.len() == position / 8 + 8 {
+        return read_of_eight(octets, position, count);
+    }
+    read_of_few(octets, position, count)
 }
 
 // The number of eight octets, the first one highest.
@@ -96,27 +98,36 @@ fn read_of_nine(octets: &[u8], position: usize, count: u32) -> u64
     bits as u64
 }
 
-// The same as `read_bits`, an octet at a time.
-fn read_by_octets(octets: &[u8], position: usize, count: u32) -> u64
+// The same as `read_bits`, where eight octets stand from the first bit's octet on.
+fn read_of_eight(octets: &[u8], position: usize, count: u32) -> u64
     requires narrow { count ≤ 64 }
     requires within { position + count ≤ length octets.now * 8 }
-    requires short { position + count < 2 ^ 64 }
+    requires eight { length octets.now ≡ position / 8 + 8 }
     ensures digits { binary count result ≡ take count (drop position (octet_bits octets.now)) }
     ensures fits { result < 2 ^ count }
 {
-    let mut value = 0;
-    let mut place = position;
-    let mut left = count;
-    while left > 0 {
-        let offset = (place % 8) as u32;
-        let few = left.min(8 - offset);
-        let octet = octets[place / 8];
-        let bits = (octet as u64 >> (8 - offset - few)) & ((1 << few) - 1);
-        value = value << few | bits;
-        place += few as usize;
-        left -= few;
-    }
-    value
+    let start = position / 8;
+    let offset = (position % 8) as u32;
+    let eight = eight_octets(octets, start);
+    let bits = ((eight as u128) >> (64 - offset - count)) & ((1u128 << count) - 1);
+    bits as u64
+}
+
+// The same as `read_bits`, where at most eight octets stand from the first bit's octet on. Those that hold the bits are
+// read as one number.
+fn read_of_few(octets: &[u8], position: usize, count: u32) -> u64
+    requires narrow { count ≤ 64 }
+    requires within { position + count ≤ length octets.now * 8 }
+    requires few { length octets.now ≤ position / 8 + 8 }
+    ensures digits { binary count result ≡ take count (drop position (octet_bits octets.now)) }
+    ensures fits { result < 2 ^ count }
+{
+    let start = position / 8;
+    let offset = (position % 8) as u32;
+    let used = (offset + count + 7) / 8;
+    let all = few_octets(&octets[start..start + used as usize]);
+    let bits = ((all as u128) >> (used * 8 - offset - count)) & ((1u128 << count) - 1);
+    bits as u64
 }
 
 /// The number whose binary digits are `count` bits of the octets from bit `position` on.

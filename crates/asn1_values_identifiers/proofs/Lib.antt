@@ -1,3 +1,4 @@
 pub mod Sevens
 pub mod Readings
 pub mod Whole
+pub mod Begins

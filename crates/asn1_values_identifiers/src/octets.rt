@@ -16,6 +16,7 @@ const LIMIT: u64 = 1 << 32;
 const FIRST_LIMIT: u64 = LIMIT + 80;
 
 /// The subidentifier that octets begin with, and the octets behind it (X.690 8.19.2). Padding is not looked for.
+#[inline(always)]
 fn unpadded_subidentifier(octets: &[u8], limit: u64) -> Result<(u64, &[u8]), IdentifierError>
     requires { (128 ≤ limit) × (limit ≤ 2 ^ 32 + 80) }
     ensures number { IfOk result (λ p. p.0 < limit) }
@@ -39,6 +40,7 @@ fn unpadded_subidentifier(octets: &[u8], limit: u64) -> Result<(u64, &[u8]), Ide
 }
 
 /// The first subidentifier, and the octets behind it (X.690 8.19.2).
+#[inline(always)]
 fn first_subidentifier(octets: &[u8], limit: u64) -> Result<(u64, &[u8]), IdentifierError>
     requires some { 0 < length octets.now }
     requires limit { (128 ≤ limit) × (limit ≤ 2 ^ 32 + 80) }
@@ -96,7 +98,7 @@ fn read_arcs(arcs: &mut Vec<u32>, octets: &[u8]) -> Result<(), IdentifierError>
     Ok(())
 }
 
-/// The arcs whose contents octets these are.
+/// The arcs whose contents octets these are: at most one more than there are octets, so that memory is taken once.
 fn arcs_from_octets(alloc: Global, octets: &[u8]) -> Result<Vec<u32>, IdentifierError>
     ensures read { IfOk result (λ v. arcs_of octets.now ≡ Ok v.items) }
     ensures wrong { IfErr result (λ e. (e ≡ IdentifierError.Memory) ⊎ (arcs_of octets.now ≡ Err e)) }
@@ -106,7 +108,7 @@ fn arcs_from_octets(alloc: Global, octets: &[u8]) -> Result<Vec<u32>, Identifier
     }
     let (number, further) = first_subidentifier(octets, FIRST_LIMIT)?;
     let first = if number < 80 { number / 40 } else { 2 };
-    let mut arcs = Vec::new(alloc);
+    let mut arcs = Vec::with_capacity(alloc, octets.len() + 1)?;
     arcs.push(first as u32)?;
     arcs.push((number - 40 * first) as u32)?;
     read_arcs(&mut arcs, further)?;

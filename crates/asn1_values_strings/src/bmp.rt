@@ -292,6 +292,10 @@ impl StaticPermittedAlphabet for BmpString {
     fn char_at(&self, place: usize) -> u32 {
         u32::from(self.as_units()[place])
     }
+
+    fn char_octets(&self) -> Option<&[u8]> {
+        None
+    }
 }
 
 impl Clone for BmpString {

@@ -366,6 +366,10 @@ impl<K: CharacterKind> StaticPermittedAlphabet for RestrictedString<K> {
     fn char_at(&self, place: usize) -> u32 {
         u32::from(self.as_bytes()[place])
     }
+
+    fn char_octets(&self) -> Option<&[u8]> {
+        Some(self.as_bytes())
+    }
 }
 
 /// Refuses octets that a string of the kind may not hold, by the first such one.

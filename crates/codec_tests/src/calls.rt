@@ -1,8 +1,8 @@
 //! The calls that write and read.
-use crate::five::FiveOctets;
 use asn1_schema_constraints::{Bounded, Constraint, Constraints, Extensible, Size, Value};
 use asn1_schema_encode::Encode;
 use asn1_schema_faults::{DecodeError, EncodeError};
+use asn1_schema_wrapped::{Constrained, SetOf, SizeRange};
 use asn1_values_bit_strings::BitString;
 use asn1_values_bits::BitStr;
 use asn1_values_octets::OctetString;
@@ -12,9 +12,18 @@ use oer_codec_reading::EncodingRules;
 use std::alloc::{AllocError, Global};
 use std::test::Fail;
 
+/// OCTET STRING (SIZE (5)).
+type FiveOctets = Constrained<SizeRange<5, 5>, OctetString>;
+
 /// Four octets, where five are wanted.
 fn four(alloc: Global) -> Result<FiveOctets, AllocError> {
     let octets = OctetString::from_slice(alloc, &[1, 2, 3, 4])?;
+    Ok(FiveOctets::new(octets))
+}
+
+/// Five octets.
+fn five(alloc: Global) -> Result<FiveOctets, AllocError> {
+    let octets = OctetString::from_slice(alloc, &[1, 2, 3, 4, 5])?;
     Ok(FiveOctets::new(octets))
 }
 
@@ -33,6 +42,21 @@ fn four_are_refused(alloc: Global, buffer: &mut Vec<u8>) -> Result<bool, AllocEr
     Ok(is_refused(alloc, &four, buffer))
 }
 
+/// Whether they refuse a list of four octets so, whose count is written in front of them.
+fn list_of_four_is_refused(alloc: Global, buffer: &mut Vec<u8>) -> Result<bool, AllocError> {
+    let mut list = Vec::new(alloc);
+    list.push(four(alloc)?)?;
+    Ok(is_refused(alloc, &list, buffer))
+}
+
+/// Whether they refuse a bag of five octets and of four so, whose first member is written apart.
+fn bag_is_refused(alloc: Global, buffer: &mut Vec<u8>) -> Result<bool, AllocError> {
+    let mut members = Vec::new(alloc);
+    members.push(five(alloc)?)?;
+    members.push(four(alloc)?)?;
+    Ok(is_refused(alloc, &SetOf::from_vec(members), buffer))
+}
+
 /// Adds true to what the buffer holds, twice: whether it stands behind that.
 fn adds_true(alloc: Global, buffer: &mut Vec<u8>) -> Result<bool, EncodeError> {
     coer::encode_buf(alloc, &true, buffer)?;
@@ -41,13 +65,23 @@ fn adds_true(alloc: Global, buffer: &mut Vec<u8>) -> Result<bool, EncodeError> {
     Ok(once && buffer.as_slice() == [0xAA, 0xFF, 0xFF].as_slice())
 }
 
+/// Adds a bag of 2 and of 1 to what the buffer holds: whether it stands behind that.
+fn adds_bag(alloc: Global, buffer: &mut Vec<u8>) -> Result<bool, EncodeError> {
+    let bag = SetOf::from_vec(vec![in alloc; 2u8, 1]?);
+    coer::encode_buf(alloc, &bag, buffer)?;
+    Ok(buffer.as_slice() == [0xAA, 0xFF, 0xFF, 0x01, 0x02, 0x01, 0x02].as_slice())
+}
+
 /// A buffer is as it was where a value is refused, and else a value stands behind what it held.
 #[test]
 fn buffers(rt: HostRuntime) -> Result<(), Fail> {
     let alloc = rt.alloc();
     let mut buffer = vec![in alloc; 0xAAu8]?;
     assert!(rt; four_are_refused(alloc, &mut buffer)?);
+    assert!(rt; list_of_four_is_refused(alloc, &mut buffer)?);
+    assert!(rt; bag_is_refused(alloc, &mut buffer)?);
     assert!(rt; adds_true(alloc, &mut buffer)?);
+    assert!(rt; adds_bag(alloc, &mut buffer)?);
     Ok(())
 }
 

@@ -12,8 +12,6 @@ mod decoders;
 #[cfg(test)]
 mod encoders;
 #[cfg(test)]
-mod five;
-#[cfg(test)]
 mod messages;
 #[cfg(test)]
 mod spelled;

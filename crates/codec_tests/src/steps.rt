@@ -146,7 +146,7 @@ fn tags_of(choice: Choice, lent: Lent<'_>) -> Tags<'_> {
 }
 
 /// Whether a choice has an extension marker.
-fn is_marked(choice: Choice) -> bool {
+fn is_extensible(choice: Choice) -> bool {
     !matches!(choice, Choice::Of300)
 }
 
@@ -195,14 +195,14 @@ fn put_value<E: Encoder>(encoder: &mut E, step: Step, string: &[u8]) -> Result<(
 /// Makes a call of an encoder.
 fn put<E: Encoder>(encoder: &mut E, step: Step, lent: Lent<'_>) -> Result<(), EncodeError> {
     match step {
-        Step::Sequence(is_marked, optional) => {
-            encoder.begin_sequence(Tag::SEQUENCE, is_marked, optional)
+        Step::Sequence(is_extensible, optional) => {
+            encoder.begin_sequence(Tag::SEQUENCE, is_extensible, optional)
         }
-        Step::Set(is_marked, optional) => encoder.begin_set(Tag::SET, is_marked, optional),
+        Step::Set(is_extensible, optional) => encoder.begin_set(Tag::SET, is_extensible, optional),
         Step::Bag(count) => encoder.begin_bag(Tag::SET, sized(1, 2), Bounded::None, count),
         Step::Choice(choice, chosen) => {
             let (roots, additions, _) = tags_of(choice, lent);
-            encoder.begin_choice(Tag::CHOICE, roots, is_marked(choice), additions, chosen)
+            encoder.begin_choice(Tag::CHOICE, roots, is_extensible(choice), additions, chosen)
         }
         Step::Present(is_there) => encoder.put_presence_bit(is_there),
         Step::Further(is_there) => encoder.put_further(is_there),
@@ -244,7 +244,7 @@ fn chosen<D: Decoder>(
     lent: Lent<'_>,
 ) -> Result<Chosen, DecodeError> {
     let (roots, additions, places) = tags_of(choice, lent);
-    match TagTables::checked(roots, is_marked(choice), additions, places) {
+    match TagTables::checked(roots, is_extensible(choice), additions, places) {
         Some(tables) => decoder.begin_choice(Tag::CHOICE, &tables),
         None => Err(DecodeError::Incomplete),
     }
@@ -266,10 +266,10 @@ fn is_string<D: Decoder>(
 /// Finds what has no value.
 fn find<D: Decoder>(decoder: &mut D, step: Step) -> Result<(), DecodeError> {
     match step {
-        Step::Sequence(is_marked, optional) => {
-            decoder.begin_sequence(Tag::SEQUENCE, is_marked, optional)
+        Step::Sequence(is_extensible, optional) => {
+            decoder.begin_sequence(Tag::SEQUENCE, is_extensible, optional)
         }
-        Step::Set(is_marked, optional) => decoder.begin_set(Tag::SET, is_marked, optional),
+        Step::Set(is_extensible, optional) => decoder.begin_set(Tag::SET, is_extensible, optional),
         Step::Bag(_) => decoder.begin_bag(Tag::SET, sized(1, 2), Bounded::None),
         Step::Additions(count) => decoder.begin_additions(count),
         Step::EndOfAddition => decoder.end_addition(),

@@ -6,4 +6,5 @@ pub mod Preambles
 pub mod Finding
 pub mod Adding
 pub mod Choosing
+pub mod Counting
 pub mod Records

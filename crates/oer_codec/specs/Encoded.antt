@@ -1,14 +1,10 @@
 -- What the calls that write answer.
-use Rattle.std.specs.Prelude.{ℕ, List, [], ◌∷◌, Some}
+use Rattle.std.specs.Prelude.{ℕ, List, Some}
 use Rattle.asn1_model.specs.Schema.{Schema}
 use Rattle.asn1_model.specs.Value.{Value}
-use Rattle.asn1_model.specs.Rules.{Rules, oer, coer}
 use Rattle.asn1_schema_faults.specs.declared.EncodeError.{EncodeError}
 use Rattle.asn1_schema_encode.specs.Written.{IsWrittenIn, NotWrittenIn}
-
--- The octet rules, which have one writer.
-abbrev pub octet_rules : List Rules
-octet_rules = oer ∷ coer ∷ []
+use Rattle.oer_codec_encoder.specs.Written.{octet_rules}
 
 -- These octets are the canonical encoding of the value (X.696), in OER as in COER, in whatever depth its type is
 -- unfolded.

@@ -1,5 +1,5 @@
 -- What has begun and has not ended, as a reader of the octet encoding rules (X.696) holds it.
-use Rattle.std.specs.Prelude.{◌≡◌, Bool, List, [], ◌∷◌, drop, map, reverse, Option, Some, None}
+use Rattle.std.specs.Prelude.{◌≡◌, ℕ, suc, Bool, List, [], ◌∷◌, drop, map, reverse, Option, Some, None}
 use Rattle.asn1_schema_finding.specs.PresenceBits.{first_bits}
 use Rattle.asn1_values_bits.specs.BitStr.{bits_of}
 use Rattle.oer_codec_fronts.specs.Takes.{Scope, components, added, open_type, members, alternative}
@@ -42,6 +42,11 @@ framed (Some f) fs = scope_of f ∷ map scope_of (reverse fs)
 abbrev pub scopes_of : Option Enclosing → Option Frame → List Frame → List Scope
 scopes_of None f fs = framed f fs
 scopes_of (Some e) f fs = scope_of (frame_of e) ∷ framed f fs
+
+-- The open scopes, where a number apart from the frames tells how many members of the innermost list are still to come.
+abbrev pub with_due : ℕ → List Scope → List Scope
+with_due (suc n) (members m ∷ k) = members (suc n) ∷ k
+with_due n k = k
 
 -- The next presence bit of an addition.
 abbrev pub NextPresent : Bool → List Scope → List Scope → Type 0

@@ -11,11 +11,13 @@ ghost use Rattle.oer_codec_reading.specs.Fronts.{freedoms};
 
 use crate::additions::read_additions;
 use crate::choices::read_choice;
-use crate::frames::{Enclosing, Frame, Scopes};
+use crate::frames::{Enclosing, Frame};
 use crate::members::read_members;
 use crate::options::DecoderOptions;
 use crate::preamble::read_preamble;
+use crate::scopes::Scopes;
 use asn1_schema_constraints::{Bounded, Constraints};
+use asn1_schema_decode::{Decoder as _, go_on};
 use asn1_schema_faults::{CodecKind, DecodeError};
 use asn1_schema_tags::{Tag, TagTables};
 use asn1_schema_variants::{Chosen, Enumerated};
@@ -93,30 +95,6 @@ impl<'input> Decoder<'input> {
         self.cursor.remaining()
     }
 
-    // Fails for this reason, from now on.
-    fn fail(&mut self, error: DecodeError) -> DecodeError
-        ensures refused { result ≡ error }
-        ensures failed { self.new.failed ≡ true }
-    {
-        self.failed = true;
-        error
-    }
-
-    // Goes on, unless the decoder has failed.
-    #[inline(always)]
-    fn begin_record(&mut self) -> Result<(), DecodeError>
-        ensures ok { OnOk result (IsReady self.old × (self.new ≡ self.old)) }
-        ensures only { IfErr result (λ _. IsReady self.old → ⊥) }
-        ensures after { IfErr result (λ e. (e ≡ DecodeError.AlreadyFailed) × HasFailed self.old) }
-        ensures failed { OnErr result (self.new.failed ≡ true) }
-        ensures already { self.old.failed ≡ true → result ≡ Err DecodeError.AlreadyFailed }
-    {
-        if self.failed {
-            return Err(DecodeError::AlreadyFailed);
-        }
-        Ok(())
-    }
-
     // Goes on, unless the decoder has failed or no level is left.
     #[inline(always)]
     fn begin_level(&mut self) -> Result<(), DecodeError>
@@ -127,9 +105,9 @@ impl<'input> Decoder<'input> {
         ensures failed { OnErr result (self.new.failed ≡ true) }
         ensures already { self.old.failed ≡ true → result ≡ Err DecodeError.AlreadyFailed }
     {
-        self.begin_record()?;
+        go_on(self.failed)?;
         if self.levels == 0 {
-            return Err(self.fail(DecodeError::ExceedsMaxParseDepth));
+            return Err(self.refuse(DecodeError::ExceedsMaxParseDepth));
         }
         Ok(())
     }
@@ -153,7 +131,7 @@ impl<'input> Decoder<'input> {
         ensures failed { OnErr result (self.new.failed ≡ true) }
     {
         let Ok(()) = self.scopes.open(frame) else {
-            return Err(self.fail(DecodeError::OutOfMemory));
+            return Err(self.refuse(DecodeError::OutOfMemory));
         };
         self.levels -= 1;
         Ok(())
@@ -179,7 +157,7 @@ impl<'input> Decoder<'input> {
         ensures failed { OnErr result (self.new.failed ≡ true) }
     {
         let Ok(()) = self.scopes.enclose(enclosing) else {
-            return Err(self.fail(DecodeError::OutOfMemory));
+            return Err(self.refuse(DecodeError::OutOfMemory));
         };
         self.levels -= 1;
         Ok(())
@@ -206,11 +184,11 @@ impl<'input> Decoder<'input> {
         match enter_open_type(&mut self.cursor, self.rules) {
             Ok(behind) => {
                 let Ok(()) = self.scopes.enclose(Enclosing::OpenType(behind)) else {
-                    return Err(self.fail(DecodeError::OutOfMemory));
+                    return Err(self.refuse(DecodeError::OutOfMemory));
                 };
                 Ok(())
             }
-            Err(error) => Err(self.fail(error)),
+            Err(error) => Err(self.refuse(error)),
         }
     }
 }
@@ -218,10 +196,10 @@ impl<'input> Decoder<'input> {
 // One call: `AlreadyFailed` after a refusal, else what is found of its record, and after a refusal no more.
 macro_rules! record {
     ($decoder:ident, $read:expr) => {{
-        $decoder.begin_record()?;
+        go_on($decoder.failed)?;
         match $read {
             Ok(found) => Ok(found),
-            Err(error) => Err($decoder.fail(error)),
+            Err(error) => Err($decoder.refuse(error)),
         }
     }};
 }
@@ -232,7 +210,7 @@ macro_rules! scope {
         $decoder.begin_level()?;
         match $read {
             Ok(frame) => $decoder.enter(frame),
-            Err(error) => Err($decoder.fail(error)),
+            Err(error) => Err($decoder.refuse(error)),
         }
     }};
 }
@@ -266,7 +244,8 @@ impl<'input> asn1_schema_decode::Decoder for Decoder<'input> {
     }
 
     fn refuse(&mut self, error: DecodeError) -> DecodeError {
-        self.fail(error)
+        self.failed = true;
+        error
     }
 
     #[inline(always)]
@@ -292,6 +271,7 @@ impl<'input> asn1_schema_decode::Decoder for Decoder<'input> {
         )
     }
 
+    #[inline(always)]
     fn decode_enumerated<T: Enumerated>(&mut self, _tag: Tag) -> Result<T, DecodeError>
         ensures ok { IfOk result
             (λ x. Finds self.old (one_of T.roots T.extensible T.additions (T.number x)) self.new) }
@@ -389,10 +369,10 @@ impl<'input> asn1_schema_decode::Decoder for Decoder<'input> {
 
     #[inline(always)]
     fn get_further(&mut self) -> Result<bool, DecodeError> {
-        self.begin_record()?;
+        go_on(self.failed)?;
         match self.scopes.next_member() {
             Some(more) => Ok(more),
-            None => Err(self.fail(DecodeError::NotValidCanonicalEncoding)),
+            None => Err(self.refuse(DecodeError::NotValidCanonicalEncoding)),
         }
     }
 
@@ -423,49 +403,49 @@ impl<'input> asn1_schema_decode::Decoder for Decoder<'input> {
 
     #[inline(always)]
     fn get_presence_bit(&mut self) -> Result<bool, DecodeError> {
-        self.begin_record()?;
+        go_on(self.failed)?;
         match self.scopes.next_presence_bit() {
             Some(present) => Ok(present),
-            None => Err(self.fail(DecodeError::NotValidCanonicalEncoding)),
+            None => Err(self.refuse(DecodeError::NotValidCanonicalEncoding)),
         }
     }
 
     fn note_default(&mut self) -> Result<(), DecodeError> {
-        self.begin_record()?;
+        go_on(self.failed)?;
         match self.rules {
             EncodingRules::Oer => Ok(()),
-            EncodingRules::Coer => Err(self.fail(DecodeError::NotValidCanonicalEncoding)),
+            EncodingRules::Coer => Err(self.refuse(DecodeError::NotValidCanonicalEncoding)),
         }
     }
 
     fn note_empty(&mut self) -> Result<(), DecodeError> {
-        self.begin_record()?;
+        go_on(self.failed)?;
         if self.rules.is_coer() {
-            return Err(self.fail(DecodeError::NotValidCanonicalEncoding));
+            return Err(self.refuse(DecodeError::NotValidCanonicalEncoding));
         }
         Ok(())
     }
 
     #[inline(always)]
     fn begin_additions(&mut self, count: usize) -> Result<(), DecodeError> {
-        self.begin_record()?;
+        go_on(self.failed)?;
         let Some(is_extended) = self.scopes.extension_bit() else {
-            return Err(self.fail(DecodeError::NotValidCanonicalEncoding));
+            return Err(self.refuse(DecodeError::NotValidCanonicalEncoding));
         };
         match read_additions(&mut self.cursor, self.rules, is_extended, count) {
             Ok(additions) => {
                 self.scopes.replace(Frame::Added(additions));
                 Ok(())
             }
-            Err(error) => Err(self.fail(error)),
+            Err(error) => Err(self.refuse(error)),
         }
     }
 
     #[inline(always)]
     fn get_addition(&mut self) -> Result<bool, DecodeError> {
-        self.begin_record()?;
+        go_on(self.failed)?;
         let Some(present) = self.scopes.next_addition() else {
-            return Err(self.fail(DecodeError::NotValidCanonicalEncoding));
+            return Err(self.refuse(DecodeError::NotValidCanonicalEncoding));
         };
         if present {
             self.open_type()?;
@@ -489,22 +469,22 @@ impl<'input> asn1_schema_decode::Decoder for Decoder<'input> {
                 self.enter_enclosing(enclosing)?;
                 Ok(chosen)
             }
-            Err(error) => Err(self.fail(error)),
+            Err(error) => Err(self.refuse(error)),
         }
     }
 
     #[inline(always)]
     fn end(&mut self) -> Result<(), DecodeError> {
-        self.begin_record()?;
+        go_on(self.failed)?;
         if self.levels >= self.most {
-            return Err(self.fail(DecodeError::NotValidCanonicalEncoding));
+            return Err(self.refuse(DecodeError::NotValidCanonicalEncoding));
         }
         match self.scopes.close(&mut self.cursor, self.rules) {
             Ok(()) => {
                 self.levels += 1;
                 Ok(())
             }
-            Err(error) => Err(self.fail(error)),
+            Err(error) => Err(self.refuse(error)),
         }
     }
 

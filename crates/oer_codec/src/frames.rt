@@ -1,9 +1,10 @@
 //! Open scopes.
-ghost use Rattle.std.specs.Prelude.{◌≡◌, ◌∷◌, [], Some, OnOk, IfErr, IfSome, IfNone};
-ghost use Rattle.oer_codec_fronts.specs.Takes.{AdditionEnds, Ends, NextPresenceBit, NextMember, components};
+ghost use Rattle.std.specs.Prelude.{◌≡◌, ◌∷◌, [], None, Some, OnOk, IfErr, IfSome, IfNone};
+ghost use Rattle.oer_codec_fronts.specs.Takes.{AdditionEnds, Ends, NextPresenceBit, NextMember};
+ghost use Rattle.oer_codec_fronts.specs.Takes.{components, members};
 ghost use Rattle.oer_codec_reading.specs.Fronts.{freedoms};
-ghost use Rattle.oer_codec.specs.Refusals.{NoAdditionEnd, NoEnd};
-ghost use Rattle.oer_codec.specs.Scopes.{NextPresent, frame_of, framed, scope_of};
+ghost use Rattle.oer_codec.specs.Refusals.{NoAdditionEnd, NoEnd, NotFinished};
+ghost use Rattle.oer_codec.specs.Scopes.{NextPresent, frame_of, framed, scope_of, scopes_of};
 
 use crate::additions::Additions;
 use crate::endings::finish;
@@ -74,18 +75,78 @@ fn put<'input>(
     Ok(())
 }
 
-/// Opens what encloses one value alone as a frame inside all others. It is seldom called: where something begins in
-/// an open type or in an alternative.
+/// Makes what encloses one value alone a frame inside all others. It is seldom called: where something begins in an
+/// open type or in an alternative.
 #[cold]
 fn put_enclosing<'input>(
+    enclosing: &mut Option<Enclosing<'input>>,
     innermost: &mut Option<Frame<'input>>,
     outer: &mut Vec<Frame<'input>>,
-    enclosing: Enclosing<'input>,
 ) -> Result<(), AllocError>
-    ensures { OnOk result (framed innermost.new outer.new.items ≡ scope_of (frame_of enclosing.entry)
-        ∷ framed innermost.old outer.old.items) }
+    ensures frames { OnOk result (framed innermost.new outer.new.items
+        ≡ scopes_of enclosing.old innermost.old outer.old.items) }
+    ensures none { OnOk result (enclosing.new ≡ None) }
 {
-    put(innermost, outer, enclosing.frame())
+    let Some(around) = enclosing.take() else {
+        return Ok(());
+    };
+    put(innermost, outer, around.frame())
+}
+
+/// The same where something encloses one value alone, and nothing where nothing does.
+#[inline(always)]
+fn settle_enclosing<'input>(
+    enclosing: &mut Option<Enclosing<'input>>,
+    innermost: &mut Option<Frame<'input>>,
+    outer: &mut Vec<Frame<'input>>,
+) -> Result<(), AllocError>
+    ensures frames { OnOk result (framed innermost.new outer.new.items
+        ≡ scopes_of enclosing.old innermost.old outer.old.items) }
+    ensures none { OnOk result (enclosing.new ≡ None) }
+{
+    if enclosing.is_none() {
+        return Ok(());
+    }
+    put_enclosing(enclosing, innermost, outer)
+}
+
+/// Closes what encloses one value alone. An open type (X.696 30) ends.
+#[inline(always)]
+fn close_enclosing<'input>(
+    enclosing: Enclosing<'input>,
+    cursor: &mut Cursor<'input>,
+    rules: EncodingRules,
+) -> Result<(), DecodeError>
+    ensures ok { OnOk result ((k : _) → Ends (freedoms rules) cursor.old (scope_of (frame_of enclosing.entry) ∷ k)
+        (cursor.new, k)) }
+    ensures only { IfErr result (NotFinished (freedoms rules) (scope_of (frame_of enclosing.entry)) cursor.old) }
+{
+    match enclosing {
+        Enclosing::Alternative => Ok(()),
+        Enclosing::OpenType(behind) => leave_open_type(cursor, rules, behind),
+    }
+}
+
+/// Closes the innermost frame, if nothing of it is still to come.
+#[inline(always)]
+fn close_frame<'input>(
+    innermost: &mut Option<Frame<'input>>,
+    outer: &mut Vec<Frame<'input>>,
+    cursor: &mut Cursor<'input>,
+    rules: EncodingRules,
+) -> Result<(), DecodeError>
+    ensures ok { OnOk result (Ends (freedoms rules) cursor.old (framed innermost.old outer.old.items)
+        (cursor.new, framed innermost.new outer.new.items)) }
+    ensures only { IfErr result (NoEnd (freedoms rules) cursor.old (framed innermost.old outer.old.items)) }
+{
+    let Some(frame) = innermost.take() else {
+        return Err(DecodeError::NotValidCanonicalEncoding);
+    };
+    finish(frame, cursor, rules)?;
+    if !outer.is_empty() {
+        *innermost = outer.pop();
+    }
+    Ok(())
 }
 
 /// Closes the innermost frame, if it is that of an addition (X.696 30).
@@ -114,13 +175,13 @@ fn close_frame_of_addition<'input>(
 /// All that has begun and has not ended: what encloses one value alone, which stands inside all others if it is
 /// there, and the others, the innermost of them and what is around it.
 #[derive(Drop)]
-pub(crate) struct Scopes<'input> {
+pub(crate) struct Nested<'input> {
     enclosing: Option<Enclosing<'input>>,
     innermost: Option<Frame<'input>>,
     outer: Vec<Frame<'input>>,
 }
 
-impl<'input> Model for Scopes<'input> {
+impl<'input> Model for Nested<'input> {
     ghost use Rattle.std.specs.Prelude.{List};
     ghost use Rattle.oer_codec_fronts.specs.Takes.{Scope};
     ghost use Rattle.oer_codec.specs.Scopes.{scopes_of};
@@ -130,13 +191,12 @@ impl<'input> Model for Scopes<'input> {
     ghost view = { λ s. scopes_of s.enclosing s.innermost s.outer.items };
 }
 
-impl<'input> Scopes<'input> {
+impl<'input> Nested<'input> {
     /// Nothing is open.
-    #[inline(always)]
     pub(crate) fn new(alloc: Global) -> Self
         ensures { result ≡ [] }
     {
-        Scopes {
+        Nested {
             enclosing: None,
             innermost: None,
             outer: Vec::new(alloc),
@@ -148,9 +208,7 @@ impl<'input> Scopes<'input> {
     pub(crate) fn open(&mut self, frame: Frame<'input>) -> Result<(), AllocError>
         ensures { OnOk result (self.new ≡ scope_of frame.entry ∷ self.old) }
     {
-        if let Some(around) = self.enclosing.take() {
-            put_enclosing(&mut self.innermost, &mut self.outer, around)?;
-        }
+        settle_enclosing(&mut self.enclosing, &mut self.innermost, &mut self.outer)?;
         put(&mut self.innermost, &mut self.outer, frame)
     }
 
@@ -159,9 +217,8 @@ impl<'input> Scopes<'input> {
     pub(crate) fn enclose(&mut self, enclosing: Enclosing<'input>) -> Result<(), AllocError>
         ensures { OnOk result (self.new ≡ scope_of (frame_of enclosing.entry) ∷ self.old) }
     {
-        if let Some(around) = self.enclosing.replace(enclosing) {
-            put_enclosing(&mut self.innermost, &mut self.outer, around)?;
-        }
+        settle_enclosing(&mut self.enclosing, &mut self.innermost, &mut self.outer)?;
+        self.enclosing = Some(enclosing);
         Ok(())
     }
 
@@ -171,6 +228,15 @@ impl<'input> Scopes<'input> {
         ensures { (x : _) (ms : _) (k : _) → self.old ≡ components x ms ∷ k → self.new ≡ scope_of frame.entry ∷ k }
     {
         self.innermost = Some(frame);
+    }
+
+    /// Tells how many members of the innermost list are still to come. It is seldom called: where something begins in a
+    /// member, or the list ends early.
+    #[cold]
+    pub(crate) fn set_due(&mut self, due: usize)
+        ensures { (n : _) (k : _) → self.old ≡ members n ∷ k → self.new ≡ members due ∷ k }
+    {
+        self.innermost = Some(Frame::Members(due));
     }
 
     /// The extension bit of the innermost sequence, where all its presence bits are read.
@@ -254,20 +320,13 @@ impl<'input> Scopes<'input> {
         ensures ok { OnOk result (Ends (freedoms rules) cursor.old self.old (cursor.new, self.new)) }
         ensures only { IfErr result (NoEnd (freedoms rules) cursor.old self.old) }
     {
-        if let Some(enclosing) = self.enclosing.take() {
-            if let Enclosing::OpenType(behind) = enclosing {
-                leave_open_type(cursor, rules, behind)?;
-            }
-            return Ok(());
+        if self.enclosing.is_none() {
+            return close_frame(&mut self.innermost, &mut self.outer, cursor, rules);
         }
-        let Some(frame) = self.innermost.take() else {
-            return Err(DecodeError::NotValidCanonicalEncoding);
-        };
-        finish(frame, cursor, rules)?;
-        if !self.outer.is_empty() {
-            self.innermost = self.outer.pop();
+        match self.enclosing.take() {
+            Some(enclosing) => close_enclosing(enclosing, cursor, rules),
+            None => Err(DecodeError::NotValidCanonicalEncoding),
         }
-        Ok(())
     }
 
     /// Closes the innermost scope, if it is that of an addition (X.696 30).

@@ -14,6 +14,7 @@ pub mod oer;
 mod options;
 mod preamble;
 pub mod reading;
+mod scopes;
 pub mod writing;
 
 pub use front_readers::{CoerFront, OerFront};

@@ -34,12 +34,11 @@ pub fn encode<T: Encode>(alloc: Global, value: &T) -> Result<Vec<u8>, EncodeErro
     Ok(octets)
 }
 
-/// Adds the canonical encoding of a value (X.696) behind what stands in the buffer. If nothing does, it is written in
-/// the buffer's own room.
+/// Adds the canonical encoding of a value (X.696) behind what stands in the buffer, in the buffer's own room.
 ///
 /// # Errors
 ///
-/// Those of `encode`; the buffer then holds what it held, but an empty one has no room any more.
+/// Those of `encode`; the buffer then holds what it held.
 pub fn encode_buf<T: Encode>(
     alloc: Global,
     value: &T,

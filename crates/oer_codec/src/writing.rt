@@ -1,27 +1,17 @@
 //! A value is written.
 ghost use Rattle.std.specs.Prelude.{◌≡◌, ◌++◌, [], List, ℕ, length, OnOk, OnErr, IfOk, IfErr, MatchResult, ◌<◌, ◌≤◌};
-ghost use Rattle.std.specs.Prelude.{◌^◌};
+ghost use Rattle.std.specs.Prelude.{◌^◌, take, drop};
 ghost use Rattle.asn1_schema_constraints.specs.Terms.{meant};
 ghost use Rattle.oer_codec.specs.Encoded.{IsEncoded, NotEncoded};
 
 use asn1_schema_constraints::Constraints;
 use asn1_schema_encode::Encode;
-use asn1_schema_faults::{EncodeError, refusal, within_limit};
+use asn1_schema_faults::{EncodeError, MOST_OCTETS, refusal, within_limit};
 use oer_codec_encoder::{Encoder, EncoderOptions};
 use std::alloc::Global;
-use std::mem;
 
-/// How many octets there is room for before the first one is written.
+/// For how many octets there is room before the first one is written.
 const FIRST_CAPACITY: usize = 128;
-
-/// No octets, with the room of these, and at least that for those of a small value.
-fn with_room(mut octets: Vec<u8>) -> Result<Vec<u8>, EncodeError>
-    ensures { MatchResult result (λ room. room.items ≡ []) (λ e. e ≡ EncodeError.OutOfMemory) }
-{
-    octets.clear();
-    octets.reserve(FIRST_CAPACITY)?;
-    Ok(octets)
-}
 
 /// The canonical encoding of a value (X.696).
 ///
@@ -37,25 +27,9 @@ pub fn encode<T: Encode>(alloc: Global, value: &T) -> Result<Vec<u8>, EncodeErro
     ensures fits { IfErr result (λ e. e ≡ EncodeError.LengthExceedsPlatformSize → ⊥) }
     ensures in_place { IfErr result (λ e. e ≡ EncodeError.CallOutOfPlace → ⊥) }
 {
-    encode_into(alloc, value, Vec::new(alloc))
-}
-
-/// The same in the room of these octets, which are cleared.
-fn encode_into<T: Encode>(alloc: Global, value: &T, room: Vec<u8>) -> Result<Vec<u8>, EncodeError>
-    ensures ok { IfOk result (λ octets. IsEncoded T.schema (T.meaning value.now) octets.items) }
-    ensures only { IfErr result (NotEncoded T.schema (T.meaning value.now)) }
-    ensures fresh { IfErr result (λ e. e ≡ EncodeError.AlreadyFailed → ⊥) }
-    ensures fits { IfErr result (λ e. e ≡ EncodeError.LengthExceedsPlatformSize → ⊥) }
-    ensures in_place { IfErr result (λ e. e ≡ EncodeError.CallOutOfPlace → ⊥) }
-{
-    let mut output = with_room(room)?;
-    let mut worker = Vec::new(alloc);
-    let options = EncoderOptions::coer();
-    let mut encoder = Encoder::from_buffer(alloc, options, &mut output, &mut worker);
-    match value.encode(&mut encoder) {
-        Ok(()) => within_limit(encoder.output()),
-        Err(error) => Err(refusal(error)),
-    }
+    let mut octets = Vec::new(alloc);
+    encode_buf(alloc, value, &mut octets)?;
+    Ok(octets)
 }
 
 /// The canonical encoding of a value (X.696) by its type under these constraints, which stand in place of its own.
@@ -75,22 +49,41 @@ pub fn encode_with_constraints<T: Encode>(
     ensures fits { IfErr result (λ e. e ≡ EncodeError.LengthExceedsPlatformSize → ⊥) }
     ensures in_place { IfErr result (λ e. e ≡ EncodeError.CallOutOfPlace → ⊥) }
 {
-    let mut output = with_room(Vec::new(alloc))?;
+    let mut output = Vec::new(alloc);
+    output.reserve(FIRST_CAPACITY)?;
     let mut worker = Vec::new(alloc);
     let options = EncoderOptions::coer();
     let mut encoder = Encoder::from_buffer(alloc, options, &mut output, &mut worker);
     match value.encode_with_constraints(&mut encoder, constraints) {
-        Ok(()) => within_limit(encoder.output()),
+        Ok(()) => within_limit(encoder.into_output()),
         Err(error) => Err(refusal(error)),
     }
 }
 
-/// Adds the canonical encoding of a value (X.696) behind what stands in the buffer. If nothing does, it is written in
-/// the buffer's own room.
+/// Takes the octets behind so many in front off again, if they are too many for an encoding.
 ///
 /// # Errors
 ///
-/// Those of `encode`; the buffer then holds what it held, but an empty one has no room any more.
+/// `TooLongValue` if they are 2^60 or more.
+fn cut_at_limit(octets: &mut Vec<u8>, front: usize) -> Result<(), EncodeError>
+    ensures { MatchResult result
+        (λ _. (octets.new.items ≡ octets.old.items) × (length (drop front octets.old.items) < 2 ^ 60))
+        (λ e. (e ≡ EncodeError.TooLongValue) × (2 ^ 60 ≤ length (drop front octets.old.items))
+        × (octets.new.items ≡ take front octets.old.items)) }
+{
+    if octets.len().saturating_sub(front) > MOST_OCTETS {
+        octets.truncate(front);
+        return Err(EncodeError::TooLongValue);
+    }
+    Ok(())
+}
+
+/// Adds the canonical encoding of a value (X.696) behind what stands in the buffer, in the buffer's own room.
+///
+/// # Errors
+///
+/// Those of `encode`; the buffer then holds what it held.
+#[inline(always)]
 pub fn encode_buf<T: Encode>(
     alloc: Global,
     value: &T,
@@ -105,12 +98,19 @@ pub fn encode_buf<T: Encode>(
     ensures in_place { IfErr result (λ e. e ≡ EncodeError.CallOutOfPlace → ⊥) }
     ensures same { OnErr result (buffer.new.items ≡ buffer.old.items) }
 {
-    if buffer.is_empty() {
-        let room = mem::replace(buffer, Vec::new(alloc));
-        *buffer = encode_into(alloc, value, room)?;
-        return Ok(());
+    let front = buffer.len();
+    buffer.reserve(FIRST_CAPACITY)?;
+    let mut worker = Vec::new(alloc);
+    let options = EncoderOptions::coer();
+    let mut encoder = Encoder::from_buffer(alloc, options, buffer, &mut worker);
+    match value.encode(&mut encoder) {
+        Ok(()) => {
+            *buffer = encoder.into_output();
+            cut_at_limit(buffer, front)
+        }
+        Err(error) => {
+            *buffer = encoder.into_front();
+            Err(refusal(error))
+        }
     }
-    let octets = encode(alloc, value)?;
-    buffer.extend_from_slice(&octets)?;
-    Ok(())
 }

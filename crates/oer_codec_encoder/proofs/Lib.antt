@@ -1,5 +1,6 @@
 pub mod Stepped
 pub mod Scopes
+pub mod Fronts
 pub mod AdditionScopes
 pub mod AlternativeScopes
 pub mod BagScopes

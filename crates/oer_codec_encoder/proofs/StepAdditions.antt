@@ -397,8 +397,8 @@ by_additions ms x hx p w (Some xs) h = by_texts ms x hx p w xs h (texts_of xs) r
 abbrev PartsBridge : Components → Bool → Components → Type 0
 PartsBridge cs e adds = (ps qs : Parts) (p : ℕ) (os : List ℕ) (k : List Scope) (rest : List Record) → runs (root_records cs ps (behind_root e adds (added_records adds qs)) ++ rest) ([], components e (optional_count cs) [] os ∷ k) ≡ option_and_then (λ w. runs rest (os ++ w, k)) (written (given (Oer.addition_forms adds qs) (Oer.sequence_form e (presence_bits cs ps) (Oer.component_forms cs ps))) p)
 
-marked_parts : (cs adds : Components) → EachBridges cs → EachBridges adds → PartsBridge cs true adds
-marked_parts cs adds h ha ps qs p os k rest =
+extensible_parts : (cs adds : Components) → EachBridges cs → EachBridges adds → PartsBridge cs true adds
+extensible_parts cs adds h ha ps qs p os k rest =
     root true cs h ps 0 [] os [] k (additions_begin (component_count adds) ∷ added_records adds qs) rest
     ∙ chain_same (written (Oer.component_forms cs ps) 0) _ (λ r. option_and_then (λ xs. option_and_then (λ us. option_and_then (λ w. runs rest (os ++ w, k)) (closing (presence_bits cs ps) r us)) (texts_of xs)) (Oer.addition_forms adds qs)) (λ r. rest_of adds ha qs (presence_bits cs ps) r [] os k rest)
     ∙ by_additions (presence_bits cs ps) (Oer.component_forms cs ps) (components_still cs h ps) p (λ w. runs rest (os ++ w, k)) (Oer.addition_forms adds qs) (additions_still adds qs)
@@ -429,7 +429,7 @@ unmarked_parts cs (component t o s adds) h ps qs p os k rest =
     ∙ ap (option_and_then (λ w. runs rest (os ++ w, k))) (sym (unmarked_additions (presence_bits cs ps) (Oer.component_forms cs ps) t o s adds qs p))
 
 parts : (cs : Components) (e : Bool) (adds : Components) → EachBridges cs → EachBridges adds → PartsBridge cs e adds
-parts cs true adds h ha = marked_parts cs adds h ha
+parts cs true adds h ha = extensible_parts cs adds h ha
 parts cs false adds h ha = unmarked_parts cs adds h
 
 pub sequences : (cs : Components) (e : Bool) (adds : Components) → EachBridges cs → EachBridges adds → Bridges (sequence cs e adds)

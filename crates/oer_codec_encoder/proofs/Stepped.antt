@@ -1,53 +1,67 @@
 -- What the encoder's calls did, by what they did to the octets and the frames.
-use Rattle.std.proofs.Common.{◌≡◌, ℕ, Bool, true, false, List, ◌++◌, Option, Some, None, refl, ap, subst, sym, ◌∙◌}
+use Rattle.std.proofs.Common.{◌≡◌, ℕ, ◌≤◌, Bool, true, false, List, [], ◌++◌, length, take, arith, Option, Some, None, refl, ap, subst, sym, ◌∙◌}
+use Rattle.std.proofs.lemmas.List.{take_all}
+use Rattle.asn1_model.specs.Versions.{Begins}
 use Rattle.asn1_schema_faults.specs.declared.EncodeError.{EncodeError}
 use Rattle.asn1_schema_faults.specs.declared.EncodeError.TheVariants.{ValueConstraintNotSatisfied, SizeConstraintNotSatisfied, AlphabetConstraintNotSatisfied, TooLongValue, LengthExceedsPlatformSize, CallOutOfPlace, OutOfMemory, AlreadyFailed}
 use Rattle.asn1_schema_encode.specs.Writes.{Refused}
 use Rattle.asn1_schema_presented.specs.Records.{Record}
 use Rattle.oer_codec_encoder.specs.Steps.{State, run, adds_text}
 use Rattle.oer_codec_encoder.specs.declared.frame.Frame.{Frame}
+use Rattle.oer_codec_encoder.specs.Fronts.{ground, Keeps, Stands}
 use Rattle.oer_codec_encoder.specs.Holding.{shown, Holds, AreSound, Does, Cannot}
 use Rattle.oer_codec_encoder.specs.Stepping.{Written, Puts}
 use Rattle.oer_codec_writing.specs.Writing.{Adds, Refuses}
+use Rattle.oer_codec_encoder.proofs.Fronts.{front_behind, front_kept, keeps_behind, stands_behind}
 use Rattle.oer_codec_encoder.proofs.Scopes.{shown_is, appended}
 
 -- what the octets and the frames stand for
 abbrev pub now : List Frame → List ℕ → State
 now fs o = shown fs o
 
-abbrev pub Sound : List Frame → List ℕ → Type 0
-Sound fs o = Holds fs o (now fs o)
+pub is_sound : {n : ℕ} (fs : List Frame) (o : List ℕ) → Stands fs o n → AreSound fs o
+is_sound fs o h = record { state = now fs o; holds = h.holds }
 
-pub is_sound : (fs : List Frame) (o : List ℕ) → Sound fs o → AreSound fs o
-is_sound fs o h = record { state = now fs o; holds = h }
+pub stays_sound : {n : ℕ} (r : Record) (fs gs : List Frame) (o p : List ℕ) → Stands fs o n → Does r fs o gs p → Stands gs p n
+stays_sound r fs gs o p h d = stands_behind fs gs o p h r d
 
-moved : (fs : List Frame) (o : List ℕ) (t : State) → Holds fs o t → (now fs o ≡ t) × Sound fs o
-moved fs o t h = let e = shown_is fs o t h in (e, subst (λ x. Holds fs o x) (sym e) h)
+pub takes_step : {n : ℕ} (r : Record) (fs gs : List Frame) (o p : List ℕ) → Stands fs o n → Does r fs o gs p → run r (now fs o) ≡ Some (now gs p)
+takes_step r fs gs o p h d = let t = d.after (now fs o) h.holds in t.1 ∙ ap Some (sym (shown_is gs p t.0 t.2))
 
-pub stays_sound : (r : Record) (fs gs : List Frame) (o p : List ℕ) → Sound fs o → Does r fs o gs p → Sound gs p
-stays_sound r fs gs o p h d = let t = d.after (now fs o) h in (moved gs p t.0 t.2).1
-
-pub takes_step : (r : Record) (fs gs : List Frame) (o p : List ℕ) → Sound fs o → Does r fs o gs p → run r (now fs o) ≡ Some (now gs p)
-takes_step r fs gs o p h d = let t = d.after (now fs o) h in t.1 ∙ ap Some (sym (moved gs p t.0 t.2).0)
+-- what an encoder shows, of which so many octets were there when it began
+abbrev pub holding : List Frame → List ℕ → Bool → ℕ → Written
+holding fs o f n = record { state = now fs o; failed = f; front = take n (ground fs o) }
 
 no_step : (r : Record) (w : Written) (e : EncodeError) → run r w.state ≡ None → Refused Puts r w e
 no_step r w e h = record { none = λ n b p. let x : None ≡ Some b.state = sym h ∙ p.2 in cc }
 
-pub is_refused : (r : Record) (fs : List Frame) (o : List ℕ) (w : Written) (e : EncodeError) → now fs o ≡ w.state → Sound fs o → Cannot r fs o e → Refused Puts r w e
+pub is_refused : {n : ℕ} (r : Record) (fs : List Frame) (o : List ℕ) (w : Written) (e : EncodeError) → now fs o ≡ w.state → Stands fs o n → Cannot r fs o e → Refused Puts r w e
 is_refused r fs o w OutOfMemory q h c = record { none = λ n b p. absurd (n refl) }
-is_refused r fs o w ValueConstraintNotSatisfied q h c = no_step r w _ (ap (run r) (sym q) ∙ c (now fs o) h)
-is_refused r fs o w SizeConstraintNotSatisfied q h c = no_step r w _ (ap (run r) (sym q) ∙ c (now fs o) h)
-is_refused r fs o w AlphabetConstraintNotSatisfied q h c = no_step r w _ (ap (run r) (sym q) ∙ c (now fs o) h)
-is_refused r fs o w TooLongValue q h c = no_step r w _ (ap (run r) (sym q) ∙ c (now fs o) h)
-is_refused r fs o w LengthExceedsPlatformSize q h c = no_step r w _ (ap (run r) (sym q) ∙ c (now fs o) h)
-is_refused r fs o w CallOutOfPlace q h c = no_step r w _ (ap (run r) (sym q) ∙ c (now fs o) h)
+is_refused r fs o w ValueConstraintNotSatisfied q h c = no_step r w _ (ap (run r) (sym q) ∙ c (now fs o) h.holds)
+is_refused r fs o w SizeConstraintNotSatisfied q h c = no_step r w _ (ap (run r) (sym q) ∙ c (now fs o) h.holds)
+is_refused r fs o w AlphabetConstraintNotSatisfied q h c = no_step r w _ (ap (run r) (sym q) ∙ c (now fs o) h.holds)
+is_refused r fs o w TooLongValue q h c = no_step r w _ (ap (run r) (sym q) ∙ c (now fs o) h.holds)
+is_refused r fs o w LengthExceedsPlatformSize q h c = no_step r w _ (ap (run r) (sym q) ∙ c (now fs o) h.holds)
+is_refused r fs o w CallOutOfPlace q h c = no_step r w _ (ap (run r) (sym q) ∙ c (now fs o) h.holds)
 is_refused r fs o w AlreadyFailed q h c = absurd c
 
 pub has_failed_before : (r : Record) (w : Written) (e : EncodeError) → w.failed ≡ true → Refused Puts r w e
 has_failed_before r w e h = record { none = λ n b p. let x : true ≡ false = sym h ∙ p.0 in cc }
 
-pub puts : (r : Record) (fs gs : List Frame) (o p : List ℕ) (f : Bool) (w : Written) → (let v : Written = record { state = now fs o; failed = f } in v) ≡ w → f ≡ false → Sound fs o → Does r fs o gs p → Puts w r (record { state = now gs p; failed = false })
-puts r fs gs o p f w e g h d = (sym (ap (λ (v : Written). v.failed) e) ∙ g, refl, ap (λ (v : Written). run r v.state) (sym e) ∙ takes_step r fs gs o p h d)
+pub puts : {n : ℕ} (r : Record) (fs gs : List Frame) (o p : List ℕ) (f : Bool) (w : Written) → holding fs o f n ≡ w → f ≡ false → Stands fs o n → Does r fs o gs p → Puts w r (holding gs p false n)
+puts r fs gs o p f w e g h d = (
+  sym (ap (λ (v : Written). v.failed) e) ∙ g,
+  refl,
+  ap (λ (v : Written). run r v.state) (sym e) ∙ takes_step r fs gs o p h d,
+  front_behind fs gs o p h r d ∙ ap (λ (v : Written). v.front) e,
+)
+
+-- what stood in front stands there behind a record that is written, and behind one that was refused
+pub same_front : {n : ℕ} (r : Record) (fs gs : List Frame) (o p : List ℕ) (f : Bool) (w : Written) → holding fs o f n ≡ w → Stands fs o n → Does r fs o gs p → take n (ground gs p) ≡ w.front
+same_front r fs gs o p f w e h d = front_behind fs gs o p h r d ∙ ap (λ (v : Written). v.front) e
+
+pub kept_front : {n : ℕ} (fs gs : List Frame) (o p : List ℕ) (f : Bool) (w : Written) → holding fs o f n ≡ w → Stands fs o n → Keeps fs o gs p → take n (ground gs p) ≡ w.front
+kept_front fs gs o p f w e h k = front_kept fs gs o p h k ∙ ap (λ (v : Written). v.front) e
 
 -- ---- a text that is added
 
@@ -70,8 +84,22 @@ refuses_none r x fs o LengthExceedsPlatformSize q h = λ s _. q s ∙ ap (λ y. 
 refuses_none r x fs o CallOutOfPlace q h = λ s _. q s ∙ ap (λ y. adds_text y s) h
 refuses_none r x fs o AlreadyFailed q h = absurd h
 
-pub adds_sound : (r : Record) (x : Option (List ℕ)) (fs : List Frame) (o p : List ℕ) → ((s : State) → run r s ≡ adds_text x s) → Sound fs o → Adds x o p → Sound fs p
+pub adds_sound : {n : ℕ} (r : Record) (x : Option (List ℕ)) (fs : List Frame) (o p : List ℕ) → ((s : State) → run r s ≡ adds_text x s) → Stands fs o n → Adds x o p → Stands fs p n
 adds_sound r x fs o p e h a = stays_sound r fs fs o p h (does_add r x fs o p e a)
 
-pub adds_puts : (r : Record) (x : Option (List ℕ)) (fs : List Frame) (o p : List ℕ) (f : Bool) (w : Written) → ((s : State) → run r s ≡ adds_text x s) → (let v : Written = record { state = now fs o; failed = f } in v) ≡ w → f ≡ false → Sound fs o → Adds x o p → Puts w r (record { state = now fs p; failed = false })
+pub adds_puts : {n : ℕ} (r : Record) (x : Option (List ℕ)) (fs : List Frame) (o p : List ℕ) (f : Bool) (w : Written) → ((s : State) → run r s ≡ adds_text x s) → holding fs o f n ≡ w → f ≡ false → Stands fs o n → Adds x o p → Puts w r (holding fs p false n)
 adds_puts r x fs o p f w q e g h a = puts r fs fs o p f w e g h (does_add r x fs o p q a)
+
+pub adds_front : {n : ℕ} (r : Record) (x : Option (List ℕ)) (fs : List Frame) (o p : List ℕ) (f : Bool) (w : Written) → ((s : State) → run r s ≡ adds_text x s) → holding fs o f n ≡ w → Stands fs o n → Adds x o p → take n (ground fs p) ≡ w.front
+adds_front r x fs o p f w q e h a = same_front r fs fs o p f w e h (does_add r x fs o p q a)
+
+pub text_kept : {n : ℕ} (fs : List Frame) (o p : List ℕ) (f : Bool) (w : Written) → holding fs o f n ≡ w → Stands fs o n → Begins o p → take n (ground fs p) ≡ w.front
+text_kept fs o p f w e h b = kept_front fs fs o p f w e h (keeps_behind fs fs o p refl b)
+
+-- ---- an encoder that begins
+
+pub stands_at_first : (o : List ℕ) (n : ℕ) → n ≤ length o → Stands [] o n
+stands_at_first o n h = record { holds = refl; behind = h }
+
+pub holding_at_first : (o : List ℕ) (n : ℕ) → n ≡ length o → holding [] o false n ≡ record { state = (o, []); failed = false; front = o }
+holding_at_first o n h = ap (λ (l : List ℕ). let w : Written = record { state = (o, []); failed = false; front = l } in w) (take_all n o (omega (arith, h)))

@@ -6,12 +6,13 @@ use Rattle.asn1_model.specs.Normal.{normal}
 use Rattle.asn1_model.specs.Form.{written}
 use Rattle.asn1_model.specs.Rules.{octet_encoding, encoding, of_moderate_length, canonical}
 use Rattle.asn1_model.specs.Oer
+use Rattle.asn1_schema_encode.specs.Written.{IsWrittenIn}
 use Rattle.asn1_schema_presented.specs.Records.{Record}
 use Rattle.asn1_schema_presented.specs.Presents.{presents, Fits}
 use Rattle.asn1_schema_presented.specs.Chains.{Chain}
 use Rattle.asn1_schema_presented.specs.Tables.{IsValue}
 use Rattle.oer_codec_encoder.specs.Steps.{State, Step}
-use Rattle.oer_codec_encoder.specs.Written.{WrittenByRecords, RefusedByRecords, IsWriter, HasOctets, WritesTheOctets, RefusesOnlyNone}
+use Rattle.oer_codec_encoder.specs.Written.{WrittenByRecords, RefusedByRecords, IsWriter, octet_rules, WritesTheOctets, RefusesOnlyNone}
 use Rattle.oer_codec_encoder.proofs.Chains.{chains_add}
 
 -- the octets of a value that is in its normal form
@@ -62,7 +63,7 @@ chain_taken h (r ∷ rs) a m k c =
     let u = chain_taken h rs t.0 m (h.takes a r t.0 t.1).1 (subst P (sym t.2) c.2) in
     (u.0, (t.0, t.1, u.1), u.2)
 
-canonically : (schema : ℕ → Schema) (v : Value) (o : Option (List ℕ)) → ((n : ℕ) → Fits (schema n) v → octet_encoding (schema n) (normal (schema n) v) ≡ o) → HasOctets schema v (option_and_then of_moderate_length o)
+canonically : (schema : ℕ → Schema) (v : Value) (o : Option (List ℕ)) → ((n : ℕ) → Fits (schema n) v → octet_encoding (schema n) (normal (schema n) v) ≡ o) → IsWrittenIn octet_rules schema v (option_and_then of_moderate_length o)
 unfolding canonical encoding
 canonically schema v o h n f = (ap (option_and_then of_moderate_length) (h n f), ap (option_and_then of_moderate_length) (h n f))
 

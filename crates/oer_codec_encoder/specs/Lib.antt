@@ -1,6 +1,7 @@
 pub mod Stepping
 pub mod Laws
 pub mod Frames
+pub mod Fronts
 pub mod Holding
 pub mod Slots
 pub mod Steps

@@ -1,12 +1,13 @@
 -- What a writer holds behind the records of a value, in whatever depth its type is unfolded: the canonical octets.
-use Rattle.std.specs.Prelude.{◌≡◌, ◌↔◌, ℕ, List, [], Option, Some, None}
+use Rattle.std.specs.Prelude.{◌≡◌, ◌↔◌, ℕ, List, [], ◌∷◌, Some, None}
 use Rattle.asn1_model.specs.Schema.{Schema}
 use Rattle.asn1_model.specs.Value.{Value}
 use Rattle.asn1_model.specs.Normal.{normal}
-use Rattle.asn1_model.specs.Rules.{oer, coer, octet_encoding, of_moderate_length, canonical}
+use Rattle.asn1_model.specs.Rules.{Rules, oer, coer, octet_encoding, of_moderate_length}
 use Rattle.asn1_schema_faults.specs.declared.EncodeError.{EncodeError}
 use Rattle.asn1_schema_faults.specs.declared.EncodeError.TheVariants.{OutOfMemory}
 use Rattle.asn1_schema_encode.specs.Writes.{Writes, CannotWrite}
+use Rattle.asn1_schema_encode.specs.Written.{IsWrittenIn}
 use Rattle.asn1_schema_presented.specs.Records.{Record}
 use Rattle.asn1_schema_presented.specs.Presents.{Fits}
 use Rattle.asn1_schema_presented.specs.Tables.{IsValue}
@@ -30,18 +31,18 @@ pub record IsWriter {S : Type 0} (step : S → Record → S → Type 0) (held : 
   pub takes : (a : S) (r : Record) (b : S) → step a r b → Step (held a) r (held b) × Ready b
   pub takes_all : (a : S) (r : Record) (m : State) → Ready a → Step (held a) r m → (b : S) × step a r b × (held b ≡ m)
 
--- The canonical encoding in both octet rules, in whatever depth the type is unfolded.
-abbrev pub HasOctets : (ℕ → Schema) → Value → Option (List ℕ) → Type 0
-HasOctets schema v w = (n : ℕ) → Fits (schema n) v → (canonical oer (schema n) v ≡ w)
-    × (canonical coer (schema n) v ≡ w)
+-- The octet rules, which have one writer.
+abbrev pub octet_rules : List Rules
+octet_rules = oer ∷ coer ∷ []
 
 -- Such a writer that held nothing holds the canonical octets of the value, but for the bound on their length.
 abbrev pub WritesTheOctets : {S : Type 0} → (S → Record → S → Type 0) → (S → State) → Type 0
 WritesTheOctets {S} step held = (schema : ℕ → Schema) (v : Value) (old new : S) → IsValue schema v → held old
     ≡ ([], []) → Writes step schema v old new → ((held new).1 ≡ [])
-    × HasOctets schema v (of_moderate_length (held new).0)
+    × IsWrittenIn octet_rules schema v (of_moderate_length (held new).0)
 
 -- It refuses a value for another reason than memory only where that has no octets.
 abbrev pub RefusesOnlyNone : {S : Type 0} → (S → Record → S → Type 0) → (S → State) → (S → Type 0) → Type 0
 RefusesOnlyNone {S} step held Ready = (schema : ℕ → Schema) (v : Value) (old : S) (x : EncodeError) → IsValue schema v
-    → Ready old → held old ≡ ([], []) → ¬ (x ≡ OutOfMemory) → CannotWrite step schema v old x → HasOctets schema v None
+    → Ready old → held old ≡ ([], []) → ¬ (x ≡ OutOfMemory) → CannotWrite step schema v old x
+    → IsWrittenIn octet_rules schema v None

@@ -1,6 +1,7 @@
 //! Additions of sequences and of sets, each an open type (X.696 16 and 30).
-ghost use Rattle.std.specs.Prelude.{◌≡◌, MatchResult};
+ghost use Rattle.std.specs.Prelude.{◌≡◌, OnErr, MatchResult};
 ghost use Rattle.asn1_schema_presented.specs.Records.{additions_begin, addition, addition_ends};
+ghost use Rattle.oer_codec_encoder.specs.Fronts.{Keeps};
 ghost use Rattle.oer_codec_encoder.specs.Holding.{AreSound, Does, Cannot};
 
 use crate::frame::{Additions, Frame};
@@ -23,8 +24,9 @@ pub(crate) fn begin_additions(
     frames: &mut Frames,
     count: usize,
 ) -> Result<(), EncodeError>
-    ensures { MatchResult result (λ _. Does (additions_begin count) frames.old octets.old.items frames.new
+    ensures step { MatchResult result (λ _. Does (additions_begin count) frames.old octets.old.items frames.new
         octets.new.items) (Cannot (additions_begin count) frames.old octets.old.items) }
+    ensures kept { OnErr result (Keeps frames.old octets.old.items frames.new octets.new.items) }
 {
     let Some(preamble) = frames.preamble() else {
         return Err(EncodeError::CallOutOfPlace);
@@ -61,8 +63,9 @@ pub(crate) fn put_addition(
     present: bool,
 ) -> Result<(), EncodeError>
     requires { AreSound frames.old octets.old.items }
-    ensures { MatchResult result (λ _. Does (addition present) frames.old octets.old.items frames.new
+    ensures step { MatchResult result (λ _. Does (addition present) frames.old octets.old.items frames.new
         octets.new.items) (Cannot (addition present) frames.old octets.old.items) }
+    ensures kept { OnErr result (Keeps frames.old octets.old.items frames.new octets.new.items) }
 {
     let Some(additions) = frames.next_addition(present) else {
         return Err(EncodeError::CallOutOfPlace);
@@ -86,8 +89,10 @@ pub(crate) fn end_addition(
     alloc: Global,
 ) -> Result<(), EncodeError>
     requires { AreSound frames.old octets.old.items }
-    ensures { MatchResult result (λ _. Does addition_ends frames.old octets.old.items frames.new octets.new.items)
+    ensures step { MatchResult result
+        (λ _. Does addition_ends frames.old octets.old.items frames.new octets.new.items)
         (Cannot addition_ends frames.old octets.old.items) }
+    ensures kept { OnErr result (Keeps frames.old octets.old.items frames.new octets.new.items) }
 {
     let Some(start) = frames.close_open_type() else {
         return Err(EncodeError::CallOutOfPlace);

@@ -1,7 +1,8 @@
 //! Alternatives of choices (X.696 20).
-ghost use Rattle.std.specs.Prelude.{◌≡◌, map, option_map, MatchResult};
+ghost use Rattle.std.specs.Prelude.{◌≡◌, map, option_map, OnErr, MatchResult};
 ghost use Rattle.asn1_schema_presented.specs.Records.{choice_begins};
 ghost use Rattle.asn1_schema_tags.specs.Tags.{tag_of};
+ghost use Rattle.oer_codec_encoder.specs.Fronts.{Keeps};
 ghost use Rattle.oer_codec_encoder.specs.Holding.{Does, Cannot};
 ghost use Rattle.oer_codec_encoder.specs.Steps.{tag_at, tags_among};
 
@@ -52,10 +53,11 @@ pub(crate) fn begin_choice(
     additions: &[Tag],
     chosen: Chosen,
 ) -> Result<(), EncodeError>
-    ensures { MatchResult result (λ _. Does (choice_begins (map tag_of roots.now) extensible
+    ensures step { MatchResult result (λ _. Does (choice_begins (map tag_of roots.now) extensible
         (map tag_of additions.now) chosen.added chosen.place) frames.old octets.old.items frames.new octets.new.items)
         (Cannot (choice_begins (map tag_of roots.now) extensible (map tag_of additions.now) chosen.added chosen.place)
         frames.old octets.old.items) }
+    ensures kept { OnErr result (Keeps frames.old octets.old.items frames.new octets.new.items) }
 {
     let Some(tag) = tag_of_chosen(roots, extensible, additions, chosen) else {
         return Err(EncodeError::ValueConstraintNotSatisfied);

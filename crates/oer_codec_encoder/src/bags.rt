@@ -1,12 +1,14 @@
 //! Bags, whose members stand in ascending order (X.696 19).
-ghost use Rattle.std.specs.Prelude.{◌≡◌, ◌++◌, [], ◌∷◌, map, OnOk, MatchResult};
+ghost use Rattle.std.specs.Prelude.{◌≡◌, ◌++◌, [], ◌∷◌, map, OnOk, OnErr, MatchResult};
 ghost use Rattle.asn1_model.specs.Form.{written, exactly, joined};
 ghost use Rattle.asn1_model.specs.Oer.{in_any_order};
+ghost use Rattle.asn1_model.specs.Versions.{Begins};
 ghost use Rattle.asn1_schema_presented.specs.Records.{bag_begins};
 ghost use Rattle.asn1_schema_constraints.specs.Bounds.{members_of};
 ghost use Rattle.asn1_schema_constraints.specs.Terms.{sizes_of};
 ghost use Rattle.asn1_schema_order.specs.Entries.{octets_of};
 ghost use Rattle.oer_codec_encoder.specs.Frames.{NoMember};
+ghost use Rattle.oer_codec_encoder.specs.Fronts.{Keeps};
 ghost use Rattle.oer_codec_encoder.specs.Holding.{NextOfBag, Does, Cannot};
 ghost use Rattle.oer_codec_encoder.specs.Slots.{texts_joined};
 ghost use Rattle.oer_codec_writing.specs.Writing.{Adds};
@@ -34,23 +36,34 @@ pub(crate) fn begin_bag(
     held: Bounded<usize>,
     count: usize,
 ) -> Result<(), EncodeError>
-    ensures { MatchResult result (λ _. Does (bag_begins (sizes_of constraints.entry.size) (members_of held) count)
+    ensures step { MatchResult result
+        (λ _. Does (bag_begins (sizes_of constraints.entry.size) (members_of held) count)
         frames.old octets.old.items frames.new octets.new.items)
         (Cannot (bag_begins (sizes_of constraints.entry.size) (members_of held) count) frames.old octets.old.items) }
+    ensures kept { OnErr result (Keeps frames.old octets.old.items frames.new octets.new.items) }
 {
     if !held.holds(count) {
         return Err(EncodeError::SizeConstraintNotSatisfied);
     }
     push_count(octets, count)?;
-    let outer = mem::replace(octets, Vec::new(alloc));
     let bag = Bag {
         due: count,
-        outer,
+        outer: Vec::new(alloc),
         members: None,
     };
     let boxed = Box::new(alloc, bag)?;
     frames.open(Frame::Bag(boxed))?;
+    frames.set_aside(octets);
     Ok(())
+}
+
+/// Exchanges octets with those in front of a bag.
+#[inline]
+pub(crate) fn exchange(octets: &mut Vec<u8>, bag: &mut Bag)
+    ensures bag { let a = bag.old in bag.new ≡ record a { outer = octets.old } }
+    ensures octets { octets.new ≡ bag.old.outer }
+{
+    mem::swap(octets, &mut bag.outer);
 }
 
 /// Whether a further member of a bag comes (X.696 19): the octets of each stand alone, and as many come as were told.
@@ -60,8 +73,9 @@ pub(crate) fn next_of_bag(
     alloc: Global,
     more: bool,
 ) -> Result<(), EncodeError>
-    ensures { MatchResult result (λ _. NextOfBag more bag.old octets.old.items bag.new octets.new.items)
+    ensures step { MatchResult result (λ _. NextOfBag more bag.old octets.old.items bag.new octets.new.items)
         (NoMember more bag.old.due) }
+    ensures kept { OnErr result (bag.new.outer ≡ bag.old.outer) }
 {
     count_member(&mut bag.due, more)?;
     if more {
@@ -76,7 +90,8 @@ pub(crate) fn next_of_bag(
 
 /// Adds the octets of entries, one behind the other.
 fn push_each(octets: &mut Vec<u8>, entries: &[Entry<'_>]) -> Result<(), AllocError>
-    ensures { OnOk result (octets.new.items ≡ octets.old.items ++ texts_joined (map octets_of entries.now)) }
+    ensures text { OnOk result (octets.new.items ≡ octets.old.items ++ texts_joined (map octets_of entries.now)) }
+    ensures kept { OnErr result (Begins octets.old.items octets.new.items) }
 {
     for entry in entries {
         octets.extend_from_slice(entry.octets)?;
@@ -92,9 +107,10 @@ pub(crate) fn push_members(
     mut members: Encodings,
     last: &[u8],
 ) -> Result<(), EncodeError>
-    ensures { MatchResult result (λ _. Adds
+    ensures text { MatchResult result (λ _. Adds
         (written (in_any_order (map (λ w. exactly w) (members ++ last.now ∷ [])) (λ xs. joined xs)) 0)
         octets.old.items octets.new.items) (λ e. e ≡ EncodeError.OutOfMemory) }
+    ensures kept { OnErr result (Begins octets.old.items octets.new.items) }
 {
     if members.is_empty() {
         octets.extend_from_slice(last)?;

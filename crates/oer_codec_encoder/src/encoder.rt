@@ -30,26 +30,34 @@ use std::mem;
 /// Writes values in the canonical octet encoding rules (X.696) into one buffer.
 ///
 /// All stands in the buffer from the first: the octets of additions too, behind a bitmap that tells which of them are
-/// there. The members of a bag alone are written apart, since their order is known at its end.
+/// there. The members of a bag alone are written apart, since their order is known at its end. What stood in the buffer
+/// when the encoder began is never changed.
 #[derive(Drop)]
 pub struct Encoder<'buffer> {
     output: &'buffer mut Vec<u8>,
     frames: Frames,
     failed: bool,
+    /// How many octets stood in the buffer when it began.
+    start: usize,
     alloc: Global,
 }
 
 impl<'buffer> Model for Encoder<'buffer> {
-    ghost use Rattle.std.specs.Prelude.{◌≡◌, false};
+    ghost use Rattle.std.specs.Prelude.{◌≡◌, false, take};
     ghost use Rattle.oer_codec_encoder.specs.Stepping.{Written};
 
     ghost Value = { Written };
 
-    ghost use Rattle.oer_codec_encoder.specs.Holding.{shown, Holds};
+    ghost use Rattle.oer_codec_encoder.specs.Fronts.{ground, Stands};
+    ghost use Rattle.oer_codec_encoder.specs.Holding.{shown};
 
-    ghost view = { λ e. record { state = shown e.frames e.output.now.items; failed = e.failed } };
+    ghost view = { λ e. record {
+      state = shown e.frames e.output.now.items;
+      failed = e.failed;
+      front = take e.start (ground e.frames e.output.now.items);
+    } };
 
-    ghost invariant = { λ e. e.failed ≡ false → Holds e.frames e.output.now.items (shown e.frames e.output.now.items) };
+    ghost invariant = { λ e. e.failed ≡ false → Stands e.frames e.output.now.items e.start };
 }
 
 impl<'buffer> Encoder<'buffer> {
@@ -64,12 +72,18 @@ impl<'buffer> Encoder<'buffer> {
         output: &'buffer mut Vec<u8>,
         _worker: &'buffer mut Vec<u8>,
     ) -> Self
-        ensures { result ≡ record { state = (output.entry.now.items, []); failed = false } }
+        ensures { result ≡ record {
+          state = (output.entry.now.items, []);
+          failed = false;
+          front = output.entry.now.items;
+        } }
     {
+        let start = output.len();
         Encoder {
             output,
             frames: Frames::new(alloc),
             failed: false,
+            start,
             alloc,
         }
     }
@@ -78,10 +92,43 @@ impl<'buffer> Encoder<'buffer> {
     #[inline(always)]
     pub fn output(&mut self) -> Vec<u8>
         ensures octets { self.old.failed ≡ false → self.old.state.1 ≡ [] → result.items ≡ self.old.state.0 }
-        ensures none { self.new ≡ record { state = ([], []); failed = self.old.failed } }
+        ensures none { self.new ≡ record { state = ([], []); failed = self.old.failed; front = [] } }
     {
         self.frames.clear();
+        self.start = 0;
         mem::replace(self.output, Vec::new(self.alloc))
+    }
+
+    /// The contents of the buffer, of which none are left, as `output` takes them. What is open is let go first.
+    #[inline(always)]
+    pub fn into_output(self) -> Vec<u8>
+        ensures octets { self.entry.failed ≡ false → self.entry.state.1 ≡ [] → result.items ≡ self.entry.state.0 }
+    {
+        let Encoder {
+            output,
+            frames,
+            alloc,
+            ..
+        } = self;
+        frames.let_go();
+        mem::replace(output, Vec::new(alloc))
+    }
+
+    /// What stood in the buffer when the encoder began, of which nothing is left there: what was written behind it is
+    /// given up.
+    pub fn into_front(self) -> Vec<u8>
+        ensures { result.items ≡ self.entry.front }
+    {
+        let Encoder {
+            output,
+            mut frames,
+            start,
+            alloc,
+            ..
+        } = self;
+        frames.bring_back(output);
+        output.truncate(start);
+        mem::replace(output, Vec::new(alloc))
     }
 }
 
@@ -102,6 +149,8 @@ impl<'buffer> asn1_schema_encode::Encoder for Encoder<'buffer> {
     ghost step = { Puts };
 
     ghost has_failed = { λ e. e.failed ≡ true };
+
+    ghost front = { λ e. e.front };
 
     ghost rules = { λ e. Coer };
 
@@ -147,6 +196,7 @@ impl<'buffer> asn1_schema_encode::Encoder for Encoder<'buffer> {
         ensures only { IfErr result
             (Refused Puts (one_of T.roots T.extensible T.additions (T.number value.now)) self.old) }
         ensures failed { OnErr result (self.new.failed ≡ true) }
+        ensures front { self.new.front ≡ self.old.front }
         ensures already { self.old.failed ≡ true → result ≡ Err EncodeError.AlreadyFailed }
         ensures after { result ≡ Err EncodeError.AlreadyFailed → self.old.failed ≡ true }
     {

@@ -1,26 +1,29 @@
 //! What ends.
-ghost use Rattle.std.specs.Prelude.{◌≡◌, ◌<◌, ◌∷◌, MatchResult, vec_len};
+ghost use Rattle.std.specs.Prelude.{◌≡◌, ◌<◌, ◌∷◌, OnErr, MatchResult, vec_len};
+ghost use Rattle.asn1_model.specs.Versions.{Begins};
 ghost use Rattle.asn1_schema_presented.specs.Records.{ends};
 ghost use Rattle.oer_codec_encoder.specs.declared.frame.Frame.TheVariants.{Added};
 ghost use Rattle.oer_codec_encoder.specs.Frames.{frame_of, NoEnd};
+ghost use Rattle.oer_codec_encoder.specs.Fronts.{Keeps};
 ghost use Rattle.oer_codec_encoder.specs.Holding.{AreSound, BagEnds, Does, Cannot};
 
-use crate::bags::push_members;
+use crate::bags::{exchange, push_members};
 use crate::frame::{Additions, Bag, Frame};
 use crate::frames::Enclosing;
 use crate::open_types::put_length;
 use crate::sequences::raise_bit;
 use asn1_schema_faults::EncodeError;
 use std::alloc::Global;
-use std::mem;
 
 /// Ends a sequence or a set behind its root (X.696 16), of which no addition is due: with one that is there the
 /// extension bit is set, and with none the presence bitmap is taken off again.
 #[inline(always)]
 fn end_added(octets: &mut Vec<u8>, additions: Additions) -> Result<(), EncodeError>
     requires { additions.start < vec_len octets.old }
-    ensures { MatchResult result (λ _. (k : _) → Does ends (Added additions ∷ k) octets.old.items k octets.new.items)
+    ensures step { MatchResult result
+        (λ _. (k : _) → Does ends (Added additions ∷ k) octets.old.items k octets.new.items)
         (λ e. (k : _) → Cannot ends (Added additions ∷ k) octets.old.items e) }
+    ensures kept { OnErr result (octets.new.items ≡ octets.old.items) }
 {
     if additions.due > 0 {
         return Err(EncodeError::CallOutOfPlace);
@@ -33,27 +36,29 @@ fn end_added(octets: &mut Vec<u8>, additions: Additions) -> Result<(), EncodeErr
     Ok(())
 }
 
-/// Ends a bag (X.696 19), of which no member is due.
+/// Ends a bag (X.696 19), of which no member is due: its members stand behind the octets in front of it, which the bag
+/// has until then.
 fn end_bag(octets: &mut Vec<u8>, alloc: Global, bag: &mut Bag) -> Result<(), EncodeError>
-    ensures { MatchResult result (λ _. BagEnds bag.old octets.old.items octets.new.items) (NoEnd bag.old.due) }
+    ensures step { MatchResult result (λ _. BagEnds bag.old octets.old.items octets.new.items) (NoEnd bag.old.due) }
+    ensures kept { OnErr result (Begins bag.old.outer.items bag.new.outer.items) }
 {
     if bag.due > 0 {
         return Err(EncodeError::CallOutOfPlace);
     }
-    let outer = mem::replace(&mut bag.outer, Vec::new(alloc));
-    let last = mem::replace(octets, outer);
     let Some(members) = bag.members.take() else {
+        exchange(octets, bag);
         return Ok(());
     };
-    push_members(octets, alloc, members, last.as_slice())?;
+    push_members(&mut bag.outer, alloc, members, octets.as_slice())?;
+    exchange(octets, bag);
     Ok(())
 }
 
-/// Ends what encloses one value alone (X.696 20 and 30).
+/// Ends what encloses one value alone, or a list (X.696 17, 20 and 30).
 ///
 /// # Errors
 ///
-/// `OutOfMemory`, and no other.
+/// `CallOutOfPlace` if a member of a list is due, and `OutOfMemory`.
 #[inline(always)]
 pub(crate) fn end_enclosing(
     octets: &mut Vec<u8>,
@@ -61,19 +66,21 @@ pub(crate) fn end_enclosing(
     enclosing: Enclosing,
 ) -> Result<(), EncodeError>
     requires { (k : _) × AreSound (frame_of enclosing ∷ k) octets.old.items }
-    ensures { MatchResult result
+    ensures step { MatchResult result
         (λ _. (k : _) → Does ends (frame_of enclosing ∷ k) octets.old.items k octets.new.items)
         (λ e. (k : _) → Cannot ends (frame_of enclosing ∷ k) octets.old.items e) }
+    ensures kept { OnErr result ((k : _) → Keeps (frame_of enclosing ∷ k) octets.old.items k octets.new.items) }
 {
     match enclosing {
-        Enclosing::Alternative => Ok(()),
+        Enclosing::Members { due: 0 } | Enclosing::Alternative => Ok(()),
+        Enclosing::Members { .. } => Err(EncodeError::CallOutOfPlace),
         Enclosing::OpenType { start } => put_length(octets, alloc, start),
     }
 }
 
 /// Ends a frame within which nothing is open (X.696 16, 17, 19, 20 and 30): of a sequence without an extension marker
 /// no presence bit is due, of one with an extension marker no addition, and of a list and a bag no member. The frame is
-/// only looked at, but for a bag, of which nothing is left.
+/// only looked at, but for a bag, of which nothing is left; one that does not end has the octets in front of it still.
 ///
 /// # Errors
 ///
@@ -85,12 +92,16 @@ pub(crate) fn end_frame(
     frame: &mut Frame,
 ) -> Result<(), EncodeError>
     requires { (k : _) × AreSound (frame.old ∷ k) octets.old.items }
-    ensures { MatchResult result (λ _. (k : _) → Does ends (frame.old ∷ k) octets.old.items k octets.new.items)
+    ensures step { MatchResult result (λ _. (k : _) → Does ends (frame.old ∷ k) octets.old.items k octets.new.items)
         (λ e. (k : _) → Cannot ends (frame.old ∷ k) octets.old.items e) }
+    ensures kept { OnErr result ((k : _) → Keeps (frame.old ∷ k) octets.old.items (frame.new ∷ k) octets.new.items) }
 {
     match frame {
         Frame::Components(preamble) => {
-            if preamble.extensible || preamble.due > 0 {
+            if preamble.extensible {
+                return Err(EncodeError::CallOutOfPlace);
+            }
+            if preamble.due > 0 {
                 return Err(EncodeError::CallOutOfPlace);
             }
             Ok(())

@@ -1,21 +1,30 @@
 //! All that is open.
-ghost use Rattle.std.specs.Prelude.{◌≡◌, ◌+◌, ◌^◌, ◌<◌, ◌∷◌, [], List, OnOk, IfSome, IfNone, MatchResult};
+ghost use Rattle.std.specs.Prelude.{◌≡◌, ◌+◌, ◌^◌, ◌<◌, ◌∷◌, [], List, reverse, OnOk, OnErr, IfSome, IfNone};
+ghost use Rattle.std.specs.Prelude.{MatchResult};
 ghost use Rattle.asn1_schema_presented.specs.Records.{ends, further};
-ghost use Rattle.oer_codec_encoder.specs.declared.frame.Frame.TheVariants.{Added, Components, OpenType};
+ghost use Rattle.oer_codec_encoder.specs.declared.frame.Frame.TheVariants.{Added, Bag, Components, OpenType};
 ghost use Rattle.oer_codec_encoder.specs.Frames.{frame_of, others_of, frames_of, told, with_next};
+ghost use Rattle.oer_codec_encoder.specs.Fronts.{ground, Keeps};
 ghost use Rattle.oer_codec_encoder.specs.Holding.{AreSound, Does, Cannot};
 
-use crate::bags::next_of_bag;
+use crate::bags::{exchange, next_of_bag};
 use crate::ends::{end_enclosing, end_frame};
 use crate::frame::{Additions, Frame, Preamble};
 use crate::sequences::count_member;
 use asn1_schema_faults::EncodeError;
 use std::alloc::{AllocError, Global};
 use std::marker::Model;
+use std::mem;
 
-/// What encloses one value alone, and takes no more than one number.
+/// What is innermost of all and takes no more than one number: what encloses one value alone, or a list, while nothing
+/// has begun in a member of it.
 #[derive(Clone, Copy)]
 pub(crate) enum Enclosing {
+    /// A list.
+    Members {
+        /// How many members are due.
+        due: usize,
+    },
     /// An alternative of the root of a choice.
     Alternative,
     /// An addition or an added alternative, whose octets stand behind room for one octet of their number.
@@ -32,14 +41,15 @@ impl Enclosing {
         ensures { result ≡ frame_of self }
     {
         match self {
+            Enclosing::Members { due } => Frame::Members { due },
             Enclosing::Alternative => Frame::Alternative,
             Enclosing::OpenType { start } => Frame::OpenType { start },
         }
     }
 }
 
-/// All that has begun and has not ended. What encloses one value alone is innermost of all, if something does; then
-/// comes the innermost of the other frames, and what is around it. Neither of the two takes memory.
+/// All that has begun and has not ended. What encloses one value alone, or a list, is innermost of all, if something
+/// does; then comes the innermost of the other frames, and what is around it. Neither of the two takes memory.
 #[derive(Drop)]
 pub(crate) struct Frames {
     enclosing: Option<Enclosing>,
@@ -57,43 +67,50 @@ impl Model for Frames {
     ghost view = { λ f. frames_of f.enclosing f.innermost f.outer.items };
 }
 
-/// Opens a frame inside all others, where nothing encloses one value alone.
+/// Opens a frame inside all others, where nothing encloses one value alone. If memory is refused, all is as it was.
 #[inline(always)]
 fn put(
     innermost: &mut Option<Frame>,
     outer: &mut Vec<Frame>,
     frame: Frame,
 ) -> Result<(), AllocError>
-    ensures { OnOk result (others_of innermost.new outer.new.items ≡ frame ∷ others_of innermost.old outer.old.items) }
+    ensures ok { OnOk result
+        (others_of innermost.new outer.new.items ≡ frame ∷ others_of innermost.old outer.old.items) }
+    ensures kept { OnErr result
+        (others_of innermost.new outer.new.items ≡ others_of innermost.old outer.old.items) }
 {
     if innermost.is_none() {
         if !outer.is_empty() {
             outer.clear();
         }
-        *innermost = Some(frame);
+        // No frame stood there that is to be let go.
+        mem::forget(innermost.replace(frame));
         return Ok(());
     }
+    outer.reserve(1)?;
     if let Some(around) = innermost.replace(frame) {
-        outer.push(around)?;
+        outer.push_reserved(around);
     }
     Ok(())
 }
 
-/// Opens what encloses one value alone as a frame inside all others. It is seldom called: where something begins in
-/// an open type or in an alternative.
+/// Opens what encloses one value alone, or a list, as a frame inside all others. It is seldom called: where something
+/// begins in an open type, in an alternative or in the first member of a list.
 #[cold]
 fn put_enclosing(
     innermost: &mut Option<Frame>,
     outer: &mut Vec<Frame>,
     enclosing: Enclosing,
 ) -> Result<(), AllocError>
-    ensures { OnOk result (others_of innermost.new outer.new.items ≡ frame_of enclosing
+    ensures ok { OnOk result (others_of innermost.new outer.new.items ≡ frame_of enclosing
         ∷ others_of innermost.old outer.old.items) }
+    ensures kept { OnErr result
+        (others_of innermost.new outer.new.items ≡ others_of innermost.old outer.old.items) }
 {
     put(innermost, outer, enclosing.frame())
 }
 
-/// Moves what encloses one value alone, if something does, to the other frames.
+/// Moves what encloses one value alone, if something does, to the other frames. If memory is refused, all is as it was.
 #[inline(always)]
 fn settle(
     enclosing: &mut Option<Enclosing>,
@@ -103,10 +120,12 @@ fn settle(
     ensures none { OnOk result (enclosing.new ≡ None) }
     ensures same { OnOk result (others_of innermost.new outer.new.items
         ≡ frames_of enclosing.old innermost.old outer.old.items) }
+    ensures kept { OnErr result (frames_of enclosing.new innermost.new outer.new.items
+        ≡ frames_of enclosing.old innermost.old outer.old.items) }
 {
     if let Some(around) = *enclosing {
-        *enclosing = None;
         put_enclosing(innermost, outer, around)?;
+        *enclosing = None;
     }
     Ok(())
 }
@@ -132,6 +151,8 @@ fn leave_open_type(innermost: &mut Option<Frame>, outer: &mut Vec<Frame>) -> Opt
         ≡ OpenType start ∷ others_of innermost.new outer.new.items) }
     ensures none { IfNone result
         ((start : _) (k : _) → others_of innermost.old outer.old.items ≡ OpenType start ∷ k → ⊥) }
+    ensures still { IfNone result
+        (others_of innermost.new outer.new.items ≡ others_of innermost.old outer.old.items) }
 {
     let Some(Frame::OpenType { start }) = innermost else {
         return None;
@@ -150,9 +171,11 @@ fn end_other(
     outer: &mut Vec<Frame>,
 ) -> Result<(), EncodeError>
     requires { AreSound (others_of innermost.old outer.old.items) octets.old.items }
-    ensures { MatchResult result (λ _. Does ends (others_of innermost.old outer.old.items) octets.old.items
+    ensures step { MatchResult result (λ _. Does ends (others_of innermost.old outer.old.items) octets.old.items
         (others_of innermost.new outer.new.items) octets.new.items)
         (Cannot ends (others_of innermost.old outer.old.items) octets.old.items) }
+    ensures kept { OnErr result (Keeps (others_of innermost.old outer.old.items) octets.old.items
+        (others_of innermost.new outer.new.items) octets.new.items) }
 {
     let Some(frame) = innermost else {
         return Err(EncodeError::CallOutOfPlace);
@@ -160,6 +183,36 @@ fn end_other(
     end_frame(octets, alloc, frame)?;
     leave(innermost, outer);
     Ok(())
+}
+
+/// Takes back the octets in front of a frame that has them apart, which a bag alone does.
+fn bring_back(octets: &mut Vec<u8>, frame: &mut Frame)
+    ensures { (k : _) → ground k octets.new.items ≡ ground (frame.old ∷ k) octets.old.items }
+{
+    match frame {
+        Frame::Bag(bag) => exchange(octets, bag),
+        _ => {}
+    }
+}
+
+/// Takes back the octets in front of the outermost of these frames that has them apart, of which none is left.
+fn bring_all_back(octets: &mut Vec<u8>, frames: &mut Vec<Frame>)
+    ensures { octets.new.items ≡ ground (reverse frames.old.items) octets.old.items }
+{
+    while let Some(mut frame) = frames.pop() {
+        bring_back(octets, &mut frame);
+    }
+}
+
+/// The same of the innermost frame and of those around it.
+fn bring_others_back(octets: &mut Vec<u8>, innermost: &mut Option<Frame>, outer: &mut Vec<Frame>)
+    ensures { octets.new.items ≡ ground (others_of innermost.old outer.old.items) octets.old.items }
+{
+    let Some(frame) = innermost else {
+        return;
+    };
+    bring_back(octets, frame);
+    bring_all_back(octets, outer);
 }
 
 impl Frames {
@@ -189,19 +242,63 @@ impl Frames {
         }
     }
 
-    /// Opens a frame inside all others.
+    /// Lets all go that is open. At the end of a message nothing is, and mostly no memory was taken: then there is
+    /// nothing to call.
+    #[inline(always)]
+    pub(crate) fn let_go(self) {
+        let Frames {
+            innermost,
+            outer,
+            ..
+        } = self;
+        if innermost.is_none() {
+            mem::forget(innermost);
+        } else {
+            drop(innermost);
+        }
+        if outer.capacity() == 0 {
+            mem::forget(outer);
+        } else {
+            drop(outer);
+        }
+    }
+
+    /// Leaves nothing open, and takes back the octets in front of the outermost bag, if one is open.
+    pub(crate) fn bring_back(&mut self, octets: &mut Vec<u8>)
+        ensures octets { octets.new.items ≡ ground self.old octets.old.items }
+        ensures none { self.new ≡ [] }
+    {
+        bring_others_back(octets, &mut self.innermost, &mut self.outer);
+        self.clear();
+    }
+
+    /// Exchanges the octets with those that the innermost frame, a bag, has in front of it.
+    pub(crate) fn set_aside(&mut self, octets: &mut Vec<u8>)
+        requires { (b : _) × (k : _) × (self.old ≡ Bag b ∷ k) }
+        ensures { (b : _) (k : _) → self.old ≡ Bag b ∷ k → let a = b.value in (c : _) × (self.new ≡ Bag c ∷ k)
+            × (c.value ≡ record a { outer = octets.old }) × (octets.new ≡ a.outer) }
+    {
+        let (None, Some(Frame::Bag(bag))) = (&self.enclosing, &mut self.innermost) else {
+            return;
+        };
+        exchange(octets, bag);
+    }
+
+    /// Opens a frame inside all others. If memory is refused, all is as it was.
     #[inline(always)]
     pub(crate) fn open(&mut self, frame: Frame) -> Result<(), AllocError>
-        ensures { OnOk result (self.new ≡ frame ∷ self.old) }
+        ensures ok { OnOk result (self.new ≡ frame ∷ self.old) }
+        ensures kept { OnErr result (self.new ≡ self.old) }
     {
         settle(&mut self.enclosing, &mut self.innermost, &mut self.outer)?;
         put(&mut self.innermost, &mut self.outer, frame)
     }
 
-    /// Opens what encloses one value alone inside all others.
+    /// Opens what encloses one value alone inside all others. If memory is refused, all is as it was.
     #[inline(always)]
     pub(crate) fn enclose(&mut self, enclosing: Enclosing) -> Result<(), AllocError>
-        ensures { OnOk result (self.new ≡ frame_of enclosing ∷ self.old) }
+        ensures ok { OnOk result (self.new ≡ frame_of enclosing ∷ self.old) }
+        ensures kept { OnErr result (self.new ≡ self.old) }
     {
         settle(&mut self.enclosing, &mut self.innermost, &mut self.outer)?;
         self.enclosing = Some(enclosing);
@@ -213,13 +310,14 @@ impl Frames {
     pub(crate) fn close_open_type(&mut self) -> Option<usize>
         ensures some { IfSome result (λ start. self.old ≡ OpenType start ∷ self.new) }
         ensures none { IfNone result ((start : _) (k : _) → self.old ≡ OpenType start ∷ k → ⊥) }
+        ensures still { IfNone result (self.new ≡ self.old) }
     {
         match self.enclosing {
             Some(Enclosing::OpenType { start }) => {
                 self.enclosing = None;
                 Some(start)
             }
-            Some(Enclosing::Alternative) => None,
+            Some(Enclosing::Members { .. } | Enclosing::Alternative) => None,
             None => leave_open_type(&mut self.innermost, &mut self.outer),
         }
     }
@@ -236,8 +334,9 @@ impl Frames {
         alloc: Global,
     ) -> Result<(), EncodeError>
         requires { AreSound self.old octets.old.items }
-        ensures { MatchResult result (λ _. Does ends self.old octets.old.items self.new octets.new.items)
+        ensures step { MatchResult result (λ _. Does ends self.old octets.old.items self.new octets.new.items)
             (Cannot ends self.old octets.old.items) }
+        ensures kept { OnErr result (Keeps self.old octets.old.items self.new octets.new.items) }
     {
         if let Some(enclosing) = self.enclosing {
             self.enclosing = None;
@@ -274,6 +373,7 @@ impl Frames {
         ensures some { IfSome result (λ p. (k : _) × (self.old ≡ Components p ∷ k) × (0 < p.due)
             × (self.new ≡ Components (told p) ∷ k)) }
         ensures none { IfNone result ((p : _) (k : _) → self.old ≡ Components p ∷ k → p.due ≡ 0) }
+        ensures still { IfNone result (self.new ≡ self.old) }
     {
         match (&self.enclosing, &mut self.innermost) {
             (None, Some(Frame::Components(preamble))) => {
@@ -302,10 +402,16 @@ impl Frames {
         alloc: Global,
         more: bool,
     ) -> Result<(), EncodeError>
-        ensures { MatchResult result (λ _. Does (further more) self.old octets.old.items self.new octets.new.items)
+        ensures step { MatchResult result
+            (λ _. Does (further more) self.old octets.old.items self.new octets.new.items)
             (Cannot (further more) self.old octets.old.items) }
+        ensures kept { OnErr result (Keeps self.old octets.old.items self.new octets.new.items) }
     {
-        match (&self.enclosing, &mut self.innermost) {
+        match (&mut self.enclosing, &mut self.innermost) {
+            (Some(Enclosing::Members { due }), _) => {
+                count_member(due, more)?;
+                return Ok(());
+            }
             (None, Some(Frame::Members { due })) => count_member(due, more)?,
             (None, Some(Frame::Bag(bag))) => return next_of_bag(octets, bag, alloc, more),
             _ => return Err(EncodeError::CallOutOfPlace),
@@ -320,6 +426,7 @@ impl Frames {
         ensures some { IfSome result (λ a. (k : _) × (self.old ≡ Added a ∷ k) × (0 < a.due)
             × (self.new ≡ Added (with_next present a) ∷ k)) }
         ensures none { IfNone result ((a : _) (k : _) → self.old ≡ Added a ∷ k → a.due ≡ 0) }
+        ensures still { IfNone result (self.new ≡ self.old) }
     {
         match (&self.enclosing, &mut self.innermost) {
             (None, Some(Frame::Added(additions))) => {

@@ -1,8 +1,9 @@
 //! Open types (X.696 30), whose octets are written where they stay.
-ghost use Rattle.std.specs.Prelude.{◌≡◌, ◌+◌, ◌<◌, ◌++◌, ◌∷◌, [], length, take, drop, OnOk, MatchResult, vec_len};
-ghost use Rattle.std.specs.Prelude.{slice_set};
+ghost use Rattle.std.specs.Prelude.{◌≡◌, ◌+◌, ◌<◌, ◌++◌, ◌∷◌, [], length, take, drop, OnOk, OnErr, MatchResult};
+ghost use Rattle.std.specs.Prelude.{slice_set, vec_len};
 ghost use Rattle.asn1_model.specs.Form.{written};
 ghost use Rattle.asn1_model.specs.Oer.{counted};
+ghost use Rattle.asn1_model.specs.Versions.{Begins};
 ghost use Rattle.oer_codec_encoder.specs.declared.frame.Frame.TheVariants.{OpenType};
 ghost use Rattle.oer_codec_writing.specs.Writing.{Adds};
 
@@ -16,6 +17,8 @@ use std::alloc::{AllocError, Global};
 pub(crate) fn open_in_place(octets: &mut Vec<u8>, frames: &mut Frames) -> Result<(), AllocError>
     ensures octets { OnOk result (octets.new.items ≡ octets.old.items ++ 0 ∷ []) }
     ensures frames { OnOk result (frames.new ≡ OpenType (length octets.old.items) ∷ frames.old) }
+    ensures kept { OnErr result (Begins octets.old.items octets.new.items) }
+    ensures still { OnErr result (frames.new ≡ frames.old) }
 {
     let start = octets.len();
     octets.push(0)?;
@@ -41,8 +44,9 @@ pub(crate) fn put_length(
     start: usize,
 ) -> Result<(), EncodeError>
     requires { start < vec_len octets.old }
-    ensures { MatchResult result (λ _. Adds (written (counted (drop (start + 1) octets.old.items)) 0)
+    ensures text { MatchResult result (λ _. Adds (written (counted (drop (start + 1) octets.old.items)) 0)
         (take start octets.old.items) octets.new.items) (λ e. e ≡ EncodeError.OutOfMemory) }
+    ensures kept { OnErr result (Begins (take start octets.old.items) octets.new.items) }
 {
     let length = octets.len() - start - 1;
     match short_length(length) {
@@ -56,8 +60,9 @@ pub(crate) fn put_length(
 #[inline(never)]
 fn put_long_length(octets: &mut Vec<u8>, alloc: Global, start: usize) -> Result<(), EncodeError>
     requires { start < vec_len octets.old }
-    ensures { MatchResult result (λ _. Adds (written (counted (drop (start + 1) octets.old.items)) 0)
+    ensures text { MatchResult result (λ _. Adds (written (counted (drop (start + 1) octets.old.items)) 0)
         (take start octets.old.items) octets.new.items) (λ e. e ≡ EncodeError.OutOfMemory) }
+    ensures kept { OnErr result (Begins (take start octets.old.items) octets.new.items) }
 {
     let contents = Vec::from_slice(alloc, &octets[start + 1..])?;
     octets.truncate(start);

@@ -1,15 +1,17 @@
 //! Sequences, sets, groups and lists.
 ghost use Rattle.std.specs.Prelude.{◌≡◌, ℕ, List, ltb, ◌-◌, ◌+◌, ◌*◌, ◌/◌, ◌%◌, ◌<◌, ◌++◌, ◌∷◌, [], cond, replicate};
-ghost use Rattle.std.specs.Prelude.{MatchResult, vec_len, true, slice_set, slice_index};
+ghost use Rattle.std.specs.Prelude.{OnErr, MatchResult, vec_len, true, slice_set, slice_index};
 ghost use Rattle.asn1_model.specs.Numbers.{binary};
+ghost use Rattle.asn1_model.specs.Versions.{Begins};
 ghost use Rattle.asn1_schema_presented.specs.Records.{sequence_begins, presence_bit, list_begins};
 ghost use Rattle.asn1_schema_constraints.specs.Bounds.{members_of};
 ghost use Rattle.asn1_schema_constraints.specs.Terms.{sizes_of};
 ghost use Rattle.oer_codec_encoder.specs.Frames.{NoMember};
+ghost use Rattle.oer_codec_encoder.specs.Fronts.{Keeps};
 ghost use Rattle.oer_codec_encoder.specs.Holding.{AreSound, Does, Cannot};
 
 use crate::frame::{Frame, Preamble};
-use crate::frames::Frames;
+use crate::frames::{Enclosing, Frames};
 use asn1_schema_constraints::{Bounded, Constraints};
 use asn1_schema_faults::EncodeError;
 use oer_codec_writing::{preamble_len, push_count};
@@ -17,8 +19,9 @@ use oer_codec_writing::{preamble_len, push_count};
 /// Adds so many octets of zero bits.
 #[inline]
 pub(crate) fn push_zeros(octets: &mut Vec<u8>, count: usize) -> Result<(), EncodeError>
-    ensures { MatchResult result (λ _. octets.new.items ≡ octets.old.items ++ replicate count 0)
+    ensures text { MatchResult result (λ _. octets.new.items ≡ octets.old.items ++ replicate count 0)
         (λ e. e ≡ EncodeError.OutOfMemory) }
+    ensures kept { OnErr result (octets.new.items ≡ octets.old.items) }
 {
     let Some(len) = octets.len().checked_add(count) else {
         return Err(EncodeError::OutOfMemory);
@@ -39,8 +42,9 @@ pub(crate) fn begin_components(
     extensible: bool,
     optional: usize,
 ) -> Result<(), EncodeError>
-    ensures { MatchResult result (λ _. Does (sequence_begins extensible optional) frames.old octets.old.items
+    ensures step { MatchResult result (λ _. Does (sequence_begins extensible optional) frames.old octets.old.items
         frames.new octets.new.items) (λ e. e ≡ EncodeError.OutOfMemory) }
+    ensures kept { OnErr result (Keeps frames.old octets.old.items frames.new octets.new.items) }
 {
     let start = octets.len();
     push_zeros(octets, preamble_len(extensible, optional))?;
@@ -86,9 +90,10 @@ pub(crate) fn put_presence_bit(
     present: bool,
 ) -> Result<(), EncodeError>
     requires { AreSound frames.old octets.old.items }
-    ensures { MatchResult result
+    ensures step { MatchResult result
         (λ _. Does (presence_bit present) frames.old octets.old.items frames.new octets.new.items)
         (Cannot (presence_bit present) frames.old octets.old.items) }
+    ensures kept { OnErr result (Keeps frames.old octets.old.items frames.new octets.new.items) }
 {
     let Some(preamble) = frames.next_presence_bit() else {
         return Err(EncodeError::CallOutOfPlace);
@@ -113,15 +118,17 @@ pub(crate) fn begin_members(
     held: Bounded<usize>,
     count: usize,
 ) -> Result<(), EncodeError>
-    ensures { MatchResult result (λ _. Does (list_begins (sizes_of constraints.entry.size) (members_of held) count)
+    ensures step { MatchResult result
+        (λ _. Does (list_begins (sizes_of constraints.entry.size) (members_of held) count)
         frames.old octets.old.items frames.new octets.new.items)
         (Cannot (list_begins (sizes_of constraints.entry.size) (members_of held) count) frames.old octets.old.items) }
+    ensures kept { OnErr result (Keeps frames.old octets.old.items frames.new octets.new.items) }
 {
     if !held.holds(count) {
         return Err(EncodeError::SizeConstraintNotSatisfied);
     }
     push_count(octets, count)?;
-    frames.open(Frame::Members { due: count })?;
+    frames.enclose(Enclosing::Members { due: count })?;
     Ok(())
 }
 

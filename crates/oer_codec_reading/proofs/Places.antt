@@ -1,12 +1,12 @@
 -- The places of tags and of items in tables.
-use Rattle.std.proofs.Common.{◌≡◌, ℕ, zero, suc, ◌+◌, ◌-◌, ◌^◌, ◌<◌, ltb, ℤ, pos, negsuc, Bool, true, false, cond, List, [], ◌∷◌, ◌++◌, length, map, take, drop, get_or, Option, Some, None, option_map, refl, ap, sym, ◌∙◌, arith, take-append-drop, drop-cons, length-take-le}
-use Rattle.std.proofs.lemmas.List.{take_more, map-append, length-map}
-use Rattle.std.proofs.lemmas.Bool.{and_parts, eqb-true, lt-ltb}
+use Rattle.std.proofs.Common.{◌≡◌, ℕ, zero, suc, ◌+◌, ◌-◌, ◌^◌, ◌<◌, ltb, ℤ, pos, negsuc, ◌-ℤ◌, Bool, true, false, cond, List, [], ◌∷◌, ◌++◌, length, map, take, get_or, Option, Some, None, option_map, refl, ap, sym, ◌∙◌, arith}
+use Rattle.std.proofs.lemmas.List.{take_more, map-append}
+use Rattle.std.proofs.lemmas.Bool.{and_parts, eqb-true, lt-ltb, lt-leb}
 use Rattle.std.proofs.Common.{w64, to_z, of_z}
 use Rattle.std.proofs.lemmas.Int.{ints, to_z-of_z}
 use Rattle.asn1_model.specs.Lawful.{tag_same}
 use Rattle.asn1_model.specs.Numbers.{is_within}
-use Rattle.asn1_values_natives.specs.Octets.{plain}
+use Rattle.asn1_values_natives.specs.Octets.{plain, signed_number, unsigned_number}
 use Rattle.asn1_values_natives.specs.Ranges.{whole_range}
 use Rattle.asn1_values_natives.proofs.RangeLaws.{at_most}
 use Rattle.oer_codec_reading.proofs.Freedoms.{and_true}
@@ -59,6 +59,14 @@ another_number v d n e l none = go (same_number v d) refl
         let q : v ≡ d = same_numbers v d f in
         let r : native_of v ≡ Some v = ap (λ b. cond b (Some v) None) (ap (is_within (whole_range (2 ^ 63 - 1))) q ∙ in_native d l) in
         absurd (none (e ∙ r ∙ ap Some (q ∙ sym (to_z-of_z w64 d (record { sfits = l })))))
+
+-- an octet below 128 alone
+pub small_item : (os : List ℕ) → length os ≡ 1 → get_or os 0 0 < 128 → Some (pos (get_or os 0 0)) ≡ native_of (signed_number os)
+small_item [] h l = absurd (omega arith)
+small_item (o ∷ []) h l =
+    let same : signed_number (o ∷ []) ≡ pos o = ap (λ b. pos (unsigned_number (o ∷ [])) -ℤ pos (cond b 256 0)) (lt-leb 128 o l) ∙ (omega (arith, ints)) in
+    sym (ap native_of same ∙ ap (λ b. cond b (Some (pos o)) None) (in_native (pos o) (omega arith)))
+small_item (o ∷ p ∷ os) h l = absurd (omega arith)
 
 -- ---- numbers of 32 bits
 each_more : (us : List Tag) (u : Tag) → each_is is_in_32_bits us ≡ true → is_in_32_bits u ≡ true → each_is is_in_32_bits (us ++ u ∷ []) ≡ true

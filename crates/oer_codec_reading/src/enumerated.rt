@@ -15,7 +15,21 @@ use asn1_schema_variants::Enumerated;
 use asn1_values_natives::Wide;
 
 /// The number that octets are in two's complement, if 64 bits hold it.
+#[inline(always)]
 fn native_number(octets: &[u8]) -> Option<isize>
+    ensures { result ≡ native_of (signed_number octets.now) }
+{
+    if octets.len() == 1 {
+        if octets[0] < 128 {
+            return Some(octets[0] as isize);
+        }
+    }
+    wide_number(octets)
+}
+
+/// The same of any octets.
+#[inline(never)]
+fn wide_number(octets: &[u8]) -> Option<isize>
     ensures { result ≡ native_of (signed_number octets.now) }
 {
     let wide = Wide::from_signed_octets(octets)?;
@@ -24,6 +38,7 @@ fn native_number(octets: &[u8]) -> Option<isize>
 }
 
 /// Whether a number is there, and is this one.
+#[inline(always)]
 fn is_number(number: Option<isize>, candidate: isize) -> bool
     ensures { IsTrue result ↔ (number ≡ Some candidate) }
 {
@@ -34,6 +49,7 @@ fn is_number(number: Option<isize>, candidate: isize) -> bool
 }
 
 /// The first item whose number octets are in two's complement. None has a number that 64 bits do not hold.
+#[inline(always)]
 fn find_item<T: Enumerated>(items: &[T], octets: &[u8]) -> Option<T>
     ensures { MatchOption result (item_place (signed_number octets.now) (map T.number items.now) ≡ None)
         (λ x. T.number x ≡ signed_number octets.now) }
@@ -48,6 +64,7 @@ fn find_item<T: Enumerated>(items: &[T], octets: &[u8]) -> Option<T>
 }
 
 /// The item of the type whose number octets are in two's complement.
+#[inline(always)]
 fn item_of<T: Enumerated>(octets: &[u8]) -> Option<T>
     ensures { MatchOption result (IsNone T.roots T.extensible T.additions (signed_number octets.now))
         (λ x. T.number x ≡ signed_number octets.now) }
@@ -66,6 +83,7 @@ fn item_of<T: Enumerated>(octets: &[u8]) -> Option<T>
 /// # Errors
 ///
 /// `DiscriminantValueNotFound` if the type has no item of the number, and the errors of [`read_item`].
+#[inline(always)]
 pub fn read_enumerated<T: Enumerated>(
     cursor: &mut Cursor<'_>,
     rules: EncodingRules,

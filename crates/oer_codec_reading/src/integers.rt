@@ -48,7 +48,18 @@ fn whole_number(signed: bool, octets: &[u8]) -> Option<i128>
     if octets.len() <= 8 {
         return Some(short_number(signed, octets));
     }
-    long_number(signed, octets)
+    further_number(signed, octets)
+}
+
+/// The same of octets of any number, where what the call answers is put into a place of its own: no place is made ready
+/// for it where there are few octets.
+#[inline(always)]
+fn further_number(signed: bool, octets: &[u8]) -> Option<i128>
+    ensures value { IfSome result (λ z. z ≡ own_number signed octets.now) }
+    ensures fits { is_some result ≡ is_within wide_range (own_number signed octets.now) }
+{
+    let number = long_number(signed, octets)?;
+    Some(number)
 }
 
 /// The same of octets of any number.
@@ -99,6 +110,28 @@ fn value_past<I: IntegerType>(
     number_from_octets(alloc, signed, octets)
 }
 
+/// The same, where what the call answers is put into a place of its own.
+#[inline(always)]
+fn further_value<I: IntegerType>(
+    alloc: Global,
+    constraints: Constraints,
+    signed: bool,
+    octets: &[u8],
+) -> Result<I, DecodeError>
+    requires past { is_within wide_range (own_number signed octets.now) ≡ false }
+    requires some { 0 < length octets.now }
+    ensures value { IfOk result (λ x. I.value x ≡ own_number signed octets.now) }
+    ensures admitted { OnOk result (admits_whole constraints.entry.value (own_number signed octets.now) ≡ true) }
+    ensures held { OnOk result (is_within I.held (own_number signed octets.now) ≡ true) }
+    ensures refused { IfErr result (λ e. (e ≡ DecodeError.OutOfMemory)
+        ⊎ ((admits_whole constraints.entry.value (own_number signed octets.now) ≡ false)
+        ⊎ (is_within I.held (own_number signed octets.now) ≡ false))) }
+    ensures fresh { IfErr result (λ e. e ≡ DecodeError.AlreadyFailed → ⊥) }
+{
+    let value = value_past(alloc, constraints, signed, octets)?;
+    Ok(value)
+}
+
 /// The number that octets are, in a type of the program, if a value constraint, where there is one, admits it and the
 /// type holds it.
 #[inline(always)]
@@ -118,7 +151,7 @@ fn admitted_value<I: IntegerType>(
     ensures fresh { IfErr result (λ e. e ≡ DecodeError.AlreadyFailed → ⊥) }
 {
     let Some(number) = whole_number(signed, octets) else {
-        return value_past(alloc, constraints, signed, octets);
+        return further_value(alloc, constraints, signed, octets);
     };
     if !is_admitted(constraints, number) {
         return Err(DecodeError::ValueConstraintNotSatisfied);

@@ -25,8 +25,8 @@ fn is_longer_item(octets: &[u8]) -> bool
 /// # Errors
 ///
 /// `Incomplete` if the octets end early, `ZeroLengthOfLength` if there are none, and `NotValidCanonicalEncoding` if
-/// there are more than needed
-/// in the canonical rules.
+/// there are more than needed in the canonical rules.
+#[inline(always)]
 pub fn read_item<'input>(
     cursor: &mut Cursor<'input>,
     rules: EncodingRules,

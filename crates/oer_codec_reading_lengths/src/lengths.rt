@@ -57,6 +57,23 @@ fn read_long_length(
     Ok(length)
 }
 
+/// The same, where what the call answers is put into a place of its own: no place is made ready for it where one octet
+/// is the length.
+#[inline(always)]
+fn read_further_length(
+    cursor: &mut Cursor<'_>,
+    rules: EncodingRules,
+    count: usize,
+) -> Result<usize, DecodeError>
+    requires some { 1 ≤ count }
+    requires most { count ≤ 127 }
+    ensures ok { IfOk result (λ n. Stands (freedoms rules) (length_form n) ((128 + count) ∷ cursor.old) cursor.new) }
+    ensures only { IfErr result (Misses (freedoms rules) length_form ((128 + count) ∷ cursor.old)) }
+{
+    let length = read_long_length(cursor, rules, count)?;
+    Ok(length)
+}
+
 /// Reads a length (X.696 8.6): one octet below 128, or more behind their number; in the basic rules more of them than
 /// needed are taken.
 ///
@@ -77,7 +94,7 @@ pub fn read_length(cursor: &mut Cursor<'_>, rules: EncodingRules) -> Result<usiz
     if octet == 0x80 {
         return Err(DecodeError::ZeroLengthOfLength);
     }
-    read_long_length(cursor, rules, (octet - 0x80) as usize)
+    read_further_length(cursor, rules, (octet - 0x80) as usize)
 }
 
 /// Reads octets behind their number, and lends them (X.696 8.6 and 14).

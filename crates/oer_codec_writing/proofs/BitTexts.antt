@@ -1,14 +1,15 @@
 -- The texts of bits.
-use Rattle.std.proofs.Common.{◌≡◌, ℕ, ◌+◌, ◌-◌, ◌*◌, ◌/◌, ◌^◌, ◌<◌, ◌≤◌, ◌==◌, Bool, true, false, List, [], ◌∷◌, ◌++◌, length, drop, take, replicate, min, Option, Some, None, option_map, option_and_then, refl, ap, sym, ◌∙◌, append_assoc, arith}
+use Rattle.std.proofs.Common.{◌≡◌, ℕ, ◌+◌, ◌-◌, ◌*◌, ◌/◌, ◌^◌, ◌<◌, ◌≤◌, ◌==◌, suc, Bool, true, false, List, [], ◌∷◌, ◌++◌, length, get_or, drop, take, replicate, min, Option, Some, None, option_map, option_and_then, refl, ap, sym, ◌∙◌, append_assoc, length-append, arith}
 use Rattle.std.proofs.lemmas.Bool.{eq-eqb}
 use Rattle.std.proofs.lemmas.List.{append-nil, length-replicate}
 use Rattle.asn1_model.specs.Form.{written, only_if, exactly}
 use Rattle.asn1_model.specs.Schema.{Size, Counts, bit_string}
 use Rattle.asn1_model.specs.Value.{bit_list}
-use Rattle.asn1_model.specs.Numbers.{binary, missing, packed}
+use Rattle.asn1_model.specs.Numbers.{binary, missing, octet_bits, packed}
 use Rattle.asn1_model.specs.Oer
 use Rattle.asn1_values_bits.specs.Octets.{padded}
-use Rattle.asn1_values_bits.proofs.Leading.{octet_leads}
+use Rattle.asn1_values_bits.proofs.Binary.{length-octet_bits}
+use Rattle.asn1_values_bits.proofs.Leading.{octet_leads, packed-next}
 use Rattle.oer_codec_writing.specs.Writing.{Adds, bits_heading}
 use Rattle.oer_codec_writing.proofs.ScalarTexts.{if_true, if_false}
 
@@ -83,6 +84,23 @@ pub bits_moved : (old octets new : List ℕ) (bs rest : List Bool) (few v x : �
 bits_moved old octets new bs rest few v x h some e d b y n r =
     let front : packed (padded bs) ≡ x ∷ packed (padded rest) = octet_leads bs few v some e d b ∙ ap (λ k. k ∷ packed (padded (drop few bs))) (sym y) ∙ ap (λ l. x ∷ packed (padded l)) (sym r) in
     ap (λ l. l ++ packed (padded rest)) n ∙ append_assoc octets (x ∷ []) (packed (padded rest)) ∙ ap (λ l. octets ++ l) (sym front) ∙ h
+
+packed_behind : (os : List ℕ) (bs : List Bool) → ((i : ℕ) → get_or os i 0 < 256) → packed (octet_bits os ++ bs) ≡ os ++ packed bs
+packed_behind [] bs h = refl
+packed_behind (o ∷ os) bs h =
+    ap packed (append_assoc (binary 8 o) (octet_bits os) bs) ∙ packed-next o (octet_bits os ++ bs) (h 0) ∙ ap (λ l. o ∷ l) (packed_behind os bs (λ i. h (suc i)))
+
+-- whole octets stay as they are in front of padded bits
+whole_in_front : (os : List ℕ) (bs : List Bool) → ((i : ℕ) → get_or os i 0 < 256) → packed (padded (octet_bits os ++ bs)) ≡ os ++ packed (padded bs)
+whole_in_front os bs h =
+    let count : missing (length (octet_bits os ++ bs)) ≡ missing (length bs) = omega (arith, length-append (octet_bits os) bs, length-octet_bits os) in
+    ap (λ n. packed ((octet_bits os ++ bs) ++ replicate n false)) count
+    ∙ ap packed (append_assoc (octet_bits os) bs (replicate (missing (length bs)) false))
+    ∙ packed_behind os (padded bs) h
+
+pub whole_added : (old mid new whole : List ℕ) (rest : List Bool) → ((i : ℕ) → get_or whole i 0 < 256) → mid ≡ old ++ whole → new ≡ mid ++ packed (padded rest) → new ≡ old ++ packed (padded (octet_bits whole ++ rest))
+whole_added old mid new whole rest h e n =
+    n ∙ ap (λ l. l ++ packed (padded rest)) e ∙ append_assoc old whole (packed (padded rest)) ∙ ap (λ l. old ++ l) (sym (whole_in_front whole rest h))
 
 pub none_left : (octets old : List ℕ) (rest : List Bool) → length rest ≤ 0 → octets ++ packed (padded rest) ≡ old → octets ≡ old
 none_left octets old [] h e = sym (append-nil octets) ∙ e

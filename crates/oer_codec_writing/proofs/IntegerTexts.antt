@@ -176,9 +176,9 @@ module _ (c : Extensible Value) (h : Range) (v : ℤ) (held : is_within h v ≡ 
   may_stand : (is_within (held_of (Some c) h) v && (not (is_bounded (bounds_of (Some c))) || fits_128 v)) ≡ true
   may_stand = both_by (held_within c h v ∙ both_by held (fits_wide v (few_octets v few))) (or_right (not (is_bounded (bounds_of (Some c)))) (fits_128 v) (few_octets v few))
 
-  pub marked_text : (bounds_of (Some c)).extensible ≡ true → written (Oer.integer_form (bounds_of (Some c)) (held_of (Some c) h) v) 0 ≡ written (Oer.signed_form None v) 0
+  pub extensible_text : (bounds_of (Some c)).extensible ≡ true → written (Oer.integer_form (bounds_of (Some c)) (held_of (Some c) h) v) 0 ≡ written (Oer.signed_form None v) 0
   unfolding Oer.integer_form
-  marked_text m = if_true _ _ may_stand ∙ ap (λ (b : Bool). written (cond b (Oer.signed v) (only_if (is_within (bounds_of (Some c)).range v) (Oer.bounded (bounds_of (Some c)).range.low (bounds_of (Some c)).range.high v))) 0) m
+  extensible_text m = if_true _ _ may_stand ∙ ap (λ (b : Bool). written (cond b (Oer.signed v) (only_if (is_within (bounds_of (Some c)).range v) (Oer.bounded (bounds_of (Some c)).range.low (bounds_of (Some c)).range.high v))) 0) m
 
   pub bounded_text : (bounds_of (Some c)).extensible ≡ false → is_within (bounds_of (Some c)).range v ≡ true → written (Oer.integer_form (bounds_of (Some c)) (held_of (Some c) h) v) 0 ≡ written (Oer.bounded (lower c.constraint.value) (upper c.constraint.value) v) 0
   unfolding Oer.integer_form

@@ -6,3 +6,4 @@ pub mod DigitTexts
 pub mod CharacterTexts
 pub mod TextTexts
 pub mod TagTexts
+pub mod Fronts

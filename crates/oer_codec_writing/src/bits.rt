@@ -1,10 +1,11 @@
 //! Bits (X.696 13).
-ghost use Rattle.std.specs.Prelude.{◌≡◌, ◌++◌, length, MatchResult};
+ghost use Rattle.std.specs.Prelude.{◌≡◌, ◌++◌, length, MatchResult, OnErr};
 ghost use Rattle.asn1_model.specs.Form.{written};
-ghost use Rattle.asn1_model.specs.Numbers.{missing, packed};
+ghost use Rattle.asn1_model.specs.Numbers.{missing, octet_bits, packed};
 ghost use Rattle.asn1_model.specs.Oer.{bit_string_form, form};
 ghost use Rattle.asn1_model.specs.Schema.{bit_string};
 ghost use Rattle.asn1_model.specs.Value.{bit_list};
+ghost use Rattle.asn1_model.specs.Versions.{Begins};
 ghost use Rattle.asn1_schema_constraints.specs.Bounds.{counts_of};
 ghost use Rattle.asn1_schema_constraints.specs.Terms.{sizes_of};
 ghost use Rattle.asn1_values_bits.specs.BitStr.{bits_of};
@@ -23,10 +24,11 @@ fn unused_bits(count: usize) -> u8
     free_bits(count) as u8
 }
 
-/// Adds bits as octets, where the unused bits of the last one are zero (X.696 13).
-fn push_bits(octets: &mut Vec<u8>, value: BitStr) -> Result<(), EncodeError>
-    ensures { MatchResult result (λ _. octets.new.items ≡ octets.old.items
+/// Adds bits as octets, one at a time, where the unused bits of the last one are zero.
+fn push_by_octets(octets: &mut Vec<u8>, value: BitStr) -> Result<(), EncodeError>
+    ensures text { MatchResult result (λ _. octets.new.items ≡ octets.old.items
         ++ packed (padded (bits_of value.entry))) (λ e. e ≡ EncodeError.OutOfMemory) }
+    ensures kept { OnErr result (Begins octets.old.items octets.new.items) }
 {
     let mut rest = value;
     while rest.len() > 0 {
@@ -38,6 +40,28 @@ fn push_bits(octets: &mut Vec<u8>, value: BitStr) -> Result<(), EncodeError>
     Ok(())
 }
 
+/// Adds whole octets in one run, and the bits behind them as octets.
+fn push_whole(octets: &mut Vec<u8>, whole: &[u8], rest: BitStr) -> Result<(), EncodeError>
+    ensures text { MatchResult result (λ _. octets.new.items ≡ octets.old.items
+        ++ packed (padded (octet_bits whole.now ++ bits_of rest.entry))) (λ e. e ≡ EncodeError.OutOfMemory) }
+    ensures kept { OnErr result (Begins octets.old.items octets.new.items) }
+{
+    octets.extend_from_slice(whole)?;
+    push_by_octets(octets, rest)?;
+    Ok(())
+}
+
+/// Adds bits as octets, where the unused bits of the last one are zero (X.696 13). Whole octets are copied in one run.
+fn push_bits(octets: &mut Vec<u8>, value: BitStr) -> Result<(), EncodeError>
+    ensures text { MatchResult result (λ _. octets.new.items ≡ octets.old.items
+        ++ packed (padded (bits_of value.entry))) (λ e. e ≡ EncodeError.OutOfMemory) }
+    ensures kept { OnErr result (Begins octets.old.items octets.new.items) }
+{
+    let (whole, rest) = value.whole_octets();
+    push_whole(octets, whole, rest)?;
+    Ok(())
+}
+
 /// Adds what stands in front of so many bits where their number is not fixed: the length of what follows, and the
 /// number of unused bits (X.696 13).
 ///
@@ -46,8 +70,9 @@ fn push_bits(octets: &mut Vec<u8>, value: BitStr) -> Result<(), EncodeError>
 /// `OutOfMemory`, and no other.
 #[inline(always)]
 pub fn push_bits_heading(octets: &mut Vec<u8>, count: usize) -> Result<(), EncodeError>
-    ensures { MatchResult result (λ _. Adds (written (bits_heading count) 0) octets.old.items octets.new.items)
+    ensures text { MatchResult result (λ _. Adds (written (bits_heading count) 0) octets.old.items octets.new.items)
         (λ e. e ≡ EncodeError.OutOfMemory) }
+    ensures kept { OnErr result (Begins octets.old.items octets.new.items) }
 {
     push_length(octets, count / 8 + (count % 8 + 7) / 8 + 1)?;
     octets.push(unused_bits(count))?;
@@ -56,8 +81,10 @@ pub fn push_bits_heading(octets: &mut Vec<u8>, count: usize) -> Result<(), Encod
 
 /// Adds bits, behind a length and the number of unused bits unless there is one size (X.696 13).
 fn push_sized_bits(octets: &mut Vec<u8>, fixed: bool, value: BitStr) -> Result<(), EncodeError>
-    ensures { MatchResult result (λ _. Adds (written (bit_string_form fixed (bits_of value.entry)) 0) octets.old.items
-        octets.new.items) (λ e. e ≡ EncodeError.OutOfMemory) }
+    ensures text { MatchResult result
+        (λ _. Adds (written (bit_string_form fixed (bits_of value.entry)) 0) octets.old.items octets.new.items)
+        (λ e. e ≡ EncodeError.OutOfMemory) }
+    ensures kept { OnErr result (Begins octets.old.items octets.new.items) }
 {
     if fixed {
         push_bits(octets, value)?;
@@ -79,11 +106,12 @@ pub fn push_bit_string(
     held: Bounded<usize>,
     value: BitStr,
 ) -> Result<(), EncodeError>
-    ensures { MatchResult result (λ _. Adds
+    ensures text { MatchResult result (λ _. Adds
         (written (form (bit_string (sizes_of constraints.entry.size) (counts_of held))
         (bit_list (bits_of value.entry))) 0) octets.old.items octets.new.items)
         (Refuses (written (form (bit_string (sizes_of constraints.entry.size) (counts_of held))
         (bit_list (bits_of value.entry))) 0)) }
+    ensures kept { OnErr result (Begins octets.old.items octets.new.items) }
 {
     let sizes = constraints.sizes();
     if !sizes.admits(held, value.len()) {

@@ -1,6 +1,7 @@
 //! The low octets of numbers, and how many octets numbers have at the fewest.
-ghost use Rattle.std.specs.Prelude.{◌≡◌, ◌≤◌, ◌++◌, MatchResult};
+ghost use Rattle.std.specs.Prelude.{◌≡◌, ◌≤◌, ◌++◌, MatchResult, OnErr};
 ghost use Rattle.asn1_model.specs.Numbers.{digits, least_octets, signed_octets};
+ghost use Rattle.asn1_model.specs.Versions.{Begins};
 
 use asn1_schema_faults::EncodeError;
 use asn1_values_natives::Wide;
@@ -14,8 +15,9 @@ pub(crate) fn push_digits(
     count: usize,
 ) -> Result<(), EncodeError>
     requires { count ≤ 16 }
-    ensures { MatchResult result (λ _. octets.new.items ≡ octets.old.items ++ digits 256 count number)
+    ensures text { MatchResult result (λ _. octets.new.items ≡ octets.old.items ++ digits 256 count number)
         (λ e. e ≡ EncodeError.OutOfMemory) }
+    ensures kept { OnErr result (Begins octets.old.items octets.new.items) }
 {
     match count {
         1 => octets.push((number % 0x100) as u8)?,

@@ -1,9 +1,10 @@
 //! Object identifiers (X.696 21).
-ghost use Rattle.std.specs.Prelude.{◌≡◌, MatchResult};
+ghost use Rattle.std.specs.Prelude.{◌≡◌, MatchResult, OnErr};
 ghost use Rattle.asn1_model.specs.Form.{written};
 ghost use Rattle.asn1_model.specs.Oer.{form};
 ghost use Rattle.asn1_model.specs.Schema.{object_identifier};
 ghost use Rattle.asn1_model.specs.Value.{arcs};
+ghost use Rattle.asn1_model.specs.Versions.{Begins};
 ghost use Rattle.oer_codec_writing.specs.Writing.{Adds, Refuses};
 
 use crate::lengths::push_counted;
@@ -17,8 +18,9 @@ use std::alloc::Global;
 ///
 /// `OutOfMemory`; any other only where the value has no encoding in this form.
 pub fn push_identifier(octets: &mut Vec<u8>, alloc: Global, value: &Oid) -> Result<(), EncodeError>
-    ensures { MatchResult result (λ _. Adds (written (form object_identifier (arcs value.now)) 0) octets.old.items
+    ensures text { MatchResult result (λ _. Adds (written (form object_identifier (arcs value.now)) 0) octets.old.items
         octets.new.items) (Refuses (written (form object_identifier (arcs value.now)) 0)) }
+    ensures kept { OnErr result (Begins octets.old.items octets.new.items) }
 {
     match oid_octets(alloc, value) {
         Ok(contents) => {

@@ -1,9 +1,10 @@
 //! Whole numbers (X.696 10).
-ghost use Rattle.std.specs.Prelude.{◌≡◌, ◌≤◌, false, true, MatchResult, IfSome};
+ghost use Rattle.std.specs.Prelude.{◌≡◌, ◌≤◌, false, true, MatchResult, IfSome, OnErr};
 ghost use Rattle.asn1_model.specs.Form.{written};
 ghost use Rattle.asn1_model.specs.Numbers.{is_within, signed_octets};
 ghost use Rattle.asn1_model.specs.Oer.{bounded, integer_form, natural_form, signed_form};
 ghost use Rattle.asn1_model.specs.Schema.{Range};
+ghost use Rattle.asn1_model.specs.Versions.{Begins};
 ghost use Rattle.asn1_schema_constraints.specs.Bounds.{admits_number, lower, upper};
 ghost use Rattle.asn1_schema_constraints.specs.Terms.{bounds_of, held_of};
 ghost use Rattle.asn1_values_natives.specs.Octets.{is_below_zero};
@@ -19,8 +20,10 @@ use asn1_values_integers::IntegerType;
 #[inline]
 fn push_signed(octets: &mut Vec<u8>, width: Option<u8>, number: i128) -> Result<(), EncodeError>
     requires { IfSome width (λ k. (signed_octets number ≤ k) × (k ≤ 16)) }
-    ensures { MatchResult result (λ _. Adds (written (signed_form width number) 0) octets.old.items octets.new.items)
+    ensures text { MatchResult result
+        (λ _. Adds (written (signed_form width number) 0) octets.old.items octets.new.items)
         (λ e. e ≡ EncodeError.OutOfMemory) }
+    ensures kept { OnErr result (Begins octets.old.items octets.new.items) }
 {
     let bits = number.cast_unsigned();
     match width {
@@ -40,8 +43,10 @@ fn push_signed(octets: &mut Vec<u8>, width: Option<u8>, number: i128) -> Result<
 fn push_natural(octets: &mut Vec<u8>, width: Option<u8>, number: i128) -> Result<(), EncodeError>
     requires sign { is_below_zero number ≡ false }
     requires width { IfSome width (λ k. k ≤ 16) }
-    ensures { MatchResult result (λ _. Adds (written (natural_form width number) 0) octets.old.items octets.new.items)
+    ensures text { MatchResult result
+        (λ _. Adds (written (natural_form width number) 0) octets.old.items octets.new.items)
         (λ e. e ≡ EncodeError.OutOfMemory) }
+    ensures kept { OnErr result (Begins octets.old.items octets.new.items) }
 {
     let magnitude = number.cast_unsigned();
     match width {
@@ -64,8 +69,9 @@ fn push_bounded(
     number: i128,
 ) -> Result<(), EncodeError>
     requires { admits_number bounds number ≡ true }
-    ensures { MatchResult result (λ _. Adds (written (bounded (lower bounds) (upper bounds) number) 0)
+    ensures text { MatchResult result (λ _. Adds (written (bounded (lower bounds) (upper bounds) number) 0)
         octets.old.items octets.new.items) (λ e. e ≡ EncodeError.OutOfMemory) }
+    ensures kept { OnErr result (Begins octets.old.items octets.new.items) }
 {
     let (signed, width) = bounds.range_in_bytes();
     if signed {
@@ -84,10 +90,11 @@ fn push_number(
     limits: Option<Extensible<'_, Value>>,
     number: i128,
 ) -> Result<(), EncodeError>
-    ensures { (h : Range) → is_within h number ≡ true → MatchResult result
+    ensures text { (h : Range) → is_within h number ≡ true → MatchResult result
         (λ _. Adds (written (integer_form (bounds_of limits.entry) (held_of limits.entry h) number) 0)
         octets.old.items octets.new.items)
         (Refuses (written (integer_form (bounds_of limits.entry) (held_of limits.entry h) number) 0)) }
+    ensures kept { OnErr result (Begins octets.old.items octets.new.items) }
 {
     let Some(limits) = limits else {
         push_signed(octets, None, number)?;
@@ -117,11 +124,12 @@ pub fn push_integer<I: IntegerType>(
     constraints: Constraints,
     value: &I,
 ) -> Result<(), EncodeError>
-    ensures { MatchResult result (λ _. Adds
+    ensures text { MatchResult result (λ _. Adds
         (written (integer_form (bounds_of constraints.entry.value) (held_of constraints.entry.value I.held)
         (I.value value.now)) 0) octets.old.items octets.new.items)
         (Refuses (written (integer_form (bounds_of constraints.entry.value) (held_of constraints.entry.value I.held)
         (I.value value.now)) 0)) }
+    ensures kept { OnErr result (Begins octets.old.items octets.new.items) }
 {
     if let Some(number) = value.to_i128() {
         return push_number(octets, constraints.value, number);

@@ -1,7 +1,8 @@
 //! Items of enumerations (X.696 11).
-ghost use Rattle.std.specs.Prelude.{◌≡◌, ◌++◌, Some, option_map, MatchResult};
+ghost use Rattle.std.specs.Prelude.{◌≡◌, ◌++◌, Some, option_map, MatchResult, OnErr};
 ghost use Rattle.asn1_model.specs.Form.{written};
 ghost use Rattle.asn1_model.specs.Oer.{item_form};
+ghost use Rattle.asn1_model.specs.Versions.{Begins};
 
 use asn1_schema_faults::EncodeError;
 use asn1_values_integers::IntegerType;
@@ -13,8 +14,9 @@ use asn1_values_integers::IntegerType;
 ///
 /// `OutOfMemory`, and no other.
 pub fn push_item(octets: &mut Vec<u8>, number: isize) -> Result<(), EncodeError>
-    ensures { MatchResult result (λ _. option_map (λ w. octets.old.items ++ w) (written (item_form number) 0)
+    ensures text { MatchResult result (λ _. option_map (λ w. octets.old.items ++ w) (written (item_form number) 0)
         ≡ Some octets.new.items) (λ e. e ≡ EncodeError.OutOfMemory) }
+    ensures kept { OnErr result (Begins octets.old.items octets.new.items) }
 {
     if 0 <= number && number < 0x80 {
         octets.push(number as u8)?;

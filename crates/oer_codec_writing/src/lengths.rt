@@ -1,8 +1,9 @@
 //! Lengths, counts, and octets behind their number (X.696 8.6 and 17).
-ghost use Rattle.std.specs.Prelude.{◌≡◌, ◌<◌, IfSome, IfNone, ◌≤◌, MatchResult};
+ghost use Rattle.std.specs.Prelude.{◌≡◌, ◌<◌, IfSome, IfNone, ◌≤◌, MatchResult, OnErr};
 ghost use Rattle.asn1_model.specs.Form.{written};
 ghost use Rattle.asn1_model.specs.Numbers.{digits};
 ghost use Rattle.asn1_model.specs.Oer.{length_form, counted, unsigned};
+ghost use Rattle.asn1_model.specs.Versions.{Begins};
 ghost use Rattle.oer_codec_writing.specs.Writing.{Adds};
 
 use crate::digits::{natural_len, push_digits};
@@ -25,9 +26,10 @@ pub fn short_length(length: usize) -> Option<u8>
 /// Adds a length (X.696 8.6): below 128 one octet, else the fewest behind their number.
 #[inline(always)]
 pub(crate) fn push_length(octets: &mut Vec<u8>, length: usize) -> Result<(), EncodeError>
-    ensures { MatchResult result
+    ensures text { MatchResult result
         (λ _. Adds (written (length_form length) 0) octets.old.items octets.new.items)
         (λ e. e ≡ EncodeError.OutOfMemory) }
+    ensures kept { OnErr result (Begins octets.old.items octets.new.items) }
 {
     if let Some(octet) = short_length(length) {
         octets.push(octet)?;
@@ -48,9 +50,10 @@ pub(crate) fn push_counted_digits(
     count: usize,
 ) -> Result<(), EncodeError>
     requires { count ≤ 16 }
-    ensures { MatchResult result
+    ensures text { MatchResult result
         (λ _. Adds (written (counted (digits 256 count number)) 0) octets.old.items octets.new.items)
         (λ e. e ≡ EncodeError.OutOfMemory) }
+    ensures kept { OnErr result (Begins octets.old.items octets.new.items) }
 {
     push_length(octets, count)?;
     push_digits(octets, number, count)?;
@@ -64,9 +67,10 @@ pub(crate) fn push_counted_digits(
 /// `OutOfMemory`, and no other.
 #[inline(always)]
 pub fn push_counted(octets: &mut Vec<u8>, contents: &[u8]) -> Result<(), EncodeError>
-    ensures { MatchResult result
+    ensures text { MatchResult result
         (λ _. Adds (written (counted contents.now) 0) octets.old.items octets.new.items)
         (λ e. e ≡ EncodeError.OutOfMemory) }
+    ensures kept { OnErr result (Begins octets.old.items octets.new.items) }
 {
     push_length(octets, contents.len())?;
     octets.extend_from_slice(contents)?;
@@ -79,9 +83,10 @@ pub fn push_counted(octets: &mut Vec<u8>, contents: &[u8]) -> Result<(), EncodeE
 ///
 /// `OutOfMemory`, and no other.
 pub fn push_count(octets: &mut Vec<u8>, count: usize) -> Result<(), EncodeError>
-    ensures { MatchResult result
+    ensures text { MatchResult result
         (λ _. Adds (written (unsigned count) 0) octets.old.items octets.new.items)
         (λ e. e ≡ EncodeError.OutOfMemory) }
+    ensures kept { OnErr result (Begins octets.old.items octets.new.items) }
 {
     let number = count as u128;
     push_counted_digits(octets, number, natural_len(number))?;

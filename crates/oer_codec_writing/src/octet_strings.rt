@@ -1,9 +1,10 @@
 //! OCTET STRING, and octets of one size or behind their number (X.696 14 and 27).
-ghost use Rattle.std.specs.Prelude.{◌≡◌, MatchResult};
+ghost use Rattle.std.specs.Prelude.{◌≡◌, MatchResult, OnErr};
 ghost use Rattle.asn1_model.specs.Form.{written};
 ghost use Rattle.asn1_model.specs.Oer.{octets_form, form};
 ghost use Rattle.asn1_model.specs.Schema.{octet_string};
 ghost use Rattle.asn1_model.specs.Value.{octet_list};
+ghost use Rattle.asn1_model.specs.Versions.{Begins};
 ghost use Rattle.asn1_schema_constraints.specs.Bounds.{counts_of};
 ghost use Rattle.asn1_schema_constraints.specs.Terms.{sizes_of};
 ghost use Rattle.oer_codec_writing.specs.Writing.{Adds, Refuses};
@@ -19,8 +20,9 @@ pub(crate) fn push_sized(
     fixed: bool,
     contents: &[u8],
 ) -> Result<(), EncodeError>
-    ensures { MatchResult result (λ _. Adds (written (octets_form fixed contents.now) 0) octets.old.items
+    ensures text { MatchResult result (λ _. Adds (written (octets_form fixed contents.now) 0) octets.old.items
         octets.new.items) (λ e. e ≡ EncodeError.OutOfMemory) }
+    ensures kept { OnErr result (Begins octets.old.items octets.new.items) }
 {
     if fixed {
         octets.extend_from_slice(contents)?;
@@ -42,11 +44,12 @@ pub fn push_octet_string(
     held: Bounded<usize>,
     value: &[u8],
 ) -> Result<(), EncodeError>
-    ensures { MatchResult result (λ _. Adds
+    ensures text { MatchResult result (λ _. Adds
         (written (form (octet_string (sizes_of constraints.entry.size) (counts_of held)) (octet_list value.now)) 0)
         octets.old.items octets.new.items)
         (Refuses (written (form (octet_string (sizes_of constraints.entry.size) (counts_of held))
         (octet_list value.now)) 0)) }
+    ensures kept { OnErr result (Begins octets.old.items octets.new.items) }
 {
     let sizes = constraints.sizes();
     if !sizes.admits(held, value.len()) {

@@ -1,5 +1,5 @@
 //! Character strings (X.696 27).
-ghost use Rattle.std.specs.Prelude.{◌≡◌, ◌++◌, IsTrue, MatchResult, flat_map};
+ghost use Rattle.std.specs.Prelude.{◌≡◌, ◌++◌, IsTrue, MatchResult, flat_map, OnErr};
 ghost use Rattle.asn1_model.specs.Form.{written};
 ghost use Rattle.asn1_model.specs.Numbers.{digits};
 ghost use Rattle.asn1_model.specs.Oer.{form, octets_form};
@@ -7,6 +7,7 @@ ghost use Rattle.asn1_model.specs.Schema.{character_string, utf8};
 ghost use Rattle.asn1_model.specs.Strings.{each_is, is_octet};
 ghost use Rattle.asn1_model.specs.Schema.{any_count};
 ghost use Rattle.asn1_model.specs.Value.{text};
+ghost use Rattle.asn1_model.specs.Versions.{Begins};
 ghost use Rattle.asn1_schema_constraints.specs.Terms.{sizes_of, alphabet_of};
 ghost use Rattle.oer_codec_writing.specs.Writing.{Adds, Refuses};
 
@@ -26,12 +27,13 @@ pub fn push_utf8(
     constraints: Constraints,
     value: &str,
 ) -> Result<(), EncodeError>
-    ensures { MatchResult result (λ _. Adds
+    ensures text { MatchResult result (λ _. Adds
         (written (form (character_string utf8 (sizes_of constraints.entry.size)
         (alphabet_of constraints.entry.permitted_alphabet) any_count) (text value.now)) 0) octets.old.items
         octets.new.items) (Refuses (written
         (form (character_string utf8 (sizes_of constraints.entry.size)
         (alphabet_of constraints.entry.permitted_alphabet) any_count) (text value.now)) 0)) }
+    ensures kept { OnErr result (Begins octets.old.items octets.new.items) }
 {
     let sizes = constraints.sizes();
     if !sizes.admits(Bounded::None, value.len()) {
@@ -41,15 +43,20 @@ pub fn push_utf8(
     Ok(())
 }
 
-/// Adds the characters as octets, one for each.
+/// Adds the characters as octets, one for each: in one run where the string keeps them so.
 fn push_narrow<S: StaticPermittedAlphabet>(
     octets: &mut Vec<u8>,
     value: &S,
 ) -> Result<(), EncodeError>
     requires { IsTrue (each_is is_octet (S.characters value.now)) }
-    ensures { MatchResult result (λ _. octets.new.items ≡ octets.old.items ++ S.characters value.now)
+    ensures text { MatchResult result (λ _. octets.new.items ≡ octets.old.items ++ S.characters value.now)
         (λ e. e ≡ EncodeError.OutOfMemory) }
+    ensures kept { OnErr result (Begins octets.old.items octets.new.items) }
 {
+    if let Some(characters) = value.char_octets() {
+        octets.extend_from_slice(characters)?;
+        return Ok(());
+    }
     let count = value.char_count();
     for place in 0..count {
         octets.push(value.char_at(place) as u8)?;
@@ -59,8 +66,9 @@ fn push_narrow<S: StaticPermittedAlphabet>(
 
 /// Adds the characters as octets, two for each, the highest first.
 fn push_wide<S: StaticPermittedAlphabet>(octets: &mut Vec<u8>, value: &S) -> Result<(), EncodeError>
-    ensures { MatchResult result (λ _. octets.new.items ≡ octets.old.items
+    ensures text { MatchResult result (λ _. octets.new.items ≡ octets.old.items
         ++ flat_map (digits 256 2) (S.characters value.now)) (λ e. e ≡ EncodeError.OutOfMemory) }
+    ensures kept { OnErr result (Begins octets.old.items octets.new.items) }
 {
     let count = value.char_count();
     for place in 0..count {
@@ -78,8 +86,10 @@ fn push_narrow_string<S: StaticPermittedAlphabet>(
     value: &S,
 ) -> Result<(), EncodeError>
     requires { IsTrue (each_is is_octet (S.characters value.now)) }
-    ensures { MatchResult result (λ _. Adds (written (octets_form fixed (S.characters value.now)) 0) octets.old.items
-        octets.new.items) (λ e. e ≡ EncodeError.OutOfMemory) }
+    ensures text { MatchResult result
+        (λ _. Adds (written (octets_form fixed (S.characters value.now)) 0) octets.old.items octets.new.items)
+        (λ e. e ≡ EncodeError.OutOfMemory) }
+    ensures kept { OnErr result (Begins octets.old.items octets.new.items) }
 {
     if fixed {
         push_narrow(octets, value)?;
@@ -96,9 +106,10 @@ fn push_wide_string<S: StaticPermittedAlphabet>(
     fixed: bool,
     value: &S,
 ) -> Result<(), EncodeError>
-    ensures { MatchResult result (λ _. Adds
+    ensures text { MatchResult result (λ _. Adds
         (written (octets_form fixed (flat_map (digits 256 2) (S.characters value.now))) 0) octets.old.items
         octets.new.items) (λ e. e ≡ EncodeError.OutOfMemory) }
+    ensures kept { OnErr result (Begins octets.old.items octets.new.items) }
 {
     if fixed {
         push_wide(octets, value)?;
@@ -122,12 +133,13 @@ pub fn push_characters<S: StaticPermittedAlphabet>(
     constraints: Constraints,
     value: &S,
 ) -> Result<(), EncodeError>
-    ensures { MatchResult result (λ _. Adds
+    ensures text { MatchResult result (λ _. Adds
         (written (form (character_string S.kind (sizes_of constraints.entry.size)
         (alphabet_of constraints.entry.permitted_alphabet) any_count) (text (S.characters value.now))) 0)
         octets.old.items octets.new.items)
         (Refuses (written (form (character_string S.kind (sizes_of constraints.entry.size)
         (alphabet_of constraints.entry.permitted_alphabet) any_count) (text (S.characters value.now))) 0)) }
+    ensures kept { OnErr result (Begins octets.old.items octets.new.items) }
 {
     let sizes = constraints.sizes();
     if !sizes.admits(Bounded::None, value.char_count()) {

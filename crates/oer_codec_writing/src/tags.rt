@@ -1,7 +1,8 @@
 //! Tags (X.696 8.7).
-ghost use Rattle.std.specs.Prelude.{◌≡◌, ◌*◌, ◌++◌, Some, option_map, MatchResult};
+ghost use Rattle.std.specs.Prelude.{◌≡◌, ◌*◌, ◌++◌, Some, option_map, MatchResult, OnErr};
 ghost use Rattle.asn1_model.specs.Form.{written};
 ghost use Rattle.asn1_model.specs.Oer.{tag_form};
+ghost use Rattle.asn1_model.specs.Versions.{Begins};
 ghost use Rattle.asn1_schema_tags.specs.Tags.{class_number, tag_of};
 
 use asn1_schema_faults::EncodeError;
@@ -30,9 +31,10 @@ fn class_bits(class: Class) -> u8
 ///
 /// `OutOfMemory`, and no other.
 pub fn push_tag(octets: &mut Vec<u8>, tag: Tag) -> Result<(), EncodeError>
-    ensures { MatchResult result
+    ensures text { MatchResult result
         (λ _. option_map (λ w. octets.old.items ++ w) (written (tag_form (tag_of tag)) 0) ≡ Some octets.new.items)
         (λ e. e ≡ EncodeError.OutOfMemory) }
+    ensures kept { OnErr result (Begins octets.old.items octets.new.items) }
 {
     if tag.value < u32::from(LONG) {
         octets.push(class_bits(tag.class) + tag.value as u8)?;

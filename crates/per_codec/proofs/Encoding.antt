@@ -8,7 +8,7 @@ use Rattle.asn1_schema_faults.specs.declared.EncodeError.{EncodeError}
 use Rattle.asn1_schema_faults.specs.declared.EncodeError.TheVariants.{OutOfMemory}
 use Rattle.asn1_schema_faults.proofs.Passing.{PassedOn, never_long, no_memory_before}
 use Rattle.asn1_schema_encode.specs.Writes.{Writes, CannotWrite}
-use Rattle.asn1_schema_encode.specs.Written.{HasTextIn}
+use Rattle.asn1_schema_encode.specs.Written.{IsWrittenIn, HasTextIn}
 use Rattle.asn1_schema_presented.specs.Records.{Record}
 use Rattle.asn1_schema_presented.specs.Presents.{presents, Fits}
 use Rattle.asn1_schema_presented.specs.Chains.{Chain}
@@ -16,10 +16,10 @@ use Rattle.asn1_schema_presented.specs.Tables.{IsValue}
 use Rattle.per_codec_encoder.specs.Stepping.{Written, Puts}
 use Rattle.per_codec_encoder.specs.Steps.{State, run, runs}
 use Rattle.per_codec_encoder.specs.Ties.{octets_of}
-use Rattle.per_codec_encoder.specs.Written.{IsWriter, HasOctets}
+use Rattle.per_codec_encoder.specs.Written.{IsWriter, packed_rules}
 use Rattle.per_codec_encoder.proofs.Chains.{messages}
 use Rattle.per_codec_encoder.proofs.Written.{writes_the_octets, refuses_only_none}
-use Rattle.per_codec.specs.Encoded.{packed_rules, NotEncoded}
+use Rattle.per_codec.specs.Encoded.{NotEncoded}
 
 -- the encoder is a writer
 held : Written → State
@@ -89,7 +89,7 @@ no_text al schema v e i y c = as_text al schema v None i (λ n f. ap (option_and
 -- ---- what the calls answer
 
 -- behind the records of a value stand its bits
-pub written_all : (al : Bool) (schema : ℕ → Schema) (v : Value) (start new : Written) → start ≡ nothing_held al → IsValue schema v → Writes Puts schema v start new → (new.failed ≡ false) × (new.state.1 ≡ []) × HasOctets al schema v (option_and_then of_moderate_length (octets_of new.state)) × HasTextIn (packed_rules al) schema v (octets_of new.state)
+pub written_all : (al : Bool) (schema : ℕ → Schema) (v : Value) (start new : Written) → start ≡ nothing_held al → IsValue schema v → Writes Puts schema v start new → (new.failed ≡ false) × (new.state.1 ≡ []) × IsWrittenIn (packed_rules al) schema v (option_and_then of_moderate_length (octets_of new.state)) × HasTextIn (packed_rules al) schema v (octets_of new.state)
 unfolding held aligned
 written_all al schema v start new e i w =
     let x : Writes Puts schema v (nothing_held al) new = subst (λ s. Writes Puts schema v s new) e w in

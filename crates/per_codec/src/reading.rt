@@ -48,6 +48,7 @@ pub fn decode_with_remainder<'input, T: Decode>(
     let value = T::decode(alloc, &mut decoder)?;
     decoder.finish()?;
     let taken = (looked_at - decoder.input().len()) / 8;
+    decoder.let_go();
     let (_, rest) = input.split_at(taken);
     Ok((value, rest))
 }
@@ -76,5 +77,6 @@ pub fn decode_with_constraints<T: Decode>(
     let mut decoder = Decoder::new(alloc, input, DecoderOptions { variant });
     let value = T::decode_with_constraints(alloc, &mut decoder, constraints)?;
     decoder.finish()?;
+    decoder.let_go();
     Ok(value)
 }

@@ -45,6 +45,7 @@ pub fn encode<T: Encode>(
 }
 
 /// The same in the room of these octets, which are cleared.
+#[inline(always)]
 fn encode_into<T: Encode>(
     alloc: Global,
     options: EncoderOptions,
@@ -60,7 +61,7 @@ fn encode_into<T: Encode>(
     let mut encoder = Encoder::new_with_output(alloc, options, room);
     match value.encode(&mut encoder) {
         Ok(()) => {
-            let octets = encoder.output()?;
+            let octets = encoder.output_into_vec()?;
             within_limit(octets)
         }
         Err(error) => Err(refusal(error)),
@@ -91,7 +92,7 @@ pub fn encode_with_constraints<T: Encode>(
     let mut encoder = Encoder::new_with_output(alloc, options, room);
     match value.encode_with_constraints(&mut encoder, constraints) {
         Ok(()) => {
-            let octets = encoder.output()?;
+            let octets = encoder.output_into_vec()?;
             within_limit(octets)
         }
         Err(error) => Err(refusal(error)),

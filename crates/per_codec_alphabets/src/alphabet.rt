@@ -84,6 +84,13 @@ impl EffectiveAlphabet {
         self.width
     }
 
+    /// Whether the code of each character is its own number (X.691 30.5.4).
+    pub fn is_by_number(&self) -> bool
+        ensures { result ≡ ltb (largest self.now.runs) (2 ^ self.now.code_bits) }
+    {
+        self.is_by_number
+    }
+
     /// The code of a character, if it is one of them (X.691 30.5.4).
     pub fn code(&self, character: u32) -> Option<u64>
         ensures { result ≡ code_of self.now character }

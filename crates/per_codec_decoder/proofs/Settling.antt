@@ -1,5 +1,5 @@
 -- How a decoder goes on behind what a reader found, and fails as it did.
-use Rattle.std.proofs.Common.{◌≡◌, ℕ, zero, suc, ◌+◌, Bool, true, IsTrue, inl, inr, List, [], ◌∷◌, ◌++◌, Option, Some, None, Result, Ok, Err, IfOk, IfErr, refl, sym, ◌∙◌, ap, subst, arith}
+use Rattle.std.proofs.Common.{◌≡◌, ℕ, zero, suc, ◌+◌, Bool, true, false, IsTrue, inl, inr, List, [], ◌∷◌, ◌++◌, Option, Some, None, Result, Ok, Err, IfOk, IfErr, refl, sym, ◌∙◌, ap, subst, arith}
 use Rattle.std.specs.Prelude.{OnOk}
 use Rattle.asn1_schema_presented.specs.Levels.{level}
 use Rattle.asn1_model.specs.Schema.{Counts, Size, Alphabet, StringKind, Schema, character_string}
@@ -16,6 +16,13 @@ use Rattle.per_codec_decoder.specs.Held.{Held, state_of, kept, Finds, IsReady, S
 use Rattle.per_codec_decoder.specs.Preamble.{HasPreamble}
 use Rattle.per_codec_decoder.specs.Members.{HasMembers}
 use Rattle.per_codec_decoder.proofs.Finding.{OfType, asked_characters, none_found}
+
+-- whether the decoder has failed, by its parts
+pub now_ready : (old now : Held) → now ≡ old → IsReady now → IsReady old
+now_ready old now same ready = ap (λ (h : Held). h.failed) (sym same) ∙ ready
+
+pub not_ready : (old now : Held) → now ≡ old → now.failed ≡ true → IsReady old → ⊥
+not_ready old now same failed ready = let e : now.failed ≡ false = ap (λ (h : Held). h.failed) same ∙ ready in cc
 
 -- a record is found
 pub steps : (old now new : Held) (p : Place) (k : List Scope) (l : ℕ) (r : Record) (m : List Storage) → now ≡ old → IsReady old → Takes (is_aligned now.variant) (freedoms now.variant) (state_of now) r (p, k) → level now.most r now.levels ≡ Some l → m ≡ kept now r p k → new ≡ record { place = p; scopes = k; levels = l; most = now.most; failed = now.failed; variant = now.variant; stands = m } → Finds old r new

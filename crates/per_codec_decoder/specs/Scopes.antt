@@ -14,7 +14,7 @@ use Rattle.per_codec_decoder.specs.declared.frames.Ending.TheVariants.{Nothing, 
 
 -- An open scope.
 abbrev pub scope_of : Frame → Scope
-scope_of (Components x r) = components x r.place.1
+scope_of (Components r x) = components x r.place.1
 scope_of (Added a) = added (own_presence a) (unknown_presence a)
 scope_of (OpenType p) = open_type p.place
 scope_of (Members p) = members p.due p.tally

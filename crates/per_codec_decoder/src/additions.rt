@@ -24,9 +24,6 @@ impl Additions<'_> {
             return None;
         }
         self.left -= 1;
-        if self.bitmap.is_empty() {
-            return Some(false);
-        }
         match self.bitmap.next_bit() {
             Some(is_there) => Some(is_there),
             None => Some(false),

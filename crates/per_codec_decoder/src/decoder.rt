@@ -23,6 +23,7 @@ use crate::{
     Additions, Enclosing, Ending, Frame, Scopes, read_bitmap, read_members, read_preamble,
 };
 use asn1_schema_constraints::{Bounded, Constraints, Sizes};
+use asn1_schema_decode::{Decoder as _, go_on};
 use asn1_schema_faults::{CodecKind, DecodeError};
 use asn1_schema_tags::{Tag, TagTables};
 use asn1_schema_variants::{Chosen, Enumerated};
@@ -41,7 +42,7 @@ use per_codec_reading_values::{
 use std::alloc::Global;
 use std::borrow::CowSlice;
 use std::marker::Model;
-use std::mem::replace;
+use std::mem::{forget, replace};
 
 /// A decoder of the packed encoding rules (X.691), unaligned or aligned, which lends octets from its input where they
 /// stand there.
@@ -76,7 +77,7 @@ impl<'input> Model for Decoder<'input> {
 // reached, and after a refusal no more.
 macro_rules! record {
     ($decoder:ident, $cursor:ident, $read:expr) => {{
-        $decoder.begin_record()?;
+        go_on($decoder.failed)?;
         let mut $cursor = $decoder.place.cursor();
         let answer = $read;
         let position = $cursor.position();
@@ -138,6 +139,17 @@ impl<'input> Decoder<'input> {
         record!(self, cursor, read_completion(&mut cursor))
     }
 
+    /// Ends the work of the decoder, which has read a message: what memory it took is let go. Mostly it took none: then
+    /// there is nothing to call.
+    #[inline(always)]
+    pub fn let_go(self) {
+        if self.place.is_lent() && self.scopes.hold_no_memory() {
+            forget(self);
+        } else {
+            drop(self);
+        }
+    }
+
     // The octets of a string (X.680 23) under a size constraint, lent where they stand in the input as they are, in
     // one run (X.691 11.9.4) that begins at an octet of it.
     #[inline(always)]
@@ -160,7 +172,7 @@ impl<'input> Decoder<'input> {
         ensures already { HasFailed self.old → result ≡ Err DecodeError.AlreadyFailed }
         ensures after { result ≡ Err DecodeError.AlreadyFailed → HasFailed self.old }
     {
-        self.begin_record()?;
+        go_on(self.failed)?;
         let mut cursor = self.place.cursor();
         if let Some(bits) = self.place.lent_bits() {
             let lent = read_octet_string_in(alloc, bits, &mut cursor, self.variant, sizes, held);
@@ -171,30 +183,6 @@ impl<'input> Decoder<'input> {
         let position = cursor.position();
         let octets = self.settle(position, answer)?;
         Ok(CowSlice::Owned(octets))
-    }
-
-    // Fails for this reason, from now on.
-    fn fail(&mut self, error: DecodeError) -> DecodeError
-        ensures refused { result ≡ error }
-        ensures failed { self.new.failed ≡ true }
-    {
-        self.failed = true;
-        error
-    }
-
-    // Goes on, unless the decoder has failed.
-    #[inline(always)]
-    fn begin_record(&mut self) -> Result<(), DecodeError>
-        ensures ok { OnOk result (IsReady self.old × (self.new ≡ self.old)) }
-        ensures only { IfErr result (λ _. IsReady self.old → ⊥) }
-        ensures failed { OnErr result (self.new.failed ≡ true) }
-        ensures already { self.old.failed ≡ true → result ≡ Err DecodeError.AlreadyFailed }
-        ensures after { OnErr result (self.old.failed ≡ true) }
-    {
-        if self.failed {
-            return Err(DecodeError::AlreadyFailed);
-        }
-        Ok(())
     }
 
     // Goes on behind what a reader found, at this position, or fails as it did.
@@ -214,7 +202,7 @@ impl<'input> Decoder<'input> {
                 self.place.move_to(position);
                 Ok(value)
             }
-            Err(error) => Err(self.fail(error)),
+            Err(error) => Err(self.refuse(error)),
         }
     }
 
@@ -237,7 +225,7 @@ impl<'input> Decoder<'input> {
         ensures failed { OnErr result (self.new.failed ≡ true) }
     {
         let Ok(()) = self.scopes.open(frame) else {
-            return Err(self.fail(DecodeError::OutOfMemory));
+            return Err(self.refuse(DecodeError::OutOfMemory));
         };
         self.descend();
         Ok(())
@@ -262,7 +250,7 @@ impl<'input> Decoder<'input> {
         ensures failed { OnErr result (self.new.failed ≡ true) }
     {
         let Ok(()) = self.scopes.enclose(Enclosing::Alternative) else {
-            return Err(self.fail(DecodeError::OutOfMemory));
+            return Err(self.refuse(DecodeError::OutOfMemory));
         };
         self.descend();
         Ok(())
@@ -294,9 +282,9 @@ impl<'input> Decoder<'input> {
         ensures already { self.old.failed ≡ true → result ≡ Err DecodeError.AlreadyFailed }
         ensures after { result ≡ Err DecodeError.AlreadyFailed → self.old.failed ≡ true }
     {
-        self.begin_record()?;
+        go_on(self.failed)?;
         if self.levels == 0 {
-            return Err(self.fail(DecodeError::ExceedsMaxParseDepth));
+            return Err(self.refuse(DecodeError::ExceedsMaxParseDepth));
         }
         let alloc = self.scopes.allocator();
         let mut cursor = self.place.cursor();
@@ -331,14 +319,14 @@ impl<'input> Decoder<'input> {
         ensures already { self.old.failed ≡ true → result ≡ Err DecodeError.AlreadyFailed }
         ensures after { result ≡ Err DecodeError.AlreadyFailed → self.old.failed ≡ true }
     {
-        self.begin_record()?;
+        go_on(self.failed)?;
         if self.levels == 0 {
-            return Err(self.fail(DecodeError::ExceedsMaxParseDepth));
+            return Err(self.refuse(DecodeError::ExceedsMaxParseDepth));
         }
         let alloc = self.scopes.allocator();
         match read_preamble(alloc, &mut self.place, self.variant, extensible, optional) {
             Ok(frame) => self.enter(frame),
-            Err(error) => Err(self.fail(error)),
+            Err(error) => Err(self.refuse(error)),
         }
     }
 
@@ -352,11 +340,11 @@ impl<'input> Decoder<'input> {
         let alloc = self.scopes.allocator();
         let inside = match self.place.take_open_type(alloc, self.variant) {
             Ok(inside) => inside,
-            Err(error) => return Err(self.fail(error)),
+            Err(error) => return Err(self.refuse(error)),
         };
         let behind = replace(&mut self.place, inside);
         let Ok(()) = self.scopes.enclose(Enclosing::OpenType(behind)) else {
-            return Err(self.fail(DecodeError::OutOfMemory));
+            return Err(self.refuse(DecodeError::OutOfMemory));
         };
         Ok(())
     }
@@ -417,7 +405,8 @@ impl<'input> asn1_schema_decode::Decoder for Decoder<'input> {
     }
 
     fn refuse(&mut self, error: DecodeError) -> DecodeError {
-        self.fail(error)
+        self.failed = true;
+        error
     }
 
     #[inline(always)]
@@ -535,7 +524,7 @@ impl<'input> asn1_schema_decode::Decoder for Decoder<'input> {
 
     #[inline(always)]
     fn get_further(&mut self) -> Result<bool, DecodeError> {
-        self.begin_record()?;
+        go_on(self.failed)?;
         if self.scopes.take_due_member() {
             return Ok(true);
         }
@@ -567,27 +556,27 @@ impl<'input> asn1_schema_decode::Decoder for Decoder<'input> {
 
     #[inline(always)]
     fn get_presence_bit(&mut self) -> Result<bool, DecodeError> {
-        self.begin_record()?;
+        go_on(self.failed)?;
         match self.scopes.next_presence_bit() {
             Some(present) => Ok(present),
-            None => Err(self.fail(DecodeError::NotValidCanonicalEncoding)),
+            None => Err(self.refuse(DecodeError::NotValidCanonicalEncoding)),
         }
     }
 
     fn note_default(&mut self) -> Result<(), DecodeError> {
-        self.begin_record()?;
+        go_on(self.failed)?;
         Ok(())
     }
 
     fn note_empty(&mut self) -> Result<(), DecodeError> {
-        self.begin_record()?;
+        go_on(self.failed)?;
         Ok(())
     }
 
     fn begin_additions(&mut self, count: usize) -> Result<(), DecodeError> {
-        self.begin_record()?;
+        go_on(self.failed)?;
         let Some(is_extended) = self.scopes.extension_bit() else {
-            return Err(self.fail(DecodeError::NotValidCanonicalEncoding));
+            return Err(self.refuse(DecodeError::NotValidCanonicalEncoding));
         };
         let alloc = self.scopes.allocator();
         match read_bitmap(alloc, &mut self.place, self.variant, is_extended) {
@@ -597,15 +586,15 @@ impl<'input> asn1_schema_decode::Decoder for Decoder<'input> {
                     .replace(Frame::Added(Additions { left, bitmap }));
                 Ok(())
             }
-            Err(error) => Err(self.fail(error)),
+            Err(error) => Err(self.refuse(error)),
         }
     }
 
     #[inline(always)]
     fn get_addition(&mut self) -> Result<bool, DecodeError> {
-        self.begin_record()?;
+        go_on(self.failed)?;
         let Some(is_there) = self.scopes.next_addition() else {
-            return Err(self.fail(DecodeError::NotValidCanonicalEncoding));
+            return Err(self.refuse(DecodeError::NotValidCanonicalEncoding));
         };
         if is_there {
             self.open_type()?;
@@ -614,20 +603,20 @@ impl<'input> asn1_schema_decode::Decoder for Decoder<'input> {
     }
 
     fn end_addition(&mut self) -> Result<(), DecodeError> {
-        self.begin_record()?;
+        go_on(self.failed)?;
         let Some(behind) = self.scopes.leave_addition() else {
-            return Err(self.fail(DecodeError::NotValidCanonicalEncoding));
+            return Err(self.refuse(DecodeError::NotValidCanonicalEncoding));
         };
         match self.pass_over(Ending::OpenType(behind)) {
             Ok(()) => Ok(()),
-            Err(error) => Err(self.fail(error)),
+            Err(error) => Err(self.refuse(error)),
         }
     }
 
     fn begin_choice(&mut self, _tag: Tag, tables: &TagTables<'_>) -> Result<Chosen, DecodeError> {
-        self.begin_record()?;
+        go_on(self.failed)?;
         if self.levels == 0 {
-            return Err(self.fail(DecodeError::ExceedsMaxParseDepth));
+            return Err(self.refuse(DecodeError::ExceedsMaxParseDepth));
         }
         let alloc = self.scopes.allocator();
         let root_count = tables.roots().len();
@@ -655,19 +644,19 @@ impl<'input> asn1_schema_decode::Decoder for Decoder<'input> {
 
     #[inline(always)]
     fn end(&mut self) -> Result<(), DecodeError> {
-        self.begin_record()?;
+        go_on(self.failed)?;
         if self.levels >= self.most {
-            return Err(self.fail(DecodeError::NotValidCanonicalEncoding));
+            return Err(self.refuse(DecodeError::NotValidCanonicalEncoding));
         }
         let Some(ending) = self.scopes.leave() else {
-            return Err(self.fail(DecodeError::NotValidCanonicalEncoding));
+            return Err(self.refuse(DecodeError::NotValidCanonicalEncoding));
         };
         match self.pass_over(ending) {
             Ok(()) => {
                 self.levels += 1;
                 Ok(())
             }
-            Err(error) => Err(self.fail(error)),
+            Err(error) => Err(self.refuse(error)),
         }
     }
 

@@ -20,9 +20,9 @@ use std::mem::replace;
 /// What has begun and has not ended.
 #[derive(Drop)]
 pub enum Frame<'input> {
-    /// The components of a sequence, set or group (X.691 19): its extension bit, if it has one, and the presence bits
-    /// that are still to come.
-    Components(Option<bool>, Stretch<'input>),
+    /// The components of a sequence, set or group (X.691 19): the presence bits that are still to come, and the
+    /// extension bit, if there is one.
+    Components(Stretch<'input>, Option<bool>),
     /// The additions of a sequence or set (X.691 19.7) that are still to come.
     Added(Additions<'input>),
     /// An addition, or an added alternative (X.691 11.2): the place behind its open type.
@@ -158,6 +158,12 @@ impl<'input> Scopes<'input> {
         }
     }
 
+    /// Whether no scope is open and no memory was taken for any, as it is mostly at the end of a message.
+    #[inline(always)]
+    pub fn hold_no_memory(&self) -> bool {
+        self.enclosing.is_none() && self.innermost.is_none() && self.outer.capacity() == 0
+    }
+
     /// Where the memory comes from.
     pub fn allocator(&self) -> Global {
         *self.outer.allocator()
@@ -211,7 +217,7 @@ impl<'input> Scopes<'input> {
             return None;
         }
         match &mut self.innermost {
-            Some(Frame::Components(_, presence)) => presence.next_bit(),
+            Some(Frame::Components(presence, _)) => presence.next_bit(),
             _ => None,
         }
     }
@@ -226,7 +232,7 @@ impl<'input> Scopes<'input> {
             return None;
         }
         match &self.innermost {
-            Some(Frame::Components(bit, presence)) if presence.is_empty() => *bit,
+            Some(Frame::Components(presence, bit)) if presence.is_empty() => *bit,
             _ => None,
         }
     }
@@ -370,11 +376,15 @@ impl<'input> Scopes<'input> {
         ensures behind { IfSome result (λ ending. LeavesBehind ending self.old.behind self.new.behind) }
         ensures none { IfNone result (NoEnd self.old.scopes) }
     {
+        if let Some(Enclosing::Alternative) = &self.enclosing {
+            self.enclosing = None;
+            return Some(Ending::Nothing);
+        }
         if let Some(enclosing) = self.enclosing.take() {
             return Some(enclosing.ending());
         }
         match self.pop() {
-            Some(Frame::Components(None, presence)) => {
+            Some(Frame::Components(presence, None)) => {
                 if !presence.is_empty() {
                     return None;
                 }
@@ -383,6 +393,9 @@ impl<'input> Scopes<'input> {
             Some(Frame::Added(additions)) => {
                 if additions.left > 0 {
                     return None;
+                }
+                if additions.bitmap.is_empty() {
+                    return Some(Ending::Nothing);
                 }
                 Some(Ending::Unknown(additions.bitmap))
             }

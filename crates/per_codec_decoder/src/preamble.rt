@@ -61,7 +61,7 @@ pub fn read_preamble<'input>(
 {
     let extension_bit = read_extension_bit(place, extensible)?;
     let presence = place.take_field(alloc, variant, Field::Bits(optional))?;
-    Ok(Frame::Components(extension_bit, presence))
+    Ok(Frame::Components(presence, extension_bit))
 }
 
 /// Reads the bitmap of the additions of a sequence or set (X.691 19.7), if the extension bit tells that there is one.

@@ -62,6 +62,11 @@ pub replaced_within : (outer around : List Frame) (t : Option Frame) (old new : 
 replaced_within outer around None old new n e = absurd (one_there around old (sym e ∙ ap (λ l. l ++ []) (n refl)))
 replaced_within outer around (Some f) old new n e = ap (λ l. l ++ new ∷ []) (same_from_push outer around f old e).0
 
+-- what is around the innermost
+pub around_left : (outer around : List Frame) (t : Option Frame) (left : Frame) → (t ≡ None → outer ≡ []) → outer ++ option_to_list t ≡ around ++ left ∷ [] → outer ≡ around
+around_left outer around None left n e = absurd (one_there around left (sym e ∙ ap (λ l. l ++ []) (n refl)))
+around_left outer around (Some f) left n e = (same_from_push outer around f left e).0
+
 -- where nothing is open, no member comes
 pub no_member : (al : Bool) (fs outer : List Frame) (t : Option Frame) (o : Packed) (more : Bool) → outer ++ option_to_list t ≡ fs → t ≡ None → outer ≡ [] → (s : State) → Holds (reverse fs) o s → run al (further more) s ≡ None
 no_member al fs outer t o more a e n s h =

@@ -194,6 +194,18 @@ differ_false : (x : Bool) → not (beq false x) ≡ true → x ≡ true
 differ_false true h = refl
 differ_false false h = cc
 
+-- a member that is due comes, in front of any further length determinant
+pub due_comes : (al more : Bool) (d next : Due) (o : Packed) → more ≡ true → 0 < d.units → next.units ≡ d.units - 1 → next.behind ≡ d.behind → GoesOnInList al more d o next o
+due_comes al false d next o e some less same = cc e
+due_comes al true d next o e some less same = record {
+  text = [];
+  added = ap (λ t. let q : Packed = record { text = t; placed = o.placed } in q) (sym (append-nil o.text));
+  goes = λ os k q. ap (λ n. goes_on_in al n (determinants_of d.behind) os k true) one ∙ ap (λ b. let s : State = (os, members next.units (determinants_of b) ∷ k) in Some s) (sym same) ∙ ap (λ l. let s : State = (l, members next.units (determinants_of next.behind) ∷ k) in Some s) (sym (append-nil os));
+}
+  where
+    one : d.units ≡ suc next.units
+    one = omega (arith, some, less)
+
 module _ (al : Bool) (d next : Due) (o p : Packed) (g : GoesOn al d o next p) where
   abbrev less : ℕ → Due
   less k = record { units = next.units - k; behind = next.behind }

@@ -7,6 +7,7 @@ use Rattle.asn1_model.specs.Numbers.{packed}
 use Rattle.asn1_model.specs.Form.{written}
 use Rattle.asn1_model.specs.Per
 use Rattle.asn1_model.specs.Rules.{uper, aper, uper_strict, aper_strict, per, encoding, of_moderate_length, canonical}
+use Rattle.asn1_schema_encode.specs.Written.{IsWrittenIn}
 use Rattle.asn1_schema_presented.specs.Records.{Record}
 use Rattle.asn1_schema_presented.specs.Presents.{presents, Fits}
 use Rattle.asn1_schema_presented.specs.Chains.{Chain}
@@ -14,7 +15,7 @@ use Rattle.asn1_schema_presented.specs.Tables.{IsValue}
 use Rattle.per_codec_packing.specs.Texts.{Text, as_text, plain, text_at}
 use Rattle.per_codec_encoder.specs.Steps.{State, Step}
 use Rattle.per_codec_encoder.specs.Ties.{octets_of}
-use Rattle.per_codec_encoder.specs.Written.{bits_of, WrittenByRecords, RefusedByRecords, IsWriter, HasOctets, WritesTheOctets, RefusesOnlyNone}
+use Rattle.per_codec_encoder.specs.Written.{bits_of, WrittenByRecords, RefusedByRecords, IsWriter, packed_rules, WritesTheOctets, RefusesOnlyNone}
 use Rattle.per_codec_packing.proofs.Formed.{known, plain_text}
 use Rattle.per_codec_encoder.proofs.Chains.{added}
 
@@ -100,7 +101,7 @@ by_variant false s v = (refl, refl)
 padded_octets : Option (List Bool) → Option (List ℕ)
 padded_octets o = option_map packed (option_and_then (λ w. written (Per.padded w) 0) o)
 
-canonically : (al : Bool) (schema : ℕ → Schema) (v : Value) (o : Option (List Bool)) → ((n : ℕ) → Fits (schema n) v → bits_of al (schema n) v ≡ o) → HasOctets al schema v (option_and_then of_moderate_length (padded_octets o))
+canonically : (al : Bool) (schema : ℕ → Schema) (v : Value) (o : Option (List Bool)) → ((n : ℕ) → Fits (schema n) v → bits_of al (schema n) v ≡ o) → IsWrittenIn (packed_rules al) schema v (option_and_then of_moderate_length (padded_octets o))
 unfolding canonical per Per.message Per.complete written padded_octets
 canonically al schema v o h n f =
     let b = by_variant al (schema n) (normal (schema n) v) in
@@ -115,7 +116,7 @@ pub writes_the_octets : {S : Type 0} {step : S → Record → S → Type 0} {ali
 writes_the_octets {aligned} {held} h schema v old new i e w =
     let P : State → Type 0 = λ s. (n : ℕ) → Fits (schema n) v → Chain (Step (aligned old)) (presents (schema n) v) s (held new) in
     let t = (written_by_records (aligned old) schema v (held new) i).0 (record { chain = subst P e (λ n f. chain_held h (presents (schema n) v) old new (w.chain n f)) }) in
-    let Q : Option (List ℕ) → Type 0 = λ o. HasOctets (aligned old) schema v (option_and_then of_moderate_length o) in
+    let Q : Option (List ℕ) → Type 0 = λ o. IsWrittenIn (packed_rules (aligned old)) schema v (option_and_then of_moderate_length o) in
     (ap (λ (s : State). s.1) t.1, subst Q (padded_text t.0 ∙ ap octets_of (sym t.1)) (canonically (aligned old) schema v (Some t.0) t.2))
 
 pub refuses_only_none : {S : Type 0} {step : S → Record → S → Type 0} {aligned : S → Bool} {held : S → State} {Ready : S → Type 0} → IsWriter step aligned held Ready → RefusesOnlyNone step aligned held Ready

@@ -1,14 +1,15 @@
 -- What a writer holds behind the records of a value, in whatever depth its type is unfolded: the canonical bits.
-use Rattle.std.specs.Prelude.{◌≡◌, ◌↔◌, ℕ, Bool, cond, List, [], Option, Some, None, option_and_then}
+use Rattle.std.specs.Prelude.{◌≡◌, ◌↔◌, ℕ, Bool, cond, List, [], ◌∷◌, Option, Some, None, option_and_then}
 use Rattle.asn1_model.specs.Schema.{Schema}
 use Rattle.asn1_model.specs.Value.{Value}
 use Rattle.asn1_model.specs.Normal.{normal}
 use Rattle.asn1_model.specs.Form.{written}
 use Rattle.asn1_model.specs.Per
-use Rattle.asn1_model.specs.Rules.{uper, aper, uper_strict, aper_strict, of_moderate_length, canonical}
+use Rattle.asn1_model.specs.Rules.{Rules, uper, aper, uper_strict, aper_strict, of_moderate_length}
 use Rattle.asn1_schema_faults.specs.declared.EncodeError.{EncodeError}
 use Rattle.asn1_schema_faults.specs.declared.EncodeError.TheVariants.{OutOfMemory}
 use Rattle.asn1_schema_encode.specs.Writes.{Writes, CannotWrite}
+use Rattle.asn1_schema_encode.specs.Written.{IsWrittenIn}
 use Rattle.asn1_schema_presented.specs.Records.{Record}
 use Rattle.asn1_schema_presented.specs.Presents.{Fits}
 use Rattle.asn1_schema_presented.specs.Tables.{IsValue}
@@ -41,20 +42,20 @@ pub record IsWriter {S : Type 0} (step : S → Record → S → Type 0) (aligned
   pub takes_all : (a : S) (r : Record) (m : State) → Ready a → Step (aligned a) (held a) r m
       → (b : S) × step a r b × (held b ≡ m)
 
--- The canonical encoding in both rules of a variant, in whatever depth the type is unfolded.
-abbrev pub HasOctets : Bool → (ℕ → Schema) → Value → Option (List ℕ) → Type 0
-HasOctets al schema v w = (n : ℕ) → Fits (schema n) v
-    → (canonical (cond al aper uper) (schema n) v ≡ w) × (canonical (cond al aper_strict uper_strict) (schema n) v ≡ w)
+-- The rules of a variant, which have one writer.
+abbrev pub packed_rules : Bool → List Rules
+packed_rules al = cond al aper uper ∷ cond al aper_strict uper_strict ∷ []
 
 -- Such a writer that held nothing holds the canonical encoding of the value, once it is padded to octets, but for
 -- the bound on their length.
 abbrev pub WritesTheOctets : {S : Type 0} → (S → Record → S → Type 0) → (S → Bool) → (S → State) → Type 0
 WritesTheOctets {S} step aligned held = (schema : ℕ → Schema) (v : Value) (old new : S) → IsValue schema v
     → held old ≡ ([], []) → Writes step schema v old new
-    → ((held new).1 ≡ []) × HasOctets (aligned old) schema v (option_and_then of_moderate_length (octets_of (held new)))
+    → ((held new).1 ≡ [])
+    × IsWrittenIn (packed_rules (aligned old)) schema v (option_and_then of_moderate_length (octets_of (held new)))
 
 -- It refuses a value for another reason than memory only where that has no encoding.
 abbrev pub RefusesOnlyNone : {S : Type 0} → (S → Record → S → Type 0) → (S → Bool) → (S → State) → (S → Type 0) → Type 0
 RefusesOnlyNone {S} step aligned held Ready = (schema : ℕ → Schema) (v : Value) (old : S) (x : EncodeError)
     → IsValue schema v → Ready old → held old ≡ ([], []) → ¬ (x ≡ OutOfMemory) → CannotWrite step schema v old x
-    → HasOctets (aligned old) schema v None
+    → IsWrittenIn (packed_rules (aligned old)) schema v None

@@ -20,6 +20,7 @@ use std::alloc::Global;
 /// # Errors
 ///
 /// `ValueConstraintNotSatisfied` where the choice has no such place; `OutOfMemory`.
+#[inline(always)]
 pub(crate) fn begin_alternative(
     output: &mut Packing,
     frames: &mut Frames,

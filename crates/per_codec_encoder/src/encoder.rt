@@ -1,5 +1,6 @@
 //! The encoder.
 ghost use Rattle.std.specs.Prelude.{◌≡◌, OnOk, OnErr, IfOk, IfErr, MatchResult, [], Some, true, false};
+ghost use Rattle.asn1_schema_encode.specs.Fronts.{no_front};
 ghost use Rattle.asn1_schema_encode.specs.Writes.{Refused};
 ghost use Rattle.asn1_schema_presented.specs.Records.{one_of};
 ghost use Rattle.per_codec_packing.specs.Texts.{as_text};
@@ -63,6 +64,7 @@ impl Model for Encoder {
 
 /// The octets of a message: its bits, padded with zero bits to whole octets, and one zero octet in place of no bits
 /// (X.691 11.1).
+#[inline(always)]
 fn message(bits: BitBuffer) -> Result<Vec<u8>, EncodeError>
     ensures { MatchResult result (λ octets. octets_of (as_text bits, []) ≡ Some octets.items)
         (λ e. (e ≡ EncodeError.OutOfMemory) × (bits ≡ [])) }
@@ -90,6 +92,7 @@ impl Encoder {
     }
 
     /// An encoder that holds nothing, and writes into the room of these octets, which are cleared.
+    #[inline(always)]
     pub fn new_with_output(alloc: Global, options: EncoderOptions, output: Vec<u8>) -> Self
         ensures { result ≡ record { state = ([], []); aligned = are_aligned options; failed = false } }
     {
@@ -121,19 +124,21 @@ impl Encoder {
         message(bits)
     }
 
-    /// The octets of the message (X.691 11.1), at least one, as `output` takes them.
+    /// The octets of the message (X.691 11.1), at least one, as `output` takes them. What is open is let go first.
     ///
     /// # Errors
     ///
     /// Those of `output`.
+    #[inline(always)]
     pub fn output_into_vec(self) -> Result<Vec<u8>, EncodeError>
         ensures octets { IfOk result (λ octets. self.failed ≡ false → self.state.1 ≡ []
             → octets_of self.state ≡ Some octets.items) }
         ensures only { IfErr result (λ e. e ≡ EncodeError.OutOfMemory) }
         ensures bare { OnErr result (self.failed ≡ false → self.state.1 ≡ [] → self.state.0 ≡ []) }
     {
-        let mut encoder = self;
-        encoder.output()
+        let Encoder { output, frames, .. } = self;
+        frames.let_go();
+        message(output.into_bits())
     }
 }
 
@@ -154,6 +159,8 @@ impl asn1_schema_encode::Encoder for Encoder {
     ghost step = { Puts };
 
     ghost has_failed = { λ e. e.failed ≡ true };
+
+    ghost front = { no_front };
 
     ghost rules = { λ e. rules_of e.aligned };
 
@@ -205,12 +212,14 @@ impl asn1_schema_encode::Encoder for Encoder {
         ensures only { IfErr result (Refused Puts
             (one_of T.roots T.extensible T.additions (T.number value.now)) self.old) }
         ensures failed { OnErr result (self.new.failed ≡ true) }
+        ensures front { no_front self.new ≡ no_front self.old }
         ensures already { self.old.failed ≡ true → result ≡ Err EncodeError.AlreadyFailed }
         ensures after { result ≡ Err EncodeError.AlreadyFailed → self.old.failed ≡ true }
     {
         record!(self, push_enumerated(&mut self.output, self.variant, value))
     }
 
+    #[inline(always)]
     fn encode_bit_string(
         &mut self,
         _tag: Tag,
@@ -240,6 +249,7 @@ impl asn1_schema_encode::Encoder for Encoder {
         )
     }
 
+    #[inline(always)]
     fn encode_utf8_string(
         &mut self,
         _tag: Tag,
@@ -253,6 +263,7 @@ impl asn1_schema_encode::Encoder for Encoder {
         )
     }
 
+    #[inline(always)]
     fn encode_characters<S: StaticPermittedAlphabet>(
         &mut self,
         _tag: Tag,

@@ -4,7 +4,7 @@ ghost use Rattle.std.specs.Prelude.{MatchResult};
 ghost use Rattle.asn1_model.specs.Form.{is_any_present};
 ghost use Rattle.asn1_model.specs.Per.{additions};
 ghost use Rattle.asn1_schema_presented.specs.Records.{ends};
-ghost use Rattle.per_codec_packing.specs.Packed.{Adds, place, solid, with_bit};
+ghost use Rattle.per_codec_packing.specs.Packed.{Adds, Packed, place, solid, with_bit};
 ghost use Rattle.per_codec_packing.specs.Texts.{text_at};
 ghost use Rattle.per_codec_writing.specs.Additions.{as_open_types};
 ghost use Rattle.per_codec_encoder.specs.declared.frame.Frame.{Frame};
@@ -95,14 +95,36 @@ fn end_open_type(output: &mut Packing, outer: Packing, variant: Variant) -> Resu
     Ok(())
 }
 
-/// Ends what is innermost: a sequence, set or group of which nothing is due (X.691 19), a list with all its members and
-/// length determinants (X.691 20), a bag (X.691 22), an open type (X.691 11.2) or an alternative (X.691 23).
-///
-/// # Errors
-///
-/// `CallOutOfPlace` where nothing is open, or something of what is innermost is due; `OutOfMemory`.
+/// Whether nothing of a frame is due, and nothing is written at its end.
 #[inline(always)]
-pub(crate) fn end_scope(
+pub(crate) fn is_complete(frame: &Frame) -> bool
+    ensures { result ≡ true → (al : Bool) (fs : List Frame) (o : Packed)
+        → Does al ends (fs ++ frame.now ∷ []) o fs o }
+{
+    match frame {
+        Frame::Components {
+            extensible,
+            due,
+            ..
+        } => {
+            if *extensible || *due > 0 {
+                return false;
+            }
+            true
+        }
+        Frame::Members(due) => {
+            if due.units > 0 || due.behind.is_some() {
+                return false;
+            }
+            true
+        }
+        Frame::Alternative => true,
+        _ => false,
+    }
+}
+
+/// Ends what is innermost, as `end_scope` does.
+fn end_taken(
     output: &mut Packing,
     frames: &mut Frames,
     alloc: Global,
@@ -144,4 +166,27 @@ pub(crate) fn end_scope(
         Some(Frame::Alternative) => Ok(()),
         None => Err(EncodeError::CallOutOfPlace),
     }
+}
+
+/// Ends what is innermost: a sequence, set or group of which nothing is due (X.691 19), a list with all its members and
+/// length determinants (X.691 20), a bag (X.691 22), an open type (X.691 11.2) or an alternative (X.691 23).
+///
+/// # Errors
+///
+/// `CallOutOfPlace` where nothing is open, or something of what is innermost is due; `OutOfMemory`.
+#[inline(always)]
+pub(crate) fn end_scope(
+    output: &mut Packing,
+    frames: &mut Frames,
+    alloc: Global,
+    variant: Variant,
+) -> Result<(), EncodeError>
+    requires { AreSound frames.old output.old }
+    ensures { MatchResult result (λ _. Does (is_aligned variant) ends frames.old output.old frames.new output.new)
+        (Cannot (is_aligned variant) ends frames.old output.old) }
+{
+    if frames.end_complete() {
+        return Ok(());
+    }
+    end_taken(output, frames, alloc, variant)
 }

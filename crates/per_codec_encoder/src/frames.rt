@@ -1,6 +1,8 @@
 //! What is open, from the outermost on.
-ghost use Rattle.std.specs.Prelude.{◌≡◌, ◌++◌, ◌∷◌, [], Bool, None, true, OnOk, IfErr, MatchResult, option_to_list};
-ghost use Rattle.asn1_schema_presented.specs.Records.{addition, addition_ends, additions_begin, further, presence_bit};
+ghost use Rattle.std.specs.Prelude.{◌≡◌, ◌++◌, ◌∷◌, [], Bool, None, true, false, OnOk, IfErr, MatchResult};
+ghost use Rattle.std.specs.Prelude.{option_to_list};
+ghost use Rattle.asn1_schema_presented.specs.Records.{addition, addition_ends, additions_begin, ends, further};
+ghost use Rattle.asn1_schema_presented.specs.Records.{presence_bit};
 ghost use Rattle.per_codec_packing.specs.Packed.{Packed};
 ghost use Rattle.per_codec_encoder.specs.declared.frame.Frame.{Frame};
 ghost use Rattle.per_codec_encoder.specs.Frames.{enclosed, CountsAddition, KeepsAddition};
@@ -78,6 +80,13 @@ impl Frames {
         self.nested.clear();
     }
 
+    /// Lets all go that is open.
+    #[inline(always)]
+    pub(crate) fn let_go(self) {
+        let Frames { nested, .. } = self;
+        nested.let_go();
+    }
+
     /// Opens a frame within what is innermost, which is let go where memory is refused.
     #[inline(always)]
     pub(crate) fn push(&mut self, frame: Frame) -> Result<(), AllocError>
@@ -122,6 +131,18 @@ impl Frames {
             Some(outer) => Some(Frame::OpenType { outer }),
             None => None,
         }
+    }
+
+    /// Ends what is innermost, if nothing of it is due and nothing is written at its end, and tells whether it did.
+    #[inline(always)]
+    pub(crate) fn end_complete(&mut self) -> bool
+        ensures ended { result ≡ true → (al : Bool) (o : Packed) → Does al ends self.old o self.new o }
+        ensures same { result ≡ false → self.new ≡ self.old }
+    {
+        if self.enclosing.is_some() {
+            return false;
+        }
+        self.nested.end_complete()
     }
 
     /// Behind the root of the innermost sequence or set with an extension bit come so many additions (X.691 19.7).

@@ -43,7 +43,7 @@ pub(crate) fn begin_members(
 
 /// Adds the length determinant that stands in front of the next member or the end, if one does (X.691 11.9.3.8). The
 /// only error is want of memory.
-#[inline]
+#[cold]
 fn push_next_length_determinant(
     output: &mut Packing,
     variant: Variant,
@@ -77,6 +77,10 @@ pub(crate) fn next_of_list(
     ensures { MatchResult result (λ _. GoesOnInList (is_aligned variant) more due.old output.old due.new output.new)
         (NoMember (is_aligned variant) more due.old output.old) }
 {
+    if more && due.units > 0 {
+        due.units -= 1;
+        return Ok(());
+    }
     let next = push_next_length_determinant(output, variant, *due)?;
     if more != (next.units > 0) {
         return Err(EncodeError::CallOutOfPlace);

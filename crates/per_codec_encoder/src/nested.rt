@@ -1,12 +1,14 @@
 //! What is open but for an open type innermost of all, from the outermost on.
-ghost use Rattle.std.specs.Prelude.{◌≡◌, ◌++◌, ◌∷◌, [], Bool, List, MatchOption, OnOk, IfErr, Some, option_to_list};
-ghost use Rattle.asn1_schema_presented.specs.Records.{addition, addition_ends};
+ghost use Rattle.std.specs.Prelude.{◌≡◌, ◌++◌, ◌∷◌, [], Bool, List, MatchOption, OnOk, IfErr, Some, true, false};
+ghost use Rattle.std.specs.Prelude.{option_to_list};
+ghost use Rattle.asn1_schema_presented.specs.Records.{addition, addition_ends, ends};
 ghost use Rattle.per_codec_packing.specs.Packed.{Packed};
 ghost use Rattle.per_codec_encoder.specs.declared.frame.Frame.{Frame};
 ghost use Rattle.per_codec_encoder.specs.Frames.{CountsAddition, KeepsAddition};
-ghost use Rattle.per_codec_encoder.specs.Holding.{Cannot};
+ghost use Rattle.per_codec_encoder.specs.Holding.{Cannot, Does};
 
 use crate::additions::count_addition;
+use crate::ends::is_complete;
 use crate::frame::Frame;
 use asn1_schema_faults::EncodeError;
 use asn1_values_bits::BitBuffer;
@@ -72,6 +74,23 @@ impl Nested {
         }
     }
 
+    /// Lets all go that is open. At the end of a message nothing is, and mostly no memory was taken: then there is
+    /// nothing to call.
+    #[inline(always)]
+    pub(crate) fn let_go(self) {
+        let Nested { innermost, outer } = self;
+        if innermost.is_none() {
+            mem::forget(innermost);
+        } else {
+            drop(innermost);
+        }
+        if outer.capacity() == 0 {
+            mem::forget(outer);
+        } else {
+            drop(outer);
+        }
+    }
+
     /// Opens a frame within what is innermost, which is let go where memory is refused.
     #[inline(always)]
     pub(crate) fn push(&mut self, frame: Frame) -> Result<(), AllocError>
@@ -97,6 +116,34 @@ impl Nested {
             return self.innermost.take();
         }
         mem::replace(&mut self.innermost, self.outer.pop())
+    }
+
+    /// Lets go what is innermost.
+    #[inline(always)]
+    fn leave(&mut self)
+        ensures { (around : List Frame) (left : Frame) → self.old ≡ around ++ left ∷ [] → self.new ≡ around }
+    {
+        if self.outer.is_empty() {
+            self.innermost = None;
+            return;
+        }
+        self.innermost = self.outer.pop();
+    }
+
+    /// Ends what is innermost, if nothing of it is due and nothing is written at its end, and tells whether it did.
+    #[inline(always)]
+    pub(crate) fn end_complete(&mut self) -> bool
+        ensures ended { result ≡ true → (al : Bool) (o : Packed) → Does al ends self.old o self.new o }
+        ensures same { result ≡ false → self.new ≡ self.old }
+    {
+        let Some(innermost) = &self.innermost else {
+            return false;
+        };
+        if !is_complete(innermost) {
+            return false;
+        }
+        self.leave();
+        true
     }
 
     /// What is innermost, if something is open.

@@ -106,8 +106,10 @@ fn next_of_frame(
         (fs ++ innermost.new ∷ []) output.new)
         (λ e. (fs : List Frame) → Cannot (is_aligned variant) (further more) (fs ++ innermost.old ∷ []) output.old e) }
 {
+    if let Frame::Members(due) = innermost {
+        return next_of_list(output, variant, due, more);
+    }
     match innermost {
-        Frame::Members(due) => next_of_list(output, variant, due, more),
         Frame::Bag(bag) => next_of_bag(output, bag, alloc, more),
         _ => Err(EncodeError::CallOutOfPlace),
     }

@@ -1,5 +1,5 @@
 -- What is kept shows the text.
-use Rattle.std.proofs.Common.{◌≡◌, ℕ, ◌+◌, ◌-◌, ◌≤◌, Bool, true, false, cond, List, [], ◌∷◌, ◌++◌, length, take, replicate, set, get_or, Some, None, refl, ap, sym, subst, ◌∙◌, append-nil, length-append, length-set, arith}
+use Rattle.std.proofs.Common.{◌≡◌, ℕ, ◌+◌, ◌-◌, ◌%◌, ◌≤◌, Bool, true, false, cond, List, [], ◌∷◌, ◌++◌, length, take, replicate, set, get_or, Some, None, refl, ap, sym, subst, ◌∙◌, append-nil, length-append, length-set, arith}
 use Rattle.asn1_model.specs.Numbers.{binary, missing, octet_bits}
 use Rattle.per_codec_packing.specs.Texts.{Text, padding, as_text, plain}
 use Rattle.per_codec_packing.proofs.Formed.{plain_text, length-text}
@@ -89,6 +89,13 @@ module _ (bits : List Bool) (paddings : List ℕ) (placed : Bool) (h : ArePaddin
 
     pub padding_added : (new : List Bool) → placed ≡ true → new ≡ bits ++ replicate (missing (length bits)) false → shown new paddings placed ≡ plus v (padding_at (place v))
     padding_added new p e = bits_added (replicate (missing (length bits)) false) new e ∙ ap (λ q. plus v (padding_at q)) (sym (place_is p))
+
+    -- no padding is missing behind whole octets
+    pub at_octet : placed ≡ true → length bits % 8 ≡ 0 → v ≡ plus v (padding_at (place v))
+    at_octet p e =
+        sym (ap (λ t. let q : Packed = record { text = t; placed = v.placed } in q) (append-nil v.text))
+        ∙ ap (λ r. plus v (as_text (replicate ((8 - r) % 8) false))) (sym e)
+        ∙ ap (λ q. plus v (padding_at q)) (sym (place_is p))
 
     pub left_open : (new : List ℕ) → placed ≡ false → new ≡ paddings ++ length bits ∷ [] → shown bits new placed ≡ plus v (padding_at (place v))
     left_open new p e =

@@ -64,6 +64,7 @@ impl Packing {
     }
 
     /// No bits, at the beginning of a message or open type, in the room of these octets, which are cleared.
+    #[inline(always)]
     pub fn from_octets(octets: Vec<u8>) -> Self
         ensures { result ≡ record { text = []; placed = true } }
     {
@@ -206,8 +207,19 @@ impl Packing {
     /// # Errors
     ///
     /// Want of memory; nothing is changed then.
-    #[inline]
+    #[inline(always)]
     pub fn push_padding(&mut self) -> Result<(), AllocError>
+        ensures ok { OnOk result (self.new ≡ plus self.old (padding_at (place self.old))) }
+        ensures err { OnErr result (self.new ≡ self.old) }
+    {
+        if self.is_placed && self.bits.len() % 8 == 0 {
+            return Ok(());
+        }
+        self.pad()
+    }
+
+    // Adds padding up to the next octet, as `push_padding` does.
+    fn pad(&mut self) -> Result<(), AllocError>
         ensures ok { OnOk result (self.new ≡ plus self.old (padding_at (place self.old))) }
         ensures err { OnErr result (self.new ≡ self.old) }
     {
@@ -257,6 +269,7 @@ impl Packing {
     }
 
     /// The bits, as `as_bits` shows them.
+    #[inline(always)]
     pub fn into_bits(self) -> BitBuffer
         ensures bits { result ≡ solid self.text }
         ensures placed { self.placed ≡ true → plain self.text ≡ Some result }

@@ -1,5 +1,5 @@
 -- What stands in front where a number within a bound does, or a constrained whole number.
-use Rattle.std.proofs.Common.{◌≡◌, inl, inr, ◌⊎◌, ℕ, zero, suc, ◌+◌, ◌-◌, ◌*◌, ◌/◌, ◌%◌, ◌^◌, ◌<◌, ◌≤◌, ◌==◌, leb, ltb, not, ◌&&◌, ◌||◌, Bool, true, false, IsTrue, [], ◌∷◌, ◌++◌, length, flat_map, refl, ap, sym, ◌∙◌, subst, cond, arith}
+use Rattle.std.proofs.Common.{◌≡◌, inl, inr, ◌⊎◌, ℕ, zero, suc, ◌+◌, ◌-◌, ◌*◌, ◌/◌, ◌^◌, ◌<◌, ◌≤◌, ◌==◌, leb, ltb, not, ◌&&◌, ◌||◌, Bool, true, false, IsTrue, [], ◌∷◌, ◌++◌, length, flat_map, refl, ap, sym, ◌∙◌, subst, cond, arith}
 use Rattle.std.proofs.lemmas.Bool.{lt-ltb, ltb-true, le-leb, leb-true, and_parts, and_from, eq-eqb, false≢true, false_from_ne_true, eqb-true}
 use Rattle.std.proofs.Math.Nat.{pow-le-pow_right}
 use Rattle.asn1_model.specs.Form.{exactly, varied, only_if, nothing_more}

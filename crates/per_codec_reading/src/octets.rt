@@ -92,6 +92,7 @@ impl<'input> Run<'input> {
 /// # Errors
 ///
 /// `Incomplete` if the bits end early, the errors of a length, and `OutOfMemory`.
+#[inline(always)]
 pub fn read_counted_octets<'input>(
     alloc: Global,
     cursor: &mut Cursor<'input>,

@@ -10,9 +10,8 @@ use Rattle.asn1_model.specs.Per
 use Rattle.asn1_schema_variants.specs.Items.{IsPlaced}
 use Rattle.asn1_schema_variants.specs.declared.chosen.Chosen.{Chosen}
 use Rattle.per_codec_fronts.specs.Takes.{Place, Front}
-use Rattle.per_codec_fronts.proofs.Fronts.{split, join, if_in, if_out, nothing_front, of_refused}
+use Rattle.per_codec_fronts.proofs.Fronts.{split, join, if_in, if_out, of_refused}
 use Rattle.per_codec_reading.specs.Fronts.{NoneStands}
-use Rattle.per_codec_reading.specs.Lengths.{one_bit}
 use Rattle.per_codec_fronts.specs.Sizes.{extension_bit}
 use Rattle.per_codec_fronts.proofs.Next.{same_extension_bit}
 use Rattle.per_codec_reading_values.specs.Places.{root_form, added_form, place_form, NoItem}

@@ -1,8 +1,8 @@
 -- One character more, from its code.
-use Rattle.std.proofs.Common.{◌≡◌, ℕ, zero, suc, ◌+◌, ◌-◌, ◌*◌, ◌^◌, ◌<◌, ◌≤◌, Bool, true, false, List, [], ◌∷◌, ◌++◌, length, take, drop, Option, Some, None, refl, ap, subst, sym, ◌∙◌, append_assoc, length-append, length-drop, arith}
+use Rattle.std.proofs.Common.{◌≡◌, ℕ, zero, suc, ◌+◌, ◌-◌, ◌*◌, ◌^◌, ◌<◌, ◌≤◌, Bool, true, List, [], ◌∷◌, ◌++◌, length, take, drop, Option, Some, None, refl, ap, subst, sym, ◌∙◌, append_assoc, length-append, length-drop, arith}
 use Rattle.std.specs.Prelude.{flat_map, is_some, unwrap_or}
-use Rattle.std.proofs.lemmas.Bool.{and_parts, and_from, false≢true}
-use Rattle.asn1_model.specs.Numbers.{binary}
+use Rattle.std.proofs.lemmas.Bool.{and_parts, and_from}
+use Rattle.asn1_model.specs.Numbers.{binary, octet_bits}
 use Rattle.asn1_model.specs.Schema.{StringKind}
 use Rattle.asn1_model.specs.Strings.{each_is}
 use Rattle.asn1_laws_fronts.proofs.PerNumbers.{binary_equal, length-binary}
@@ -53,7 +53,7 @@ record First (k : StringKind) (a : Coded) (o : Option ℕ) (c : ℕ) (cs : List 
   permitted : permits k c ≡ true
   others : Spells k a cs (drop a.code_bits w)
 
-module _ (k : StringKind) (a : Coded) (fit : IsFitting a) (o : Option ℕ) (number : ℕ) (w : List Bool) (digits : binary a.code_bits number ≡ take a.code_bits w) (below : number < 2 ^ a.code_bits) (alone : (c : ℕ) → code_of a c ≡ Some number → o ≡ Some c) where
+module _ (k : StringKind) (a : Coded) (fit : IsFitting a) (o : Option ℕ) (number : ℕ) (w : List Bool) (digits : binary a.code_bits number ≡ take a.code_bits w) (below : number < 2 ^ a.code_bits) (alone : (c : ℕ) → code_of a c ≡ Some number → permits k c ≡ true → o ≡ Some c) where
   first : (c : ℕ) (cs : List ℕ) → Spells k a (c ∷ cs) w → First k a o c cs w
   first c cs s =
       let p = and_parts _ _ s.permitted in
@@ -64,26 +64,18 @@ module _ (k : StringKind) (a : Coded) (fit : IsFitting a) (o : Option ℕ) (numb
       let same : binary a.code_bits number ≡ binary a.code_bits m.0 = digits ∙ ap (take a.code_bits) (sym s.spelled) ∙ f.0 ∙ t in
       let equal : number ≡ m.0 = binary_equal a.code_bits number m.0 below (fit.fits c m.0 m.1) same in
       record {
-        is = alone c (m.1 ∙ ap (λ n. Some n) (sym equal));
+        is = alone c (m.1 ∙ ap (λ n. Some n) (sym equal)) p.0;
         permitted = p.0;
         others = record { permitted = p.1; coded = q.1; spelled = sym f.1 ∙ ap (drop a.code_bits) s.spelled };
       }
 
-  -- A code of no character.
+  -- A code of no permitted character.
   pub no_character : (n : ℕ) → o ≡ None → Stuck k a (suc n) w
   no_character n e [] l s = absurd (omega arith)
   no_character n e (c ∷ cs) l s = let f = first c cs s in none_some (sym e ∙ f.is)
     where
       none_some : {x : ℕ} → None ≡ Some x → ⊥
       none_some q = cc
-
-  -- A code of a character that the type does not hold.
-  pub not_held : (n d : ℕ) → o ≡ Some d → permits k d ≡ false → Stuck k a (suc n) w
-  not_held n d e h [] l s = absurd (omega arith)
-  not_held n d e h (c ∷ cs) l s = let f = first c cs s in false≢true (sym h ∙ ap (permits k) (some_same (sym e ∙ f.is)) ∙ f.permitted)
-    where
-      some_same : {x y : ℕ} → Some x ≡ Some y → x ≡ y
-      some_same q = cc
 
   -- What cannot go on cannot begin.
   pub stuck_before : (n : ℕ) → Stuck k a n (drop a.code_bits w) → Stuck k a (suc n) w
@@ -113,15 +105,12 @@ begins k a count done codes e w =
     less : (n : ℕ) → n ≡ n - 0
     less n = omega arith
 
-module _ (k : StringKind) (a : Coded) (count place : ℕ) (done : List ℕ) (rest codes : List Bool) (b : Begun k a count place done rest codes) (l : place < count) (o : Option ℕ) (number : ℕ) (digits : binary a.code_bits number ≡ take a.code_bits rest) (below : number < 2 ^ a.code_bits) (alone : (c : ℕ) → code_of a c ≡ Some number → o ≡ Some c) where
+module _ (k : StringKind) (a : Coded) (count place : ℕ) (done : List ℕ) (rest codes : List Bool) (b : Begun k a count place done rest codes) (l : place < count) (o : Option ℕ) (number : ℕ) (digits : binary a.code_bits number ≡ take a.code_bits rest) (below : number < 2 ^ a.code_bits) (alone : (c : ℕ) → code_of a c ≡ Some number → permits k c ≡ true → o ≡ Some c) where
   one_left : count - place ≡ suc (count - (place + 1))
   one_left = omega arith
 
   pub ends_without : o ≡ None → IsFitting a → Stuck k a count codes
   ends_without e f = b.stuck f (subst (λ n. Stuck k a n rest) (sym one_left) (no_character k a f o number rest digits below alone (count - (place + 1)) e))
-
-  pub ends_outside : (d : ℕ) → o ≡ Some d → permits k d ≡ false → IsFitting a → Stuck k a count codes
-  ends_outside d e h f = b.stuck f (subst (λ n. Stuck k a n rest) (sym one_left) (not_held k a f o number rest digits below alone (count - (place + 1)) d e h))
 
   pub goes_on : (d : ℕ) (now : List ℕ) (left : List Bool) → now ≡ done ++ d ∷ [] → permits k d ≡ true → code_of a d ≡ Some number → left ≡ drop a.code_bits rest → Begun k a count (place + 1) now left codes
   goes_on d now left e p c r =
@@ -159,3 +148,30 @@ all_read k a count place done rest codes b l h =
     empty : (w : List Bool) → length w ≡ 0 → w ≡ []
     empty [] e = refl
     empty (x ∷ w) e = absurd (omega arith)
+
+-- ---- codes that are octets
+pub octet_first : (os ns : List ℕ) (o : ℕ) → os ≡ o ∷ ns → (take 8 (octet_bits os) ≡ binary 8 o) × (drop 8 (octet_bits os) ≡ octet_bits ns)
+octet_first os ns o e = rw e (front (binary 8 o) (octet_bits ns) 8 (length-binary 8 o))
+
+pub octet_count : (os : List ℕ) → length (octet_bits os) ≡ length os * 8
+octet_count [] = refl
+octet_count (o ∷ os) = let i = octet_count os in length-append (binary 8 o) (octet_bits os) ∙ omega arith
+
+module _ (a : Coded) (octet : a.code_bits ≡ 8) (os ns : List ℕ) (o : ℕ) (e : os ≡ o ∷ ns) where
+  pub octet_digits : binary a.code_bits o ≡ take a.code_bits (octet_bits os)
+  octet_digits = subst (λ w. binary w o ≡ take w (octet_bits os)) (sym octet) (sym (octet_first os ns o e).0)
+
+  pub octet_behind : octet_bits ns ≡ drop a.code_bits (octet_bits os)
+  octet_behind = subst (λ w. octet_bits ns ≡ drop w (octet_bits os)) (sym octet) (sym (octet_first os ns o e).1)
+
+pub octet_below : (a : Coded) (o : ℕ) → a.code_bits ≡ 8 → o < 2 ^ 8 → o < 2 ^ a.code_bits
+octet_below a o octet l = subst (λ w. o < 2 ^ w) (sym octet) l
+
+pub octets_whole : (a : Coded) (os : List ℕ) → a.code_bits ≡ 8 → length (octet_bits os) ≡ length os * a.code_bits
+octets_whole a os octet = subst (λ w. length (octet_bits os) ≡ length os * w) (sym octet) (octet_count os)
+
+-- so many codes are so many octets
+pub octets_many : (a : Coded) (os : List ℕ) (count : ℕ) (codes : List Bool) → a.code_bits ≡ 8 → octet_bits os ≡ codes → length codes ≡ count * a.code_bits → length os ≡ count
+octets_many a os count codes octet same whole =
+    let l : length os * 8 ≡ count * 8 = sym (octet_count os) ∙ ap length same ∙ whole ∙ ap (λ w. count * w) octet in
+    omega (arith, l)

@@ -37,6 +37,7 @@ fn read_bits<'input>(
 
 /// Reads bits behind a normally small length (X.691 11.9.3.4): up to 64 of them behind six bits, or any number behind a
 /// general length.
+#[inline(always)]
 fn read_bitmap<'input>(
     alloc: Global,
     cursor: &mut Cursor<'input>,

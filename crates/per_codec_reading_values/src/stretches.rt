@@ -190,6 +190,12 @@ impl<'input> Stretch<'input> {
         Stretch::new(RunBits::Lent(BitStr::from_slice(&input[..count])))
     }
 
+    /// Whether the input lends the bits.
+    #[inline(always)]
+    pub fn is_lent(&self) -> bool {
+        matches!(&self.bits, RunBits::Lent(_))
+    }
+
     /// The place that is reached.
     #[inline(always)]
     pub fn cursor(&self) -> Cursor<'_>
@@ -246,6 +252,7 @@ impl<'input> Stretch<'input> {
         ensures some { IfSome result (λ bit. self.old.place.1 ≡ bit ∷ self.new.place.1) }
         ensures position { IfSome result (λ _. self.old.place.0 + 1 ≡ self.new.place.0) }
         ensures none { IfNone result (self.old.place.1 ≡ []) }
+        ensures stays { IfNone result (self.new ≡ self.old) }
         ensures storage { self.new.storage ≡ self.old.storage }
     {
         let bits = lent(&self.bits);

@@ -42,7 +42,7 @@ enum Limit {
     Fixed(usize),
     UpTo(usize),
     /// From one to another, with an extension marker.
-    Marked(usize, usize),
+    Extensible(usize, usize),
 }
 
 /// A value, what it is constrained to, and its bits: in both variants, or before a stroke in the unaligned one and
@@ -110,13 +110,13 @@ const SIZED: [Row; 12] = [
     (Value::Octets(&[9]), Limit::UpTo(65536), "| 01 09"),
     (
         Value::Octets(&[1, 2, 3]),
-        Limit::Marked(1, 2),
+        Limit::Extensible(1, 2),
         "b1 | 03 01 02 03",
     ),
-    (Value::Octets(&[1]), Limit::Marked(1, 2), "b00 | 01"),
+    (Value::Octets(&[1]), Limit::Extensible(1, 2), "b00 | 01"),
     (
         Value::Octets(&[1, 2, 3, 4]),
-        Limit::Marked(1, 3),
+        Limit::Extensible(1, 3),
         "b1 | 04 01 02 03 04",
     ),
 ];
@@ -146,7 +146,7 @@ fn constraints_of(limit: Limit) -> Option<Constraints<'static>> {
         }),
         Limit::Fixed(size) => sized(Bounded::Single(size), false),
         Limit::UpTo(high) => sized(Bounded::up_to(high), false),
-        Limit::Marked(low, high) => sized(Bounded::const_new(low, high), true),
+        Limit::Extensible(low, high) => sized(Bounded::const_new(low, high), true),
     }
 }
 

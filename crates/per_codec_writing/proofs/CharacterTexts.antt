@@ -1,12 +1,12 @@
 -- The texts of characters, one behind the other.
-use Rattle.std.proofs.Common.{◌≡◌, ℕ, zero, suc, ◌+◌, ◌-◌, ◌^◌, ◌<◌, ◌≤◌, ltb, Bool, true, false, cond, List, [], ◌∷◌, ◌++◌, length, map, take, drop, get_or, slice_range, Option, Some, None, option_map, refl, ap, sym, ◌∙◌, append_assoc, arith}
+use Rattle.std.proofs.Common.{◌≡◌, ℕ, zero, suc, ◌+◌, ◌-◌, ◌^◌, ◌<◌, ◌≤◌, ltb, Bool, true, false, cond, ◌&&◌, ◌||◌, List, [], ◌∷◌, ◌++◌, length, map, take, drop, get_or, slice_range, Option, Some, None, option_map, refl, ap, sym, ◌∙◌, append_assoc, arith}
 use Rattle.std.specs.Prelude.{is_some, unwrap_or}
 use Rattle.std.proofs.lemmas.Bool.{and_parts}
 use Rattle.std.proofs.lemmas.List.{take_more, get_or-drop}
 use Rattle.asn1_model.specs.Form.{exactly, given}
 use Rattle.asn1_model.specs.Numbers.{binary}
 use Rattle.asn1_model.specs.Per
-use Rattle.asn1_model.specs.Strings.{Run, largest, place_of, each_is}
+use Rattle.asn1_model.specs.Strings.{Run, largest, place_of, each_is, is_among, is_in_run}
 use Rattle.per_codec_alphabets.specs.Codes.{Coded, SameCharacters}
 use Rattle.per_codec_packing.specs.Texts.{as_text, text_at}
 use Rattle.per_codec_packing.proofs.Formed.{as_text-append}
@@ -71,6 +71,39 @@ one_form a rs c s h = ap (by_place (largest rs) a.code_bits c) (sym (s.places c)
 pub forms : (a : Coded) (rs : List Run) (cs : List ℕ) → SameCharacters a.runs rs → each_is (has_code a) cs ≡ true → map (Per.character a.code_bits rs) cs ≡ forms_of (texts_of a cs)
 forms a rs [] s h = refl
 forms a rs (c ∷ cs) s h = let p = and_parts _ _ h in ap (λ x. x ∷ map (Per.character a.code_bits rs) cs) (one_form a rs c s p.0) ∙ ap (λ l. exactly (text_of a c) ∷ l) (forms a rs cs s p.1)
+
+-- ---- characters of a type all have codes
+placed : (f : ℕ → ℕ) (c : ℕ) (rs : List Run) → is_among rs c ≡ true → is_some (option_map f (place_of c rs)) ≡ true
+placed f c [] h = cc
+placed f c (r ∷ rs) h = go (is_in_run c r) (placed f c rs) h
+  where
+    behind : (o : Option ℕ) → is_some (option_map f o) ≡ true → is_some (option_map f (option_map (λ i. r.last + 1 - r.first + i) o)) ≡ true
+    behind None e = cc
+    behind (Some i) e = refl
+
+    go : (t : Bool) → (is_among rs c ≡ true → is_some (option_map f (place_of c rs)) ≡ true) → (t || is_among rs c) ≡ true → is_some (option_map f (cond t (Some (c - r.first)) (option_map (λ i. r.last + 1 - r.first + i) (place_of c rs)))) ≡ true
+    go true k e = refl
+    go false k e = behind (place_of c rs) (k e)
+
+pub all_coded : (a : Coded) (rs : List Run) (cs : List ℕ) → SameCharacters a.runs rs → each_is (is_among rs) cs ≡ true → each_is (has_code a) cs ≡ true
+all_coded a rs [] s h = refl
+all_coded a rs (c ∷ cs) s h =
+    let p = and_parts _ _ h in
+    let code : ℕ → ℕ = λ i. cond (ltb (largest a.runs) (2 ^ a.code_bits)) c i in
+    ap (λ b. b && each_is (has_code a) cs) (ap (λ o. is_some (option_map code o)) (s.places c) ∙ placed code c rs p.0) ∙ all_coded a rs cs s p.1
+
+-- ---- codes that are the characters' own numbers
+number_text : (t : Bool) (b c : ℕ) (o : Option ℕ) → t ≡ true → is_some (option_map (λ i. cond t c i) o) ≡ true → binary b c ≡ binary b (unwrap_or (option_map (λ i. cond t c i) o) 0)
+number_text true b c (Some i) e h = refl
+number_text true b c None e h = cc
+number_text false b c o e h = cc
+
+pub number_forms : (a : Coded) (cs : List ℕ) → ltb (largest a.runs) (2 ^ a.code_bits) ≡ true → each_is (has_code a) cs ≡ true → forms_of (map (binary a.code_bits) cs) ≡ forms_of (texts_of a cs)
+number_forms a [] t h = refl
+number_forms a (c ∷ cs) t h =
+    let p = and_parts _ _ h in
+    ap (λ x. exactly x ∷ forms_of (map (binary a.code_bits) cs)) (number_text (ltb (largest a.runs) (2 ^ a.code_bits)) a.code_bits c (place_of c a.runs) t p.0)
+    ∙ ap (λ l. exactly (text_of a c) ∷ l) (number_forms a cs t p.1)
 
 -- ---- other characters have no form
 no_place : (t : Bool) (c : ℕ) (o : Option ℕ) → is_some (option_map (λ i. cond t c i) o) ≡ false → o ≡ None

@@ -1,16 +1,20 @@
 -- Octets, bits and other units of known texts, one behind the other.
-use Rattle.std.proofs.Common.{◌≡◌, ℕ, ◌-◌, Bool, List, [], ◌∷◌, ◌++◌, map, take, drop, slice_range, refl, ap, subst, sym, ◌∙◌}
+use Rattle.std.proofs.Common.{◌≡◌, ℕ, ◌-◌, ◌≤◌, Bool, List, [], ◌∷◌, ◌++◌, length, map, flat_map, take, drop, slice_range, refl, ap, subst, sym, ◌∙◌, arith}
 use Rattle.std.proofs.lemmas.List.{take-map, drop-map}
+use Rattle.std.proofs.lemmas.List.Concat.{flat_map-append}
 use Rattle.asn1_model.specs.Form.{exactly, joined}
 use Rattle.asn1_model.specs.Numbers.{binary, octet_bits}
 use Rattle.asn1_model.specs.Per
 use Rattle.per_codec_packing.specs.Texts.{as_text, text_at, as_form}
 use Rattle.per_codec_packing.specs.Viewed.{text_of}
+use Rattle.per_codec_packing.proofs.Adding.{plus_both}
+use Rattle.per_codec_packing.proofs.Formed.{as_text-append}
 use Rattle.per_codec_packing.specs.declared.text_view.TextView.{TextView}
 use Rattle.per_codec_writing.specs.Writing.{Packed, Adds, place, plus}
 use Rattle.per_codec_writing.specs.Units.{together, forms_of}
 use Rattle.per_codec_writing.specs.Members.{forms_of as forms_of_members}
 use Rattle.per_codec_writing.proofs.Adding.{adds_joined}
+use Rattle.per_codec_writing.proofs.PaddingTexts.{plus_nothing}
 
 range-map : {X Y : Type 0} (f : X → Y) (xs : List X) (i j : ℕ) → slice_range (map f xs) i j ≡ map f (slice_range xs i j)
 range-map f xs i j = ap (take (j - i)) (drop-map f i xs) ∙ take-map f (j - i) (drop i xs)
@@ -18,6 +22,10 @@ range-map f xs i j = ap (take (j - i)) (drop-map f i xs) ∙ take-map f (j - i) 
 octets_together : (os : List ℕ) → together (map (binary 8) os) ≡ octet_bits os
 octets_together [] = refl
 octets_together (o ∷ os) = ap (λ l. binary 8 o ++ l) (octets_together os)
+
+numbers_together : (w : ℕ) (os : List ℕ) → together (map (binary w) os) ≡ flat_map (binary w) os
+numbers_together w [] = refl
+numbers_together w (o ∷ os) = ap (λ l. binary w o ++ l) (numbers_together w os)
 
 bits_together : (bs : List Bool) → together (map (λ b. b ∷ []) bs) ≡ bs
 bits_together [] = refl
@@ -36,6 +44,10 @@ forms_of_bits (b ∷ bs) = ap (λ us. exactly (b ∷ []) ∷ us) (forms_of_bits 
 pub range_added : (ts : List (List Bool)) (i j : ℕ) (old new : Packed) → new ≡ plus old (as_text (together (slice_range ts i j))) → Adds (text_at (joined (slice_range (forms_of ts) i j)) (place old)) old new
 range_added ts i j old new e = subst (λ us. Adds (text_at (joined us) (place old)) old new) (sym (range-map (λ t. exactly t) ts i j)) (adds_joined (slice_range ts i j) old new e)
 
+pub numbers_added : (w : ℕ) (os : List ℕ) (i j : ℕ) (old new : Packed) → new ≡ plus old (as_text (flat_map (binary w) (slice_range os i j))) → Adds (text_at (joined (slice_range (forms_of (map (binary w) os)) i j)) (place old)) old new
+numbers_added w os i j old new e =
+    range_added (map (binary w) os) i j old new (e ∙ ap (λ t. plus old (as_text t)) (sym (ap together (range-map (binary w) os i j) ∙ numbers_together w (slice_range os i j))))
+
 pub octets_added : (os : List ℕ) (i j : ℕ) (old new : Packed) → new ≡ plus old (as_text (octet_bits (slice_range os i j))) → Adds (text_at (joined (slice_range (Per.octet_units os) i j)) (place old)) old new
 octets_added os i j old new e =
     let l : List ℕ = slice_range os i j in
@@ -50,3 +62,15 @@ bits_added bs i j old new e =
 
 pub members_added : (vs : List TextView) (i j : ℕ) (old new : Packed) → Adds (text_at (joined (forms_of_members (slice_range vs i j))) (place old)) old new → Adds (text_at (joined (slice_range (forms_of_members vs) i j)) (place old)) old new
 members_added vs i j old new a = subst (λ us. Adds (text_at (joined us) (place old)) old new) (sym (range-map (λ (v : TextView). as_form (text_of v)) vs i j)) a
+
+-- ---- the low bits of octets, some after others
+
+pub low_bits_moved : (w : ℕ) (rest front behind : List ℕ) (bs : List Bool) (mid new all : Packed) → front ++ behind ≡ rest → plus mid (as_text (flat_map (binary w) rest)) ≡ all → bs ≡ flat_map (binary w) front → new ≡ plus mid (as_text bs) → plus new (as_text (flat_map (binary w) behind)) ≡ all
+low_bits_moved w rest front behind bs mid new all j h e n =
+    let left : List Bool = flat_map (binary w) behind in
+    let both : bs ++ left ≡ flat_map (binary w) rest = ap (λ l. l ++ left) e ∙ sym (flat_map-append (binary w) front behind) ∙ ap (flat_map (binary w)) j in
+    ap (λ p. plus p (as_text left)) n ∙ plus_both mid (as_text bs) (as_text left) ∙ ap (plus mid) (as_text-append bs left ∙ ap as_text both) ∙ h
+
+pub no_low_bits : (w : ℕ) (rest : List ℕ) (new all : Packed) → length rest ≤ 0 → plus new (as_text (flat_map (binary w) rest)) ≡ all → new ≡ all
+no_low_bits w [] new all h e = sym (plus_nothing new) ∙ e
+no_low_bits w (o ∷ os) new all h e = absurd (omega arith)

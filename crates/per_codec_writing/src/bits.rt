@@ -23,6 +23,7 @@ use per_codec_packing::Packing;
 ///
 /// `SizeConstraintNotSatisfied` where the type does not hold so many bits, or a size without an extension marker does
 /// not admit them.
+#[inline(always)]
 pub fn push_bit_string(
     output: &mut Packing,
     variant: Variant,

@@ -1,5 +1,6 @@
 //! Characters as units.
-ghost use Rattle.std.specs.Prelude.{◌≡◌};
+ghost use Rattle.std.specs.Prelude.{◌≡◌, ◌≤◌, true, map, IfSome};
+ghost use Rattle.asn1_model.specs.Numbers.{binary};
 ghost use Rattle.asn1_model.specs.Strings.{each_is};
 ghost use Rattle.per_codec_writing.specs.Characters.{texts_of, has_code};
 ghost use Rattle.per_codec_writing.specs.Units.{forms_of};
@@ -30,6 +31,26 @@ impl<S: StaticPermittedAlphabet> CharacterUnits<'_, S> {
             }
         }
         true
+    }
+
+    /// The characters as octets, of which each is its code, if they are kept so and codes have at most eight bits.
+    pub(crate) fn octet_codes(&self) -> Option<&[u8]>
+        ensures codes { IfSome result (λ octets.
+            each_is (has_code self.now.alphabet.now) (S.characters self.now.string.now) ≡ true
+            → forms_of (map (binary self.now.alphabet.now.code_bits) octets.now)
+            ≡ forms_of (texts_of self.now.alphabet.now (S.characters self.now.string.now))) }
+        ensures narrow { IfSome result (λ _. self.now.alphabet.now.code_bits ≤ 8) }
+    {
+        if !self.alphabet.is_by_number() {
+            return None;
+        }
+        if self.alphabet.width() > 8 {
+            return None;
+        }
+        let Some(octets) = self.string.char_octets() else {
+            return None;
+        };
+        Some(octets)
     }
 }
 

@@ -1,19 +1,23 @@
 //! Character strings (X.691 30).
-ghost use Rattle.std.specs.Prelude.{◌≡◌, true, MatchResult};
-ghost use Rattle.asn1_model.specs.Per.{characters, counted_octets, form};
-ghost use Rattle.asn1_model.specs.Schema.{character_string};
-ghost use Rattle.asn1_model.specs.Strings.{is_of_octets as holds_octets, permitted};
+ghost use Rattle.std.specs.Prelude.{◌≡◌, true, false, MatchResult};
+ghost use Rattle.asn1_model.specs.Per.{characters, counted_octets, form, sized};
+ghost use Rattle.asn1_model.specs.Schema.{character_string, StringKind};
+ghost use Rattle.asn1_model.specs.Strings.{characters_of, each_is, is_of_octets as holds_octets, permitted};
 ghost use Rattle.asn1_model.specs.Schema.{any_count};
 ghost use Rattle.asn1_model.specs.Value.{text};
-ghost use Rattle.asn1_schema_constraints.specs.Terms.{sizes_of, alphabet_of};
+ghost use Rattle.asn1_schema_constraints.specs.Terms.{sizes_of, size_of, alphabet_of};
 ghost use Rattle.asn1_values_alphabets.specs.Permitted.{permits_all};
+ghost use Rattle.per_codec_alphabets.specs.Codes.{SameCharacters};
 ghost use Rattle.per_codec_packing.specs.Texts.{text_at};
+ghost use Rattle.per_codec_writing.specs.Characters.{has_code, texts_of};
+ghost use Rattle.per_codec_writing.specs.Units.{forms_of};
 ghost use Rattle.per_codec_writing.specs.Writing.{Adds, Refuses, place};
 ghost use Rattle.per_codec_limits.specs.Variants.{is_aligned};
 
 use crate::character_units::CharacterUnits;
+use crate::number_units::NumberUnits;
 use crate::{push_counted, push_sized};
-use asn1_schema_constraints::{Bounded, Constraints};
+use asn1_schema_constraints::{Bounded, Constraints, Extensible, PermittedAlphabet, Sizes};
 use asn1_schema_faults::EncodeError;
 use asn1_values_alphabets::StaticPermittedAlphabet;
 use per_codec_alphabets::{EffectiveAlphabet, is_of_octets};
@@ -44,6 +48,56 @@ fn push_octets<S: StaticPermittedAlphabet>(
     Ok(())
 }
 
+/// Whether a permitted alphabet may leave out characters of a type: one with an extension marker counts for nothing.
+fn is_narrowed(alphabet: Option<Extensible<PermittedAlphabet>>) -> bool
+    ensures { result ≡ false → (k : StringKind) → permitted k (alphabet_of alphabet.entry) ≡ characters_of k }
+{
+    match alphabet {
+        Some(narrower) => narrower.extensible.is_none(),
+        None => false,
+    }
+}
+
+/// Whether each character is one of the effective alphabet. All that a string may hold are where none are left out.
+fn have_codes<S: StaticPermittedAlphabet>(
+    alphabet: Option<Extensible<PermittedAlphabet>>,
+    units: &CharacterUnits<S>,
+) -> bool
+    requires { SameCharacters units.now.alphabet.now.runs (permitted S.kind (alphabet_of alphabet)) }
+    ensures { result ≡ each_is (has_code units.now.alphabet.now) (S.characters units.now.string.now) }
+{
+    let _count = units.string.char_count();
+    if is_narrowed(alphabet) {
+        return units.has_codes();
+    }
+    true
+}
+
+/// Adds characters that have codes, under a size: where the codes are octets of the string, several at a time.
+fn push_coded<S: StaticPermittedAlphabet>(
+    output: &mut Packing,
+    variant: Variant,
+    sizes: Sizes,
+    pads: bool,
+    units: &CharacterUnits<S>,
+) -> Result<(), EncodeError>
+    requires { each_is (has_code units.now.alphabet.now) (S.characters units.now.string.now) ≡ true }
+    ensures { MatchResult result (λ _. Adds
+        (text_at (sized (is_aligned variant) (size_of sizes) any_count (λ _. pads)
+        (forms_of (texts_of units.now.alphabet.now (S.characters units.now.string.now))))
+        (place output.old)) output.old output.new)
+        (Refuses (text_at (sized (is_aligned variant) (size_of sizes) any_count (λ _. pads)
+        (forms_of (texts_of units.now.alphabet.now (S.characters units.now.string.now))))
+        (place output.old))) }
+{
+    if let Some(octets) = units.octet_codes() {
+        let width = units.alphabet.width();
+        let numbers = NumberUnits { octets, width };
+        return push_sized(output, variant, sizes, Bounded::None, pads, &numbers);
+    }
+    push_sized(output, variant, sizes, Bounded::None, pads, units)
+}
+
 /// Adds the characters of a string by their codes, behind their number (X.691 30.5).
 fn push_codes<S: StaticPermittedAlphabet>(
     output: &mut Packing,
@@ -66,12 +120,12 @@ fn push_codes<S: StaticPermittedAlphabet>(
         alphabet: &alphabet,
         string: value,
     };
-    if !units.has_codes() {
+    if !have_codes(permitted, &units) {
         return Err(EncodeError::AlphabetConstraintNotSatisfied);
     }
     let sizes = constraints.sizes();
     let pads = pads_characters(sizes.root, alphabet.width(), value.char_count());
-    push_sized(output, variant, sizes, Bounded::None, pads, &units)?;
+    push_coded(output, variant, sizes, pads, &units)?;
     Ok(())
 }
 

@@ -29,6 +29,7 @@ fn push_fewest_octets(output: &mut Packing, span: u128, value: u128) -> Result<(
 
 /// Adds a number of 0 to `span` at an octet: in one octet where there are 256 such numbers, in two where there are at
 /// most 65536, else behind the number of its octets (X.691 11.5.7.2 to 11.5.7.4).
+#[inline(always)]
 fn push_octets(output: &mut Packing, span: u128, value: u128) -> Result<(), EncodeError>
     requires within { value ≤ span }
     requires large { 255 ≤ span }

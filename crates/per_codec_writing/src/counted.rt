@@ -13,7 +13,8 @@ use per_codec_packing::Packing;
 
 /// Adds the units that are due and, as long as more stand behind a next length determinant, this and the units that
 /// are due behind it (X.691 11.9.3.8). The only error is want of memory.
-pub(crate) fn push_due<U: Units>(
+#[cold]
+fn push_fragments<U: Units>(
     output: &mut Packing,
     variant: Variant,
     first: Due,
@@ -36,12 +37,37 @@ pub(crate) fn push_due<U: Units>(
     Ok(())
 }
 
+/// Adds the units that are due, and those behind further length determinants (X.691 11.9.3.8). The only error is want
+/// of memory.
+#[inline(always)]
+pub(crate) fn push_due<U: Units>(
+    output: &mut Packing,
+    variant: Variant,
+    first: Due,
+    units: &U,
+) -> Result<(), EncodeError>
+    requires fits { length (U.forms units.now) < 2 ^ 64 }
+    requires due { IsDue (length (U.forms units.now)) first }
+    ensures { MatchResult result (λ _. Adds
+        (text_at (form_due (is_aligned variant) first.units (determinants_of first.behind) (U.forms units.now))
+        (place output.old)) output.old output.new) (λ e. e ≡ EncodeError.OutOfMemory) }
+{
+    match first.behind {
+        None => {
+            units.push_range(output, 0, first.units)?;
+            Ok(())
+        }
+        Some(_) => push_fragments(output, variant, first, units),
+    }
+}
+
 /// Adds units behind a length determinant in the general form: from 16384 units on in fragments, the largest first,
 /// and the rest behind a short one (X.691 11.9).
 ///
 /// # Errors
 ///
 /// `OutOfMemory`, and no other.
+#[inline(always)]
 pub fn push_counted<U: Units>(
     output: &mut Packing,
     variant: Variant,
@@ -61,6 +87,7 @@ pub fn push_counted<U: Units>(
 /// # Errors
 ///
 /// `OutOfMemory`, and no other.
+#[inline]
 pub fn push_counted_octets(
     output: &mut Packing,
     variant: Variant,

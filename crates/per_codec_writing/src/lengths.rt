@@ -68,12 +68,36 @@ pub fn push_fragment_length(
     Ok(())
 }
 
+/// Adds the length determinant of the largest fragment of so many units (X.691 11.9.3.8). The only error is want of
+/// memory.
+#[cold]
+fn push_largest_fragment(
+    output: &mut Packing,
+    variant: Variant,
+    count: usize,
+) -> Result<Due, EncodeError>
+    requires { 16384 ≤ count }
+    ensures heads { MatchResult result
+        (λ due. Heads (general (is_aligned variant) count (place output.old)) output.old due output.new)
+        (λ e. e ≡ EncodeError.OutOfMemory) }
+    ensures due { IfOk result (λ due. IsDue count due) }
+{
+    let multiple = (count / FRAGMENT).min(4);
+    push_fragment_length(output, variant, multiple)?;
+    let units = multiple * FRAGMENT;
+    Ok(Due {
+        units,
+        behind: Some(count - units),
+    })
+}
+
 /// Adds the next length determinant of so many units: that of the largest fragment of them or, where they are fewer
 /// than 16384, their number (X.691 11.9.3.5 to 11.9.3.8).
 ///
 /// # Errors
 ///
 /// `OutOfMemory`, and no other.
+#[inline(always)]
 pub fn push_length_determinant(
     output: &mut Packing,
     variant: Variant,
@@ -91,11 +115,5 @@ pub fn push_length_determinant(
             behind: None,
         });
     }
-    let multiple = (count / FRAGMENT).min(4);
-    push_fragment_length(output, variant, multiple)?;
-    let units = multiple * FRAGMENT;
-    Ok(Due {
-        units,
-        behind: Some(count - units),
-    })
+    push_largest_fragment(output, variant, count)
 }

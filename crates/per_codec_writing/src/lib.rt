@@ -15,6 +15,7 @@ mod identifiers;
 mod integers;
 mod lengths;
 mod members;
+mod number_units;
 mod octets;
 mod open_types;
 mod padding;

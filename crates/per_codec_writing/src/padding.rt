@@ -12,6 +12,7 @@ use per_codec_packing::Packing;
 /// # Errors
 ///
 /// `OutOfMemory`, and no other.
+#[inline(always)]
 pub fn push_padding(output: &mut Packing, variant: Variant) -> Result<(), EncodeError>
     ensures { MatchResult result
         (λ _. output.new ≡ plus output.old (padding_if (is_aligned variant) (place output.old)))

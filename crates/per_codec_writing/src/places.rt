@@ -15,6 +15,7 @@ use per_codec_limits::Variant;
 use per_codec_packing::Packing;
 
 /// Adds the extension bit, where the type has one (X.691 14.3 and 23.5). The only error is want of memory.
+#[inline(always)]
 fn push_extension_bit(
     output: &mut Packing,
     extensible: bool,
@@ -38,6 +39,7 @@ fn push_extension_bit(
 /// # Errors
 ///
 /// `OutOfMemory`; any other only where the value has no encoding in this form.
+#[inline(always)]
 pub fn push_place(
     output: &mut Packing,
     variant: Variant,

@@ -20,6 +20,7 @@ use per_codec_packing::Packing;
 /// # Errors
 ///
 /// `SizeConstraintNotSatisfied` where a size without an extension marker does not admit as many; `OutOfMemory`.
+#[inline(always)]
 pub(crate) fn push_of_size<U: Units>(
     output: &mut Packing,
     variant: Variant,
@@ -45,6 +46,7 @@ pub(crate) fn push_of_size<U: Units>(
 ///
 /// `SizeConstraintNotSatisfied` where the type does not hold so many, or a size without an extension marker does not
 /// admit them; `OutOfMemory`.
+#[inline(always)]
 pub fn push_sized<U: Units>(
     output: &mut Packing,
     variant: Variant,

@@ -20,6 +20,7 @@ use per_codec_packing::Packing;
 /// # Errors
 ///
 /// `OutOfMemory`, and no other.
+#[inline(always)]
 pub fn push_utf8(
     output: &mut Packing,
     variant: Variant,

@@ -1,5 +1,4 @@
 use Rattle.std.proofs.Common.{refl}
-use Rattle.asn1_schema_presented.specs.Tables.{sequence_type}
 use Rattle.asn1_schema_presented.proofs.Groups.{group_kept}
 use Rattle.asn1_schema_presented.proofs.addition_laws.groups_are_valued.Goals as goal
 use Rattle.asn1_model.specs.Value.{are_absent}

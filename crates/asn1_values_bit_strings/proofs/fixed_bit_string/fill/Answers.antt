@@ -1,5 +1,5 @@
-use Rattle.std.proofs.Common.{◌≡◌, ◌∙◌, ◌-◌, ◌+◌, ◌*◌, ◌^◌, ◌%◌, ◌<◌, ℕ, refl, ap, arith, length, min, take, set, sym, ◌++◌, length-set, get_or, List}
-use Rattle.std.proofs.lemmas.List.{length-drop, take_all}
+use Rattle.std.proofs.Common.{◌≡◌, ◌∙◌, ◌-◌, ◌+◌, ◌*◌, ◌^◌, ◌%◌, ◌<◌, ℕ, refl, ap, arith, length, min, take, set, sym, ◌++◌, length-set, List}
+use Rattle.std.proofs.lemmas.List.{length-drop}
 use Rattle.std.proofs.lemmas.Nat.{shl_whole, shl_below}
 use Rattle.asn1_model.specs.Numbers.{octet_bits}
 use Rattle.asn1_values_bits.specs.BitStr.{bits_of}

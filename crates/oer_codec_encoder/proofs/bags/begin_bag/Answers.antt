@@ -1,11 +1,35 @@
-use Rattle.std.proofs.Common.{ap, sym, ◌∙◌}
+use Rattle.std.proofs.Common.{ap, sym, ◌∙◌, refl}
 use Rattle.asn1_schema_constraints.specs.Bounds.{members_of}
 use Rattle.asn1_schema_constraints.specs.Terms.{sizes_of}
+use Rattle.oer_codec_encoder.specs.declared.frame.Bag.{Bag}
 use Rattle.oer_codec_encoder.proofs.BagScopes.{does_begin_bag, no_begin_bag}
+use Rattle.asn1_values_bits.proofs.Refused.{though_refused}
+use Rattle.oer_codec_writing.proofs.Fronts.{begins_text}
+use Rattle.oer_codec_encoder.proofs.Fronts.{keeps_behind, keeps_same}
 use Rattle.oer_codec_encoder.proofs.bags.begin_bag.Goals as goal
 
-pub returns-then-not-holds : goal.returns-then-not-holds
-returns-then-not-holds c = no_begin_bag c.args.frames.now c.args.octets.now.items (sizes_of c.args.constraints.size) (members_of c.args.held) c.args.count (sym c.holds.ensures ∙ c.if-not-holds.true)
+pub returns-then-not-holds-clause-step : goal.returns-then-not-holds-clause-step
+returns-then-not-holds-clause-step c = no_begin_bag c.args.frames.now c.args.octets.now.items (sizes_of c.args.constraints.size) (members_of c.args.held) c.args.count (sym c.holds.ensures ∙ c.if-not-holds.true)
 
-pub returns : goal.returns
-returns c = does_begin_bag c.args.frames.now c.open.new.self c.args.octets.now.items c.push_count.new.octets.items c.replace-outer.new.dest.items (sizes_of c.args.constraints.size) (members_of c.args.held) c.args.count c.replace-outer.result c.in_ok-boxed.boxed (sym c.holds.ensures ∙ c.if-not-holds.false) c.in_ok-push_count.ensures (ap (λ v. v.items) c.replace-outer.ensures.value) (ap (λ v. v.items) c.replace-outer.ensures.after ∙ c.new.ensures.items) c.in_ok-boxed.ensures.ok c.in_ok-open.ensures
+pub set_aside-requires : goal.set_aside-requires
+set_aside-requires c = (c.in_ok-boxed.boxed, c.args.frames.now, c.in_ok-open.ensures.ok)
+
+pub returns-clause-step : goal.returns-clause-step
+returns-clause-step c =
+    let outer = c.push_count.new.octets in
+    let held = c.in_ok-boxed.ensures.ok in
+    let t = c.set_aside.ensures c.in_ok-boxed.boxed c.args.frames.now c.in_ok-open.ensures.ok in
+    does_begin_bag c.args.frames.now c.set_aside.new.self c.args.octets.now.items outer.items c.set_aside.new.octets.items (sizes_of c.args.constraints.size) (members_of c.args.held) c.args.count outer t.0 (sym c.holds.ensures ∙ c.if-not-holds.false) c.in_ok-push_count.ensures.text refl
+    (ap (λ v. v.items) t.3 ∙ ap (λ (b : Bag). b.outer.items) held ∙ c.new.ensures.items) (t.2 ∙ ap (λ (b : Bag). record b { outer = outer }) held) t.1
+
+pub returns-then-not-holds-clause-kept : goal.returns-then-not-holds-clause-kept
+returns-then-not-holds-clause-kept c = keeps_same _ _ _ _ refl refl
+
+pub returns-in_err-push_count-clause-kept : goal.returns-in_err-push_count-clause-kept
+returns-in_err-push_count-clause-kept c = though_refused _ (keeps_behind _ _ _ _ refl c.in_err-push_count.ensures.kept)
+
+pub returns-in_err-boxed-clause-kept : goal.returns-in_err-boxed-clause-kept
+returns-in_err-boxed-clause-kept c = though_refused _ (keeps_behind _ _ _ _ refl (begins_text _ c.args.octets.now.items c.push_count.new.octets.items c.in_ok-push_count.ensures.text))
+
+pub returns-in_err-open-clause-kept : goal.returns-in_err-open-clause-kept
+returns-in_err-open-clause-kept c = though_refused _ (keeps_behind _ _ _ _ c.in_err-open.ensures.kept (begins_text _ c.args.octets.now.items c.push_count.new.octets.items c.in_ok-push_count.ensures.text))

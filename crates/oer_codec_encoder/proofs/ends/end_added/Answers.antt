@@ -4,11 +4,11 @@ use Rattle.oer_codec_encoder.proofs.AdditionScopes.{is_so}
 use Rattle.oer_codec_encoder.proofs.EndScopes.{does_end_root, does_end_added, is_not_so}
 use Rattle.oer_codec_encoder.proofs.ends.end_added.Goals as goal
 
-pub returns-then-not-additions : goal.returns-then-not-additions
-returns-then-not-additions c k = does_end_root c.args.additions k c.args.octets.now.items c.truncate.new.self.items (omega (arith, c.if-additions-gt0.false)) (is_not_so c.args.additions.any c.if-not-additions.true) c.truncate.ensures.items
+pub returns-then-not-additions-clause-step : goal.returns-then-not-additions-clause-step
+returns-then-not-additions-clause-step c k = does_end_root c.args.additions k c.args.octets.now.items c.truncate.new.self.items (omega (arith, c.if-additions-gt0.false)) (is_not_so c.args.additions.any c.if-not-additions.true) c.truncate.ensures.items
 
-pub returns : goal.returns
-returns c k =
+pub returns-clause-step : goal.returns-clause-step
+returns-clause-step c k =
     let a = c.args.additions in
     let at : a.start + 0 / 8 ≡ a.start = omega arith in
     let o = c.args.octets.now.items in

@@ -2,8 +2,8 @@ use Rattle.std.proofs.Common.{arith, ◌∙◌, ap, ◌-◌}
 use Rattle.oer_codec_encoder.proofs.RoomTexts.{short_in_room}
 use Rattle.oer_codec_encoder.proofs.open_types.put_length.Goals as goal
 
-pub returns-in-Some : goal.returns-in-Some
-returns-in-Some c =
+pub returns-in-Some-clause-text : goal.returns-in-Some-clause-text
+returns-in-Some-clause-text c =
     let o = c.args.octets.now in
     let start = c.args.start in
     let s = c.in-Some.ensures.some in

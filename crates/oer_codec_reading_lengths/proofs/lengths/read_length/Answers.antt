@@ -22,4 +22,4 @@ returns-clause-only c =
     let l = c.if-octet-lt128.false in
     let n : 128 + (c.in_ok-octet.octet - 128) ≡ c.in_ok-octet.octet = omega (arith, l) in
     let e : (128 + (c.in_ok-octet.octet - 128)) ∷ c.take_octet.new.self ≡ c.args.cursor.now = ap (λ o. o ∷ c.take_octet.new.self) n ∙ sym c.in_ok-octet.ensures.octet.0 in
-    subst (λ w. IfErr c.read_long_length.result (Misses (freedoms c.args.rules) length_form w)) e c.read_long_length.ensures.only
+    subst (λ w. IfErr c.read_further_length.result (Misses (freedoms c.args.rules) length_form w)) e c.read_further_length.ensures.only

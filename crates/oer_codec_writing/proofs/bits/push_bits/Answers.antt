@@ -1,23 +1,11 @@
-use Rattle.std.proofs.Common.{◌≡◌, ◌+◌, ◌-◌, ◌*◌, ◌^◌, ◌%◌, ◌<◌, ℕ, ◌++◌, ap, ◌∙◌, arith, length, min}
-use Rattle.std.proofs.lemmas.Nat.{shl_whole, shl_below}
+use Rattle.std.proofs.Common.{◌++◌, ap, ◌∙◌}
 use Rattle.asn1_model.specs.Numbers.{packed}
-use Rattle.asn1_values_bits.specs.BitStr.{bits_of}
 use Rattle.asn1_values_bits.specs.Octets.{padded}
-use Rattle.oer_codec_writing.proofs.BitTexts.{bits_moved}
+use Rattle.asn1_values_bits.proofs.Refused.{though_refused}
 use Rattle.oer_codec_writing.proofs.bits.push_bits.Goals as goal
 
-pub overflow_cast-octet-in-loop-rest : goal.overflow_cast-octet-in-loop-rest
-overflow_cast-octet-in-loop-rest c =
-    let few : ℕ = c.min-few.result in
-    let eight : few + (8 - few) ≡ 8 = omega (arith, c.min-few.ensures) in
-    let whole : c.first_number.result * 2 ^ (8 - few) % 2 ^ 128 ≡ c.first_number.result * 2 ^ (8 - few) = shl_whole c.first_number.result few (8 - few) 128 c.first_number.ensures.fits (omega arith) in
-    let below : c.first_number.result * 2 ^ (8 - few) < 2 ^ 8 = rw eight at (shl_below c.first_number.result few (8 - few) c.first_number.ensures.fits) in
-    record { fits = rw whole below }
+pub returns-clause-text : goal.returns-clause-text
+returns-clause-text c = c.in_ok-push_whole.ensures.text ∙ ap (λ b. c.args.octets.now.items ++ packed (padded b)) c.whole_octets.ensures
 
-pub loop-rest-preserved : goal.loop-rest-preserved
-loop-rest-preserved c =
-    let few : ℕ = c.min-few.result in
-    let b = bits_of c.loop-rest.rest in
-    let whole : c.first_number.result * 2 ^ (8 - few) % 2 ^ 128 ≡ c.first_number.result * 2 ^ (8 - few) = shl_whole c.first_number.result few (8 - few) 128 c.first_number.ensures.fits (omega (arith, c.min-few.ensures)) in
-    let few_is : few ≡ min (length b) 8 = c.min-few.ensures ∙ ap (λ k. min k 8) c.len-in-loop-rest.ensures in
-    bits_moved (c.args.octets.now.items ++ packed (padded (bits_of c.args.value))) c.loop-rest.octets.items c.push.new.self.items b (bits_of c.split_at.result.1) few c.first_number.result _ c.loop-rest.invariant (omega (arith, c.loop-rest-test.true, c.len.ensures)) few_is c.first_number.ensures.digits c.first_number.ensures.fits whole c.in_ok-push.ensures.items c.split_at.ensures.rest
+pub returns-in_err-push_whole-clause-kept : goal.returns-in_err-push_whole-clause-kept
+returns-in_err-push_whole-clause-kept c = though_refused _ c.in_err-push_whole.ensures.kept

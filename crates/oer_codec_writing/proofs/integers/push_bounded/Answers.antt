@@ -3,6 +3,7 @@ use Rattle.asn1_model.specs.Numbers.{signed_octets}
 use Rattle.asn1_schema_constraints.specs.Bounds.{lower, upper}
 use Rattle.asn1_values_natives.specs.Octets.{is_below_zero}
 use Rattle.oer_codec_writing.proofs.IntegerTexts.{if_some, signed_width, width_few, natural_sign}
+use Rattle.asn1_values_bits.proofs.Refused.{though_refused}
 use Rattle.oer_codec_writing.proofs.integers.push_bounded.Goals as goal
 
 pub push_signed-requires : goal.push_signed-requires
@@ -23,3 +24,9 @@ push_natural-requires-clause-width c =
     let b = c.args.bounds in
     let r = c.range_in_bytes-signed in
     if_some r.result.1 (λ k. k ≤ 16) (λ k e. width_few (lower b) (upper b) k (sym r.ensures.width ∙ e))
+
+pub returns-in_err-push_signed-clause-kept : goal.returns-in_err-push_signed-clause-kept
+returns-in_err-push_signed-clause-kept c = though_refused _ c.in_err-push_signed.ensures.kept
+
+pub returns-in_err-push_natural-clause-kept : goal.returns-in_err-push_natural-clause-kept
+returns-in_err-push_natural-clause-kept c = though_refused _ c.in_err-push_natural.ensures.kept

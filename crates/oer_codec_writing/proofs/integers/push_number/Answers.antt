@@ -1,4 +1,4 @@
-use Rattle.std.proofs.Common.{◌≡◌, ℤ, true, false, Option, None, to_z-of_z, subst, sym, ◌∙◌}
+use Rattle.std.proofs.Common.{refl, ◌≡◌, ℤ, true, false, Option, None, to_z-of_z, subst, sym, ◌∙◌}
 use Rattle.asn1_model.specs.Form.{written}
 use Rattle.asn1_model.specs.Oer
 use Rattle.asn1_schema_constraints.specs.Bounds.{admits_number, lower, upper}
@@ -8,28 +8,30 @@ use Rattle.asn1_schema_constraints.specs.declared.parts.Value.{Value}
 use Rattle.oer_codec_writing.specs.Writing.{Adds}
 use Rattle.oer_codec_writing.proofs.DigitTexts.{few_held}
 use Rattle.oer_codec_writing.proofs.ScalarTexts.{adds_same}
-use Rattle.oer_codec_writing.proofs.IntegerTexts.{unbounded_text, marked_text, bounded_text, outside_none}
+use Rattle.oer_codec_writing.proofs.IntegerTexts.{unbounded_text, extensible_text, bounded_text, outside_none}
+use Rattle.asn1_values_bits.proofs.Refused.{though_refused}
+use Rattle.asn1_values_identifiers.proofs.Begins.{begins_same}
 use Rattle.oer_codec_writing.proofs.integers.push_number.Goals as goal
 
-pub returns-in_default : goal.returns-in_default
-returns-in_default c h w =
+pub returns-in_default-clause-text : goal.returns-in_default-clause-text
+returns-in_default-clause-text c h w =
     let v = c.args.number in
     let old = c.args.octets.now.items in
     let new = c.push_signed.new.octets.items in
     subst (λ (o : Option (Extensible Value)). Adds (written (Oer.integer_form (bounds_of o) (held_of o h) v) 0) old new) (sym c.in_default.is)
-    (adds_same _ (written (Oer.signed_form None v) 0) old new (unbounded_text h v w) (subst (λ (z : ℤ). Adds (written (Oer.signed_form None z) 0) old new) (to_z-of_z c.ranges.number) c.in_ok-push_signed.ensures))
+    (adds_same _ (written (Oer.signed_form None v) 0) old new (unbounded_text h v w) (subst (λ (z : ℤ). Adds (written (Oer.signed_form None z) 0) old new) (to_z-of_z c.ranges.number) c.in_ok-push_signed.ensures.text))
 
-pub returns-then-is_some : goal.returns-then-is_some
-returns-then-is_some c h w =
+pub returns-then-is_some-clause-text : goal.returns-then-is_some-clause-text
+returns-then-is_some-clause-text c h w =
     let v = c.args.number in
     let old = c.args.octets.now.items in
     let new = c.push_signed-then-is_some.new.octets.items in
     subst (λ (o : Option (Extensible Value)). Adds (written (Oer.integer_form (bounds_of o) (held_of o h) v) 0) old new) (sym c.in-Some.is)
-    (adds_same _ (written (Oer.signed_form None v) 0) old new (marked_text c.in-Some.limits h v w (few_held v c.ranges.number) (sym c.is_some.ensures ∙ c.if-is_some.true))
-    (subst (λ (z : ℤ). Adds (written (Oer.signed_form None z) 0) old new) (to_z-of_z c.ranges.number) c.in_ok-push_signed-2.ensures))
+    (adds_same _ (written (Oer.signed_form None v) 0) old new (extensible_text c.in-Some.limits h v w (few_held v c.ranges.number) (sym c.is_some.ensures ∙ c.if-is_some.true))
+    (subst (λ (z : ℤ). Adds (written (Oer.signed_form None z) 0) old new) (to_z-of_z c.ranges.number) c.in_ok-push_signed-2.ensures.text))
 
-pub returns-then-not-contains : goal.returns-then-not-contains
-returns-then-not-contains c h w =
+pub returns-then-not-contains-clause-text : goal.returns-then-not-contains-clause-text
+returns-then-not-contains-clause-text c h w =
     let v = c.args.number in
     let b = c.in-Some.limits.constraint.value in
     let told = c.contains.ensures in
@@ -39,8 +41,8 @@ returns-then-not-contains c h w =
     subst (λ (o : Option (Extensible Value)). written (Oer.integer_form (bounds_of o) (held_of o h) v) 0 ≡ None) (sym c.in-Some.is)
     (outside_none c.in-Some.limits h v w (few_held v c.ranges.number) (sym c.is_some.ensures ∙ c.if-is_some.false) out)
 
-pub returns : goal.returns
-returns c h w =
+pub returns-clause-text : goal.returns-clause-text
+returns-clause-text c h w =
     let v = c.args.number in
     let b = c.in-Some.limits.constraint.value in
     let old = c.args.octets.now.items in
@@ -51,4 +53,16 @@ returns c h w =
     let within : admits_number b v ≡ true = cc in
     subst (λ (o : Option (Extensible Value)). Adds (written (Oer.integer_form (bounds_of o) (held_of o h) v) 0) old new) (sym c.in-Some.is)
     (adds_same _ (written (Oer.bounded (lower b) (upper b) v) 0) old new (bounded_text c.in-Some.limits h v w (few_held v c.ranges.number) (sym c.is_some.ensures ∙ c.if-is_some.false) within)
-    (subst (λ (z : ℤ). Adds (written (Oer.bounded (lower b) (upper b) z) 0) old new) (to_z-of_z c.ranges.number) c.in_ok-push_bounded.ensures))
+    (subst (λ (z : ℤ). Adds (written (Oer.bounded (lower b) (upper b) z) 0) old new) (to_z-of_z c.ranges.number) c.in_ok-push_bounded.ensures.text))
+
+pub returns-in_err-push_signed-clause-kept : goal.returns-in_err-push_signed-clause-kept
+returns-in_err-push_signed-clause-kept c = though_refused _ c.in_err-push_signed.ensures.kept
+
+pub returns-in_err-push_signed-2-clause-kept : goal.returns-in_err-push_signed-2-clause-kept
+returns-in_err-push_signed-2-clause-kept c = though_refused _ c.in_err-push_signed-2.ensures.kept
+
+pub returns-in_err-push_bounded-clause-kept : goal.returns-in_err-push_bounded-clause-kept
+returns-in_err-push_bounded-clause-kept c = though_refused _ c.in_err-push_bounded.ensures.kept
+
+pub returns-then-not-contains-clause-kept : goal.returns-then-not-contains-clause-kept
+returns-then-not-contains-clause-kept c = begins_same _ _ refl

@@ -1,40 +1,11 @@
-use Rattle.std.proofs.Common.{subst, arith}
-use Rattle.per_codec_encoder.specs.declared.frame.Frame.TheVariants.{Added, OpenType}
-use Rattle.per_codec_encoder.specs.Holding.{AreSound}
-use Rattle.per_codec_writing.proofs.HeadingTexts.{raised_on}
-use Rattle.per_codec_encoder.proofs.Innermost.{around_is, ended_within, ended_unless_full}
-use Rattle.per_codec_encoder.proofs.Bagging.{does_end_bag, cannot_end_bag}
-use Rattle.per_codec_encoder.proofs.Ending.{does_end_components}
+use Rattle.std.proofs.Common.{subst, sym, MatchResult}
+use Rattle.asn1_schema_presented.specs.Records.{ends}
+use Rattle.per_codec_encoder.specs.Holding.{AreSound, Does, Cannot}
 use Rattle.per_codec_limits.specs.Variants.{is_aligned}
 use Rattle.per_codec_encoder.proofs.ends.end_scope.Goals as goal
 
-pub returns-else-due-gt0 : goal.returns-else-due-gt0
-returns-else-due-gt0 c =
-    let f = c.in-Some-Components in
-    does_end_components c.args.frames.now c.pop.new.self f.field-0 f.extensible f.due _ _ f.ensures.items f.field-0-is c.if-extensible.false (omega arith) (is_aligned c.args.variant) c.args.output.now
+pub end_taken-requires : goal.end_taken-requires
+end_taken-requires c = subst (λ l. AreSound l c.args.output.now) (sym (c.end_complete.ensures.same c.if-end_complete.false)) c.requires
 
-pub returns-in-Some-Added : goal.returns-in-Some-Added
-returns-in-Some-Added c =
-    let f = c.in-Some-Added in
-    ended_within (is_aligned c.args.variant) c.args.frames.now c.pop.new.self f.field-0 (Added f.additions) c.args.output.now c.end_additions.new.output f.ensures.items f.field-0-is c.end_additions.result c.end_additions.ensures
-
-pub returns-in-Some-OpenType : goal.returns-in-Some-OpenType
-returns-in-Some-OpenType c =
-    let f = c.in-Some-OpenType in
-    ended_unless_full (is_aligned c.args.variant) c.args.frames.now c.pop.new.self f.field-0 (OpenType f.outer) c.args.output.now c.end_open_type.new.output f.ensures.items f.field-0-is c.end_open_type.result c.end_open_type.ensures
-
-pub end_additions-requires : goal.end_additions-requires
-end_additions-requires c =
-    let f = c.in-Some-Added in
-    (c.pop.new.self, subst (λ l. AreSound l c.args.output.now) (around_is c.args.frames.now c.pop.new.self f.field-0 (Added f.additions) f.ensures.items f.field-0-is) c.requires)
-
-pub returns-in_err-end_bag-in-Some-Bag : goal.returns-in_err-end_bag-in-Some-Bag
-returns-in_err-end_bag-in-Some-Bag c =
-    let f = c.in-Some-Bag in
-    let e = c.from_residual in
-    raised_on _ _ _ e.result e.ensures.0 e.ensures.1 (cannot_end_bag (is_aligned c.args.variant) c.args.frames.now c.pop.new.self f.field-0 f.boxed c.args.output.now f.ensures.items f.field-0-is c.into_inner-bag.result c.into_inner-bag.ensures (omega (arith, c.if-bag-gt0.false)) _ c.in_err-end_bag-in-Some-Bag.ensures)
-
-pub returns-in_ok-end_bag-in-Some-Bag : goal.returns-in_ok-end_bag-in-Some-Bag
-returns-in_ok-end_bag-in-Some-Bag c =
-    let f = c.in-Some-Bag in
-    does_end_bag (is_aligned c.args.variant) c.args.frames.now c.pop.new.self f.field-0 f.boxed c.args.output.now f.ensures.items f.field-0-is c.into_inner-bag.result c.into_inner-bag.ensures (omega (arith, c.if-bag-gt0.false)) c.end_bag.new.output c.in_ok-end_bag-in-Some-Bag.ensures
+pub returns : goal.returns
+returns c = subst (λ l. MatchResult c.end_taken.result (λ _. Does (is_aligned c.args.variant) ends l c.args.output.now c.end_taken.new.frames c.end_taken.new.output) (Cannot (is_aligned c.args.variant) ends l c.args.output.now)) (c.end_complete.ensures.same c.if-end_complete.false) c.end_taken.ensures

@@ -1,35 +1,17 @@
-use Rattle.std.proofs.Common.{drop, inr, refl, sym, ap, ◌∙◌}
+use Rattle.std.proofs.Common.{◌≡◌, length, IfOk, IfErr, ◌⊎◌, sym, ◌∙◌, subst}
+use Rattle.asn1_schema_faults.specs.declared.DecodeError.TheVariants.{OutOfMemory}
 use Rattle.asn1_values_bits.specs.BitStr.{bits_of}
-use Rattle.per_codec_reading_values.proofs.Steps.{begins, enough, ends_without, ends_outside, goes_on, all_read}
+use Rattle.per_codec_reading_values.specs.Spelled.{Stuck, IsFitting}
+use Rattle.per_codec_reading_values.proofs.Steps.{octets_many}
 use Rattle.per_codec_reading_values.proofs.codes.string_of.Goals as goal
 
-pub loop-place-init : goal.loop-place-init
-loop-place-init g c = begins g.S.StaticPermittedAlphabet.kind c.args.alphabet.now c.args.count _ (bits_of c.args.codes) c.in-Ok.ensures c.requires.whole
+pub returns-in-Some-clause-count : goal.returns-in-Some-clause-count
+returns-in-Some-clause-count g c =
+    let n : length c.in-Some.octets.now ≡ c.args.count = octets_many c.args.alphabet.now c.in-Some.octets.now c.args.count (bits_of c.args.codes) (sym c.width.ensures.bits ∙ c.if-width-eq8.true) c.in-Some.ensures.octets c.requires.whole in
+    subst (λ m. IfOk c.string_of_octet_codes.result (λ s. length (g.S.StaticPermittedAlphabet.characters s) ≡ m)) n c.string_of_octet_codes.ensures.count
 
-pub first_number-code-requires-clause-within : goal.first_number-code-requires-clause-within
-first_number-code-requires-clause-within g c =
-    let e = enough g.S.StaticPermittedAlphabet.kind c.args.alphabet.now c.args.count c.loop-place.place _ _ (bits_of c.args.codes) c.loop-place.invariant c.loop-place-test.true in
-    rw c.width-width.ensures.bits e
-
-pub split_at-requires : goal.split_at-requires
-split_at-requires g c =
-    let e = enough g.S.StaticPermittedAlphabet.kind c.args.alphabet.now c.args.count c.loop-place.place _ _ (bits_of c.args.codes) c.loop-place.invariant c.loop-place-test.true in
-    rw c.width-width.ensures.bits e
-
-pub returns-in_default-character-clause-refused : goal.returns-in_default-character-clause-refused
-returns-in_default-character-clause-refused g c =
-    inr (ends_without g.S.StaticPermittedAlphabet.kind c.args.alphabet.now c.args.count c.loop-place.place _ _ (bits_of c.args.codes) c.loop-place.invariant c.loop-place-test.true _ c.first_number-code.result (rw c.width-width.ensures.bits at c.first_number-code.ensures.digits) (rw c.width-width.ensures.bits at c.first_number-code.ensures.fits) c.in_default-character.ensures.alone refl)
-
-pub returns-then-not-contains_char-clause-refused : goal.returns-then-not-contains_char-clause-refused
-returns-then-not-contains_char-clause-refused g c =
-    inr (ends_outside g.S.StaticPermittedAlphabet.kind c.args.alphabet.now c.args.count c.loop-place.place _ _ (bits_of c.args.codes) c.loop-place.invariant c.loop-place-test.true _ c.first_number-code.result (rw c.width-width.ensures.bits at c.first_number-code.ensures.digits) (rw c.width-width.ensures.bits at c.first_number-code.ensures.fits) c.in-Some.ensures.alone c.in-Some.character refl (sym c.if-not-contains_char.ensures))
-
-pub loop-place-preserved : goal.loop-place-preserved
-loop-place-preserved g c =
-    goes_on g.S.StaticPermittedAlphabet.kind c.args.alphabet.now c.args.count c.loop-place.place _ (bits_of c.loop-place.rest) (bits_of c.args.codes) c.loop-place.invariant c.loop-place-test.true _ c.first_number-code.result (rw c.width-width.ensures.bits at c.first_number-code.ensures.digits) (rw c.width-width.ensures.bits at c.first_number-code.ensures.fits) c.in-Some.ensures.alone c.in-Some.character (g.S.StaticPermittedAlphabet.characters c.push_char.new.self) _ c.in-Ok-push_char.ensures.pushed (sym c.if-not-contains_char.ensures) c.in-Some.ensures.found (c.split_at.ensures.rest ∙ ap (λ n. drop n (bits_of c.loop-place.rest)) c.width-width.ensures.bits)
-
-pub returns-clause-count : goal.returns-clause-count
-returns-clause-count g c = (all_read g.S.StaticPermittedAlphabet.kind c.args.alphabet.now c.args.count c.loop-place.place _ _ (bits_of c.args.codes) c.loop-place.invariant c.loop-place-test.false c.loop-place.auto.place-end).0
-
-pub returns-clause-codes : goal.returns-clause-codes
-returns-clause-codes g c = (all_read g.S.StaticPermittedAlphabet.kind c.args.alphabet.now c.args.count c.loop-place.place _ _ (bits_of c.args.codes) c.loop-place.invariant c.loop-place-test.false c.loop-place.auto.place-end).1
+pub returns-in-Some-clause-refused : goal.returns-in-Some-clause-refused
+returns-in-Some-clause-refused g c =
+    let n : length c.in-Some.octets.now ≡ c.args.count = octets_many c.args.alphabet.now c.in-Some.octets.now c.args.count (bits_of c.args.codes) (sym c.width.ensures.bits ∙ c.if-width-eq8.true) c.in-Some.ensures.octets c.requires.whole in
+    let r = subst (λ w. IfErr c.string_of_octet_codes.result (λ e. (e ≡ OutOfMemory) ⊎ (IsFitting c.args.alphabet.now → Stuck g.S.StaticPermittedAlphabet.kind c.args.alphabet.now (length c.in-Some.octets.now) w))) c.in-Some.ensures.octets c.string_of_octet_codes.ensures.refused in
+    subst (λ m. IfErr c.string_of_octet_codes.result (λ e. (e ≡ OutOfMemory) ⊎ (IsFitting c.args.alphabet.now → Stuck g.S.StaticPermittedAlphabet.kind c.args.alphabet.now m (bits_of c.args.codes)))) n r

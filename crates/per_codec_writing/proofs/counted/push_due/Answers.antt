@@ -1,25 +1,17 @@
-use Rattle.std.proofs.Common.{◌≡◌, ◌+◌, ◌-◌, length, ap, ◌∙◌, arith}
-use Rattle.per_codec_writing.specs.Headings.{count_behind}
-use Rattle.per_codec_writing.proofs.HeadingForms.{fragment_added, last_added}
+use Rattle.std.proofs.Common.{◌≡◌, ◌+◌, slice_range, subst, arith}
+use Rattle.asn1_model.specs.Form.{joined}
+use Rattle.per_codec_packing.specs.Texts.{text_at}
+use Rattle.per_codec_writing.specs.Writing.{Adds, place}
+use Rattle.per_codec_writing.proofs.HeadingForms.{last_added}
 use Rattle.per_codec_limits.specs.Variants.{is_aligned}
 use Rattle.per_codec_writing.proofs.counted.push_due.Goals as goal
 
-pub loop-due-preserved : goal.loop-due-preserved
-loop-due-preserved g c =
+pub returns-in_ok-push_range-in-None : goal.returns-in_ok-push_range-in-None
+returns-in_ok-push_range-in-None g c =
     let us = g.U.Units.forms c.args.units.now in
-    let at = c.loop-due in
-    let next = c.in_ok-due.ensures in
-    let count : c.in-Some.count ≡ length us - (at.from + at.due.units) = omega (arith, at.invariant.within, at.invariant.due.all, ap count_behind c.in-Some.is) in
-    record {
-      within = omega (arith, at.invariant.within, at.invariant.due.all);
-      due = record { all = next.due.all ∙ count; ready = next.due.ready };
-      rest = λ new r. at.invariant.rest new
-          (fragment_added (is_aligned c.args.variant) us at.from at.due at.invariant.within at.invariant.due c.in_ok-due.due c.in-Some.count at.output c.push_range.new.output c.push_length_determinant.new.output new
-          c.in-Some.is c.in_ok-push_range.ensures next.heads r);
-    }
-
-pub returns : goal.returns
-returns g c =
-    let at = c.loop-due in
-    at.invariant.rest c.push_range-2.new.output
-    (last_added (is_aligned c.args.variant) (g.U.Units.forms c.args.units.now) at.from at.due at.invariant.within at.invariant.due at.output c.push_range-2.new.output c.in_default.is c.in_ok-push_range-2.ensures)
+    let due = c.requires.due in
+    let old = c.args.output.now in
+    let new = c.push_range.new.output in
+    let same : c.args.first.units ≡ 0 + c.args.first.units = omega arith in
+    last_added (is_aligned c.args.variant) us 0 c.args.first (omega arith) (record { all = omega (arith, due.all); ready = due.ready }) old new c.in-None.is
+    (subst (λ k. Adds (text_at (joined (slice_range us 0 k)) (place old)) old new) same c.in_ok-push_range-in-None.ensures)

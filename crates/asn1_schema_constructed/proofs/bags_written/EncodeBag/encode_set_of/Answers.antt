@@ -1,7 +1,7 @@
 use Rattle.asn1_schema_presented.proofs.Joined.{raised}
 use Rattle.asn1_schema_constructed.proofs.BagWriting.{writes_bag, cannot_bag_here, cannot_bag}
 use Rattle.asn1_schema_encode.proofs.Listing.{count_values, from_start, from_next, from_further, from_stuck, from_end, from_no_more, from_close}
-use Rattle.std.proofs.Common.{arith}
+use Rattle.std.proofs.Common.{arith, refl, ◌∙◌}
 use Rattle.asn1_schema_encode.proofs.Going.{passed, failed_before_value}
 use Rattle.asn1_schema_constructed.proofs.bags_written.EncodeBag.encode_set_of.Goals as goal
 
@@ -9,7 +9,7 @@ pub returns-in_err-begin_bag-clause-only : goal.returns-in_err-begin_bag-clause-
 returns-in_err-begin_bag-clause-only g c = raised _ _ _ c.from_residual.ensures.1 (cannot_bag_here _ _ _ _ (rw (count_values g.T.Described.meaning c.args.items.now) c.in_err-begin_bag.ensures.only))
 
 pub loop-item-init : goal.loop-item-init
-loop-item-init g c = (from_start _, g.met.Self.Encoder.goes_on _ _ _ c.in_ok-begin_bag.ensures.ok)
+loop-item-init g c = (from_start _, g.met.Self.Encoder.goes_on _ _ _ c.in_ok-begin_bag.ensures.ok, refl)
 
 pub returns-in_err-put_further-clause-only : goal.returns-in_err-put_further-clause-only
 returns-in_err-put_further-clause-only g c = let one = g.met.Self.Encoder.one_after in raised _ _ _ c.from_residual-in_err-put_further.ensures.1 (cannot_bag _ _ _ one (rw (count_values g.T.Described.meaning c.args.items.now) c.in_ok-begin_bag.ensures.ok) (from_further (omega arith) c.item-item.is c.loop-item.invariant.0 c.in_err-put_further.ensures.only))
@@ -23,6 +23,7 @@ loop-item-preserved g c =
     let law = g.met.Self.Encoder.goes_on in (
       from_next one (omega arith) c.item-item.is c.loop-item.invariant.0 c.in_ok-put_further.ensures.ok c.in_ok-encode.ensures.ok,
       λ f. law _ _ _ c.in_ok-put_further.ensures.ok (failed_before_value law (g.T.Described.valued _) c.in_ok-encode.ensures.ok f),
+      c.in_ok-encode.ensures.front ∙ c.in_ok-put_further.ensures.front ∙ c.loop-item.invariant.2,
     )
 
 pub returns-in_err-put_further-2-clause-only : goal.returns-in_err-put_further-2-clause-only

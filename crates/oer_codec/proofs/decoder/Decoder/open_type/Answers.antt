@@ -9,4 +9,4 @@ use Rattle.oer_codec.proofs.decoder.Decoder.open_type.Goals as goal
 pub returns-in-Err-clause-only : goal.returns-in-Err-clause-only
 returns-in-Err-clause-only c =
     let n = not_opened (freedoms c.self.inside.rules) c.self.inside.cursor c.in-Err.error c.in-Err.ensures.only in
-    subst (λ (h : Held). NotOpened (freedoms h.rules) h.octets c.fail-in-Err.result) c.self.view_is (subst (λ (e : DecodeError). NotOpened (freedoms c.self.inside.rules) c.self.inside.cursor e) (sym c.fail-in-Err.ensures.refused) n)
+    subst (λ (h : Held). NotOpened (freedoms h.rules) h.octets c.refuse-in-Err.result) c.self.view_is (subst (λ (e : DecodeError). NotOpened (freedoms c.self.inside.rules) c.self.inside.cursor e) (sym c.refuse-in-Err.ensures.refused) n)

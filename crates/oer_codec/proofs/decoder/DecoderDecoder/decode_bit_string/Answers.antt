@@ -1,4 +1,3 @@
-use Rattle.std.proofs.Common.{◌∙◌}
 use Rattle.asn1_model.specs.Schema.{bit_string}
 use Rattle.asn1_schema_constraints.specs.Bounds.{counts_of}
 use Rattle.asn1_schema_constraints.specs.Terms.{sizes_of}
@@ -10,4 +9,4 @@ pub returns-in-Ok-clause-held : goal.returns-in-Ok-clause-held
 returns-in-Ok-clause-held c = bits_within (freedoms c.self.inside.rules) (sizes_of c.args.constraints.size) (counts_of c.args.held) _ _ _ c.in-Ok.ensures.ok
 
 pub returns-in-Err-clause-only : goal.returns-in-Err-clause-only
-returns-in-Err-clause-only c = none_found _ _ _ (bit_string (sizes_of c.args.constraints.size) (counts_of c.args.held)) _ _ (c.self.view_is ∙ c.in_ok-begin_record.ensures.ok.1) c.fail.ensures.refused c.in-Err.ensures.only (λ free a b. asked_bits free a b (sizes_of c.args.constraints.size) (counts_of c.args.held))
+returns-in-Err-clause-only c = none_found _ _ _ (bit_string (sizes_of c.args.constraints.size) (counts_of c.args.held)) _ _ c.self.view_is c.refuse.ensures.refused c.in-Err.ensures.only (λ free a b. asked_bits free a b (sizes_of c.args.constraints.size) (counts_of c.args.held))

@@ -1,4 +1,3 @@
-use Rattle.std.proofs.Common.{◌∙◌}
 use Rattle.asn1_model.specs.Schema.{integer}
 use Rattle.asn1_schema_constraints.specs.Terms.{bounds_of, held_of}
 use Rattle.oer_codec_reading.specs.Fronts.{freedoms}
@@ -9,4 +8,4 @@ pub returns-in-Ok-clause-within : goal.returns-in-Ok-clause-within
 returns-in-Ok-clause-within g c = number_within (freedoms c.self.inside.rules) (bounds_of c.args.constraints.value) (held_of c.args.constraints.value g.I.IntegerType.held) _ _ _ c.in-Ok.ensures.ok
 
 pub returns-in-Err-clause-only : goal.returns-in-Err-clause-only
-returns-in-Err-clause-only g c = none_found _ _ _ (integer (bounds_of c.args.constraints.value) (held_of c.args.constraints.value g.I.IntegerType.held)) _ _ (c.self.view_is ∙ c.in_ok-begin_record.ensures.ok.1) c.fail.ensures.refused c.in-Err.ensures.only (λ free a b. asked_whole free a b (bounds_of c.args.constraints.value) (held_of c.args.constraints.value g.I.IntegerType.held))
+returns-in-Err-clause-only g c = none_found _ _ _ (integer (bounds_of c.args.constraints.value) (held_of c.args.constraints.value g.I.IntegerType.held)) _ _ c.self.view_is c.refuse.ensures.refused c.in-Err.ensures.only (λ free a b. asked_whole free a b (bounds_of c.args.constraints.value) (held_of c.args.constraints.value g.I.IntegerType.held))

@@ -1,7 +1,6 @@
-use Rattle.std.proofs.Common.{◌∙◌}
 use Rattle.asn1_model.specs.Schema.{object_identifier}
 use Rattle.oer_codec.proofs.Finding.{none_found, asked_identifier}
 use Rattle.oer_codec.proofs.decoder.DecoderDecoder.decode_object_identifier.Goals as goal
 
 pub returns-in-Err-clause-only : goal.returns-in-Err-clause-only
-returns-in-Err-clause-only c = none_found _ _ _ object_identifier _ _ (c.self.view_is ∙ c.in_ok-begin_record.ensures.ok.1) c.fail.ensures.refused c.in-Err.ensures.only asked_identifier
+returns-in-Err-clause-only c = none_found _ _ _ object_identifier _ _ c.self.view_is c.refuse.ensures.refused c.in-Err.ensures.only asked_identifier

@@ -1,11 +1,17 @@
-use Rattle.oer_codec_encoder.proofs.Stepped.{is_sound, stays_sound, puts}
+use Rattle.oer_codec_encoder.proofs.Stepped.{is_sound, stays_sound, puts, kept_front}
 use Rattle.oer_codec_encoder.proofs.encoder.EncoderEncoder.end.Goals as goal
 
 pub end_innermost-requires : goal.end_innermost-requires
 end_innermost-requires c = is_sound c.self.inside.frames c.self.inside.output.now.items (c.self.invariant c.in_ok-begin_record.ensures.ok)
 
 pub invariant_of-self-2 : goal.invariant_of-self-2
-invariant_of-self-2 c _ = stays_sound _ c.self.inside.frames c.end_innermost.new.self c.self.inside.output.now.items c.end_innermost.new.octets.items (c.self.invariant c.in_ok-begin_record.ensures.ok) c.in_ok-end_innermost.ensures
+invariant_of-self-2 c _ = stays_sound _ c.self.inside.frames c.end_innermost.new.self c.self.inside.output.now.items c.end_innermost.new.octets.items (c.self.invariant c.in_ok-begin_record.ensures.ok) c.in_ok-end_innermost.ensures.step
 
 pub returns-clause-ok : goal.returns-clause-ok
-returns-clause-ok c = puts _ c.self.inside.frames c.end_innermost.new.self c.self.inside.output.now.items c.end_innermost.new.octets.items c.self.inside.failed c.args.self.now c.self.view_is c.in_ok-begin_record.ensures.ok (c.self.invariant c.in_ok-begin_record.ensures.ok) c.in_ok-end_innermost.ensures
+returns-clause-ok c = puts _ c.self.inside.frames c.end_innermost.new.self c.self.inside.output.now.items c.end_innermost.new.octets.items c.self.inside.failed c.args.self.now c.self.view_is c.in_ok-begin_record.ensures.ok (c.self.invariant c.in_ok-begin_record.ensures.ok) c.in_ok-end_innermost.ensures.step
+
+pub returns-clause-front : goal.returns-clause-front
+returns-clause-front c = (returns-clause-ok c).3
+
+pub returns-in_err-end_innermost-clause-front : goal.returns-in_err-end_innermost-clause-front
+returns-in_err-end_innermost-clause-front c = kept_front c.self.inside.frames c.end_innermost.new.self c.self.inside.output.now.items c.end_innermost.new.octets.items c.self.inside.failed c.args.self.now c.self.view_is (c.self.invariant c.in_ok-begin_record.ensures.ok) c.in_err-end_innermost.ensures.kept

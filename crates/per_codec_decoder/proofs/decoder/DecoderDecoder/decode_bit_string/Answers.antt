@@ -1,4 +1,3 @@
-use Rattle.std.proofs.Common.{◌∙◌}
 use Rattle.asn1_schema_constraints.specs.Bounds.{counts_of}
 use Rattle.asn1_schema_constraints.specs.Terms.{size_of}
 use Rattle.asn1_model.specs.Schema.{bit_string}
@@ -16,4 +15,4 @@ pub returns-clause-only : goal.returns-clause-only
 returns-clause-only c =
     let z = size_of c.sizes-sizes.result in
     let h = counts_of c.args.held in
-    err_also c.settle.result (λ x n. none_as _ (λ s. asks_bits s h) _ _ x c.sizes-sizes.ensures n) (unfound c.read_bit_string-answer.result c.settle.result (asks_bits z h) (bit_string z h) _ _ c.cursor-cursor.result (c.self.view_is ∙ c.in_ok-begin_record.ensures.ok.1) c.cursor-cursor.ensures c.settle.ensures.same c.read_bit_string-answer.ensures.only (λ al free a b. asked_bits al free a b z h))
+    err_also c.settle.result (λ x n. none_as _ (λ s. asks_bits s h) _ _ x c.sizes-sizes.ensures n) (unfound c.read_bit_string-answer.result c.settle.result (asks_bits z h) (bit_string z h) _ _ c.cursor-cursor.result c.self.view_is c.cursor-cursor.ensures c.settle.ensures.same c.read_bit_string-answer.ensures.only (λ al free a b. asked_bits al free a b z h))

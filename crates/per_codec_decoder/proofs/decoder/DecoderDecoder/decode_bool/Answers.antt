@@ -1,4 +1,3 @@
-use Rattle.std.proofs.Common.{◌∙◌}
 use Rattle.per_codec_decoder.proofs.Settling.{unfound}
 use Rattle.asn1_model.specs.Schema.{boolean}
 use Rattle.asn1_schema_presented.specs.Records.{asks_flag}
@@ -6,4 +5,4 @@ use Rattle.per_codec_decoder.proofs.Finding.{asked_flag}
 use Rattle.per_codec_decoder.proofs.decoder.DecoderDecoder.decode_bool.Goals as goal
 
 pub returns-clause-only : goal.returns-clause-only
-returns-clause-only c = unfound c.read_boolean-answer.result c.settle.result asks_flag boolean _ _ c.cursor-cursor.result (c.self.view_is ∙ c.in_ok-begin_record.ensures.ok.1) c.cursor-cursor.ensures c.settle.ensures.same c.read_boolean-answer.ensures.only asked_flag
+returns-clause-only c = unfound c.read_boolean-answer.result c.settle.result asks_flag boolean _ _ c.cursor-cursor.result c.self.view_is c.cursor-cursor.ensures c.settle.ensures.same c.read_boolean-answer.ensures.only asked_flag

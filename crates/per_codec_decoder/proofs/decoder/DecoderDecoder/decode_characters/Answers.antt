@@ -1,8 +1,7 @@
-use Rattle.std.proofs.Common.{◌∙◌}
 use Rattle.asn1_model.specs.Schema.{any_count}
 use Rattle.asn1_schema_constraints.specs.Terms.{sizes_of, alphabet_of}
 use Rattle.per_codec_decoder.proofs.Settling.{uncharacters}
 use Rattle.per_codec_decoder.proofs.decoder.DecoderDecoder.decode_characters.Goals as goal
 
 pub returns-clause-only : goal.returns-clause-only
-returns-clause-only g c = uncharacters c.read_characters-answer.result c.settle.result g.S.StaticPermittedAlphabet.kind (sizes_of c.args.constraints.size) (alphabet_of c.args.constraints.permitted_alphabet) any_count _ _ c.cursor-cursor.result (c.self.view_is ∙ c.in_ok-begin_record.ensures.ok.1) c.cursor-cursor.ensures c.settle.ensures.same c.read_characters-answer.ensures.only
+returns-clause-only g c = uncharacters c.read_characters-answer.result c.settle.result g.S.StaticPermittedAlphabet.kind (sizes_of c.args.constraints.size) (alphabet_of c.args.constraints.permitted_alphabet) any_count _ _ c.cursor-cursor.result c.self.view_is c.cursor-cursor.ensures c.settle.ensures.same c.read_characters-answer.ensures.only

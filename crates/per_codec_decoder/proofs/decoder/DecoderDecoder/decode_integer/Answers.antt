@@ -1,4 +1,3 @@
-use Rattle.std.proofs.Common.{◌∙◌}
 use Rattle.asn1_schema_constraints.specs.Terms.{bounds_of, held_of}
 use Rattle.per_codec_reading.specs.Fronts.{freedoms, is_aligned}
 use Rattle.per_codec_decoder.proofs.Settling.{unfound, also}
@@ -11,4 +10,4 @@ pub returns-clause-within : goal.returns-clause-within
 returns-clause-within g c = also c.read_integer-answer.result c.settle.result _ _ c.settle.ensures.same c.read_integer-answer.ensures.ok (λ x f. number_within (freedoms c.self.inside.variant) (is_aligned c.self.inside.variant) _ _ (bounds_of c.args.constraints.value) (held_of c.args.constraints.value g.I.IntegerType.held) _ f)
 
 pub returns-clause-only : goal.returns-clause-only
-returns-clause-only g c = unfound c.read_integer-answer.result c.settle.result (asks_whole (bounds_of c.args.constraints.value) (held_of c.args.constraints.value g.I.IntegerType.held)) (integer (bounds_of c.args.constraints.value) (held_of c.args.constraints.value g.I.IntegerType.held)) _ _ c.cursor-cursor.result (c.self.view_is ∙ c.in_ok-begin_record.ensures.ok.1) c.cursor-cursor.ensures c.settle.ensures.same c.read_integer-answer.ensures.only (λ al free a b. asked_whole al free a b (bounds_of c.args.constraints.value) (held_of c.args.constraints.value g.I.IntegerType.held))
+returns-clause-only g c = unfound c.read_integer-answer.result c.settle.result (asks_whole (bounds_of c.args.constraints.value) (held_of c.args.constraints.value g.I.IntegerType.held)) (integer (bounds_of c.args.constraints.value) (held_of c.args.constraints.value g.I.IntegerType.held)) _ _ c.cursor-cursor.result c.self.view_is c.cursor-cursor.ensures c.settle.ensures.same c.read_integer-answer.ensures.only (λ al free a b. asked_whole al free a b (bounds_of c.args.constraints.value) (held_of c.args.constraints.value g.I.IntegerType.held))

@@ -1,4 +1,3 @@
-use Rattle.std.proofs.Common.{◌∙◌}
 use Rattle.per_codec_decoder.proofs.Settling.{unfound}
 use Rattle.asn1_model.specs.Schema.{null}
 use Rattle.asn1_schema_presented.specs.Records.{asks_nil}
@@ -6,4 +5,4 @@ use Rattle.per_codec_decoder.proofs.Finding.{asked_nil}
 use Rattle.per_codec_decoder.proofs.decoder.DecoderDecoder.decode_null.Goals as goal
 
 pub returns-clause-only : goal.returns-clause-only
-returns-clause-only c = unfound c.read_null-answer.result c.settle.result asks_nil null _ _ c.cursor-cursor.result (c.self.view_is ∙ c.in_ok-begin_record.ensures.ok.1) c.cursor-cursor.ensures c.settle.ensures.same c.read_null-answer.ensures.only asked_nil
+returns-clause-only c = unfound c.read_null-answer.result c.settle.result asks_nil null _ _ c.cursor-cursor.result c.self.view_is c.cursor-cursor.ensures c.settle.ensures.same c.read_null-answer.ensures.only asked_nil

@@ -1,0 +1,38 @@
+//! Numbers within bounds of their own, with an extension marker behind these.
+ghost use Rattle.std.specs.Prelude.{refl, pos, Some, true};
+ghost use Rattle.asn1_schema.specs.Author.{bounded_by};
+ghost use Rattle.asn1_schema.proofs.Author.{integer_type};
+
+use asn1_schema::{Bounded, Constrained, Constraints, ConstraintsOf, Described, Extensible, Value};
+use asn1_values::Integer;
+
+/// (0..255, ...).
+#[derive(Clone, Copy, Debug, PartialEq, Eq)]
+pub struct OctetOrMore;
+
+/// INTEGER (0..255, ...).
+pub type ExtensibleInteger = Constrained<OctetOrMore, Integer>;
+
+impl ConstraintsOf<Integer> for OctetOrMore {
+    ghost terms = { bounded_by (Some (pos 0)) (Some (pos 255)) true };
+
+    ghost under = { ⟦<Integer as Described>⟧.under };
+
+    ghost meaning = { ⟦<Integer as Described>⟧.meaning };
+
+    ghost lawful = { λ ts e. integer_type _ _ e refl refl };
+
+    ghost valued = { ⟦<Integer as Described>⟧.valued_under };
+
+    fn constraints() -> Constraints<'static> {
+        let octet = Extensible::new(Value::new(Bounded::const_new(0, 255)));
+        Constraints {
+            value: Some(octet.set_extensible(true)),
+            ..Constraints::NONE
+        }
+    }
+
+    ghost same_under = { λ _. refl };
+
+    ghost same_meaning = { λ _. refl };
+}

@@ -1,0 +1,165 @@
+//! Open scopes, and how many members of the innermost list are still to come.
+ghost use Rattle.std.specs.Prelude.{◌≡◌, ◌∷◌, ◌<◌, [], List, Some, OnOk, IfErr, IfSome, IfNone};
+ghost use Rattle.oer_codec_fronts.specs.Takes.{AdditionEnds, Ends, NextPresenceBit, NextMember, Scope};
+ghost use Rattle.oer_codec_fronts.specs.Takes.{components, members};
+ghost use Rattle.oer_codec_reading.specs.Fronts.{freedoms};
+ghost use Rattle.oer_codec.specs.Refusals.{NoAdditionEnd, NoEnd};
+ghost use Rattle.oer_codec.specs.Scopes.{NextPresent, frame_of, scope_of, with_due};
+
+use crate::frames::{Enclosing, Frame, Nested};
+use asn1_schema_faults::DecodeError;
+use oer_codec_reading::{Cursor, EncodingRules};
+use std::alloc::{AllocError, Global};
+use std::marker::Model;
+
+/// All that has begun and has not ended. How many members of a list that is innermost of all are still to come is told
+/// by a number of its own, so that a member that is due is found without a look at the frames. Where something begins
+/// in a member, the list's frame tells it.
+#[derive(Drop)]
+pub(crate) struct Scopes<'input> {
+    // Zero where no list is innermost, or its frame tells.
+    due: usize,
+    nested: Nested<'input>,
+}
+
+impl<'input> Model for Scopes<'input> {
+    ghost use Rattle.std.specs.Prelude.{◌≡◌, ◌∷◌, ◌<◌, List};
+    ghost use Rattle.oer_codec_fronts.specs.Takes.{Scope, members};
+    ghost use Rattle.oer_codec.specs.Scopes.{with_due};
+
+    ghost Value = { List Scope };
+
+    ghost view = { λ s. with_due s.due s.nested };
+
+    ghost invariant = { λ s. 0 < s.due → (k : List Scope) × (s.nested ≡ members 0 ∷ k) };
+}
+
+/// Gives what is due of the innermost list back to its frame.
+#[inline(always)]
+fn settle(due: &mut usize, nested: &mut Nested<'_>)
+    requires { 0 < due.old → (k : List Scope) × (nested.old ≡ members 0 ∷ k) }
+    ensures given { nested.new ≡ with_due due.old nested.old }
+    ensures none { due.new ≡ 0 }
+{
+    if *due > 0 {
+        nested.set_due(*due);
+        *due = 0;
+    }
+}
+
+impl<'input> Scopes<'input> {
+    /// Nothing is open.
+    pub(crate) fn new(alloc: Global) -> Self
+        ensures { result ≡ [] }
+    {
+        Scopes {
+            due: 0,
+            nested: Nested::new(alloc),
+        }
+    }
+
+    /// Opens a scope inside all others.
+    #[inline(always)]
+    pub(crate) fn open(&mut self, frame: Frame<'input>) -> Result<(), AllocError>
+        ensures { OnOk result (self.new ≡ scope_of frame.entry ∷ self.old) }
+    {
+        settle(&mut self.due, &mut self.nested);
+        if let Frame::Members(due) = frame {
+            self.nested.open(Frame::Members(0))?;
+            self.due = due;
+            return Ok(());
+        }
+        self.nested.open(frame)
+    }
+
+    /// Opens inside all others what encloses one value alone.
+    #[inline(always)]
+    pub(crate) fn enclose(&mut self, enclosing: Enclosing<'input>) -> Result<(), AllocError>
+        ensures { OnOk result (self.new ≡ scope_of (frame_of enclosing.entry) ∷ self.old) }
+    {
+        settle(&mut self.due, &mut self.nested);
+        self.nested.enclose(enclosing)
+    }
+
+    /// Puts a scope in the place of the innermost, which is that of components.
+    #[inline(always)]
+    pub(crate) fn replace(&mut self, frame: Frame<'input>)
+        ensures { (x : _) (ms : _) (k : _) → self.old ≡ components x ms ∷ k → self.new ≡ scope_of frame.entry ∷ k }
+    {
+        settle(&mut self.due, &mut self.nested);
+        self.nested.replace(frame);
+    }
+
+    /// The extension bit of the innermost sequence, where all its presence bits are read.
+    #[inline(always)]
+    pub(crate) fn extension_bit(&mut self) -> Option<bool>
+        ensures some { IfSome result (λ set. (k : _) × (self.old ≡ components (Some set) [] ∷ k)) }
+        ensures none { IfNone result ((set : _) (k : _) → self.old ≡ components (Some set) [] ∷ k → ⊥) }
+        ensures same { self.new ≡ self.old }
+    {
+        settle(&mut self.due, &mut self.nested);
+        self.nested.extension_bit()
+    }
+
+    /// The next presence bit of the innermost sequence.
+    #[inline(always)]
+    pub(crate) fn next_presence_bit(&mut self) -> Option<bool>
+        ensures some { IfSome result (λ present. (os : _) → NextPresenceBit present os self.old (os, self.new)) }
+        ensures none { IfNone result ((present : _) (os : _) (b : _) → NextPresenceBit present os self.old b → ⊥) }
+    {
+        settle(&mut self.due, &mut self.nested);
+        self.nested.next_presence_bit()
+    }
+
+    /// Whether the next addition of the innermost sequence is there.
+    #[inline(always)]
+    pub(crate) fn next_addition(&mut self) -> Option<bool>
+        ensures some { IfSome result (λ present. NextPresent present self.old self.new) }
+        ensures none { IfNone result ((present : _) (after : _) → NextPresent present self.old after → ⊥) }
+    {
+        settle(&mut self.due, &mut self.nested);
+        self.nested.next_addition()
+    }
+
+    /// Whether a member of the innermost list is still to come.
+    #[inline(always)]
+    pub(crate) fn next_member(&mut self) -> Option<bool>
+        ensures some { IfSome result (λ more. (os : _) → NextMember more os self.old (os, self.new)) }
+        ensures none { IfNone result ((more : _) (os : _) (b : _) → NextMember more os self.old b → ⊥) }
+    {
+        if self.due > 0 {
+            self.due -= 1;
+            return Some(true);
+        }
+        settle(&mut self.due, &mut self.nested);
+        self.nested.next_member()
+    }
+
+    /// Closes the innermost scope, if nothing of it is still to come.
+    #[inline(always)]
+    pub(crate) fn close(
+        &mut self,
+        cursor: &mut Cursor<'input>,
+        rules: EncodingRules,
+    ) -> Result<(), DecodeError>
+        ensures ok { OnOk result (Ends (freedoms rules) cursor.old self.old (cursor.new, self.new)) }
+        ensures only { IfErr result (NoEnd (freedoms rules) cursor.old self.old) }
+    {
+        settle(&mut self.due, &mut self.nested);
+        self.nested.close(cursor, rules)
+    }
+
+    /// Closes the innermost scope, if it is that of an addition (X.696 30).
+    #[inline(always)]
+    pub(crate) fn close_addition(
+        &mut self,
+        cursor: &mut Cursor<'input>,
+        rules: EncodingRules,
+    ) -> Result<(), DecodeError>
+        ensures ok { OnOk result (AdditionEnds (freedoms rules) cursor.old self.old (cursor.new, self.new)) }
+        ensures only { IfErr result (NoAdditionEnd (freedoms rules) cursor.old self.old) }
+    {
+        settle(&mut self.due, &mut self.nested);
+        self.nested.close_addition(cursor, rules)
+    }
+}

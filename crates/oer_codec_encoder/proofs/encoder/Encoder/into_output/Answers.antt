@@ -1,0 +1,15 @@
+use Rattle.std.proofs.Common.{ap, ◌∙◌}
+use Rattle.oer_codec_encoder.specs.Holding.{shown}
+use Rattle.oer_codec_encoder.specs.Stepping.{Written}
+use Rattle.oer_codec_encoder.proofs.Scopes.{nothing_open}
+use Rattle.oer_codec_encoder.proofs.encoder.Encoder.into_output.Goals as goal
+
+pub returns : goal.returns
+returns c = record {
+  octets = λ f n.
+      let fs = c.self.inside.frames in
+      let o = c.self.inside.output.now.items in
+      let ready = ap (λ (w : Written). w.failed) c.self.view_is ∙ f in
+      let state = ap (λ (w : Written). w.state) c.self.view_is in
+      ap (λ v. v.items) c.replace.ensures.value ∙ nothing_open fs o (shown fs o) (c.self.invariant ready).holds (ap (λ s. s.1) state ∙ n) ∙ ap (λ s. s.0) state;
+}

@@ -1,0 +1,69 @@
+//! Octets as units of fewer bits.
+ghost use Rattle.std.specs.Prelude.{◌≡◌, ◌≤◌, flat_map, length, map, MatchResult};
+ghost use Rattle.asn1_model.specs.Numbers.{binary};
+ghost use Rattle.per_codec_packing.specs.Texts.{as_text};
+ghost use Rattle.per_codec_writing.specs.Units.{forms_of};
+ghost use Rattle.per_codec_writing.specs.Writing.{plus};
+
+use crate::Units;
+use asn1_schema_faults::EncodeError;
+use per_codec_packing::Packing;
+
+/// Octets of which each is a unit of its low `width` bits, at most eight.
+#[derive(Drop)]
+pub(crate) struct NumberUnits<'a> {
+    pub(crate) octets: &'a [u8],
+    pub(crate) width: u32,
+    ghost narrow: { width ≤ 8 },
+}
+
+/// The low `width` bits of at most eight octets, one behind the other, as a number, and how many they are.
+#[inline(always)]
+fn joined_bits(octets: &[u8], width: u32) -> (u64, u32)
+    requires narrow { width ≤ 8 }
+    requires few { length octets.now ≤ 8 }
+    ensures digits { binary result.1 result.0 ≡ flat_map (binary width) octets.now }
+    ensures narrow { result.1 ≤ 64 }
+{
+    let mut number = 0;
+    let mut count = 0;
+    for octet in octets {
+        number = number << width | *octet as u64 & ((1 << width) - 1);
+        count += width;
+    }
+    (number, count)
+}
+
+/// Adds the low `width` bits of octets, those of eight octets at a time. The only error is want of memory.
+fn push_low_bits(output: &mut Packing, octets: &[u8], width: u32) -> Result<(), EncodeError>
+    requires { width ≤ 8 }
+    ensures { MatchResult result
+        (λ _. output.new ≡ plus output.old (as_text (flat_map (binary width) octets.now)))
+        (λ e. e ≡ EncodeError.OutOfMemory) }
+{
+    if width == 8 {
+        output.extend_from_bytes(octets)?;
+        return Ok(());
+    }
+    let mut rest = octets;
+    while rest.len() > 0 {
+        let few = rest.len().min(8);
+        let (number, count) = joined_bits(&rest[..few], width);
+        output.push_bits(number as u128, count)?;
+        rest = &rest[few..];
+    }
+    Ok(())
+}
+
+impl Units for NumberUnits<'_> {
+    ghost forms = { λ units. forms_of (map (binary units.width) units.octets.now) };
+
+    fn count(&self) -> usize {
+        self.octets.len()
+    }
+
+    fn push_range(&self, output: &mut Packing, from: usize, to: usize) -> Result<(), EncodeError> {
+        push_low_bits(output, &self.octets[from..to], self.width)?;
+        Ok(())
+    }
+}
