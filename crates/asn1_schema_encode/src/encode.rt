@@ -33,7 +33,10 @@ pub trait Encoder {
     /// An earlier call was refused.
     ghost has_failed: { Self → Type 0 };
 
-    /// The octets in front of those that it writes, which stay what they were, also after a refusal.
+    /// The octets in front of those that it writes, which stay what they were, also after a refusal. `step` does not
+    /// name them, so that they are worth what the encoder says of them where it is made and where its octets are
+    /// taken: that of OER is made with what its buffer held, and `into_front` answers that again. An encoder that
+    /// writes into room of its own has none (`no_front`), and the clauses on them then say nothing.
     ghost front: { Self → List ℕ };
 
     /// The rules that are followed.

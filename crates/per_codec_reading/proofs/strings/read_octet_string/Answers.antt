@@ -8,7 +8,7 @@ use Rattle.asn1_schema_constraints.specs.Terms.{size_of}
 use Rattle.per_codec_reading.specs.Fronts.{freedoms, is_aligned}
 use Rattle.per_codec_reading.proofs.Fronts.{misses_also}
 use Rattle.per_codec_reading.specs.Runs.{units_in}
-use Rattle.per_codec_reading.specs.Sizes.{pads_of, sized_units}
+use Rattle.per_codec_reading.specs.Sizes.{contents_have_padding, sized_units}
 use Rattle.per_codec_reading.specs.declared.sized.Contents.TheVariants.{Strings}
 use Rattle.per_codec_reading.proofs.StringFronts.{sized_size, octet_string_stands, no_octet_string}
 use Rattle.per_codec_reading.proofs.strings.read_octet_string.Goals as goal
@@ -21,12 +21,12 @@ returns-in_err-units-clause-only c =
     let z = size_of c.args.sizes in
     let h = counts_of c.args.held in
     let a = c.args.cursor.now in
-    rw (p.1, p.2) (misses_also f (sized_units al z h 8 (pads_of Strings 8)) (Per.form al (octet_string z h)) a a _ (no_octet_string f al z h a) c.in_err-units.ensures.only)
+    rw (p.1, p.2) (misses_also f (sized_units al z h 8 (contents_have_padding Strings 8)) (Per.form al (octet_string z h)) a a _ (no_octet_string f al z h a) c.in_err-units.ensures.only)
 
 pub into_octets-requires : goal.into_octets-requires
 into_octets-requires c =
     let us = units_in c.in_ok-units.units in
-    let n = sized_size (freedoms c.args.variant) (is_aligned c.args.variant) (size_of c.args.sizes) (counts_of c.args.held) 8 (pads_of Strings 8) us c.args.cursor.now c.read_sized.new.cursor c.in_ok-units.ensures.ok in
+    let n = sized_size (freedoms c.args.variant) (is_aligned c.args.variant) (size_of c.args.sizes) (counts_of c.args.held) 8 (contents_have_padding Strings 8) us c.args.cursor.now c.read_sized.new.cursor c.in_ok-units.ensures.ok in
     omega arith
 
 pub returns-clause-ok : goal.returns-clause-ok

@@ -10,7 +10,7 @@ use Rattle.asn1_values_bits.specs.BitStr.{bits_of, offset_of}
 use Rattle.per_codec_reading.specs.Fronts.{freedoms, is_aligned}
 use Rattle.per_codec_reading.proofs.Fronts.{misses_also}
 use Rattle.per_codec_reading.specs.Runs.{bits_in, units_in, InOneRun, StandsBefore}
-use Rattle.per_codec_reading.specs.Sizes.{pads_of, sized_units, told_in_front}
+use Rattle.per_codec_reading.specs.Sizes.{contents_have_padding, sized_units, told_in_front}
 use Rattle.per_codec_reading.specs.declared.sized.Contents.TheVariants.{Strings}
 use Rattle.per_codec_reading.proofs.LastFronts.{stands_before}
 use Rattle.per_codec_reading.proofs.StringFronts.{sized_size, octet_string_stands, no_octet_string}
@@ -24,7 +24,7 @@ returns-in_err-units-clause-only c =
     let z = size_of c.args.sizes in
     let h = counts_of c.args.held in
     let a = c.args.cursor.now in
-    rw (p.1, p.2) (misses_also f (sized_units al z h 8 (pads_of Strings 8)) (Per.form al (octet_string z h)) a a _ (no_octet_string f al z h a) c.in_err-units.ensures.only)
+    rw (p.1, p.2) (misses_also f (sized_units al z h 8 (contents_have_padding Strings 8)) (Per.form al (octet_string z h)) a a _ (no_octet_string f al z h a) c.in_err-units.ensures.only)
 
 pub lent_by-requires : goal.lent_by-requires
 lent_by-requires c =
@@ -36,7 +36,7 @@ lent_by-requires c =
 pub into_octets-requires : goal.into_octets-requires
 into_octets-requires c =
     let us = units_in c.in_ok-units.units in
-    let n = sized_size (freedoms c.args.variant) (is_aligned c.args.variant) (size_of c.args.sizes) (counts_of c.args.held) 8 (pads_of Strings 8) us c.args.cursor.now c.read_sized.new.cursor c.in_ok-units.ensures.ok in
+    let n = sized_size (freedoms c.args.variant) (is_aligned c.args.variant) (size_of c.args.sizes) (counts_of c.args.held) 8 (contents_have_padding Strings 8) us c.args.cursor.now c.read_sized.new.cursor c.in_ok-units.ensures.ok in
     let l : length (bits_in c.lent_by.result) ≡ length us.1 = ap length c.lent_by.ensures.same in
     omega (arith, n, l)
 
@@ -49,7 +49,7 @@ pub returns-clause-lent : goal.returns-clause-lent
 returns-clause-lent c = λ one end.
     let us = units_in c.in_ok-units.units in
     let os = cow_slice_items c.in_ok-octets.octets in
-    let n = sized_size (freedoms c.args.variant) (is_aligned c.args.variant) (size_of c.args.sizes) (counts_of c.args.held) 8 (pads_of Strings 8) us c.args.cursor.now c.read_sized.new.cursor c.in_ok-units.ensures.ok in
+    let n = sized_size (freedoms c.args.variant) (is_aligned c.args.variant) (size_of c.args.sizes) (counts_of c.args.held) 8 (contents_have_padding Strings 8) us c.args.cursor.now c.read_sized.new.cursor c.in_ok-units.ensures.ok in
     let l = length-octet_bits os in
     let m : length (bits_in c.lent_by.result) ≡ length us.1 = ap length c.lent_by.ensures.same in
     let o = ap length c.in_ok-octets.ensures.octets in

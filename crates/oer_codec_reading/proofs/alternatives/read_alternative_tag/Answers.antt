@@ -2,8 +2,8 @@ use Rattle.std.proofs.Common.{ap, sym, ◌∙◌}
 use Rattle.asn1_model.specs.Strings.{each_is}
 use Rattle.oer_codec_reading.specs.Fronts.{freedoms}
 use Rattle.oer_codec_reading.specs.Tags.{is_in_32_bits}
-use Rattle.oer_codec.proofs.Choosing.{no_tag}
-use Rattle.oer_codec.proofs.choices.read_alternative.Goals as goal
+use Rattle.oer_codec_reading.proofs.ChoiceFronts.{no_tag}
+use Rattle.oer_codec_reading.proofs.alternatives.read_alternative_tag.Goals as goal
 
 pub returns-in-Err-clause-only : goal.returns-in-Err-clause-only
 returns-in-Err-clause-only c =
