@@ -15,9 +15,6 @@ pub fn read_bits(octets: &[u8], position: usize, count: u32) -> u64
     if octets.len() > position / 8 + 8 {
         return read_of_nine(octets, position, count);
     }
-    if octets.len() == position / 8 + 8 {
-        return read_of_eight(octets, position, count);
-    }
     read_of_few(octets, position, count)
 }
 
@@ -95,21 +92,6 @@ fn read_of_nine(octets: &[u8], position: usize, count: u32) -> u64
     let eight = eight_octets(octets, start);
     let nine = (eight as u128) << 8 | octets[start + 8] as u128;
     let bits = (nine >> (72 - offset - count)) & ((1u128 << count) - 1);
-    bits as u64
-}
-
-// The same as `read_bits`, where eight octets stand from the first bit's octet on.
-fn read_of_eight(octets: &[u8], position: usize, count: u32) -> u64
-    requires narrow { count ≤ 64 }
-    requires within { position + count ≤ length octets.now * 8 }
-    requires eight { length octets.now ≡ position / 8 + 8 }
-    ensures digits { binary count result ≡ take count (drop position (octet_bits octets.now)) }
-    ensures fits { result < 2 ^ count }
-{
-    let start = position / 8;
-    let offset = (position % 8) as u32;
-    let eight = eight_octets(octets, start);
-    let bits = ((eight as u128) >> (64 - offset - count)) & ((1u128 << count) - 1);
     bits as u64
 }
 

@@ -66,7 +66,22 @@ fn push_arcs(octets: &mut Vec<u8>, arcs: &[u32]) -> Result<(), AllocError>
     Ok(())
 }
 
-/// The contents octets of valid arcs.
+/// How many groups of seven bits a number takes (X.690 8.19.2): there is to be room for so many octets.
+fn group_count(number: u64) -> usize {
+    let bits = 64 - number.leading_zeros() as usize;
+    bits.max(1).div_ceil(7)
+}
+
+/// How many groups of seven bits the numbers of arcs take together.
+fn arcs_group_count(arcs: &[u32]) -> usize {
+    let mut count = 0usize;
+    for arc in arcs {
+        count = count.saturating_add(group_count(u64::from(*arc)));
+    }
+    count
+}
+
+/// The contents octets of valid arcs. Memory is taken once.
 fn contents(alloc: Global, arcs: &[u32]) -> Result<Vec<u8>, IdentifierError>
     requires { IsTrue (is_valid arcs.now) }
     ensures octets { IfOk result (λ v. v.items ≡ identifier_octets arcs.now) }
@@ -77,8 +92,10 @@ fn contents(alloc: Global, arcs: &[u32]) -> Result<Vec<u8>, IdentifierError>
     if arcs.len() < 2 {
         return Err(IdentifierError::Truncated);
     }
-    let mut octets = Vec::new(alloc);
-    push_groups(&mut octets, u64::from(arcs[0]) * 40 + u64::from(arcs[1]))?;
+    let first = u64::from(arcs[0]) * 40 + u64::from(arcs[1]);
+    let count = group_count(first).saturating_add(arcs_group_count(&arcs[2..]));
+    let mut octets = Vec::with_capacity(alloc, count)?;
+    push_groups(&mut octets, first)?;
     push_arcs(&mut octets, &arcs[2..])?;
     Ok(octets)
 }
@@ -98,7 +115,20 @@ fn read_arcs(arcs: &mut Vec<u32>, octets: &[u8]) -> Result<(), IdentifierError>
     Ok(())
 }
 
-/// The arcs whose contents octets these are: at most one more than there are octets, so that memory is taken once.
+/// How many octets are below 128, as the last of each subidentifier is (X.690 8.19.2).
+fn last_octet_count(octets: &[u8]) -> usize
+    ensures { result ≤ length octets.now }
+{
+    let mut count = 0;
+    for octet in octets {
+        if *octet < 128 {
+            count += 1;
+        }
+    }
+    count
+}
+
+/// The arcs whose contents octets these are: one more than there are subidentifiers, so that memory is taken once.
 fn arcs_from_octets(alloc: Global, octets: &[u8]) -> Result<Vec<u32>, IdentifierError>
     ensures read { IfOk result (λ v. arcs_of octets.now ≡ Ok v.items) }
     ensures wrong { IfErr result (λ e. (e ≡ IdentifierError.Memory) ⊎ (arcs_of octets.now ≡ Err e)) }
@@ -108,7 +138,7 @@ fn arcs_from_octets(alloc: Global, octets: &[u8]) -> Result<Vec<u32>, Identifier
     }
     let (number, further) = first_subidentifier(octets, FIRST_LIMIT)?;
     let first = if number < 80 { number / 40 } else { 2 };
-    let mut arcs = Vec::with_capacity(alloc, octets.len() + 1)?;
+    let mut arcs = Vec::with_capacity(alloc, last_octet_count(octets) + 1)?;
     arcs.push(first as u32)?;
     arcs.push((number - 40 * first) as u32)?;
     read_arcs(&mut arcs, further)?;

@@ -38,7 +38,6 @@ fn is_extended(slots: &[Slot]) -> bool
 fn push_extension(
     output: &mut Packing,
     variant: Variant,
-    alloc: Global,
     extension_bit: usize,
     slots: &[Slot],
 ) -> Result<(), EncodeError>
@@ -54,7 +53,7 @@ fn push_extension(
         return Ok(());
     }
     output.set(extension_bit, true);
-    push_additions(output, variant, alloc, slots)?;
+    push_additions(output, variant, slots)?;
     Ok(())
 }
 
@@ -64,7 +63,6 @@ fn push_extension(
 fn end_additions(
     output: &mut Packing,
     additions: Additions,
-    alloc: Global,
     variant: Variant,
 ) -> Result<(), EncodeError>
     requires { (around : List Frame) × AreSound (around ++ Frame.Added additions ∷ []) output.old }
@@ -78,7 +76,7 @@ fn end_additions(
     }
     output.truncate(additions.end.bits, additions.end.paddings);
     let slots = additions.slots.as_slice();
-    push_extension(output, variant, alloc, additions.start.bits, slots)?;
+    push_extension(output, variant, additions.start.bits, slots)?;
     Ok(())
 }
 
@@ -147,7 +145,7 @@ fn end_taken(
             }
             Ok(())
         }
-        Some(Frame::Added(additions)) => end_additions(output, additions, alloc, variant),
+        Some(Frame::Added(additions)) => end_additions(output, additions, variant),
         Some(Frame::OpenType { outer }) => end_open_type(output, outer, variant),
         Some(Frame::Members(due)) => {
             if due.units > 0 || due.behind.is_some() {

@@ -10,6 +10,7 @@ ghost use Rattle.per_codec_encoder.specs.Holding.{Cannot, Does};
 use crate::additions::count_addition;
 use crate::ends::is_complete;
 use crate::frame::Frame;
+use asn1_schema_encode::let_go;
 use asn1_schema_faults::EncodeError;
 use asn1_values_bits::BitBuffer;
 use per_codec_writing::Slot;
@@ -74,21 +75,11 @@ impl Nested {
         }
     }
 
-    /// Lets all go that is open. At the end of a message nothing is, and mostly no memory was taken: then there is
-    /// nothing to call.
+    /// Lets all go that is open.
     #[inline(always)]
     pub(crate) fn let_go(self) {
         let Nested { innermost, outer } = self;
-        if innermost.is_none() {
-            mem::forget(innermost);
-        } else {
-            drop(innermost);
-        }
-        if outer.capacity() == 0 {
-            mem::forget(outer);
-        } else {
-            drop(outer);
-        }
+        let_go(innermost, outer);
     }
 
     /// Opens a frame within what is innermost, which is let go where memory is refused.

@@ -4,7 +4,6 @@ ghost use Rattle.per_codec_packing.specs.Viewed.{text_of};
 
 use crate::packing::Packing;
 use crate::text_view::TextView;
-use crate::views::push_view;
 use asn1_values_bits::BitBuffer;
 use std::alloc::{AllocError, Global};
 use std::marker::Model;
@@ -77,7 +76,7 @@ impl Texts {
         let added = text.as_text();
         let first_bit = self.bits.len();
         let first_padding = self.paddings.len();
-        push_view(&mut self.bits, added.bits)?;
+        self.bits.extend_from_bitslice(added.bits)?;
         self.paddings.extend_from_slice(added.paddings)?;
         let part = Part {
             bits: Span {

@@ -1,7 +1,7 @@
 -- The texts of additions.
-use Rattle.std.proofs.Common.{◌≡◌, ℕ, zero, suc, ◌+◌, ◌-◌, ◌*◌, ◌^◌, ◌<◌, ◌≤◌, leb, Bool, true, false, not, ◌&&◌, List, [], ◌∷◌, length, map, drop, get_or, drop-cons, Option, Some, None, refl, ap, subst, sym, ◌∙◌, arith}
+use Rattle.std.proofs.Common.{◌≡◌, ℕ, zero, suc, ◌+◌, ◌-◌, ◌*◌, ◌^◌, ◌<◌, ◌≤◌, leb, Bool, true, false, not, ◌&&◌, List, [], ◌∷◌, length, map, take, drop, slice_range, get_or, drop-cons, Option, Some, None, refl, ap, subst, sym, ◌∙◌, arith}
 use Rattle.std.proofs.lemmas.Bool.{le-leb, leb-true}
-use Rattle.std.proofs.lemmas.List.{append-nil}
+use Rattle.std.proofs.lemmas.List.{append-nil, take_all}
 use Rattle.asn1_model.specs.Form.{exactly, joined, is_present, present_ones}
 use Rattle.asn1_model.specs.Numbers.{binary}
 use Rattle.asn1_model.specs.Per
@@ -9,26 +9,7 @@ use Rattle.asn1_values_bits.proofs.Binary.{binary_join}
 use Rattle.per_codec_packing.specs.Texts.{as_text, text_at}
 use Rattle.per_codec_writing.specs.Writing.{Packed, Adds, place, plus}
 use Rattle.per_codec_writing.proofs.PaddingTexts.{adds_text, adds_same, adds_both, if_true, cond_true, cond_false}
-use Rattle.per_codec_writing.specs.Units.{together, forms_of}
-use Rattle.per_codec_writing.proofs.Adding.{adds_joined}
 use Rattle.per_codec_writing.specs.Additions.{as_open_types}
-
--- ---- bits as units
-
-abbrev alone : List Bool → List (List Bool)
-alone bs = map (λ b. b ∷ []) bs
-
-forms_of_bits : (bs : List Bool) → forms_of (alone bs) ≡ Per.bit_units bs
-forms_of_bits [] = refl
-forms_of_bits (b ∷ bs) = ap (λ us. exactly (b ∷ []) ∷ us) (forms_of_bits bs)
-
-bits_together : (bs : List Bool) → together (alone bs) ≡ bs
-bits_together [] = refl
-bits_together (b ∷ bs) = ap (λ l. b ∷ l) (bits_together bs)
-
-length_units : (bs : List Bool) → length (Per.bit_units bs) ≡ length bs
-length_units [] = refl
-length_units (b ∷ bs) = ap suc (length_units bs)
 
 -- ---- behind a normally small length
 
@@ -38,17 +19,18 @@ few n a b = ap (λ t. t && leb n 64) (le-leb 1 n a) ∙ le-leb n 64 b
 six_bits : (n : ℕ) → n < 64 → binary 7 n ≡ false ∷ binary 6 n
 six_bits n h = let e : 0 * 2 ^ 6 + n ≡ n = omega arith in sym (binary_join 1 6 0 n h ∙ ap (λ k. binary 7 k) e)
 
-pub adds_few : (al : Bool) (bs : List Bool) (n : ℕ) (old mid new : Packed) → n ≡ length bs → 1 ≤ n → n ≤ 64 → mid ≡ plus old (as_text (binary 7 (n - 1))) → new ≡ plus mid (as_text bs) → Adds (text_at (Per.normally_few al (Per.bit_units bs)) (place old)) old new
+pub adds_few : (al : Bool) (us : List Per.BitForm) (n : ℕ) (old mid new : Packed) → n ≡ length us → 1 ≤ n → n ≤ 64 → mid ≡ plus old (as_text (binary 7 (n - 1))) → Adds (text_at (joined (slice_range us 0 n)) (place mid)) mid new → Adds (text_at (Per.normally_few al us) (place old)) old new
 unfolding Per.normally_few text_at
-adds_few al bs n old mid new e a b x y =
-    let m : length (Per.bit_units bs) ≡ n = length_units bs ∙ sym e in
-    let t : Per.is_from_1_to_64 (length (Per.bit_units bs)) ≡ true = ap Per.is_from_1_to_64 m ∙ few n a b in
-    let six : binary 7 (n - 1) ≡ false ∷ binary 6 (length (Per.bit_units bs) - 1) = six_bits (n - 1) (omega (arith, a, b)) ∙ ap (λ k. false ∷ binary 6 (k - 1)) (sym m) in
+adds_few al us n old mid new e a b x y =
+    let t : Per.is_from_1_to_64 (length us) ≡ true = ap Per.is_from_1_to_64 (sym e) ∙ few n a b in
+    let six : binary 7 (n - 1) ≡ false ∷ binary 6 (length us - 1) = six_bits (n - 1) (omega (arith, a, b)) ∙ ap (λ k. false ∷ binary 6 (k - 1)) e in
+    let same : n - 0 ≡ n = omega arith in
+    let all : slice_range us 0 n ≡ us = ap (λ k. take k us) same ∙ take_all n us (omega (arith, e)) in
     adds_same _ _ old new
-    (cond_false (not (Per.is_from_1_to_64 (length (Per.bit_units bs)))) _ _ (place old) (ap not t) ∙ if_true (Per.is_from_1_to_64 (length (Per.bit_units bs))) _ (place old) t)
-    (adds_both (exactly (false ∷ binary 6 (length (Per.bit_units bs) - 1))) (joined (Per.bit_units bs)) old mid new
-    (adds_text _ (as_text (false ∷ binary 6 (length (Per.bit_units bs) - 1))) old mid refl (x ∙ ap (λ l. plus old (as_text l)) six))
-    (subst (λ us. Adds (text_at (joined us) (place mid)) mid new) (forms_of_bits bs) (adds_joined (alone bs) mid new (y ∙ ap (λ l. plus mid (as_text l)) (sym (bits_together bs))))))
+    (cond_false (not (Per.is_from_1_to_64 (length us))) _ _ (place old) (ap not t) ∙ if_true (Per.is_from_1_to_64 (length us)) _ (place old) t)
+    (adds_both (exactly (false ∷ binary 6 (length us - 1))) (joined us) old mid new
+    (adds_text _ (as_text (false ∷ binary 6 (length us - 1))) old mid refl (x ∙ ap (λ l. plus old (as_text l)) six))
+    (subst (λ l. Adds (text_at (joined l) (place mid)) mid new) all y))
 
 many : (n : ℕ) → (1 ≤ n → 64 < n) → Per.is_from_1_to_64 n ≡ false
 many n h = go (leb 1 n) (leb n 64) refl refl
@@ -58,14 +40,13 @@ many n h = go (leb 1 n) (leb n 64) refl refl
     go true false x y = refl
     go true true x y = absurd (omega (arith, h, leb-true 1 n x, leb-true n 64 y))
 
-pub adds_many : (al : Bool) (bs : List Bool) (n : ℕ) (old mid new : Packed) → n ≡ length bs → (1 ≤ n → 64 < n) → mid ≡ plus old (as_text (true ∷ [])) → Adds (text_at (Per.counted al (Per.bit_units bs)) (place mid)) mid new → Adds (text_at (Per.normally_few al (Per.bit_units bs)) (place old)) old new
+pub adds_many : (al : Bool) (us : List Per.BitForm) (n : ℕ) (old mid new : Packed) → n ≡ length us → (1 ≤ n → 64 < n) → mid ≡ plus old (as_text (true ∷ [])) → Adds (text_at (Per.counted al us) (place mid)) mid new → Adds (text_at (Per.normally_few al us) (place old)) old new
 unfolding Per.normally_few text_at
-adds_many al bs n old mid new e h x y =
-    let m : length (Per.bit_units bs) ≡ n = length_units bs ∙ sym e in
-    let t : Per.is_from_1_to_64 (length (Per.bit_units bs)) ≡ false = ap Per.is_from_1_to_64 m ∙ many n h in
+adds_many al us n old mid new e h x y =
+    let t : Per.is_from_1_to_64 (length us) ≡ false = ap Per.is_from_1_to_64 (sym e) ∙ many n h in
     adds_same _ _ old new
-    (cond_true (not (Per.is_from_1_to_64 (length (Per.bit_units bs)))) _ _ (place old) (ap not t))
-    (adds_both (exactly (true ∷ [])) (Per.counted al (Per.bit_units bs)) old mid new (adds_text _ (as_text (true ∷ [])) old mid refl x) y)
+    (cond_true (not (Per.is_from_1_to_64 (length us))) _ _ (place old) (ap not t))
+    (adds_both (exactly (true ∷ [])) (Per.counted al us) old mid new (adds_text _ (as_text (true ∷ [])) old mid refl x) y)
 
 -- ---- additions
 

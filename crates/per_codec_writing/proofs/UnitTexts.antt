@@ -1,8 +1,8 @@
 -- Octets, bits and other units of known texts, one behind the other.
-use Rattle.std.proofs.Common.{◌≡◌, ℕ, ◌-◌, ◌≤◌, Bool, List, [], ◌∷◌, ◌++◌, length, map, flat_map, take, drop, slice_range, refl, ap, subst, sym, ◌∙◌, arith}
-use Rattle.std.proofs.lemmas.List.{take-map, drop-map}
+use Rattle.std.proofs.Common.{◌≡◌, ℕ, ◌-◌, ◌≤◌, Bool, List, [], ◌∷◌, ◌++◌, length, map, flat_map, take, drop, slice_range, Option, refl, ap, subst, sym, ◌∙◌, arith}
+use Rattle.std.proofs.lemmas.List.{take-map, drop-map, map-append}
 use Rattle.std.proofs.lemmas.List.Concat.{flat_map-append}
-use Rattle.asn1_model.specs.Form.{exactly, joined}
+use Rattle.asn1_model.specs.Form.{exactly, is_present, joined}
 use Rattle.asn1_model.specs.Numbers.{binary, octet_bits}
 use Rattle.asn1_model.specs.Per
 use Rattle.per_codec_packing.specs.Texts.{as_text, text_at, as_form}
@@ -60,6 +60,9 @@ bits_added bs i j old new e =
     subst (λ us. Adds (text_at (joined us) (place old)) old new) (forms_of_bits l ∙ sym (range-map (λ b. exactly (b ∷ [])) bs i j))
     (adds_joined (map (λ b. b ∷ []) l) old new (e ∙ ap (λ t. plus old (as_text t)) (sym (bits_together l))))
 
+pub presence_added : (slots : List (Option (List Bool))) (i j : ℕ) (old new : Packed) → new ≡ plus old (as_text (map is_present (slice_range slots i j))) → Adds (text_at (joined (slice_range (Per.bit_units (map is_present slots)) i j)) (place old)) old new
+presence_added slots i j old new e = bits_added (map is_present slots) i j old new (e ∙ ap (λ l. plus old (as_text l)) (sym (range-map is_present slots i j)))
+
 pub members_added : (vs : List TextView) (i j : ℕ) (old new : Packed) → Adds (text_at (joined (forms_of_members (slice_range vs i j))) (place old)) old new → Adds (text_at (joined (slice_range (forms_of_members vs) i j)) (place old)) old new
 members_added vs i j old new a = subst (λ us. Adds (text_at (joined us) (place old)) old new) (sym (range-map (λ (v : TextView). as_form (text_of v)) vs i j)) a
 
@@ -74,3 +77,15 @@ low_bits_moved w rest front behind bs mid new all j h e n =
 pub no_low_bits : (w : ℕ) (rest : List ℕ) (new all : Packed) → length rest ≤ 0 → plus new (as_text (flat_map (binary w) rest)) ≡ all → new ≡ all
 no_low_bits w [] new all h e = sym (plus_nothing new) ∙ e
 no_low_bits w (o ∷ os) new all h e = absurd (omega arith)
+
+-- ---- presence bits, some after others
+
+pub presence_moved : (rest front behind : List (Option (List Bool))) (bs : List Bool) (mid new all : Packed) → front ++ behind ≡ rest → plus mid (as_text (map is_present rest)) ≡ all → bs ≡ map is_present front → new ≡ plus mid (as_text bs) → plus new (as_text (map is_present behind)) ≡ all
+presence_moved rest front behind bs mid new all j h e n =
+    let left : List Bool = map is_present behind in
+    let both : bs ++ left ≡ map is_present rest = ap (λ l. l ++ left) e ∙ sym (map-append is_present front behind) ∙ ap (map is_present) j in
+    ap (λ p. plus p (as_text left)) n ∙ plus_both mid (as_text bs) (as_text left) ∙ ap (plus mid) (as_text-append bs left ∙ ap as_text both) ∙ h
+
+pub no_presence : (rest : List (Option (List Bool))) (new all : Packed) → length rest ≤ 0 → plus new (as_text (map is_present rest)) ≡ all → new ≡ all
+no_presence [] new all h e = sym (plus_nothing new) ∙ e
+no_presence (o ∷ os) new all h e = absurd (omega arith)

@@ -3,54 +3,40 @@ ghost use Rattle.std.specs.Prelude.{◌≡◌, ◌≤◌, length, map, MatchResu
 ghost use Rattle.asn1_model.specs.Form.{is_present, joined, present_ones};
 ghost use Rattle.asn1_model.specs.Numbers.{binary};
 ghost use Rattle.asn1_model.specs.Per.{additions, normally_few, bit_units};
-ghost use Rattle.per_codec_packing.specs.Texts.{text_at};
-ghost use Rattle.per_codec_writing.specs.Writing.{Adds, place};
+ghost use Rattle.per_codec_packing.specs.Texts.{as_text, text_at};
+ghost use Rattle.per_codec_writing.specs.Writing.{Adds, place, plus};
 ghost use Rattle.per_codec_writing.specs.Additions.{as_open_types};
 ghost use Rattle.per_codec_limits.specs.Variants.{is_aligned};
 
-use crate::{Slot, push_counted};
+use crate::{Slot, Units, push_counted};
 use asn1_schema_faults::EncodeError;
-use asn1_values_bits::BitBuffer;
 use per_codec_limits::Variant;
 use per_codec_packing::Packing;
-use std::alloc::Global;
 
-/// Adds bits behind a normally small length: up to 64 in six bits behind one that is not set, else behind one that is
-/// set and a length (X.691 11.9.3.4).
+/// Adds units behind a normally small length: for up to 64 of them this is a bit that is not set and six bits, else a
+/// bit that is set and a length determinant (X.691 11.9.3.4).
 ///
 /// # Errors
 ///
 /// `OutOfMemory`, and no other.
-pub fn push_bitmap(
+pub fn push_normally_few<U: Units>(
     output: &mut Packing,
     variant: Variant,
-    bitmap: &BitBuffer,
+    units: &U,
 ) -> Result<(), EncodeError>
     ensures { MatchResult result (λ _. Adds
-        (text_at (normally_few (is_aligned variant) (bit_units bitmap.now)) (place output.old)) output.old output.new)
+        (text_at (normally_few (is_aligned variant) (U.forms units.now)) (place output.old)) output.old output.new)
         (λ e. e ≡ EncodeError.OutOfMemory) }
 {
-    let count = bitmap.len();
+    let count = units.count();
     if 1 <= count && count <= 64 {
         output.push_bits(count as u128 - 1, 7)?;
-        output.extend_from_bitslice(bitmap.as_bitslice())?;
+        units.push_range(output, 0, count)?;
         return Ok(());
     }
     output.push(true)?;
-    let units = bitmap.as_bitslice();
-    push_counted(output, variant, &units)?;
+    push_counted(output, variant, units)?;
     Ok(())
-}
-
-/// For each addition a bit that tells whether it is there (X.691 19.8). The only error is want of memory.
-fn presence(alloc: Global, slots: &[Slot]) -> Result<BitBuffer, EncodeError>
-    ensures { MatchResult result (λ bitmap. bitmap ≡ map is_present slots.now) (λ e. e ≡ EncodeError.OutOfMemory) }
-{
-    let mut bitmap = BitBuffer::new(alloc);
-    for slot in slots {
-        bitmap.push(slot.is_present())?;
-    }
-    Ok(bitmap)
 }
 
 /// The number whose binary digits tell for each addition whether it is there, the first one highest (X.691 19.8).
@@ -65,26 +51,50 @@ fn presence_number(slots: &[Slot]) -> u128
     number
 }
 
+/// Adds for each addition a bit that tells whether it is there, those of 64 additions at a time (X.691 19.8). The only
+/// error is want of memory.
+fn push_presence_bits(output: &mut Packing, slots: &[Slot]) -> Result<(), EncodeError>
+    ensures { MatchResult result
+        (λ _. output.new ≡ plus output.old (as_text (map is_present slots.now)))
+        (λ e. e ≡ EncodeError.OutOfMemory) }
+{
+    let mut rest = slots;
+    while rest.len() > 0 {
+        let few = rest.len().min(64);
+        output.push_bits(presence_number(&rest[..few]), few as u32)?;
+        rest = &rest[few..];
+    }
+    Ok(())
+}
+
+/// Additions as the bits that tell whether they are there (X.691 19.8).
+#[derive(Drop)]
+struct PresenceBits<'a> {
+    slots: &'a [Slot],
+}
+
+impl Units for PresenceBits<'_> {
+    ghost forms = { λ units. bit_units (map is_present units.slots.now) };
+
+    fn count(&self) -> usize {
+        self.slots.len()
+    }
+
+    fn push_range(&self, output: &mut Packing, from: usize, to: usize) -> Result<(), EncodeError> {
+        push_presence_bits(output, &self.slots[from..to])?;
+        Ok(())
+    }
+}
+
 /// Adds for each addition a bit that tells whether it is there, behind their normally small number (X.691 19.7 and
-/// 19.8). Up to 64 such bits take no memory of their own. The only error is want of memory.
-fn push_presence(
-    output: &mut Packing,
-    variant: Variant,
-    alloc: Global,
-    slots: &[Slot],
-) -> Result<(), EncodeError>
+/// 19.8), without memory of their own. The only error is want of memory.
+fn push_presence(output: &mut Packing, variant: Variant, slots: &[Slot]) -> Result<(), EncodeError>
     ensures { MatchResult result (λ _. Adds
         (text_at (normally_few (is_aligned variant) (bit_units (map is_present slots.now))) (place output.old))
         output.old output.new) (λ e. e ≡ EncodeError.OutOfMemory) }
 {
-    let count = slots.len();
-    if 1 <= count && count <= 64 {
-        output.push_bits(count as u128 - 1, 7)?;
-        output.push_bits(presence_number(slots), count as u32)?;
-        return Ok(());
-    }
-    let bitmap = presence(alloc, slots)?;
-    push_bitmap(output, variant, &bitmap)?;
+    let units = PresenceBits { slots };
+    push_normally_few(output, variant, &units)?;
     Ok(())
 }
 
@@ -110,7 +120,6 @@ fn push_present(output: &mut Packing, variant: Variant, slots: &[Slot]) -> Resul
 pub fn push_additions(
     output: &mut Packing,
     variant: Variant,
-    alloc: Global,
     slots: &[Slot],
 ) -> Result<(), EncodeError>
     ensures { MatchResult result (λ _. Adds
@@ -118,7 +127,7 @@ pub fn push_additions(
         output.old output.new)
         (λ e. e ≡ EncodeError.OutOfMemory) }
 {
-    push_presence(output, variant, alloc, slots)?;
+    push_presence(output, variant, slots)?;
     push_present(output, variant, slots)?;
     Ok(())
 }

@@ -47,10 +47,7 @@ impl<S: StaticPermittedAlphabet> CharacterUnits<'_, S> {
         if self.alphabet.width() > 8 {
             return None;
         }
-        let Some(octets) = self.string.char_octets() else {
-            return None;
-        };
-        Some(octets)
+        self.string.char_octets()
     }
 }
 

@@ -66,6 +66,7 @@ fn have_codes<S: StaticPermittedAlphabet>(
     requires { SameCharacters units.now.alphabet.now.runs (permitted S.kind (alphabet_of alphabet)) }
     ensures { result ≡ each_is (has_code units.now.alphabet.now) (S.characters units.now.string.now) }
 {
+    // The proof alone needs it: all characters of a string are those of its kind.
     let _count = units.string.char_count();
     if is_narrowed(alphabet) {
         return units.has_codes();
@@ -151,6 +152,7 @@ pub fn push_characters<S: StaticPermittedAlphabet>(
         (alphabet_of constraints.entry.permitted_alphabet) any_count) (text (S.characters value.now)))
         (place output.old))) }
 {
+    // The proof alone needs it: all characters of a string are those of its kind.
     let _count = value.char_count();
     if is_of_octets::<S>() {
         push_octets(output, variant, alloc, value)?;

@@ -27,7 +27,7 @@ mod small;
 mod texts;
 mod units;
 
-pub use additions::{push_additions, push_bitmap};
+pub use additions::{push_additions, push_normally_few};
 pub use bag::push_bag;
 pub use bits::push_bit_string;
 pub use booleans::push_boolean;
