@@ -1,6 +1,7 @@
 #!/bin/sh
-# bench/bits_cost.sh [FOLDER]: builds the program of bits_cost.in in a folder of its own, and prints how many instructions each of its works takes, a
-# bit, a number or an octet. valgrind counts them; RT is that of shared.sh.
+# bench/bits_cost.sh [FOLDER]: builds the program of bits_cost.in, and that of bits_cost.c, in a folder of its own, and prints how many instructions
+# each work takes in C and here, a bit, a number or an octet. valgrind counts them; RT and CC are those of shared.sh. It ends with an error where what
+# both say differs.
 here=$(cd "$(dirname "$0")" && pwd)
 work=${1:-$(mktemp -d)}
 . "$here/shared.sh"
@@ -8,13 +9,23 @@ take_packages asn1_values_bits
 make_package bench_common '' lib=common.in
 make_package bits_cost 'asn1_values_bits bench_common anyhow' main=bits_cost.in
 prove bits_cost
-valgrind --tool=callgrind --callgrind-out-file="$work/counted" "$work/crates/bits_cost/out/bits_cost" > "$work/said" 2>&1
-callgrind_annotate --inclusive=yes --threshold=100 "$work/counted" | awk '
-    match($0, /bits_cost::[a-z]+_[a-z0-9]+/) {
-        name = substr($0, RSTART + 11, RLENGTH - 11)
-        count = $1
-        gsub(/,/, "", count)
-        units = name ~ /_runs$/ ? 3200000 : 100000
-        if (!(name in seen)) printf "%-14s %6.2f\n", name, count / units
-        seen[name] = 1
-    }'
+compile "$here/bits_cost.c"
+# counted WHO PROGRAM: a line for each work, with what it takes.
+counted() {
+    valgrind --tool=callgrind --callgrind-out-file="$work/counted" "$2" > "$work/said.$1" 2> "$work/log"
+    callgrind_annotate --inclusive=yes --threshold=100 "$work/counted" | awk -v who="$1" '
+        match($0, /(:|::)(append|read)_(bits|11|16|64|runs|octets)/) {
+            name = substr($0, RSTART, RLENGTH)
+            gsub(/:/, "", name)
+            count = $1
+            gsub(/,/, "", count)
+            units = name ~ /_runs$/ ? 3200000 : 100000
+            if (!(name in seen)) printf "%s %s %.2f\n", who, name, count / units
+            seen[name] = 1
+        }'
+}
+counted plain "$work/plain" > "$work/counts"
+counted proved "$work/crates/bits_cost/out/bits_cost" >> "$work/counts"
+cmp "$work/said.plain" "$work/said.proved" || exit 1
+awk '$1 == "plain" { c[$2] = $3 }
+     $1 == "proved" { printf "%-14s %6.2f %6.2f %5.2f\n", $2, c[$2], $3, $3 / c[$2] }' "$work/counts"

@@ -13,6 +13,7 @@ BEGIN {
     text["bit_strings"] = "a BIT STRING of up to 125 bits of a list"
     text["octet_strings"] = "an OCTET STRING of up to 16 octets of a list"
     text["visible_strings"] = "a VisibleString of up to 16 characters of a list"
+    text["digits"] = "a VisibleString (FROM (\"0\"..\"9\")) (SIZE (0..16)) of a list"
     text["utf8_strings"] = "a UTF8String of up to 16 octets of a list"
     text["identifiers"] = "an OBJECT IDENTIFIER of 5 arcs of a list"
     text["choices"] = "a choice of 20 alternatives"

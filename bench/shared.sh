@@ -52,11 +52,12 @@ make_package() {
     done
 }
 
-# What the types of «Types» and «Kinds» stand on, those of «Scalars», and the codecs.
+# What the types of «Types» and «Kinds» stand on, those of «Scalars», constraints of these, and the codecs.
 schema='asn1_model asn1_schema_authored asn1_schema_constraints asn1_schema_constructed asn1_schema_decode asn1_schema_encode'
 schema="$schema asn1_schema_faults asn1_schema_presented asn1_schema_tags asn1_schema_types asn1_schema_variants asn1_schema_wrapped asn1_values_octets"
 scalars='asn1_schema_example asn1_values_bit_strings asn1_values_identifiers asn1_values_integers asn1_values_octets'
 scalars="$scalars asn1_values_strings"
+constraints='asn1_model asn1_schema_constraints asn1_schema_presented asn1_schema_types asn1_schema_wrapped'
 codecs='asn1_schema_decode asn1_schema_encode asn1_schema_faults oer_codec per_codec'
 
 # make_bench_common, make_bench_rules, make_types_bench, make_scalars_bench, make_kinds_types, make_kinds_bench, make_kinds_recode: the packages of these names.
@@ -70,8 +71,8 @@ make_types_bench() {
     make_package types_bench "$schema bench_common bench_rules anyhow" main=types/main.in sample=types/sample.in
 }
 make_scalars_bench() {
-    make_package scalars_bench "$scalars asn1_schema_decode asn1_schema_encode bench_common bench_rules anyhow" \
-        main=scalars/main.in scalar=scalars/scalar.in
+    make_package scalars_bench "$scalars $constraints asn1_schema_decode asn1_schema_encode bench_common bench_rules anyhow" \
+        main=scalars/main.in digits=scalars/digits.in scalar=scalars/scalar.in
 }
 make_kinds_types() {
     make_package kinds_types "$schema bench_common" lib=kinds/types.in added=kinds/added.in grown=kinds/grown.in made=kinds/made.in pick=kinds/pick.in

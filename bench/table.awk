@@ -19,6 +19,7 @@ BEGIN {
     text["bit_strings"] = "a list of 10^6 BIT STRING of up to 125 bits"
     text["octet_strings"] = "a list of 10^6 OCTET STRING of up to 16 octets"
     text["visible_strings"] = "a list of 10^6 VisibleString of up to 16 characters"
+    text["digits"] = "a list of 10^6 VisibleString (FROM (\"0\"..\"9\")) (SIZE (0..16))"
     text["utf8_strings"] = "a list of 10^6 UTF8String of up to 16 octets"
     text["identifiers"] = "a list of 10^6 OBJECT IDENTIFIER of 5 arcs"
     text["choices"] = "10^6 choices of 20 alternatives"

@@ -112,6 +112,17 @@ static int get_visible(struct input *in, struct scalar *s)
     return get_run_of(in, s) && are_visible(s->octets, s->count);
 }
 
+/* A permitted alphabet counts for nothing. */
+static int put_digits(struct buffer *b, const struct scalar *s)
+{
+    return s->count <= DIGITS && put_run_of(b, s);
+}
+
+static int get_digits(struct input *in, struct scalar *s)
+{
+    return get_visible(in, s) && s->count <= DIGITS;
+}
+
 static int put_utf8(struct buffer *b, const struct scalar *s)
 {
     return put_run_of(b, s);

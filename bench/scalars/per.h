@@ -183,6 +183,39 @@ static int get_visible(struct input *in, struct scalar *s)
     return are_visible(s->octets, s->count);
 }
 
+/* Of four bits each, behind their number in five. */
+static int put_digits(struct bits *o, const struct scalar *s)
+{
+    size_t i;
+    if (s->count > DIGITS || !put_bits(o, (uint32_t)s->count, width_of(DIGITS)))
+        return 0;
+    if (s->count > 0)
+        push_padding(o);
+    for (i = 0; i < s->count; i++)
+        if (s->octets[i] < '0' || s->octets[i] > '9' || !put_bits(o, s->octets[i] - '0', 4))
+            return 0;
+    return 1;
+}
+
+static int get_digits(struct input *in, struct scalar *s)
+{
+    uint32_t bits;
+    size_t i;
+    if (!get_bits(in, width_of(DIGITS), &bits) || bits > DIGITS)
+        return 0;
+    s->count = bits;
+    if (s->count > 0)
+        read_padding(in);
+    if (8 * in->count < in->bits + 4 * s->count || !(s->octets = malloc(s->count + 1)))
+        return 0;
+    for (i = 0; i < s->count; i++) {
+        if (!get_bits(in, 4, &bits) || bits > 9)
+            return 0;
+        s->octets[i] = (uint8_t)('0' + bits);
+    }
+    return 1;
+}
+
 static int put_utf8(struct bits *o, const struct scalar *s)
 {
     return put_run_of(o, s);

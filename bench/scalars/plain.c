@@ -111,6 +111,7 @@ int main(void)
     static const struct kind bits = {make_bits, put_bits_of, get_bits_of, sum_octets};
     static const struct kind run = {make_run, put_run_of, get_run_of, sum_octets};
     static const struct kind visible = {make_text, put_visible, get_visible, sum_octets};
+    static const struct kind digits = {make_digits, put_digits, get_digits, sum_octets};
     static const struct kind utf8 = {make_text, put_utf8, get_utf8, sum_octets};
     static const struct kind arcs = {make_arcs, put_arcs, get_arcs, sum_arcs};
     return time_list("write_booleans", "read_booleans", &truth)
@@ -121,6 +122,7 @@ int main(void)
         && time_list("write_bit_strings", "read_bit_strings", &bits)
         && time_list("write_octet_strings", "read_octet_strings", &run)
         && time_list("write_visible_strings", "read_visible_strings", &visible)
+        && time_list("write_digits", "read_digits", &digits)
         && time_list("write_utf8_strings", "read_utf8_strings", &utf8)
         && time_list("write_identifiers", "read_identifiers", &arcs)
         ? 0 : 1;

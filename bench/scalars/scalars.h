@@ -3,6 +3,7 @@
 #include "../buffer.h"
 
 #define ARCS 5u
+#define DIGITS 16u
 
 /* A value of whichever kind: a truth value, a number or an item, or octets, of which there are so many bits, or the arcs
  * of an identifier. */
@@ -72,6 +73,11 @@ static int make_run(struct scalar *s, uint64_t state)
 static int make_text(struct scalar *s, uint64_t state)
 {
     return make_masked(s, state, 0x3F, 0x20);
+}
+
+static int make_digits(struct scalar *s, uint64_t state)
+{
+    return make_masked(s, state, 0x07, 0x30);
 }
 
 /* From 1 to 16 octets without their last three bits. */

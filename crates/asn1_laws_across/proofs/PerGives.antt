@@ -41,19 +41,19 @@ counted_gives : (al : Bool) (us vs : List Per.BitForm) → EachGives us vs → S
 unfolding Per.counted
 counted_gives al us vs h = let l = each_length us vs h in rw l (gives_varied {c = Per.other_fragments} {c' = Per.other_fragments} (fragments_give al (Per.largest_first (length vs)) us vs h))
 
-root_gives : (al : Bool) (c : Counts) (high : Option ℕ) (pads : Counts → Bool) (us vs : List Per.BitForm) → EachGives us vs → Same (Per.sized_root al c high pads us) (Per.sized_root al c high pads vs)
+root_gives : (al : Bool) (c : Counts) (high : Option ℕ) (has_padding : Counts → Bool) (us vs : List Per.BitForm) → EachGives us vs → Same (Per.sized_root al c high has_padding us) (Per.sized_root al c high has_padding vs)
 unfolding Per.sized_root
-root_gives al c None pads us vs h = counted_gives al us vs h
-root_gives al c (Some high) pads us vs h = let l = each_length us vs h in rw l (gives_cond (ltb high 65536) _ _ _ _ (gives_both (gives_same (Per.constrained al (high - c.low) (length vs - c.low))) (at_octet_gives (al && pads c) _ _ (gives_joined us vs h))) (counted_gives al us vs h))
+root_gives al c None has_padding us vs h = counted_gives al us vs h
+root_gives al c (Some high) has_padding us vs h = let l = each_length us vs h in rw l (gives_cond (ltb high 65536) _ _ _ _ (gives_both (gives_same (Per.constrained al (high - c.low) (length vs - c.low))) (at_octet_gives (al && has_padding c) _ _ (gives_joined us vs h))) (counted_gives al us vs h))
 
 with_extension_bit_gives : (e b : Bool) (x y u v : Per.BitForm) → Same x y → Same u v → Same (Per.with_extension_bit e b x u) (Per.with_extension_bit e b y v)
 unfolding Per.with_extension_bit
 with_extension_bit_gives false b x y u v h k = gives_if b _ _ h
 with_extension_bit_gives true b x y u v h k = gives_varied {c = Per.root_told_outside} {c' = Per.root_told_outside} (gives_cond (not b) _ _ _ _ (gives_both (gives_same _) k) (gives_if b _ _ (gives_both (gives_same _) h)))
 
-sized_gives : (al : Bool) (z : Size) (held : Counts) (pads : Counts → Bool) (us vs : List Per.BitForm) → EachGives us vs → Same (Per.sized al z held pads us) (Per.sized al z held pads vs)
+sized_gives : (al : Bool) (z : Size) (held : Counts) (has_padding : Counts → Bool) (us vs : List Per.BitForm) → EachGives us vs → Same (Per.sized al z held has_padding us) (Per.sized al z held has_padding vs)
 unfolding Per.sized
-sized_gives al z held pads us vs h = let l = each_length us vs h in rw l (gives_if (is_count_within held (length vs)) _ _ (with_extension_bit_gives z.extensible (is_count_within z.counts (length vs)) _ _ _ _ (root_gives al z.counts z.counts.high pads us vs h) (counted_gives al us vs h)))
+sized_gives al z held has_padding us vs h = let l = each_length us vs h in rw l (gives_if (is_count_within held (length vs)) _ _ (with_extension_bit_gives z.extensible (is_count_within z.counts (length vs)) _ _ _ _ (root_gives al z.counts z.counts.high has_padding us vs h) (counted_gives al us vs h)))
 
 complete_gives : (x y : Per.BitForm) → Same x y → Same (Per.complete x) (Per.complete y)
 unfolding Per.complete

@@ -102,14 +102,14 @@ unfolding Per.integer_form
 integer_rigid al b held v = rigid_if strict_per (is_within held v && (not (is_bounded b) || fits_128 v)) (with_extension_bit_rigid b.extensible (is_within b.range v) _ _ (whole_rigid al b.range.low b.range.high v) (unconstrained_rigid al v))
 
 -- ---- units of a size, strings and items
-root_rigid : (al : Bool) (c : Counts) (high : Option ℕ) (pads : Counts → Bool) (us : List Per.BitForm) → AllBits us → RigidBits (Per.sized_root al c high pads us)
+root_rigid : (al : Bool) (c : Counts) (high : Option ℕ) (has_padding : Counts → Bool) (us : List Per.BitForm) → AllBits us → RigidBits (Per.sized_root al c high has_padding us)
 unfolding Per.sized_root
-root_rigid al c None pads us h = counted_rigid al us h
-root_rigid al c (Some high) pads us h = rigid_cond strict_per (ltb high 65536) (rigid_both strict_per (constrained_rigid al (high - c.low) (length us - c.low)) (at_octet_rigid (al && pads c) _ (rigid_joined strict_per h))) (counted_rigid al us h)
+root_rigid al c None has_padding us h = counted_rigid al us h
+root_rigid al c (Some high) has_padding us h = rigid_cond strict_per (ltb high 65536) (rigid_both strict_per (constrained_rigid al (high - c.low) (length us - c.low)) (at_octet_rigid (al && has_padding c) _ (rigid_joined strict_per h))) (counted_rigid al us h)
 
-sized_rigid : (al : Bool) (z : Size) (held : Counts) (pads : Counts → Bool) (us : List Per.BitForm) → AllBits us → RigidBits (Per.sized al z held pads us)
+sized_rigid : (al : Bool) (z : Size) (held : Counts) (has_padding : Counts → Bool) (us : List Per.BitForm) → AllBits us → RigidBits (Per.sized al z held has_padding us)
 unfolding Per.sized
-sized_rigid al z held pads us h = rigid_if strict_per (is_count_within held (length us)) (with_extension_bit_rigid z.extensible (is_count_within z.counts (length us)) _ _ (root_rigid al z.counts z.counts.high pads us h) (counted_rigid al us h))
+sized_rigid al z held has_padding us h = rigid_if strict_per (is_count_within held (length us)) (with_extension_bit_rigid z.extensible (is_count_within z.counts (length us)) _ _ (root_rigid al z.counts z.counts.high has_padding us h) (counted_rigid al us h))
 
 character_rigid : (b : ℕ) (rs : List Run) (c : ℕ) → RigidBits (Per.character b rs c)
 unfolding Per.character

@@ -38,11 +38,11 @@ module _ (free : Per.Freedom → Bool) (al : Bool) where
   OneWay s = (v w : Value) → Alike free (Per.form al s v) (Per.form al s w) (same v w ≡ true)
 
   -- ---- strings of bits and octets
-  bits_alike : (z : Size) (held : Counts) (bs cs : List Bool) → Alike free (Per.sized al z held (Per.pads_string 1 (length bs)) (Per.bit_units bs)) (Per.sized al z held (Per.pads_string 1 (length cs)) (Per.bit_units cs)) (bs ≡ cs)
-  bits_alike z held bs cs = agree_map free (λ h. pairs_equal bs cs h) (sized_alike free Bool (λ a b. a ≡ b) (λ b. exactly (b ∷ [])) (λ a b. agree_first free (λ e. agree_map free (λ u. e) (agree_nothing free))) al z held (Per.pads_string 1 (length bs)) (Per.pads_string 1 (length cs)) bs cs (λ l. ap (λ n. Per.pads_string 1 n z.counts) l))
+  bits_alike : (z : Size) (held : Counts) (bs cs : List Bool) → Alike free (Per.sized al z held (Per.string_has_padding 1 (length bs)) (Per.bit_units bs)) (Per.sized al z held (Per.string_has_padding 1 (length cs)) (Per.bit_units cs)) (bs ≡ cs)
+  bits_alike z held bs cs = agree_map free (λ h. pairs_equal bs cs h) (sized_alike free Bool (λ a b. a ≡ b) (λ b. exactly (b ∷ [])) (λ a b. agree_first free (λ e. agree_map free (λ u. e) (agree_nothing free))) al z held (Per.string_has_padding 1 (length bs)) (Per.string_has_padding 1 (length cs)) bs cs (λ l. ap (λ n. Per.string_has_padding 1 n z.counts) l))
 
-  octets_alike : (z : Size) (held : Counts) (os ps : List ℕ) → each_is is_octet os ≡ true → each_is is_octet ps ≡ true → Alike free (Per.sized al z held (Per.pads_string 8 (length os)) (Per.octet_units os)) (Per.sized al z held (Per.pads_string 8 (length ps)) (Per.octet_units ps)) (os ≡ ps)
-  octets_alike z held os ps h k = agree_map free (λ q. octets_again os ps h k q) (sized_alike free ℕ same_bits (λ o. exactly (binary 8 o)) (λ o p. agree_exactly free _ _ refl) al z held (Per.pads_string 8 (length os)) (Per.pads_string 8 (length ps)) os ps (λ l. ap (λ n. Per.pads_string 8 n z.counts) l))
+  octets_alike : (z : Size) (held : Counts) (os ps : List ℕ) → each_is is_octet os ≡ true → each_is is_octet ps ≡ true → Alike free (Per.sized al z held (Per.string_has_padding 8 (length os)) (Per.octet_units os)) (Per.sized al z held (Per.string_has_padding 8 (length ps)) (Per.octet_units ps)) (os ≡ ps)
+  octets_alike z held os ps h k = agree_map free (λ q. octets_again os ps h k q) (sized_alike free ℕ same_bits (λ o. exactly (binary 8 o)) (λ o p. agree_exactly free _ _ refl) al z held (Per.string_has_padding 8 (length os)) (Per.string_has_padding 8 (length ps)) os ps (λ l. ap (λ n. Per.string_has_padding 8 n z.counts) l))
 
   -- ---- lists and bags
   list_alike : (z : Size) (held : Counts) (s : Schema) → OneWay s → (vs ws : Values) → Alike free (Per.sized al z held Per.never (each (λ v. Per.form al s v) vs)) (Per.sized al z held Per.never (each (λ v. Per.form al s v) ws)) (same_members vs ws ≡ true)

@@ -226,7 +226,7 @@ module _ (free : Per.Freedom → Bool) where
 
   characters_alike : (al : Bool) (z : Size) (held : Counts) (rs : List Run) (cs ds : List ℕ) → Orderly rs → Alike free (Per.characters al z held rs cs) (Per.characters al z held rs ds) (cs ≡ ds)
   unfolding Per.characters
-  characters_alike al z held rs cs ds o = agree_map free (λ h. pairs_equal cs ds h) (sized_alike free ℕ (λ c d. c ≡ d) (Per.character (Per.character_bits al rs) rs) (character_alike al rs o) al z held (Per.pads_characters (Per.character_bits al rs) (length cs)) (Per.pads_characters (Per.character_bits al rs) (length ds)) cs ds (λ l. ap (λ n. Per.pads_characters (Per.character_bits al rs) n z.counts) l))
+  characters_alike al z held rs cs ds o = agree_map free (λ h. pairs_equal cs ds h) (sized_alike free ℕ (λ c d. c ≡ d) (Per.character (Per.character_bits al rs) rs) (character_alike al rs o) al z held (Per.characters_have_padding (Per.character_bits al rs) (length cs)) (Per.characters_have_padding (Per.character_bits al rs) (length ds)) cs ds (λ l. ap (λ n. Per.characters_have_padding (Per.character_bits al rs) n z.counts) l))
 
   kind_cases : (t : Bool) (al : Bool) (k : StringKind) (z : Size) (a : Alphabet) (held : Counts) (cs ds : List ℕ) → is_of_octets k ≡ t → Alike free (cond t (only_if (is_count_within held (length cs)) (Per.counted_octets al cs)) (Per.characters al z held (permitted k a) cs)) (cond t (only_if (is_count_within held (length ds)) (Per.counted_octets al ds)) (Per.characters al z held (permitted k a) ds)) (cs ≡ ds)
   kind_cases true al k z a held cs ds e = agree_if free (is_count_within held (length cs)) (is_count_within held (length ds)) _ _ (λ i j. counted_octets_alike free al cs ds)

@@ -20,29 +20,29 @@ use Rattle.asn1_laws_fronts.proofs.Complete.{complete_alike}
 
 -- ---- units of a size
 module _ (free : Per.Freedom → Bool) (X : Type 0) (R : X → X → Type 0) (f : X → Per.BitForm) (one : (x y : X) → Alike free (f x) (f y) (R x y)) where
-  by_count : (al : Bool) (c : Counts) (high : ℕ) (pads pads' : Counts → Bool) (xs ys : List X) → (length xs ≡ length ys → pads c ≡ pads' c) → c.low ≤ length xs → c.low ≤ length ys → Alike free (both (Per.constrained al (high - c.low) (length (map f xs) - c.low)) (Per.at_octet (al && pads c) (joined (map f xs)))) (both (Per.constrained al (high - c.low) (length (map f ys) - c.low)) (Per.at_octet (al && pads' c) (joined (map f ys)))) (Pairwise R xs ys)
-  by_count al c high pads pads' xs ys w h k =
+  by_count : (al : Bool) (c : Counts) (high : ℕ) (has_padding has_padding' : Counts → Bool) (xs ys : List X) → (length xs ≡ length ys → has_padding c ≡ has_padding' c) → c.low ≤ length xs → c.low ≤ length ys → Alike free (both (Per.constrained al (high - c.low) (length (map f xs) - c.low)) (Per.at_octet (al && has_padding c) (joined (map f xs)))) (both (Per.constrained al (high - c.low) (length (map f ys) - c.low)) (Per.at_octet (al && has_padding' c) (joined (map f ys)))) (Pairwise R xs ys)
+  by_count al c high has_padding has_padding' xs ys w h k =
       let n = length_of_map f xs in
       let m = length_of_map f ys in
       agree_map free (λ q. q.1) (agree_both free (constrained_alike free al (high - c.low) (length (map f xs) - c.low) (length (map f ys) - c.low)) (λ q.
       let l : length xs ≡ length ys = omega arith in
-      subst (λ t. Alike free (Per.at_octet (al && pads c) (joined (map f xs))) (Per.at_octet (al && t) (joined (map f ys))) (Pairwise R xs ys)) (w l) (at_octet_alike free (al && pads c) (joined_alike free X R f one xs ys l))))
+      subst (λ t. Alike free (Per.at_octet (al && has_padding c) (joined (map f xs))) (Per.at_octet (al && t) (joined (map f ys))) (Pairwise R xs ys)) (w l) (at_octet_alike free (al && has_padding c) (joined_alike free X R f one xs ys l))))
 
-  root_cases : (t : Bool) (al : Bool) (c : Counts) (high : ℕ) (pads pads' : Counts → Bool) (xs ys : List X) → (length xs ≡ length ys → pads c ≡ pads' c) → c.low ≤ length xs → c.low ≤ length ys → Alike free (cond t (both (Per.constrained al (high - c.low) (length (map f xs) - c.low)) (Per.at_octet (al && pads c) (joined (map f xs)))) (Per.counted al (map f xs))) (cond t (both (Per.constrained al (high - c.low) (length (map f ys) - c.low)) (Per.at_octet (al && pads' c) (joined (map f ys)))) (Per.counted al (map f ys))) (Pairwise R xs ys)
-  root_cases true al c high pads pads' xs ys w h k = by_count al c high pads pads' xs ys w h k
-  root_cases false al c high pads pads' xs ys w h k = counted_alike free X R f one al xs ys
+  root_cases : (t : Bool) (al : Bool) (c : Counts) (high : ℕ) (has_padding has_padding' : Counts → Bool) (xs ys : List X) → (length xs ≡ length ys → has_padding c ≡ has_padding' c) → c.low ≤ length xs → c.low ≤ length ys → Alike free (cond t (both (Per.constrained al (high - c.low) (length (map f xs) - c.low)) (Per.at_octet (al && has_padding c) (joined (map f xs)))) (Per.counted al (map f xs))) (cond t (both (Per.constrained al (high - c.low) (length (map f ys) - c.low)) (Per.at_octet (al && has_padding' c) (joined (map f ys)))) (Per.counted al (map f ys))) (Pairwise R xs ys)
+  root_cases true al c high has_padding has_padding' xs ys w h k = by_count al c high has_padding has_padding' xs ys w h k
+  root_cases false al c high has_padding has_padding' xs ys w h k = counted_alike free X R f one al xs ys
 
-  root_alike : (al : Bool) (c : Counts) (high : Option ℕ) (pads pads' : Counts → Bool) (xs ys : List X) → (length xs ≡ length ys → pads c ≡ pads' c) → c.low ≤ length xs → c.low ≤ length ys → Alike free (Per.sized_root al c high pads (map f xs)) (Per.sized_root al c high pads' (map f ys)) (Pairwise R xs ys)
+  root_alike : (al : Bool) (c : Counts) (high : Option ℕ) (has_padding has_padding' : Counts → Bool) (xs ys : List X) → (length xs ≡ length ys → has_padding c ≡ has_padding' c) → c.low ≤ length xs → c.low ≤ length ys → Alike free (Per.sized_root al c high has_padding (map f xs)) (Per.sized_root al c high has_padding' (map f ys)) (Pairwise R xs ys)
   unfolding Per.sized_root
-  root_alike al c None pads pads' xs ys w h k = counted_alike free X R f one al xs ys
-  root_alike al c (Some high) pads pads' xs ys w h k = root_cases (ltb high 65536) al c high pads pads' xs ys w h k
+  root_alike al c None has_padding has_padding' xs ys w h k = counted_alike free X R f one al xs ys
+  root_alike al c (Some high) has_padding has_padding' xs ys w h k = root_cases (ltb high 65536) al c high has_padding has_padding' xs ys w h k
 
   at_least_low : (c : Counts) (xs : List X) → is_count_within c (length (map f xs)) ≡ true → c.low ≤ length xs
   at_least_low c xs e = let b = leb-true c.low (length (map f xs)) ((and_parts _ _ e).0) in let n = length_of_map f xs in omega arith
 
-  pub sized_alike : (al : Bool) (z : Size) (held : Counts) (pads pads' : Counts → Bool) (xs ys : List X) → (length xs ≡ length ys → pads z.counts ≡ pads' z.counts) → Alike free (Per.sized al z held pads (map f xs)) (Per.sized al z held pads' (map f ys)) (Pairwise R xs ys)
+  pub sized_alike : (al : Bool) (z : Size) (held : Counts) (has_padding has_padding' : Counts → Bool) (xs ys : List X) → (length xs ≡ length ys → has_padding z.counts ≡ has_padding' z.counts) → Alike free (Per.sized al z held has_padding (map f xs)) (Per.sized al z held has_padding' (map f ys)) (Pairwise R xs ys)
   unfolding Per.sized
-  sized_alike al z held pads pads' xs ys w = agree_if free (is_count_within held (length (map f xs))) (is_count_within held (length (map f ys))) _ _ (λ i j. with_extension_bit_alike free z.extensible (is_count_within z.counts (length (map f xs))) (is_count_within z.counts (length (map f ys))) _ _ _ _ (Pairwise R xs ys) (λ h k. root_alike al z.counts z.counts.high pads pads' xs ys w (at_least_low z.counts xs h) (at_least_low z.counts ys k)) (counted_alike free X R f one al xs ys))
+  sized_alike al z held has_padding has_padding' xs ys w = agree_if free (is_count_within held (length (map f xs))) (is_count_within held (length (map f ys))) _ _ (λ i j. with_extension_bit_alike free z.extensible (is_count_within z.counts (length (map f xs))) (is_count_within z.counts (length (map f ys))) _ _ _ _ (Pairwise R xs ys) (λ h k. root_alike al z.counts z.counts.high has_padding has_padding' xs ys w (at_least_low z.counts xs h) (at_least_low z.counts ys k)) (counted_alike free X R f one al xs ys))
 
 -- ---- small numbers, items and bitmaps
 bits_then : (free : Per.Freedom → Bool) (x : Per.BitForm) (m : List Bool) (P : Type 0) → Alike free (both (exactly (true ∷ [])) x) (exactly (false ∷ m)) P

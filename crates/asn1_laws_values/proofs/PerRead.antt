@@ -39,10 +39,10 @@ module _ (free : Per.Freedom → Bool) where
   cond_read true x y P h k r = h r
   cond_read false x y P h k r = k r
 
-  sized_root_read : (al : Bool) (c : Counts) (high : Option ℕ) (pads : Counts → Bool) (xs : List PerForm) → Read (Per.sized_root al c high pads xs) → ReadEach xs
+  sized_root_read : (al : Bool) (c : Counts) (high : Option ℕ) (has_padding : Counts → Bool) (xs : List PerForm) → Read (Per.sized_root al c high has_padding xs) → ReadEach xs
   unfolding Per.sized_root
-  sized_root_read al c None pads xs r = counted_read al xs r
-  sized_root_read al c (Some high) pads xs r = cond_read (ltb high 65536) _ _ (ReadEach xs) (λ r. read_joined free xs (at_octet_read (al && pads c) (joined xs) ((read_both free r).1))) (counted_read al xs) r
+  sized_root_read al c None has_padding xs r = counted_read al xs r
+  sized_root_read al c (Some high) has_padding xs r = cond_read (ltb high 65536) _ _ (ReadEach xs) (λ r. read_joined free xs (at_octet_read (al && has_padding c) (joined xs) ((read_both free r).1))) (counted_read al xs) r
 
   pub with_extension_bit_read : (e b : Bool) (x y : PerForm) (P : Type 0) → (Read x → P) → (Read y → P) → Read (Per.with_extension_bit e b x y) → P
   unfolding Per.with_extension_bit
@@ -51,9 +51,9 @@ module _ (free : Per.Freedom → Bool) where
       let q = read_varied free r in
       cond_read q.0 (both (exactly (true ∷ [])) y) (only_if b (both (exactly (false ∷ [])) x)) P (λ r. k ((read_both free r).1)) (λ r. h ((read_both free ((read_if free b r).1)).1)) q.2
 
-  pub sized_read : (al : Bool) (z : Size) (held : Counts) (pads : Counts → Bool) (xs : List PerForm) → Read (Per.sized al z held pads xs) → ReadEach xs
+  pub sized_read : (al : Bool) (z : Size) (held : Counts) (has_padding : Counts → Bool) (xs : List PerForm) → Read (Per.sized al z held has_padding xs) → ReadEach xs
   unfolding Per.sized
-  sized_read al z held pads xs r = with_extension_bit_read z.extensible _ _ _ (ReadEach xs) (sized_root_read al z.counts z.counts.high pads xs) (counted_read al xs) ((read_if free _ r).1)
+  sized_read al z held has_padding xs r = with_extension_bit_read z.extensible _ _ _ (ReadEach xs) (sized_root_read al z.counts z.counts.high has_padding xs) (counted_read al xs) ((read_if free _ r).1)
 
   pub open_read : (al : Bool) (x : PerForm) → Read (Per.open_type al x) → Read x
   unfolding Per.open_type Per.complete

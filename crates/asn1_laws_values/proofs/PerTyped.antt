@@ -38,15 +38,15 @@ module _ (free : Per.Freedom → Bool) where
   with_extension_bit_in false b x y r = (read_if free b r).0
   with_extension_bit_in true b x y r = refl
 
-  sized_admits : (al : Bool) (z : Size) (held : Counts) (pads : Counts → Bool) (xs : List PerForm) → Read (Per.sized al z held pads xs) → admits z held (length xs) ≡ true
+  sized_admits : (al : Bool) (z : Size) (held : Counts) (has_padding : Counts → Bool) (xs : List PerForm) → Read (Per.sized al z held has_padding xs) → admits z held (length xs) ≡ true
   unfolding Per.sized
-  sized_admits al z held pads xs r =
+  sized_admits al z held has_padding xs r =
       let q = read_if free (is_count_within held (length xs)) r in
       two_true _ _ q.0 (with_extension_bit_in z.extensible (is_count_within z.counts (length xs)) _ _ q.1)
 
-  sized_held : (al : Bool) (z : Size) (held : Counts) (pads : Counts → Bool) (xs : List PerForm) → Read (Per.sized al z held pads xs) → is_count_within held (length xs) ≡ true
+  sized_held : (al : Bool) (z : Size) (held : Counts) (has_padding : Counts → Bool) (xs : List PerForm) → Read (Per.sized al z held has_padding xs) → is_count_within held (length xs) ≡ true
   unfolding Per.sized
-  sized_held al z held pads xs r = (read_if free (is_count_within held (length xs)) r).0
+  sized_held al z held has_padding xs r = (read_if free (is_count_within held (length xs)) r).0
 
   order_read : (xs : List PerForm) (f : List PerForm → PerForm) → Read (Per.in_any_order xs f) → (us : List PerForm) × (length us ≡ length xs) × Read (f us) × (ReadEach us → ReadEach xs)
   unfolding Per.in_any_order
@@ -88,10 +88,10 @@ module _ (free : Per.Freedom → Bool) where
   item_of al n e (Some i) j r = refl
   item_of al n e None j r = added_of al e j r
 
-  bits_of : (al : Bool) (z : Size) (held : Counts) (bs : List Bool) → Read (Per.sized al z held (Per.pads_string 1 (length bs)) (Per.bit_units bs)) → admits z held (length bs) ≡ true
+  bits_of : (al : Bool) (z : Size) (held : Counts) (bs : List Bool) → Read (Per.sized al z held (Per.string_has_padding 1 (length bs)) (Per.bit_units bs)) → admits z held (length bs) ≡ true
   bits_of al z held bs r = subst (λ n. admits z held n ≡ true) (length-map bs _) (sized_admits al z held _ _ r)
 
-  octets_of : (al : Bool) (z : Size) (held : Counts) (os : List ℕ) → Read (Per.sized al z held (Per.pads_string 8 (length os)) (Per.octet_units os)) → admits z held (length os) ≡ true
+  octets_of : (al : Bool) (z : Size) (held : Counts) (os : List ℕ) → Read (Per.sized al z held (Per.string_has_padding 8 (length os)) (Per.octet_units os)) → admits z held (length os) ≡ true
   octets_of al z held os r = subst (λ n. admits z held n ≡ true) (length-map os _) (sized_admits al z held _ _ r)
 
   characters_of : (al : Bool) (k : StringKind) (z : Size) (a : Alphabet) (held : Counts) (cs : List ℕ) → Read (Per.characters al z held (permitted k a) cs) → (is_count_within held (length cs) ≡ true) × (admits z held (length cs) ≡ true)

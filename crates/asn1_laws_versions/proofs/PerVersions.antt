@@ -63,19 +63,19 @@ module _ (free : Per.Freedom → Bool) (wide : IsTrue (free Per.other_bitmap)) (
   sim_with_extension_bit false b {r} {r'} h k = covers_if free b {x = r} {y = r'} (λ t. h)
   sim_with_extension_bit true b {r} {r'} {o} {o'} h k = covers_varied free (not b) (inl refl) (covers_cond free (not b) {x = both (exactly (true ∷ [])) o} {x' = both (exactly (true ∷ [])) o'} {y = only_if b (both (exactly (false ∷ [])) r)} {y' = only_if b (both (exactly (false ∷ [])) r')} (sim_both (sim_itself _) k) (covers_if free b {x = both (exactly (false ∷ [])) r} {y = both (exactly (false ∷ [])) r'} (λ t. sim_both (sim_itself _) h)))
 
-  sim_sized_root : (al : Bool) (c : Counts) (high : Option ℕ) (pads : Counts → Bool) (xs ys : List Per.BitForm) → SimEach xs ys → Sim (Per.sized_root al c high pads xs) (Per.sized_root al c high pads ys)
+  sim_sized_root : (al : Bool) (c : Counts) (high : Option ℕ) (has_padding : Counts → Bool) (xs ys : List Per.BitForm) → SimEach xs ys → Sim (Per.sized_root al c high has_padding xs) (Per.sized_root al c high has_padding ys)
   unfolding Per.sized_root
-  sim_sized_root al c None pads xs ys h = sim_counted al xs ys h
-  sim_sized_root al c (Some high) pads xs ys h =
-      let part : ℕ → List Per.BitForm → Per.BitForm = λ n us. both (Per.constrained al (high - c.low) (n - c.low)) (Per.at_octet (al && pads c) (joined us)) in
-      covers_cond free (ltb high 65536) {x = part (length xs) xs} {x' = part (length ys) ys} {y = Per.counted al xs} {y' = Per.counted al ys} (sim_both (sim_same (ap (λ n. Per.constrained al (high - c.low) (n - c.low)) (each_length free xs ys h))) (sim_at_octet (al && pads c) (covers_joined free xs ys h))) (sim_counted al xs ys h)
+  sim_sized_root al c None has_padding xs ys h = sim_counted al xs ys h
+  sim_sized_root al c (Some high) has_padding xs ys h =
+      let part : ℕ → List Per.BitForm → Per.BitForm = λ n us. both (Per.constrained al (high - c.low) (n - c.low)) (Per.at_octet (al && has_padding c) (joined us)) in
+      covers_cond free (ltb high 65536) {x = part (length xs) xs} {x' = part (length ys) ys} {y = Per.counted al xs} {y' = Per.counted al ys} (sim_both (sim_same (ap (λ n. Per.constrained al (high - c.low) (n - c.low)) (each_length free xs ys h))) (sim_at_octet (al && has_padding c) (covers_joined free xs ys h))) (sim_counted al xs ys h)
 
-  pub sim_sized : (al : Bool) (z : Size) (held : Counts) (pads : Counts → Bool) (xs ys : List Per.BitForm) → SimEach xs ys → Sim (Per.sized al z held pads xs) (Per.sized al z held pads ys)
+  pub sim_sized : (al : Bool) (z : Size) (held : Counts) (has_padding : Counts → Bool) (xs ys : List Per.BitForm) → SimEach xs ys → Sim (Per.sized al z held has_padding xs) (Per.sized al z held has_padding ys)
   unfolding Per.sized
-  sim_sized al z held pads xs ys h =
-      let part : ℕ → List Per.BitForm → Per.BitForm = λ n us. Per.with_extension_bit z.extensible (is_count_within z.counts n) (Per.sized_root al z.counts z.counts.high pads us) (Per.counted al us) in
-      let P : ℕ → Type 0 = λ n. Sim (Per.sized al z held pads xs) (only_if (is_count_within held n) (part n ys)) in
-      subst P (each_length free xs ys h) (covers_if free (is_count_within held (length xs)) {x = part (length xs) xs} {y = part (length xs) ys} (λ t. sim_with_extension_bit z.extensible (is_count_within z.counts (length xs)) (sim_sized_root al z.counts z.counts.high pads xs ys h) (sim_counted al xs ys h)))
+  sim_sized al z held has_padding xs ys h =
+      let part : ℕ → List Per.BitForm → Per.BitForm = λ n us. Per.with_extension_bit z.extensible (is_count_within z.counts n) (Per.sized_root al z.counts z.counts.high has_padding us) (Per.counted al us) in
+      let P : ℕ → Type 0 = λ n. Sim (Per.sized al z held has_padding xs) (only_if (is_count_within held n) (part n ys)) in
+      subst P (each_length free xs ys h) (covers_if free (is_count_within held (length xs)) {x = part (length xs) xs} {y = part (length xs) ys} (λ t. sim_with_extension_bit z.extensible (is_count_within z.counts (length xs)) (sim_sized_root al z.counts z.counts.high has_padding xs ys h) (sim_counted al xs ys h)))
 
   -- ---- bags
   abbrev key : Per.BitForm → Option (List Bool)

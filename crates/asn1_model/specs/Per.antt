@@ -186,16 +186,16 @@ integer_form al b held v = only_if (is_within held v && (not (is_bounded b) || f
 -- Units of a size: behind their number by its bounds, if the highest is below 65536, else behind a general length
 -- (X.691 11.9.4, 16, 17, 20 and 30).
 unfoldable pub sized_root : Bool → Counts → Option ℕ → (Counts → Bool) → List BitForm → BitForm
-sized_root al c None pads us = counted al us
-sized_root al c (Some high) pads us = cond (ltb high 65536)
-    (both (constrained al (high - c.low) (length us - c.low)) (at_octet (al && pads c) (joined us)))
+sized_root al c None has_padding us = counted al us
+sized_root al c (Some high) has_padding us = cond (ltb high 65536)
+    (both (constrained al (high - c.low) (length us - c.low)) (at_octet (al && has_padding c) (joined us)))
     (counted al us)
 
 -- Units of a size that may have an extension marker (X.691 16.6, 17.3, 20.4 and 30.4).
 unfoldable pub sized : Bool → Size → Counts → (Counts → Bool) → List BitForm → BitForm
-sized al z held pads us = only_if (is_count_within held (length us))
+sized al z held has_padding us = only_if (is_count_within held (length us))
     (with_extension_bit z.extensible (is_count_within z.counts (length us))
-    (sized_root al z.counts z.counts.high pads us) (counted al us))
+    (sized_root al z.counts z.counts.high has_padding us) (counted al us))
 
 abbrev pub never : Counts → Bool
 never c = false
@@ -205,13 +205,14 @@ abbrev pub fixed_bits : ℕ → Counts → Option ℕ
 fixed_bits unit c = option_and_then (λ high. cond (high == c.low) (Some (high * unit)) None) c.high
 
 -- Contents of no bits take no padding, and nor do fixed ones of at most 16 bits (X.691 16.9 to 16.11, 17.6 to 17.8).
-abbrev pub pads_string : ℕ → ℕ → Counts → Bool
-pads_string unit n c = not (n * unit == 0) && elim (fixed_bits unit c) [ None ↦ true | Some all ↦ ltb 16 all ]
+abbrev pub string_has_padding : ℕ → ℕ → Counts → Bool
+string_has_padding unit n c = not (n * unit == 0) && elim (fixed_bits unit c) [ None ↦ true | Some all ↦ ltb 16 all ]
 
 -- Characters also take none where as many as there may be have fewer than 16 bits (X.691 30.5.6 and 30.5.7). Where they
 -- take padding is the project's choice.
-abbrev pub pads_characters : ℕ → ℕ → Counts → Bool
-pads_characters unit n c = pads_string unit n c && elim (c.high) [ None ↦ true | Some high ↦ leb 16 (high * unit) ]
+abbrev pub characters_have_padding : ℕ → ℕ → Counts → Bool
+characters_have_padding unit n c = string_has_padding unit n c
+    && elim (c.high) [ None ↦ true | Some high ↦ leb 16 (high * unit) ]
 
 -- The next of 0, 1, 2, 4, 8 and 16 (X.691 30.5.2).
 abbrev pub raised : ℕ → ℕ
@@ -229,7 +230,8 @@ character b rs c = given (place_of c rs) (λ i. exactly (binary b (cond (ltb (la
 -- Characters behind their number (X.691 30.5).
 unfoldable pub characters : Bool → Size → Counts → List Run → List ℕ → BitForm
 characters al z held rs cs =
-    sized al z held (pads_characters (character_bits al rs) (length cs)) (map (character (character_bits al rs) rs) cs)
+    sized al z held (characters_have_padding (character_bits al rs) (length cs))
+    (map (character (character_bits al rs) rs) cs)
 
 -- A restricted character string (X.691 30). Sizes and alphabets of UTF8String, General-, Graphic- and TeletexString
 -- count for nothing, by the project's choice.
@@ -325,9 +327,9 @@ unfoldable mutual
   form al null nothing = nothing_more
   form al (integer b held) (number v) = integer_form al b held v
   form al (enumerated roots e adds) (item v) = item_form al (length roots) e (item_place v roots) (item_place v adds)
-  form al (bit_string z held) (bit_list bs) = sized al z held (pads_string 1 (length bs)) (bit_units bs)
+  form al (bit_string z held) (bit_list bs) = sized al z held (string_has_padding 1 (length bs)) (bit_units bs)
   form al (octet_string z held) (octet_list os) =
-      only_if (each_is is_octet os) (sized al z held (pads_string 8 (length os)) (octet_units os))
+      only_if (each_is is_octet os) (sized al z held (string_has_padding 8 (length os)) (octet_units os))
   form al (character_string k z a held) (text cs) = string_form al k z a held cs
   form al object_identifier (arcs ns) = only_if (is_identifier ns) (counted_octets al (identifier_octets ns))
   form al (sequence_of z held s) (members vs) = sized al z held never (each (λ v. form al s v) vs)

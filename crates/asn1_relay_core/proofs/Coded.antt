@@ -17,7 +17,7 @@ use Rattle.asn1_relay_core.specs.declared.codec.Codec.{Codec}
 use Rattle.asn1_relay_core.specs.declared.translation.RecodeFault.{RecodeFault}
 use Rattle.asn1_relay_core.specs.declared.translation.RecodeFault.TheVariants.{NotAnEncoding, Surplus, NoTarget, Memory}
 use Rattle.asn1_relay_core.specs.Coding.{rules_of, IsWritten, NotWritten}
-use Rattle.asn1_relay_core.specs.Recoding.{IsMessage, Answer, answered, not_an_encoding, surplus, no_target, IsAnswer, NamesMemoryAlone, NamesNoEarlierRefusal, NamesNoMisplacedCall, answer_of, source_fault_of, target_fault_of}
+use Rattle.asn1_relay_core.specs.Recoding.{IsMessage, Answer, answered, not_an_encoding, surplus, no_target, IsAnswer, NamesMemoryAlone, NamesNoEarlierRefusal, NamesNoMisplacedCall, NamesNoPlatformSize, answer_of, source_fault_of, target_fault_of}
 use Rattle.asn1_laws_versions.proofs.Answers.{one_answer}
 
 module _ (source target : Rules) (schema : ℕ → Schema) (v : Value) (input rest : List ℕ) (t : Tells source schema v input rest) where
@@ -160,4 +160,21 @@ target_names_no_call e f h n = subst NamesNoMisplacedCall (sym h) (at e n)
     at : (e : EncodeError) → ¬ (e ≡ Encoding.CallOutOfPlace) → NamesNoMisplacedCall (target_fault_of e)
     at Encoding.OutOfMemory n = tt
     at Encoding.CallOutOfPlace n = n refl
+    at e n = tt
+
+-- ---- lengths that do not fit the platform
+
+pub source_names_no_size : (e : DecodeError) (f : RecodeFault) → f ≡ source_fault_of e → NamesNoPlatformSize f
+source_names_no_size e f h = subst NamesNoPlatformSize (sym h) (at e)
+  where
+    at : (e : DecodeError) → NamesNoPlatformSize (source_fault_of e)
+    at Decoding.OutOfMemory = tt
+    at e = tt
+
+pub target_names_no_size : (e : EncodeError) (f : RecodeFault) → f ≡ target_fault_of e → ¬ (e ≡ Encoding.LengthExceedsPlatformSize) → NamesNoPlatformSize f
+target_names_no_size e f h n = subst NamesNoPlatformSize (sym h) (at e n)
+  where
+    at : (e : EncodeError) → ¬ (e ≡ Encoding.LengthExceedsPlatformSize) → NamesNoPlatformSize (target_fault_of e)
+    at Encoding.OutOfMemory n = tt
+    at Encoding.LengthExceedsPlatformSize n = n refl
     at e n = tt

@@ -38,6 +38,11 @@ abbrev pub NamesNoMisplacedCall : RecodeFault → Type 0
 NamesNoMisplacedCall (NoTarget Encoding.CallOutOfPlace) = ⊥
 NamesNoMisplacedCall f = Unit {0}
 
+-- Each length that a codec writes fits the platform: one that does not stands within no fault.
+abbrev pub NamesNoPlatformSize : RecodeFault → Type 0
+NamesNoPlatformSize (NoTarget Encoding.LengthExceedsPlatformSize) = ⊥
+NamesNoPlatformSize f = Unit {0}
+
 -- ---- faults
 
 -- The faults of a translation that these are.

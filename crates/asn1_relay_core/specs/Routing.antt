@@ -108,6 +108,11 @@ abbrev pub NamesNoMisplacedCall : RouteFaultKind → Type 0
 NamesNoMisplacedCall (NoTarget Encoding.CallOutOfPlace) = ⊥
 NamesNoMisplacedCall k = Unit {0}
 
+-- A length that does not fit the platform stands within no kind.
+abbrev pub NamesNoPlatformSize : RouteFaultKind → Type 0
+NamesNoPlatformSize (NoTarget Encoding.LengthExceedsPlatformSize) = ⊥
+NamesNoPlatformSize k = Unit {0}
+
 -- The kind of the fault of a hop whose translation failed.
 abbrev pub kind_of_fault : RecodeFault → RouteFaultKind
 kind_of_fault (recoding.NotAnEncoding e) = Read e

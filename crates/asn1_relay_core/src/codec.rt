@@ -47,6 +47,7 @@ impl Codec {
         ensures only { IfErr result (NotWritten (rules_of self) T.schema (T.meaning value.now)) }
         ensures fresh { IfErr result (λ e. e ≡ EncodeError.AlreadyFailed → ⊥) }
         ensures in_place { IfErr result (λ e. e ≡ EncodeError.CallOutOfPlace → ⊥) }
+        ensures fits { IfErr result (λ e. e ≡ EncodeError.LengthExceedsPlatformSize → ⊥) }
     {
         let octets = match self {
             Codec::Uper => uper::encode(alloc, value)?,

@@ -3,7 +3,7 @@ ghost use Rattle.std.specs.Prelude.{◌≡◌, ◌≢◌, ℕ, [], IfErr, IfSome
 ghost use Rattle.asn1_model.specs.Value.{Value};
 ghost use Rattle.asn1_relay_core.specs.Routing.{Outcome, Answers, Comes, IsReached, IsCanonicalOf, IsToldBy};
 ghost use Rattle.asn1_relay_core.specs.Routing.{IsOrLacksMemory, NamesMemoryAlone, NamesNoEarlierRefusal};
-ghost use Rattle.asn1_relay_core.specs.Routing.{NamesNoMisplacedCall};
+ghost use Rattle.asn1_relay_core.specs.Routing.{NamesNoMisplacedCall, NamesNoPlatformSize};
 ghost use Rattle.asn1_relay_core.specs.Routing.{answer_of_hop, outcome_of};
 
 use crate::hop::{Hop, Version};
@@ -51,6 +51,7 @@ pub fn route<Old: Encode + Decode, New: Encode + Decode + Extends<Old>>(
     ensures memory { IfErr result (λ fault. NamesMemoryAlone fault.kind) }
     ensures fresh { IfErr result (λ fault. NamesNoEarlierRefusal fault.kind) }
     ensures in_place { IfErr result (λ fault. NamesNoMisplacedCall fault.kind) }
+    ensures fits { IfErr result (λ fault. NamesNoPlatformSize fault.kind) }
     ensures reached { IfErr result (λ fault. IsReached Old.schema New.schema from hops.now input.now fault.hop) }
 {
     let mut octets = pass::<Old, New>(alloc, 0, from, hops[0], input)?;
@@ -75,6 +76,7 @@ fn pass<Old: Encode + Decode, New: Encode + Decode>(
     ensures memory { IfErr result (λ fault. NamesMemoryAlone fault.kind) }
     ensures fresh { IfErr result (λ fault. NamesNoEarlierRefusal fault.kind) }
     ensures in_place { IfErr result (λ fault. NamesNoMisplacedCall fault.kind) }
+    ensures fits { IfErr result (λ fault. NamesNoPlatformSize fault.kind) }
     ensures named { IfErr result (λ fault. fault.hop ≡ place) }
 {
     let recoded = match hop.version {

@@ -2,7 +2,7 @@
 ghost use Rattle.std.specs.Prelude.{◌≡◌, ◌⊎◌, None, Some, IfErr, IfSome};
 ghost use Rattle.asn1_relay_core.specs.Coding.{rules_of};
 ghost use Rattle.asn1_relay_core.specs.Recoding.{answer_of, Answer, IsAnswer, NamesMemoryAlone, NamesNoEarlierRefusal};
-ghost use Rattle.asn1_relay_core.specs.Recoding.{DetoursChangeNoAnswer, NamesNoMisplacedCall};
+ghost use Rattle.asn1_relay_core.specs.Recoding.{DetoursChangeNoAnswer, NamesNoMisplacedCall, NamesNoPlatformSize};
 
 use crate::codec::Codec;
 use asn1_schema_decode::Decode;
@@ -88,6 +88,7 @@ pub fn recode<T: Encode + Decode>(
     ensures memory { IfErr result NamesMemoryAlone }
     ensures fresh { IfErr result NamesNoEarlierRefusal }
     ensures in_place { IfErr result NamesNoMisplacedCall }
+    ensures fits { IfErr result NamesNoPlatformSize }
 {
     let (value, rest): (T, &[u8]) = from.read_front(alloc, input)?;
     if !rest.is_empty() {

@@ -2,7 +2,7 @@
 -- nested levels.
 use Rattle.std.specs.Prelude.{ℕ, zero, suc, ◌-◌, ◌^◌, pos, negsuc, true, false, [], ◌∷◌, Some, None}
 use Rattle.asn1_model.specs.Schema.{Tag, Range, Counts, Size, Presence, required, optional, Schema, cut, boolean}
-use Rattle.asn1_model.specs.Schema.{null, integer, octet_string, set_of, sequence, set, group, choice}
+use Rattle.asn1_model.specs.Schema.{null, integer, octet_string, set_of, sequence, set, group, choice, any_size}
 use Rattle.asn1_model.specs.Schema.{Components, no_component, component, no_alternative, alternative}
 
 -- ---- tags (X.680 8.1 and 8.4)
@@ -22,12 +22,9 @@ one_more t o s cs = component (t ∷ []) o s cs
 
 -- ---- numbers and octets
 
--- Any number at all, or any number of units.
+-- Any number at all.
 abbrev pub any_range : Range
 any_range = record { low = None; high = None }
-
-abbrev pub any_size : Size
-any_size = record { counts = record { low = 0; high = None }; extensible = false }
 
 -- The numbers of 128 bits of two's complement, which is what bounded numbers are held in.
 abbrev pub wide : Range

@@ -5,7 +5,7 @@ ghost use Rattle.asn1_schema.specs.Author.{context, no_constraint};
 use asn1_schema::{
     Alternatives, AsnType, Choice, Chosen, Constraints, Decode, DecodeAlternatives, DecodeError,
     Decoder, Described, Encode, EncodeChoice, EncodeError, Encoder, Identifier, Tag, TagPlace,
-    TagTree, tagged,
+    TagTree, place, tagged,
 };
 use std::alloc::Global;
 
@@ -75,16 +75,7 @@ impl Alternatives for Nest {
     }
 
     fn places() -> &'static [TagPlace] {
-        &[
-            TagPlace {
-                tag: LEAF,
-                place: 0,
-            },
-            TagPlace {
-                tag: MORE,
-                place: 1,
-            },
-        ]
+        &[place!(LEAF, 0), place!(MORE, 1)]
     }
 
     ghost tagged = { refl };

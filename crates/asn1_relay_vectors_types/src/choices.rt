@@ -2,60 +2,26 @@
 ghost use Rattle.std.specs.Prelude.{refl, true, false};
 ghost use Rattle.asn1_schema.specs.Author.{context, no_variant, variant};
 ghost use Rattle.asn1_schema.proofs.Author.{choice_of, none, of_addition, of_root, one};
-ghost use Rattle.asn1_schema_authored.proofs.Fields.{gains_alternatives};
-ghost use Rattle.asn1_schema_authored.proofs.Unfolding.{choice_unfolds, constant_unfolds, no_variants_unfold};
-ghost use Rattle.asn1_schema_authored.proofs.Unfolding.{variant_unfolds};
+ghost use Rattle.asn1_schema.proofs.Author.{choice_unfolds, constant_unfolds, gains_alternatives, no_variants_unfold};
+ghost use Rattle.asn1_schema.proofs.Author.{variant_unfolds};
 
 use asn1_schema::{
-    ChoiceAlternatives, ChoiceOf, Chosen, Class, Decode, DecodeError, Decoder, Described, Encode,
-    EncodeError, Encoder, Tag, TagPlace, TagTree,
+    ChoiceAlternatives, ChoiceOf, Chosen, Decode, DecodeError, Decoder, Described, Encode,
+    EncodeError, Encoder, ExtendsAlternatives, Tag, TagPlace, TagTree, place, read_alternative,
+    tagged, write_alternative,
 };
-use asn1_schema_authored::ExtendsAlternatives;
 use asn1_values::Integer;
 use std::alloc::Global;
 
-/// A tag of the context (X.680 8.1).
-macro_rules! context {
-    ($number:literal) => {
-        Tag {
-            class: Class::Context,
-            value: $number,
-        }
-    };
-}
+const CONTEXT_0: Tag = tagged!(Context, 0);
 
-/// A tag of the context with the place of its alternative.
-macro_rules! place {
-    ($number:literal, $place:literal) => {
-        TagPlace {
-            tag: context!($number),
-            place: $place,
-        }
-    };
-}
+const CONTEXT_1: Tag = tagged!(Context, 1);
 
-/// The tree of a tag of the context.
-macro_rules! leaf {
-    ($number:literal) => {
-        TagTree::Leaf(context!($number))
-    };
-}
+const CONTEXT_2: Tag = tagged!(Context, 2);
 
-/// Writes the value of an alternative under its tag, which is the answer.
-macro_rules! put {
-    ($encoder:ident, $value:ident, $number:literal) => {{
-        $value.encode_with_tag($encoder, context!($number))?;
-        Ok(context!($number))
-    }};
-}
+const CONTEXT_444: Tag = tagged!(Context, 444);
 
-/// Reads the value of an alternative under its tag.
-macro_rules! get {
-    ($alloc:ident, $decoder:ident, $type:ident, $variant:path, $number:literal) => {{
-        let value = $type::decode_with_tag($alloc, $decoder, context!($number))?;
-        Ok($variant(value))
-    }};
-}
+const CONTEXT_4294967295: Tag = tagged!(Context, 4294967295);
 
 /// CHOICE {near [0] BOOLEAN, far [444] BOOLEAN}.
 pub type Spaced = ChoiceOf<SpacedAlternative>;
@@ -78,12 +44,15 @@ impl ChoiceAlternatives for SpacedAlternative {
         ]) };
 
     fn tag_tree() -> TagTree<'static> {
-        const TREES: &'static [TagTree<'static>] = &[leaf!(0), leaf!(444)];
+        const TREES: &'static [TagTree<'static>] = &[
+            TagTree::Leaf(CONTEXT_0),
+            TagTree::Leaf(CONTEXT_444),
+        ];
         TagTree::Choice(TREES)
     }
 
     fn variants() -> &'static [Tag] {
-        &[context!(0), context!(444)]
+        &[CONTEXT_0, CONTEXT_444]
     }
 
     fn extended_variants() -> Option<&'static [Tag]> {
@@ -91,7 +60,7 @@ impl ChoiceAlternatives for SpacedAlternative {
     }
 
     fn places() -> &'static [TagPlace] {
-        &[place!(0, 0), place!(444, 1)]
+        &[place!(CONTEXT_0, 0), place!(CONTEXT_444, 1)]
     }
 
     fn chosen(&self) -> Chosen {
@@ -103,8 +72,8 @@ impl ChoiceAlternatives for SpacedAlternative {
 
     fn write_chosen<E: Encoder>(&self, encoder: &mut E) -> Result<Tag, EncodeError> {
         match self {
-            SpacedAlternative::Near(value) => put!(encoder, value, 0),
-            SpacedAlternative::Far(value) => put!(encoder, value, 444),
+            SpacedAlternative::Near(value) => write_alternative!(encoder, value, CONTEXT_0),
+            SpacedAlternative::Far(value) => write_alternative!(encoder, value, CONTEXT_444),
         }
     }
 
@@ -114,8 +83,20 @@ impl ChoiceAlternatives for SpacedAlternative {
         chosen: Chosen,
     ) -> Result<Self, DecodeError> {
         match (chosen.added, chosen.place) {
-            (false, 0) => get!(alloc, decoder, bool, SpacedAlternative::Near, 0),
-            (false, 1) => get!(alloc, decoder, bool, SpacedAlternative::Far, 444),
+            (false, 0) => read_alternative!(
+                alloc,
+                decoder,
+                bool,
+                SpacedAlternative::Near,
+                CONTEXT_0
+            ),
+            (false, 1) => read_alternative!(
+                alloc,
+                decoder,
+                bool,
+                SpacedAlternative::Far,
+                CONTEXT_444
+            ),
             _ => unreachable!(),
         }
     }
@@ -146,12 +127,16 @@ impl ChoiceAlternatives for DistantAlternative {
         ]) };
 
     fn tag_tree() -> TagTree<'static> {
-        const TREES: &'static [TagTree<'static>] = &[leaf!(0), leaf!(1), leaf!(4294967295)];
+        const TREES: &'static [TagTree<'static>] = &[
+            TagTree::Leaf(CONTEXT_0),
+            TagTree::Leaf(CONTEXT_1),
+            TagTree::Leaf(CONTEXT_4294967295),
+        ];
         TagTree::Choice(TREES)
     }
 
     fn variants() -> &'static [Tag] {
-        &[context!(0), context!(1), context!(4294967295)]
+        &[CONTEXT_0, CONTEXT_1, CONTEXT_4294967295]
     }
 
     fn extended_variants() -> Option<&'static [Tag]> {
@@ -159,7 +144,11 @@ impl ChoiceAlternatives for DistantAlternative {
     }
 
     fn places() -> &'static [TagPlace] {
-        &[place!(0, 0), place!(1, 1), place!(4294967295, 2)]
+        &[
+            place!(CONTEXT_0, 0),
+            place!(CONTEXT_1, 1),
+            place!(CONTEXT_4294967295, 2),
+        ]
     }
 
     fn chosen(&self) -> Chosen {
@@ -172,9 +161,13 @@ impl ChoiceAlternatives for DistantAlternative {
 
     fn write_chosen<E: Encoder>(&self, encoder: &mut E) -> Result<Tag, EncodeError> {
         match self {
-            DistantAlternative::First(value) => put!(encoder, value, 0),
-            DistantAlternative::Second(value) => put!(encoder, value, 1),
-            DistantAlternative::Last(value) => put!(encoder, value, 4294967295),
+            DistantAlternative::First(value) => write_alternative!(encoder, value, CONTEXT_0),
+            DistantAlternative::Second(value) => write_alternative!(encoder, value, CONTEXT_1),
+            DistantAlternative::Last(value) => write_alternative!(
+                encoder,
+                value,
+                CONTEXT_4294967295
+            ),
         }
     }
 
@@ -184,14 +177,26 @@ impl ChoiceAlternatives for DistantAlternative {
         chosen: Chosen,
     ) -> Result<Self, DecodeError> {
         match (chosen.added, chosen.place) {
-            (false, 0) => get!(alloc, decoder, Integer, DistantAlternative::First, 0),
-            (false, 1) => get!(alloc, decoder, Integer, DistantAlternative::Second, 1),
-            (false, 2) => get!(
+            (false, 0) => read_alternative!(
+                alloc,
+                decoder,
+                Integer,
+                DistantAlternative::First,
+                CONTEXT_0
+            ),
+            (false, 1) => read_alternative!(
+                alloc,
+                decoder,
+                Integer,
+                DistantAlternative::Second,
+                CONTEXT_1
+            ),
+            (false, 2) => read_alternative!(
                 alloc,
                 decoder,
                 Integer,
                 DistantAlternative::Last,
-                4294967295
+                CONTEXT_4294967295
             ),
             _ => unreachable!(),
         }
@@ -219,12 +224,15 @@ impl ChoiceAlternatives for OldVersionedAlternative {
         ]) };
 
     fn tag_tree() -> TagTree<'static> {
-        const TREES: &'static [TagTree<'static>] = &[leaf!(0), leaf!(1)];
+        const TREES: &'static [TagTree<'static>] = &[
+            TagTree::Leaf(CONTEXT_0),
+            TagTree::Leaf(CONTEXT_1),
+        ];
         TagTree::Choice(TREES)
     }
 
     fn variants() -> &'static [Tag] {
-        &[context!(0), context!(1)]
+        &[CONTEXT_0, CONTEXT_1]
     }
 
     fn extended_variants() -> Option<&'static [Tag]> {
@@ -232,7 +240,7 @@ impl ChoiceAlternatives for OldVersionedAlternative {
     }
 
     fn places() -> &'static [TagPlace] {
-        &[place!(0, 0), place!(1, 1)]
+        &[place!(CONTEXT_0, 0), place!(CONTEXT_1, 1)]
     }
 
     fn chosen(&self) -> Chosen {
@@ -244,8 +252,8 @@ impl ChoiceAlternatives for OldVersionedAlternative {
 
     fn write_chosen<E: Encoder>(&self, encoder: &mut E) -> Result<Tag, EncodeError> {
         match self {
-            OldVersionedAlternative::A(value) => put!(encoder, value, 0),
-            OldVersionedAlternative::B(value) => put!(encoder, value, 1),
+            OldVersionedAlternative::A(value) => write_alternative!(encoder, value, CONTEXT_0),
+            OldVersionedAlternative::B(value) => write_alternative!(encoder, value, CONTEXT_1),
         }
     }
 
@@ -255,8 +263,20 @@ impl ChoiceAlternatives for OldVersionedAlternative {
         chosen: Chosen,
     ) -> Result<Self, DecodeError> {
         match (chosen.added, chosen.place) {
-            (false, 0) => get!(alloc, decoder, Integer, OldVersionedAlternative::A, 0),
-            (false, 1) => get!(alloc, decoder, Integer, OldVersionedAlternative::B, 1),
+            (false, 0) => read_alternative!(
+                alloc,
+                decoder,
+                Integer,
+                OldVersionedAlternative::A,
+                CONTEXT_0
+            ),
+            (false, 1) => read_alternative!(
+                alloc,
+                decoder,
+                Integer,
+                OldVersionedAlternative::B,
+                CONTEXT_1
+            ),
             _ => unreachable!(),
         }
     }
@@ -286,20 +306,28 @@ impl ChoiceAlternatives for VersionedAlternative {
         ]) };
 
     fn tag_tree() -> TagTree<'static> {
-        const TREES: &'static [TagTree<'static>] = &[leaf!(0), leaf!(1), leaf!(2)];
+        const TREES: &'static [TagTree<'static>] = &[
+            TagTree::Leaf(CONTEXT_0),
+            TagTree::Leaf(CONTEXT_1),
+            TagTree::Leaf(CONTEXT_2),
+        ];
         TagTree::Choice(TREES)
     }
 
     fn variants() -> &'static [Tag] {
-        &[context!(0), context!(1)]
+        &[CONTEXT_0, CONTEXT_1]
     }
 
     fn extended_variants() -> Option<&'static [Tag]> {
-        Some(&[context!(2)])
+        Some(&[CONTEXT_2])
     }
 
     fn places() -> &'static [TagPlace] {
-        &[place!(0, 0), place!(1, 1), place!(2, 2)]
+        &[
+            place!(CONTEXT_0, 0),
+            place!(CONTEXT_1, 1),
+            place!(CONTEXT_2, 2),
+        ]
     }
 
     fn chosen(&self) -> Chosen {
@@ -312,9 +340,9 @@ impl ChoiceAlternatives for VersionedAlternative {
 
     fn write_chosen<E: Encoder>(&self, encoder: &mut E) -> Result<Tag, EncodeError> {
         match self {
-            VersionedAlternative::A(value) => put!(encoder, value, 0),
-            VersionedAlternative::B(value) => put!(encoder, value, 1),
-            VersionedAlternative::C(value) => put!(encoder, value, 2),
+            VersionedAlternative::A(value) => write_alternative!(encoder, value, CONTEXT_0),
+            VersionedAlternative::B(value) => write_alternative!(encoder, value, CONTEXT_1),
+            VersionedAlternative::C(value) => write_alternative!(encoder, value, CONTEXT_2),
         }
     }
 
@@ -324,9 +352,27 @@ impl ChoiceAlternatives for VersionedAlternative {
         chosen: Chosen,
     ) -> Result<Self, DecodeError> {
         match (chosen.added, chosen.place) {
-            (false, 0) => get!(alloc, decoder, Integer, VersionedAlternative::A, 0),
-            (false, 1) => get!(alloc, decoder, Integer, VersionedAlternative::B, 1),
-            (true, 0) => get!(alloc, decoder, Integer, VersionedAlternative::C, 2),
+            (false, 0) => read_alternative!(
+                alloc,
+                decoder,
+                Integer,
+                VersionedAlternative::A,
+                CONTEXT_0
+            ),
+            (false, 1) => read_alternative!(
+                alloc,
+                decoder,
+                Integer,
+                VersionedAlternative::B,
+                CONTEXT_1
+            ),
+            (true, 0) => read_alternative!(
+                alloc,
+                decoder,
+                Integer,
+                VersionedAlternative::C,
+                CONTEXT_2
+            ),
             _ => unreachable!(),
         }
     }
@@ -370,20 +416,28 @@ impl ChoiceAlternatives for AroundAlternative {
         ]) };
 
     fn tag_tree() -> TagTree<'static> {
-        const TREES: &'static [TagTree<'static>] = &[leaf!(0), leaf!(2), leaf!(1)];
+        const TREES: &'static [TagTree<'static>] = &[
+            TagTree::Leaf(CONTEXT_0),
+            TagTree::Leaf(CONTEXT_2),
+            TagTree::Leaf(CONTEXT_1),
+        ];
         TagTree::Choice(TREES)
     }
 
     fn variants() -> &'static [Tag] {
-        &[context!(0), context!(2)]
+        &[CONTEXT_0, CONTEXT_2]
     }
 
     fn extended_variants() -> Option<&'static [Tag]> {
-        Some(&[context!(1)])
+        Some(&[CONTEXT_1])
     }
 
     fn places() -> &'static [TagPlace] {
-        &[place!(0, 0), place!(1, 2), place!(2, 1)]
+        &[
+            place!(CONTEXT_0, 0),
+            place!(CONTEXT_1, 2),
+            place!(CONTEXT_2, 1),
+        ]
     }
 
     fn chosen(&self) -> Chosen {
@@ -396,9 +450,9 @@ impl ChoiceAlternatives for AroundAlternative {
 
     fn write_chosen<E: Encoder>(&self, encoder: &mut E) -> Result<Tag, EncodeError> {
         match self {
-            AroundAlternative::A(value) => put!(encoder, value, 0),
-            AroundAlternative::C(value) => put!(encoder, value, 2),
-            AroundAlternative::B(value) => put!(encoder, value, 1),
+            AroundAlternative::A(value) => write_alternative!(encoder, value, CONTEXT_0),
+            AroundAlternative::C(value) => write_alternative!(encoder, value, CONTEXT_2),
+            AroundAlternative::B(value) => write_alternative!(encoder, value, CONTEXT_1),
         }
     }
 
@@ -408,9 +462,15 @@ impl ChoiceAlternatives for AroundAlternative {
         chosen: Chosen,
     ) -> Result<Self, DecodeError> {
         match (chosen.added, chosen.place) {
-            (false, 0) => get!(alloc, decoder, bool, AroundAlternative::A, 0),
-            (false, 1) => get!(alloc, decoder, Versioned, AroundAlternative::C, 2),
-            (true, 0) => get!(alloc, decoder, bool, AroundAlternative::B, 1),
+            (false, 0) => read_alternative!(alloc, decoder, bool, AroundAlternative::A, CONTEXT_0),
+            (false, 1) => read_alternative!(
+                alloc,
+                decoder,
+                Versioned,
+                AroundAlternative::C,
+                CONTEXT_2
+            ),
+            (true, 0) => read_alternative!(alloc, decoder, bool, AroundAlternative::B, CONTEXT_1),
             _ => unreachable!(),
         }
     }

@@ -1,14 +1,11 @@
 //! Sequences and sets that are newer versions of others.
 ghost use Rattle.std.specs.Prelude.{refl, [], ◌∷◌};
 ghost use Rattle.asn1_model.specs.Value.{fields};
-ghost use Rattle.asn1_schema.proofs.Author.{set_of, set_tag};
+ghost use Rattle.asn1_schema.proofs.Author.{constant_unfolds, default_gains, field_unfolds, gains_additions};
+ghost use Rattle.asn1_schema.proofs.Author.{grown_field, no_fields, no_fields_unfold, same_tags, sequence_extends};
+ghost use Rattle.asn1_schema.proofs.Author.{sequence_unfolds, set_gains_additions, set_of, set_tag, set_unfolds};
+ghost use Rattle.asn1_schema.proofs.Author.{type_sequence, value_sequence};
 ghost use Rattle.asn1_schema_presented.specs.Tables.{no_field};
-ghost use Rattle.asn1_schema_presented.proofs.Values.{type_sequence, value_sequence};
-ghost use Rattle.asn1_schema_authored.proofs.Defaults.{default_gains};
-ghost use Rattle.asn1_schema_authored.proofs.Fields.{gains_additions, grown_field, no_fields, same_tags};
-ghost use Rattle.asn1_schema_authored.proofs.Fields.{sequence_extends, set_gains_additions};
-ghost use Rattle.asn1_schema_authored.proofs.Unfolding.{constant_unfolds, field_unfolds, no_fields_unfold};
-ghost use Rattle.asn1_schema_authored.proofs.Unfolding.{sequence_unfolds, set_unfolds};
 ghost use Rattle.asn1_relay_types.specs.Defaults.{flag_table, new_true_stands, old_true_stands, one_optional};
 ghost use Rattle.asn1_relay_vectors_types.specs.Growing.{bag_extends, boolean_stays, group_extends, optional_stays};
 ghost use Rattle.asn1_relay_vectors_types.specs.Growing.{required_stays};

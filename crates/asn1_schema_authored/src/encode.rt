@@ -121,7 +121,7 @@ pub trait EncodeExtension: Encoder {
         ensures already { Self.has_failed self.old → result ≡ Err EncodeError.AlreadyFailed }
         ensures after { result ≡ Err EncodeError.AlreadyFailed → Self.has_failed self.old }
     {
-        self.put_addition(true)?;
+        self.encode_addition(true)?;
         value.encode_with_tag_and_constraints(self, tag, constraints)?;
         self.end_addition()?;
         Ok(())
@@ -144,7 +144,7 @@ pub trait EncodeExtension: Encoder {
         ensures after { result ≡ Err EncodeError.AlreadyFailed → Self.has_failed self.old }
     {
         let Some(inner) = value else {
-            self.put_addition(false)?;
+            self.encode_addition(false)?;
             return Ok(());
         };
         self.encode_present_addition(T::TAG, inner, T::constraints())?;
@@ -171,7 +171,7 @@ pub trait EncodeExtension: Encoder {
         ensures after { result ≡ Err EncodeError.AlreadyFailed → Self.has_failed self.old }
     {
         if V::is_default(value) {
-            self.put_addition(false)?;
+            self.encode_addition(false)?;
             return Ok(());
         }
         self.encode_present_addition(T::TAG, value, T::constraints())?;
@@ -210,7 +210,7 @@ pub trait EncodeExtension: Encoder {
         ensures already { Self.has_failed self.old → result ≡ Err EncodeError.AlreadyFailed }
         ensures after { result ≡ Err EncodeError.AlreadyFailed → Self.has_failed self.old }
     {
-        self.put_addition(true)?;
+        self.encode_addition(true)?;
         self.encode_group(group)?;
         self.end_addition()?;
         Ok(())
@@ -234,11 +234,11 @@ pub trait EncodeExtension: Encoder {
         ensures after { result ≡ Err EncodeError.AlreadyFailed → Self.has_failed self.old }
     {
         let Some(group) = value else {
-            self.put_addition(false)?;
+            self.encode_addition(false)?;
             return Ok(());
         };
         if group.is_empty() {
-            self.put_addition(false)?;
+            self.encode_addition(false)?;
             return Ok(());
         }
         self.encode_present_group(group)?;

@@ -36,10 +36,10 @@ pub trait EncodeBag: Encoder {
     {
         self.begin_bag(tag, constraints, held, items.len())?;
         for item in items {
-            self.put_further(true)?;
+            self.encode_further(true)?;
             item.encode(self)?;
         }
-        self.put_further(false)?;
+        self.encode_further(false)?;
         self.end()?;
         Ok(())
     }

@@ -30,5 +30,5 @@ pub use calls::go_on;
 pub use components::{DecodeComponents, DecodeSequence};
 pub use decode::{Decode, Decoder, ReadOctets};
 pub use front::FrontReader;
-pub use lists::{DecodeList, members_within};
+pub use lists::{DecodeList, members_within, most_members};
 pub use values::Iter;

@@ -1,6 +1,6 @@
 //! Lists, as they are read.
 
-ghost use Rattle.std.specs.Prelude.{◌≡◌, ◌+◌, length, true, not, OnOk, IfOk, OnErr, IfErr};
+ghost use Rattle.std.specs.Prelude.{◌≡◌, ◌+◌, length, true, not, Some, OnOk, IfOk, OnErr, IfErr};
 ghost use Rattle.asn1_model.specs.Numbers.{is_count_to, is_count_within};
 ghost use Rattle.asn1_model.specs.Value.{members};
 ghost use Rattle.asn1_schema_constraints.specs.Bounds.{members_of};
@@ -45,6 +45,17 @@ pub trait DecodeList: Decoder {
 }
 
 impl<D: Decoder> DecodeList for D {}
+
+/// The greatest number of members that a type of the program with these bounds holds.
+#[inline(always)]
+pub fn most_members(held: Bounded<usize>) -> usize
+    ensures { (members_of held).high ≡ Some result }
+{
+    match held.as_end() {
+        Some(end) => *end,
+        None => usize::MAX,
+    }
+}
 
 /// The members of a list or a bag that has begun, of which the program's type holds so many, and its end. One member
 /// more than these is not read, and no memory is taken but for members that were read.

@@ -119,7 +119,7 @@ pub trait EncodeSequence: Encoder {
         ensures already { Self.has_failed self.old → result ≡ Err EncodeError.AlreadyFailed }
         ensures after { result ≡ Err EncodeError.AlreadyFailed → Self.has_failed self.old }
     {
-        self.put_presence_bit(true)?;
+        self.encode_presence_bit(true)?;
         value.encode_with_tag_and_constraints(self, tag, constraints)?;
         Ok(())
     }
@@ -149,7 +149,7 @@ pub trait EncodeSequence: Encoder {
         ensures already { Self.has_failed self.old → result ≡ Err EncodeError.AlreadyFailed }
         ensures after { result ≡ Err EncodeError.AlreadyFailed → Self.has_failed self.old }
     {
-        self.put_presence_bit(false)?;
+        self.encode_presence_bit(false)?;
         Ok(())
     }
 
@@ -260,10 +260,10 @@ pub trait EncodeSequence: Encoder {
         ensures after { result ≡ Err EncodeError.AlreadyFailed → Self.has_failed self.old }
     {
         if V::is_default(value) {
-            self.put_presence_bit(false)?;
+            self.encode_presence_bit(false)?;
             return Ok(());
         }
-        self.put_presence_bit(true)?;
+        self.encode_presence_bit(true)?;
         value.encode_with_tag_and_constraints(self, tag, constraints)?;
         Ok(())
     }

@@ -33,7 +33,10 @@ pub trait Encoder {
     /// An earlier call was refused.
     ghost has_failed: { Self → Type 0 };
 
-    /// The octets in front of those that it writes, which stay what they were, also after a refusal.
+    /// The octets in front of those that it writes, which stay what they were, also after a refusal. `step` does not
+    /// name them, so that they are worth what the encoder says of them where it is made and where its octets are
+    /// taken: that of OER is made with what its buffer held, and `into_front` answers that again. An encoder that
+    /// writes into room of its own has none (`no_front`), and the clauses on them then say nothing.
     ghost front: { Self → List ℕ };
 
     /// The rules that are followed.
@@ -210,7 +213,7 @@ pub trait Encoder {
         ensures after { result ≡ Err EncodeError.AlreadyFailed → has_failed self.old };
 
     /// Whether a further member comes.
-    fn put_further(&mut self, more: bool) -> Result<(), EncodeError>
+    fn encode_further(&mut self, more: bool) -> Result<(), EncodeError>
         ensures ok { OnOk result (step self.old (further more) self.new) }
         ensures only { IfErr result (Refused step (further more) self.old) }
         ensures failed { OnErr result (has_failed self.new) }
@@ -253,7 +256,7 @@ pub trait Encoder {
         ensures after { result ≡ Err EncodeError.AlreadyFailed → has_failed self.old };
 
     /// Whether the next component is there, of those that may be absent.
-    fn put_presence_bit(&mut self, present: bool) -> Result<(), EncodeError>
+    fn encode_presence_bit(&mut self, present: bool) -> Result<(), EncodeError>
         ensures ok { OnOk result (step self.old (presence_bit present) self.new) }
         ensures only { IfErr result (Refused step (presence_bit present) self.old) }
         ensures failed { OnErr result (has_failed self.new) }
@@ -272,7 +275,7 @@ pub trait Encoder {
         ensures after { result ≡ Err EncodeError.AlreadyFailed → has_failed self.old };
 
     /// Whether the next addition is there.
-    fn put_addition(&mut self, present: bool) -> Result<(), EncodeError>
+    fn encode_addition(&mut self, present: bool) -> Result<(), EncodeError>
         ensures ok { OnOk result (step self.old (addition present) self.new) }
         ensures only { IfErr result (Refused step (addition present) self.old) }
         ensures failed { OnErr result (has_failed self.new) }

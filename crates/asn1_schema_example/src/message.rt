@@ -6,7 +6,7 @@ ghost use Rattle.asn1_schema.proofs.Author.{more_variants, no_variants, type_cho
 use asn1_schema::{
     Alternatives, AsnType, Choice, Chosen, Constraints, Decode, DecodeAlternatives, DecodeChoice,
     DecodeError, Decoder, Described, Encode, EncodeChoice, EncodeError, Encoder, Identifier, Tag,
-    TagPlace, TagTree, tagged,
+    TagPlace, TagTree, place, read_alternative, tagged, write_alternative,
 };
 use asn1_values::Integer;
 use std::alloc::Global;
@@ -123,20 +123,7 @@ impl Alternatives for Message {
     }
 
     fn places() -> &'static [TagPlace] {
-        &[
-            TagPlace {
-                tag: FLAG,
-                place: 0,
-            },
-            TagPlace {
-                tag: COUNT,
-                place: 1,
-            },
-            TagPlace {
-                tag: NAME,
-                place: 2,
-            },
-        ]
+        &[place!(FLAG, 0), place!(COUNT, 1), place!(NAME, 2)]
     }
 
     ghost tagged = { refl };
@@ -170,18 +157,9 @@ impl Choice for Message {
 
     fn write_chosen<E: Encoder>(&self, encoder: &mut E) -> Result<Tag, EncodeError> {
         match self {
-            Message::Flag(value) => {
-                value.encode_with_tag(encoder, FLAG)?;
-                Ok(FLAG)
-            }
-            Message::Count(value) => {
-                value.encode_with_tag(encoder, COUNT)?;
-                Ok(COUNT)
-            }
-            Message::Name(value) => {
-                value.encode_with_tag(encoder, NAME)?;
-                Ok(NAME)
-            }
+            Message::Flag(value) => write_alternative!(encoder, value, FLAG),
+            Message::Count(value) => write_alternative!(encoder, value, COUNT),
+            Message::Name(value) => write_alternative!(encoder, value, NAME),
         }
     }
 
@@ -195,18 +173,9 @@ impl DecodeChoice for Message {
         chosen: Chosen,
     ) -> Result<Self, DecodeError> {
         match (chosen.added, chosen.place) {
-            (false, 0) => {
-                let value = bool::decode_with_tag(alloc, decoder, FLAG)?;
-                Ok(Message::Flag(value))
-            }
-            (false, 1) => {
-                let value = Integer::decode_with_tag(alloc, decoder, COUNT)?;
-                Ok(Message::Count(value))
-            }
-            (true, 0) => {
-                let value = String::decode_with_tag(alloc, decoder, NAME)?;
-                Ok(Message::Name(value))
-            }
+            (false, 0) => read_alternative!(alloc, decoder, bool, Message::Flag, FLAG),
+            (false, 1) => read_alternative!(alloc, decoder, Integer, Message::Count, COUNT),
+            (true, 0) => read_alternative!(alloc, decoder, String, Message::Name, NAME),
             _ => unreachable!(),
         }
     }

@@ -7,7 +7,7 @@ ghost use Rattle.asn1_schema.proofs.Author.{type_choice, more_variants, no_varia
 use asn1_schema::{
     Alternatives, AsnType, Choice, Chosen, Constraints, Decode, DecodeAlternatives, DecodeChoice,
     DecodeError, Decoder, Described, Encode, EncodeChoice, EncodeError, Encoder, Identifier, Tag,
-    TagPlace, TagTree, tagged,
+    TagPlace, TagTree, place, read_alternative, tagged, write_alternative,
 };
 use std::alloc::Global;
 
@@ -104,10 +104,7 @@ impl Alternatives for Power {
     }
 
     fn places() -> &'static [TagPlace] {
-        &[
-            TagPlace { tag: OFF, place: 0 },
-            TagPlace { tag: ON, place: 1 },
-        ]
+        &[place!(OFF, 0), place!(ON, 1)]
     }
 
     ghost tagged = { refl };
@@ -135,10 +132,7 @@ impl Choice for Power {
                 ().encode_with_tag(encoder, OFF)?;
                 Ok(OFF)
             }
-            Power::On(value) => {
-                value.encode_with_tag(encoder, ON)?;
-                Ok(ON)
-            }
+            Power::On(value) => write_alternative!(encoder, value, ON),
         }
     }
 
@@ -156,10 +150,7 @@ impl DecodeChoice for Power {
                 <()>::decode_with_tag(alloc, decoder, OFF)?;
                 Ok(Power::Off)
             }
-            (false, 1) => {
-                let value = bool::decode_with_tag(alloc, decoder, ON)?;
-                Ok(Power::On(value))
-            }
+            (false, 1) => read_alternative!(alloc, decoder, bool, Power::On, ON),
             _ => unreachable!(),
         }
     }

@@ -1,7 +1,7 @@
 -- How the decoder of kept records takes them: each exactly where it is next and the program's type holds it.
 use Rattle.std.specs.Prelude.{◌≡◌, ◌+◌, ◌<◌, ◌≤◌, ◌^◌, ◌⊎◌, ◌||◌, ℕ, ℤ, Bool, true, false}
 use Rattle.std.specs.Prelude.{cond, List, [], ◌∷◌, Option, length}
-use Rattle.asn1_model.specs.Schema.{Tag, Range, Bounds, Counts, Size, StringKind, utf8, visible}
+use Rattle.asn1_model.specs.Schema.{Tag, Range, Bounds, Counts, Size, StringKind, utf8, visible, any_count}
 use Rattle.asn1_model.specs.Numbers.{is_within, is_count_within}
 use Rattle.asn1_model.specs.Strings.{may_hold}
 use Rattle.asn1_schema_faults.specs.declared.CodecKind.{CodecKind}
@@ -22,7 +22,7 @@ use Rattle.asn1_values_natives.specs.Octets.{plain}
 use Rattle.asn1_schema_presented.specs.Records.{Record, Question, question, whole, one_of, bits, octets, characters}
 use Rattle.asn1_schema_presented.specs.Records.{list_begins, bag_begins, choice_begins, asks_list, asks_bag}
 use Rattle.asn1_schema_presented.specs.Records.{asks_sequence, asks_set, asks_group, asks_choice, asks_end, ends}
-use Rattle.asn1_schema_records.specs.Kept.{any_number, any_count, any_alphabet, kept_kind}
+use Rattle.asn1_schema_records.specs.Kept.{any_number, any_alphabet, kept_kind}
 use Rattle.asn1_schema_variants.specs.Items.{IsPlaced, IsNone}
 
 -- What a decoder holds: the records that are left, how many more levels may be nested, how many were so at the

@@ -240,7 +240,7 @@ impl Encoder for RecordEncoder {
         self.put(Item::BagBegins(Sizes::among(constraints), count))
     }
 
-    fn put_further(&mut self, more: bool) -> Result<(), EncodeError> {
+    fn encode_further(&mut self, more: bool) -> Result<(), EncodeError> {
         self.put(Item::Further(more))
     }
 
@@ -266,7 +266,7 @@ impl Encoder for RecordEncoder {
         self.put(Item::GroupBegins(optional))
     }
 
-    fn put_presence_bit(&mut self, present: bool) -> Result<(), EncodeError> {
+    fn encode_presence_bit(&mut self, present: bool) -> Result<(), EncodeError> {
         self.put(Item::PresenceBit(present))
     }
 
@@ -274,7 +274,7 @@ impl Encoder for RecordEncoder {
         self.put(Item::AdditionsBegin(count))
     }
 
-    fn put_addition(&mut self, present: bool) -> Result<(), EncodeError> {
+    fn encode_addition(&mut self, present: bool) -> Result<(), EncodeError> {
         self.put(Item::Addition(present))
     }
 

@@ -12,7 +12,7 @@ use std::alloc::{AllocError, Global};
 fn write_group<E: Encoder>(encoder: &mut E) -> Result<(), EncodeError> {
     encoder.begin_set(Tag::SET, true, 1)?;
     encoder.begin_additions(3)?;
-    encoder.put_addition(true)?;
+    encoder.encode_addition(true)?;
     encoder.begin_group(2)?;
     encoder.end()?;
     encoder.end_addition()?;
@@ -60,7 +60,7 @@ fn is_group_kept(alloc: Global) -> bool {
 fn write_open_group<E: Encoder>(encoder: &mut E) -> Result<(), EncodeError> {
     encoder.begin_set(Tag::SET, true, 1)?;
     encoder.begin_additions(3)?;
-    encoder.put_addition(true)?;
+    encoder.encode_addition(true)?;
     encoder.begin_group(2)?;
     encoder.end_addition()
 }

@@ -1,5 +1,5 @@
 //! Size constraints (X.680 51.5) as types.
-ghost use Rattle.std.specs.Prelude.{◌≡◌, true, false, max, refl};
+ghost use Rattle.std.specs.Prelude.{◌≡◌, true, false, refl};
 ghost use Rattle.asn1_schema_constraints.specs.Terms.{meant};
 ghost use Rattle.asn1_schema_presented.proofs.TypesByKind.{bit_string_type, octet_string_type, type_list};
 ghost use Rattle.asn1_schema_wrapped.specs.Sizes.{are_sizes, sizes_from_to};
@@ -147,16 +147,9 @@ impl<T: Described, const LOW: usize, const HIGH: usize> ConstraintsOf<Vec<T>>
 fn from_to(low: usize, high: usize, is_extensible: bool) -> Constraints<'static>
     ensures { meant result ≡ sizes_from_to low high is_extensible }
 {
-    let size = Extensible::new(Size::new(Bounded::const_new(low, greater(low, high))));
+    let size = Extensible::new(Size::new(Bounded::const_new(low, low.max(high))));
     Constraints {
         size: Some(size.set_extensible(is_extensible)),
         ..Constraints::NONE
     }
-}
-
-// The greater of two sizes.
-fn greater(a: usize, b: usize) -> usize
-    ensures { result ≡ max a b }
-{
-    if b < a { a } else { b }
 }

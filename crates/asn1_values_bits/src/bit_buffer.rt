@@ -325,7 +325,7 @@ impl BitBuffer {
         ensures ok { OnOk result (self.new ≡ self.old ++ bits_of bits.entry) }
         ensures err { OnErr result (self.new ≡ self.old) }
     {
-        if bits.len() <= 64 {
+        if bits.len() <= 128 {
             return self.push_view(bits);
         }
         let before = self.len();
@@ -353,15 +353,15 @@ impl BitBuffer {
         Ok(())
     }
 
-    // Adds the bits of a view, at most 64.
+    // Adds the bits of a view, at most 128, as one number.
     #[inline(always)]
     fn push_view(&mut self, bits: BitStr<'_>) -> Result<(), AllocError>
-        requires { length (bits_of bits) ≤ 64 }
+        requires { length (bits_of bits) ≤ 128 }
         ensures ok { OnOk result (self.new ≡ self.old ++ bits_of bits.entry) }
         ensures err { OnErr result (self.new ≡ self.old) }
     {
         let width = bits.len() as u32;
-        self.push_word(bits.first_number(width) as u64, width)
+        self.push_bits(bits.first_number(width), width)
     }
 
     // Adds the first octets of a view behind whole octets.
@@ -399,9 +399,15 @@ impl BitBuffer {
         ensures ok { OnOk result (self.new ≡ self.old ++ bits_of bits.entry) }
         ensures err { OnErr result (self.new ≡ self.old) }
     {
+        if self.len % 8 > 0 {
+            return self.extend_shifted(bits);
+        }
         let before = self.len();
         let (octets, rest) = bits.whole_octets();
         self.extend_from_bytes(octets)?;
+        if rest.is_empty() {
+            return Ok(());
+        }
         let extended = self.extend_shifted(rest);
         self.cut_if_refused(before, extended)
     }

@@ -5,6 +5,7 @@ ghost use Rattle.asn1_model.specs.Numbers.{binary, octet_bits};
 ghost use Rattle.asn1_values_bits.specs.Octets.{ored, placed};
 
 /// The number whose binary digits are `count` bits of the octets from bit `position` on.
+#[inline(always)]
 pub fn read_bits(octets: &[u8], position: usize, count: u32) -> u64
     requires narrow { count ≤ 64 }
     requires within { position + count ≤ length octets.now * 8 }
@@ -12,11 +13,25 @@ pub fn read_bits(octets: &[u8], position: usize, count: u32) -> u64
     ensures digits { binary count result ≡ take count (drop position (octet_bits octets.now)) }
     ensures fits { result < 2 ^ count }
 {
+    if count == 0 || count > 57 || octets.len() < position / 8 + 8 {
+        return read_apart(octets, position, count);
+    }
+    read_of_eight(octets, position, count)
+}
+
+// The same as `read_bits`: seldom, where the bits may need more than eight octets, or fewer stand there.
+fn read_apart(octets: &[u8], position: usize, count: u32) -> u64
+    requires narrow { count ≤ 64 }
+    requires within { position + count ≤ length octets.now * 8 }
+    requires short { position + count < 2 ^ 64 }
+    ensures digits { binary count result ≡ take count (drop position (octet_bits octets.now)) }
+    ensures fits { result < 2 ^ count }
+{
+    if count == 0 {
+        return 0;
+    }
     if octets.len() > position / 8 + 8 {
         return read_of_nine(octets, position, count);
-    }
-    if octets.len() == position / 8 + 8 {
-        return read_of_eight(octets, position, count);
     }
     read_of_few(octets, position, count)
 }
@@ -83,8 +98,23 @@ pub(crate) fn octets_from(octets: &[u8], start: usize) -> (u128, u32)
     ((value as u128) << (128 - width), width)
 }
 
+// The same as `read_bits`, where the bits stand in eight octets.
+#[inline(always)]
+fn read_of_eight(octets: &[u8], position: usize, count: u32) -> u64
+    requires some { 0 < count }
+    requires narrow { count ≤ 57 }
+    requires eight { position / 8 + 8 ≤ length octets.now }
+    ensures digits { binary count result ≡ take count (drop position (octet_bits octets.now)) }
+    ensures fits { result < 2 ^ count }
+{
+    let eight = eight_octets(octets, position / 8);
+    let offset = (position % 8) as u32;
+    eight >> (64 - offset - count) & ((1 << count) - 1)
+}
+
 // The same as `read_bits`, where nine octets stand from the first bit's octet on.
 fn read_of_nine(octets: &[u8], position: usize, count: u32) -> u64
+    requires some { 0 < count }
     requires narrow { count ≤ 64 }
     requires nine { position / 8 + 9 ≤ length octets.now }
     ensures digits { binary count result ≡ take count (drop position (octet_bits octets.now)) }
@@ -93,24 +123,9 @@ fn read_of_nine(octets: &[u8], position: usize, count: u32) -> u64
     let start = position / 8;
     let offset = (position % 8) as u32;
     let eight = eight_octets(octets, start);
-    let nine = (eight as u128) << 8 | octets[start + 8] as u128;
-    let bits = (nine >> (72 - offset - count)) & ((1u128 << count) - 1);
-    bits as u64
-}
-
-// The same as `read_bits`, where eight octets stand from the first bit's octet on.
-fn read_of_eight(octets: &[u8], position: usize, count: u32) -> u64
-    requires narrow { count ≤ 64 }
-    requires within { position + count ≤ length octets.now * 8 }
-    requires eight { length octets.now ≡ position / 8 + 8 }
-    ensures digits { binary count result ≡ take count (drop position (octet_bits octets.now)) }
-    ensures fits { result < 2 ^ count }
-{
-    let start = position / 8;
-    let offset = (position % 8) as u32;
-    let eight = eight_octets(octets, start);
-    let bits = ((eight as u128) >> (64 - offset - count)) & ((1u128 << count) - 1);
-    bits as u64
+    let last = octets[start + 8] as u64;
+    let first = eight << offset | last >> (8 - offset);
+    first >> (64 - count)
 }
 
 // The same as `read_bits`, where at most eight octets stand from the first bit's octet on. Those that hold the bits are
@@ -142,8 +157,8 @@ pub fn read_wide(octets: &[u8], position: usize, count: u32) -> u128
     if count <= 64 {
         return read_bits(octets, position, count) as u128;
     }
-    let high = read_bits(octets, position, count - 64);
-    let low = read_bits(octets, position + (count - 64) as usize, 64);
+    let high = read_apart(octets, position, count - 64);
+    let low = read_apart(octets, position + (count - 64) as usize, 64);
     (high as u128) << 64 | low as u128
 }
 

@@ -1,6 +1,7 @@
 //! Numbers in groups of seven bits, of which all but the last have the top bit set: subidentifiers (X.690 8.19.2),
 //! and the numbers of tags (X.696 8.7.2.3).
-ghost use Rattle.std.specs.Prelude.{◌≡◌, ◌<◌, ◌++◌, OnOk, OnErr};
+ghost use Rattle.std.specs.Prelude.{◌≡◌, ◌*◌, ◌^◌, ◌<◌, ◌≤◌, ◌++◌, length, OnOk, OnErr};
+ghost use Rattle.asn1_model.specs.Numbers.{binary, octet_bits};
 ghost use Rattle.asn1_model.specs.Strings.{groups_of_seven};
 ghost use Rattle.asn1_model.specs.Versions.{Begins};
 ghost use Rattle.asn1_values_identifiers.specs.Groups.{leading};
@@ -38,4 +39,53 @@ pub fn push_groups(octets: &mut Vec<u8>, number: u64) -> Result<(), AllocError>
     push_leading(octets, number / 128)?;
     octets.push((number % 128) as u8)?;
     Ok(())
+}
+
+/// How many groups of seven bits a number below 2^35 takes (X.690 8.19.2).
+#[inline(always)]
+pub(crate) fn group_count(number: u64) -> usize
+    requires { number < 2 ^ 35 }
+    ensures groups { result ≡ length (groups_of_seven number) }
+    ensures most { result ≤ 5 }
+{
+    if number < 0x80 {
+        1
+    } else if number < 0x4000 {
+        2
+    } else if number < 0x20_0000 {
+        3
+    } else if number < 0x1000_0000 {
+        4
+    } else {
+        5
+    }
+}
+
+/// The groups of a number above 0 as octets of one number, with the top bit set on all of them.
+fn leading_number(number: u64) -> u64
+    requires some { 0 < number }
+    requires few { number < 2 ^ 28 }
+    ensures bits { binary (8 * length (leading number)) result ≡ octet_bits (leading number) }
+    ensures fits { result < 2 ^ (8 * length (leading number)) }
+    ensures few { result < 2 ^ 32 }
+{
+    if number < 128 {
+        return 128 + number;
+    }
+    leading_number(number / 128) * 256 + 128 + number % 128
+}
+
+/// The groups of a number below 2^35 as bits of one number, and how many bits they are: those of what `push_groups`
+/// appends.
+#[inline(always)]
+pub fn group_number(number: u64) -> (u64, u32)
+    requires { number < 2 ^ 35 }
+    ensures bits { binary result.1 result.0 ≡ octet_bits (groups_of_seven number) }
+    ensures most { result.1 ≤ 40 }
+{
+    if number < 128 {
+        return (number, 8);
+    }
+    let groups = leading_number(number / 128) * 256 + number % 128;
+    (groups, 8 * group_count(number) as u32)
 }

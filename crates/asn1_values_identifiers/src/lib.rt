@@ -11,7 +11,7 @@ pub mod octets;
 pub mod oid;
 
 pub use fault::IdentifierError;
-pub use groups::push_groups;
+pub use groups::{group_number, push_groups};
 pub use object_identifier::ObjectIdentifier;
-pub use octets::{oid_from_octets, oid_octets};
+pub use octets::{content_count, oid_from_octets, oid_octets, push_contents, subidentifiers_of};
 pub use oid::Oid;

@@ -1,10 +1,12 @@
 //! The contents octets of an object identifier (X.690 8.19).
 ghost use Rattle.std.specs.Prelude.{◌≡◌, ℕ, ◌<◌, ◌≤◌, ◌+◌, ◌^◌, ◌++◌, [], ◌∷◌, map, length, OnOk, IfOk, IfErr, None};
-ghost use Rattle.std.specs.Prelude.{Some, IsTrue, IsErrOf, flat_map, ◌↔◌, ◌⊎◌};
+ghost use Rattle.std.specs.Prelude.{Some, IsTrue, IsErrOf, IfSome, IfNone, OnErr, flat_map, ◌↔◌, ◌⊎◌};
 ghost use Rattle.asn1_model.specs.Strings.{groups_of_seven, identifier_octets, is_identifier};
+ghost use Rattle.asn1_model.specs.Versions.{Begins};
+ghost use Rattle.asn1_values_identifiers.specs.Groups.{contents};
 ghost use Rattle.asn1_values_identifiers.specs.Identifiers.{is_valid, subidentifiers, in_front, joined, arcs_of};
 
-use crate::groups::push_groups;
+use crate::groups::{group_count, push_groups};
 use crate::{IdentifierError, ObjectIdentifier, Oid};
 use std::alloc::{AllocError, Global};
 use std::borrow::CowSlice;
@@ -56,9 +58,53 @@ fn first_subidentifier(octets: &[u8], limit: u64) -> Result<(u64, &[u8]), Identi
     unpadded_subidentifier(octets, limit)
 }
 
+/// The first subidentifier of valid arcs, and the further arcs.
+#[inline(always)]
+fn split_arcs(arcs: &[u32]) -> Option<(u64, &[u32])>
+    requires { IsTrue (is_valid arcs.now) }
+    ensures octets { IfSome result (λ p. identifier_octets arcs.now ≡ contents p.0 p.1.now) }
+    ensures first { IfSome result (λ p. p.0 < 2 ^ 32 + 80) }
+    ensures identifier { IfSome result (λ _. IsTrue (is_identifier arcs.now)) }
+    ensures several { IfSome result (λ _. 2 ≤ length arcs.now) }
+    ensures none { IfNone result (length arcs.now ≡ 1) }
+{
+    if arcs.len() < 2 {
+        return None;
+    }
+    let first = u64::from(arcs[0]) * 40 + u64::from(arcs[1]);
+    Some((first, &arcs[2..]))
+}
+
+/// The subidentifier that the first two arcs of an identifier share (X.690 8.19.4), and the further arcs, each of which
+/// is one; none of an identifier of one arc.
+#[inline(always)]
+pub fn subidentifiers_of<'a>(identifier: &Oid<'a>) -> Option<(u64, &'a [u32])>
+    ensures octets { IfSome result (λ p. identifier_octets identifier.now ≡ contents p.0 p.1.now) }
+    ensures first { IfSome result (λ p. p.0 < 2 ^ 32 + 80) }
+    ensures identifier { IfSome result (λ _. IsTrue (is_identifier identifier.now)) }
+    ensures several { IfSome result (λ _. 2 ≤ length identifier.now) }
+    ensures none { IfNone result (length identifier.now ≡ 1) }
+{
+    split_arcs(identifier.as_slice())
+}
+
+/// How many contents octets subidentifiers make: a first one, and one for each further arc.
+#[inline]
+pub fn content_count(first: u64, others: &[u32]) -> usize
+    requires { first < 2 ^ 35 }
+    ensures { result ≡ length (contents first others.now) }
+{
+    let mut count = group_count(first);
+    for arc in others {
+        count += group_count(u64::from(*arc));
+    }
+    count
+}
+
 /// Appends a subidentifier for each arc.
 fn push_arcs(octets: &mut Vec<u8>, arcs: &[u32]) -> Result<(), AllocError>
-    ensures { OnOk result (octets.new.items ≡ octets.old.items ++ flat_map groups_of_seven arcs.now) }
+    ensures text { OnOk result (octets.new.items ≡ octets.old.items ++ flat_map groups_of_seven arcs.now) }
+    ensures kept { OnErr result (Begins octets.old.items octets.new.items) }
 {
     for arc in arcs {
         push_groups(octets, u64::from(*arc))?;
@@ -66,21 +112,18 @@ fn push_arcs(octets: &mut Vec<u8>, arcs: &[u32]) -> Result<(), AllocError>
     Ok(())
 }
 
-/// The contents octets of valid arcs.
-fn contents(alloc: Global, arcs: &[u32]) -> Result<Vec<u8>, IdentifierError>
-    requires { IsTrue (is_valid arcs.now) }
-    ensures octets { IfOk result (λ v. v.items ≡ identifier_octets arcs.now) }
-    ensures identifier { OnOk result (IsTrue (is_identifier arcs.now)) }
-    ensures truncated { IsErrOf result IdentifierError.Truncated ↔ (length arcs.now ≡ 1) }
-    ensures no_other { IfErr result (λ e. (e ≡ IdentifierError.Memory) ⊎ (e ≡ IdentifierError.Truncated)) }
+/// Appends the contents octets that subidentifiers make (X.690 8.19): a first one, and one for each further arc.
+///
+/// # Errors
+///
+/// If the allocator refuses.
+pub fn push_contents(octets: &mut Vec<u8>, first: u64, others: &[u32]) -> Result<(), AllocError>
+    ensures text { OnOk result (octets.new.items ≡ octets.old.items ++ contents first others.now) }
+    ensures kept { OnErr result (Begins octets.old.items octets.new.items) }
 {
-    if arcs.len() < 2 {
-        return Err(IdentifierError::Truncated);
-    }
-    let mut octets = Vec::new(alloc);
-    push_groups(&mut octets, u64::from(arcs[0]) * 40 + u64::from(arcs[1]))?;
-    push_arcs(&mut octets, &arcs[2..])?;
-    Ok(octets)
+    push_groups(octets, first)?;
+    push_arcs(octets, others)?;
+    Ok(())
 }
 
 /// Appends the arcs that octets hold, of which none is left over.
@@ -98,7 +141,20 @@ fn read_arcs(arcs: &mut Vec<u32>, octets: &[u8]) -> Result<(), IdentifierError>
     Ok(())
 }
 
-/// The arcs whose contents octets these are: at most one more than there are octets, so that memory is taken once.
+/// How many octets are below 128, as the last of each subidentifier is (X.690 8.19.2).
+fn last_octet_count(octets: &[u8]) -> usize
+    ensures { result ≤ length octets.now }
+{
+    let mut count = 0;
+    for octet in octets {
+        if *octet < 128 {
+            count += 1;
+        }
+    }
+    count
+}
+
+/// The arcs whose contents octets these are: one more than there are subidentifiers, so that memory is taken once.
 fn arcs_from_octets(alloc: Global, octets: &[u8]) -> Result<Vec<u32>, IdentifierError>
     ensures read { IfOk result (λ v. arcs_of octets.now ≡ Ok v.items) }
     ensures wrong { IfErr result (λ e. (e ≡ IdentifierError.Memory) ⊎ (arcs_of octets.now ≡ Err e)) }
@@ -108,14 +164,15 @@ fn arcs_from_octets(alloc: Global, octets: &[u8]) -> Result<Vec<u32>, Identifier
     }
     let (number, further) = first_subidentifier(octets, FIRST_LIMIT)?;
     let first = if number < 80 { number / 40 } else { 2 };
-    let mut arcs = Vec::with_capacity(alloc, octets.len() + 1)?;
+    let mut arcs = Vec::with_capacity(alloc, last_octet_count(octets) + 1)?;
     arcs.push(first as u32)?;
     arcs.push((number - 40 * first) as u32)?;
     read_arcs(&mut arcs, further)?;
     Ok(arcs)
 }
 
-/// The contents octets of an identifier (X.690 8.19). An identifier of one arc has none: Truncated.
+/// The contents octets of an identifier (X.690 8.19), for which memory is taken once. An identifier of one arc has
+/// none: Truncated.
 ///
 /// # Errors
 ///
@@ -127,7 +184,12 @@ pub fn oid_octets(alloc: Global, identifier: &Oid<'_>) -> Result<Vec<u8>, Identi
     ensures truncated { IsErrOf result IdentifierError.Truncated ↔ (length identifier.now ≡ 1) }
     ensures no_other { IfErr result (λ e. (e ≡ IdentifierError.Memory) ⊎ (e ≡ IdentifierError.Truncated)) }
 {
-    let octets = contents(alloc, identifier.as_slice())?;
+    let Some(parts) = subidentifiers_of(identifier) else {
+        return Err(IdentifierError::Truncated);
+    };
+    let (first, others) = parts;
+    let mut octets = Vec::with_capacity(alloc, content_count(first, others))?;
+    push_contents(&mut octets, first, others)?;
     Ok(octets)
 }
 

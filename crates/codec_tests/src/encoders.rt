@@ -86,7 +86,7 @@ fn outputs_true(encoder: &mut Encoder<'_>) -> Result<bool, EncodeError> {
 /// Whether the end of nothing is refused, and what follows.
 fn fails_for_good(encoder: &mut Encoder<'_>) -> bool {
     encoder.end() == Err(EncodeError::CallOutOfPlace)
-        && encoder.put_presence_bit(true) == Err(EncodeError::AlreadyFailed)
+        && encoder.encode_presence_bit(true) == Err(EncodeError::AlreadyFailed)
         && encoder.encode_bool(Tag::BOOL, true, Identifier::EMPTY)
             == Err(EncodeError::AlreadyFailed)
 }
@@ -142,7 +142,7 @@ fn gives_true_once(encoder: &mut uper::Encoder) -> Result<bool, EncodeError> {
 /// Whether an encoder in which nothing was begun refuses to end it, and a presence bit behind this.
 fn refuses_to_end(encoder: &mut uper::Encoder) -> bool {
     encoder.end() == Err(EncodeError::CallOutOfPlace)
-        && encoder.put_presence_bit(true) == Err(EncodeError::AlreadyFailed)
+        && encoder.encode_presence_bit(true) == Err(EncodeError::AlreadyFailed)
 }
 
 /// Whether it does both.

@@ -170,7 +170,7 @@ fn constraints_of(is_sized: bool, string: &[u8]) -> Constraints<'static> {
 /// Writes that all additions in front of the last one of so many are absent.
 fn put_absent<E: Encoder>(encoder: &mut E, count: usize) -> Result<(), EncodeError> {
     for _ in 1..count {
-        encoder.put_addition(false)?;
+        encoder.encode_addition(false)?;
     }
     Ok(())
 }
@@ -204,11 +204,11 @@ fn put<E: Encoder>(encoder: &mut E, step: Step, lent: Lent<'_>) -> Result<(), En
             let (roots, additions, _) = tags_of(choice, lent);
             encoder.begin_choice(Tag::CHOICE, roots, is_extensible(choice), additions, chosen)
         }
-        Step::Present(is_there) => encoder.put_presence_bit(is_there),
-        Step::Further(is_there) => encoder.put_further(is_there),
+        Step::Present(is_there) => encoder.encode_presence_bit(is_there),
+        Step::Further(is_there) => encoder.encode_further(is_there),
         Step::Additions(count) => encoder.begin_additions(count),
         Step::AbsentOf(count) => put_absent(encoder, count),
-        Step::Addition(is_there) => encoder.put_addition(is_there),
+        Step::Addition(is_there) => encoder.encode_addition(is_there),
         Step::EndOfAddition => encoder.end_addition(),
         Step::End => encoder.end(),
         value => put_value(encoder, value, lent.string),

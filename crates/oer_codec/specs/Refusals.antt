@@ -5,8 +5,7 @@ use Rattle.asn1_model.specs.Oer
 use Rattle.asn1_model.specs.Schema.{Tag}
 use Rattle.asn1_schema_faults.specs.declared.DecodeError.{DecodeError}
 use Rattle.asn1_schema_faults.specs.declared.DecodeError.TheVariants.{AlreadyFailed, OutOfMemory}
-use Rattle.oer_codec_reading.specs.Fronts.{Stands}
-use Rattle.oer_codec_fronts.specs.Takes.{Scope, State, components, AdditionsBegin, Opens, AdditionEnds, IsPlace}
+use Rattle.oer_codec_fronts.specs.Takes.{Scope, State, components, AdditionsBegin, Opens, AdditionEnds}
 use Rattle.oer_codec_fronts.specs.Takes.{Enters, Chooses, Ends}
 
 -- No bitmap of additions (X.696 16.4).
@@ -34,12 +33,6 @@ pub record NoEnd (free : Oer.Freedom → Bool) (os : List ℕ) (k : List Scope) 
 -- No end of a scope, whatever is around it.
 pub record NotFinished (free : Oer.Freedom → Bool) (s : Scope) (os : List ℕ) (e : DecodeError) : Type 0 where
   pub none : ¬ (e ≡ OutOfMemory) → (k : List Scope) (b : State) → Ends free os (s ∷ k) b → ⊥
-  pub fresh : ¬ (e ≡ AlreadyFailed)
-
--- No tag that has a place in one of the tables (X.696 8.7).
-pub record NoTag (free : Oer.Freedom → Bool) (roots others : List Tag) (os : List ℕ) (e : DecodeError) : Type 0 where
-  pub none : ¬ (e ≡ OutOfMemory) → (extensible : Bool) (t : Tag) (plus : Bool) (i : ℕ) (rest : List ℕ)
-      → IsPlace roots extensible others t plus i → Stands free (Oer.tag_form t) os rest → ⊥
   pub fresh : ¬ (e ≡ AlreadyFailed)
 
 -- No alternative is entered (X.696 20).

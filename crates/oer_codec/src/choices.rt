@@ -1,49 +1,16 @@
 //! Which alternative of a choice is chosen (X.696 20).
-ghost use Rattle.std.specs.Prelude.{◌≡◌, ◌<◌, ◌∷◌, cond, length, IfOk, IfErr, IfSome, IfNone};
-ghost use Rattle.asn1_model.specs.Oer.{tag_form};
-ghost use Rattle.asn1_schema_tags.specs.Tags.{tag_of};
-ghost use Rattle.oer_codec_fronts.specs.Takes.{Chooses, Enters, IsPlace};
-ghost use Rattle.oer_codec_reading.specs.Fronts.{freedoms, Stands};
-ghost use Rattle.oer_codec.specs.Refusals.{NoChoice, NoEntry, NoTag};
+ghost use Rattle.std.specs.Prelude.{◌<◌, ◌∷◌, cond, length, IfOk, IfErr};
+ghost use Rattle.oer_codec_fronts.specs.Takes.{Chooses, Enters};
+ghost use Rattle.oer_codec_reading.specs.Fronts.{freedoms};
+ghost use Rattle.oer_codec.specs.Refusals.{NoChoice, NoEntry};
 ghost use Rattle.oer_codec.specs.Scopes.{frame_of, scope_of};
 
 use crate::frames::Enclosing;
 use asn1_schema_faults::DecodeError;
-use asn1_schema_tags::{Tag, TagTables};
+use asn1_schema_tags::TagTables;
 use asn1_schema_variants::Chosen;
-use oer_codec_reading::{Cursor, EncodingRules, enter_open_type, read_tag, visit_numbers};
-
-/// Reads the tag of an alternative, which has a place in one of these tables.
-#[inline(always)]
-fn read_alternative(
-    cursor: &mut Cursor<'_>,
-    rules: EncodingRules,
-    tables: &TagTables<'_>,
-) -> Result<Tag, DecodeError>
-    ensures ok { IfOk result (λ t. Stands (freedoms rules) (tag_form (tag_of t)) cursor.old cursor.new) }
-    ensures only { IfErr result (NoTag (freedoms rules) tables.now.roots tables.now.additions cursor.old) }
-{
-    match read_tag(cursor, rules) {
-        Ok(tag) => Ok(tag),
-        Err(error) => {
-            visit_numbers(tables.roots());
-            visit_numbers(tables.additions());
-            Err(error)
-        }
-    }
-}
-
-/// The alternative of a tag: one of the root, else an added one behind an extension marker.
-#[inline(always)]
-fn find_alternative(tag: Tag, tables: &TagTables<'_>) -> Option<Chosen>
-    ensures some { IfSome result (λ x. IsPlace tables.now.roots tables.now.extensible tables.now.additions
-        (tag_of tag) x.added x.place) }
-    ensures within { IfSome result (λ x. x.place < length (cond x.added tables.now.additions tables.now.roots)) }
-    ensures none { IfNone result ((plus : _) (i : _) → IsPlace tables.now.roots tables.now.extensible
-        tables.now.additions (tag_of tag) plus i → ⊥) }
-{
-    tables.alternative(tag)
-}
+use oer_codec_reading::alternatives::{find_alternative, read_alternative_tag};
+use oer_codec_reading::{Cursor, EncodingRules, enter_open_type};
 
 /// Enters an alternative: an added one is an open type (X.696 20).
 #[inline(always)]
@@ -82,7 +49,7 @@ pub(crate) fn read_choice<'input>(
     ensures only { IfErr result (NoChoice (freedoms rules) tables.now.roots tables.now.extensible
         tables.now.additions cursor.old) }
 {
-    let tag = read_alternative(cursor, rules, tables)?;
+    let tag = read_alternative_tag(cursor, rules, tables)?;
     let Some(chosen) = find_alternative(tag, tables) else {
         return Err(DecodeError::InvalidTagVariantOnChoice);
     };

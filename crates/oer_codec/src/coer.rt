@@ -27,8 +27,7 @@ pub fn encode<T: Encode>(alloc: Global, value: &T) -> Result<Vec<u8>, EncodeErro
     ensures fits { IfErr result (λ e. e ≡ EncodeError.LengthExceedsPlatformSize → ⊥) }
     ensures in_place { IfErr result (λ e. e ≡ EncodeError.CallOutOfPlace → ⊥) }
 {
-    let octets = crate::writing::encode(alloc, value)?;
-    Ok(octets)
+    crate::writing::encode(alloc, value)
 }
 
 /// Adds the canonical encoding of a value (X.696) behind what stands in the buffer, in the buffer's own room.
@@ -50,8 +49,7 @@ pub fn encode_buf<T: Encode>(
     ensures in_place { IfErr result (λ e. e ≡ EncodeError.CallOutOfPlace → ⊥) }
     ensures same { OnErr result (buffer.new.items ≡ buffer.old.items) }
 {
-    crate::writing::encode_buf(alloc, value, buffer)?;
-    Ok(())
+    crate::writing::encode_buf(alloc, value, buffer)
 }
 
 /// The canonical encoding of a value (X.696) under these constraints, which stand in place of those of its type.
@@ -71,8 +69,7 @@ pub fn encode_with_constraints<T: Encode>(
     ensures fits { IfErr result (λ e. e ≡ EncodeError.LengthExceedsPlatformSize → ⊥) }
     ensures in_place { IfErr result (λ e. e ≡ EncodeError.CallOutOfPlace → ⊥) }
 {
-    let octets = crate::writing::encode_with_constraints(alloc, constraints, value)?;
-    Ok(octets)
+    crate::writing::encode_with_constraints(alloc, constraints, value)
 }
 
 /// Reads the value whose encoding (X.696) stands in front, and passes over the octets behind it.
@@ -86,8 +83,7 @@ pub fn decode<T: Decode>(alloc: Global, input: &[u8]) -> Result<T, DecodeError>
     ensures only { IfErr result (NoMessage coer T.schema input.now) }
     ensures fresh { IfErr result (λ e. e ≡ DecodeError.AlreadyFailed → ⊥) }
 {
-    let value = crate::reading::decode(alloc, input, EncodingRules::Coer)?;
-    Ok(value)
+    crate::reading::decode(alloc, input, EncodingRules::Coer)
 }
 
 /// Reads the value whose encoding (X.696) stands in front, and lends the octets behind it.
@@ -103,8 +99,7 @@ pub fn decode_with_remainder<'input, T: Decode>(
     ensures only { IfErr result (NoMessage coer T.schema input.now) }
     ensures fresh { IfErr result (λ e. e ≡ DecodeError.AlreadyFailed → ⊥) }
 {
-    let (value, rest) = crate::reading::decode_with_remainder(alloc, input, EncodingRules::Coer)?;
-    Ok((value, rest))
+    crate::reading::decode_with_remainder(alloc, input, EncodingRules::Coer)
 }
 
 /// Reads the value whose encoding (X.696) under these constraints, in place of the type's own, stands in front.
@@ -124,11 +119,5 @@ pub fn decode_with_constraints<T: Decode>(
         → NoMessage coer (T.under (meant constraints.entry)) input.now error) }
     ensures fresh { IfErr result (λ e. e ≡ DecodeError.AlreadyFailed → ⊥) }
 {
-    let value = crate::reading::decode_with_constraints(
-        alloc,
-        constraints,
-        input,
-        EncodingRules::Coer,
-    )?;
-    Ok(value)
+    crate::reading::decode_with_constraints(alloc, constraints, input, EncodingRules::Coer)
 }

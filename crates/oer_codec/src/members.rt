@@ -1,5 +1,5 @@
 //! How many members a list has (X.696 17).
-ghost use Rattle.std.specs.Prelude.{◌≡◌, Some, IfOk, IfErr};
+ghost use Rattle.std.specs.Prelude.{IfOk, IfErr};
 ghost use Rattle.asn1_schema_constraints.specs.Bounds.{members_of};
 ghost use Rattle.oer_codec_reading.specs.Fronts.{freedoms};
 ghost use Rattle.oer_codec.specs.Members.{HasMembers, NoMembers};
@@ -7,20 +7,10 @@ ghost use Rattle.oer_codec.specs.Scopes.{scope_of};
 
 use crate::frames::Frame;
 use asn1_schema_constraints::Bounded;
+use asn1_schema_decode::most_members;
 use asn1_schema_faults::DecodeError;
 use oer_codec_reading::numbers::read_count;
 use oer_codec_reading::{Cursor, EncodingRules};
-
-/// The greatest number of members that a type of the program with these bounds holds.
-#[inline(always)]
-fn most_members(held: Bounded<usize>) -> usize
-    ensures { (members_of held).high ≡ Some result }
-{
-    match held.as_end() {
-        Some(end) => *end,
-        None => usize::MAX,
-    }
-}
 
 /// Reads how many members a list has, as many as the program's type holds.
 ///

@@ -8,7 +8,7 @@ use asn1_schema_constraints::Constraints;
 use asn1_schema_encode::Encode;
 use asn1_schema_faults::{EncodeError, MOST_OCTETS, refusal, within_limit};
 use oer_codec_encoder::{Encoder, EncoderOptions};
-use std::alloc::Global;
+use std::alloc::{AllocError, Global};
 
 /// For how many octets there is room before the first one is written.
 const FIRST_CAPACITY: usize = 128;
@@ -49,8 +49,7 @@ pub fn encode_with_constraints<T: Encode>(
     ensures fits { IfErr result (λ e. e ≡ EncodeError.LengthExceedsPlatformSize → ⊥) }
     ensures in_place { IfErr result (λ e. e ≡ EncodeError.CallOutOfPlace → ⊥) }
 {
-    let mut output = Vec::new(alloc);
-    output.reserve(FIRST_CAPACITY)?;
+    let mut output = Vec::with_capacity(alloc, FIRST_CAPACITY)?;
     let mut worker = Vec::new(alloc);
     let options = EncoderOptions::coer();
     let mut encoder = Encoder::from_buffer(alloc, options, &mut output, &mut worker);
@@ -78,6 +77,17 @@ fn cut_at_limit(octets: &mut Vec<u8>, front: usize) -> Result<(), EncodeError>
     Ok(())
 }
 
+/// Makes room for the first octets in a buffer that has none. The only error is want of memory.
+#[inline(always)]
+fn make_room(buffer: &mut Vec<u8>) -> Result<(), AllocError>
+    ensures { buffer.new.items ≡ buffer.old.items }
+{
+    if buffer.capacity() == 0 {
+        buffer.reserve(FIRST_CAPACITY)?;
+    }
+    Ok(())
+}
+
 /// Adds the canonical encoding of a value (X.696) behind what stands in the buffer, in the buffer's own room.
 ///
 /// # Errors
@@ -99,7 +109,7 @@ pub fn encode_buf<T: Encode>(
     ensures same { OnErr result (buffer.new.items ≡ buffer.old.items) }
 {
     let front = buffer.len();
-    buffer.reserve(FIRST_CAPACITY)?;
+    make_room(buffer)?;
     let mut worker = Vec::new(alloc);
     let options = EncoderOptions::coer();
     let mut encoder = Encoder::from_buffer(alloc, options, buffer, &mut worker);

@@ -16,8 +16,8 @@ use Rattle.oer_codec_encoder.specs.declared.frame.Additions.{Additions}
 use Rattle.oer_codec_encoder.specs.declared.frame.Frame.{Frame}
 use Rattle.oer_codec_encoder.specs.declared.frame.Frame.TheVariants.{Components, Added, OpenType, Alternative}
 use Rattle.oer_codec_encoder.specs.declared.frame.Preamble.{Preamble}
-use Rattle.oer_codec_encoder.specs.declared.frames.Enclosing.{Enclosing}
-use Rattle.oer_codec_encoder.specs.declared.frames.Enclosing.TheVariants.{OpenType as EnclosingOpenType}
+use Rattle.oer_codec_encoder.specs.declared.frames.SmallFrame.{SmallFrame}
+use Rattle.oer_codec_encoder.specs.declared.frames.SmallFrame.TheVariants.{OpenType as SmallOpenType}
 use Rattle.oer_codec_encoder.specs.Frames.{frame_of}
 use Rattle.oer_codec_encoder.specs.Holding.{HasBits, IsExtended, Holds, AreSound, Does, Cannot}
 use Rattle.oer_codec_writing.specs.Writing.{Adds, bits_heading}
@@ -56,11 +56,11 @@ open_frame_within f start o h e = open_within (f ∷ h.0) h.0 o start h.1 (ap (�
 pub open_frame_ends : (f : Frame) (start : ℕ) (o p : List ℕ) (r : Result (Unit {0}) EncodeError) → f ≡ OpenType start → MatchResult r (λ _. Adds (written (Oer.counted (drop (start + 1) o)) 0) (take start o) p) (λ e. e ≡ OutOfMemory) → MatchResult r (λ _. (k : List Frame) → Does ends (f ∷ k) o k p) (λ e. (k : List Frame) → Cannot ends (f ∷ k) o e)
 open_frame_ends f start o p r e m = subst (λ g. MatchResult r (λ _. (k : List Frame) → Does ends (g ∷ k) o k p) (λ x. (k : List Frame) → Cannot ends (g ∷ k) o x)) (sym e) (open_ends start o p r m)
 
-pub enclosing_within : (f : Enclosing) (start : ℕ) (o : List ℕ) → ((k : List Frame) × AreSound (frame_of f ∷ k) o) → f ≡ EnclosingOpenType start → start < length o
-enclosing_within f start o h e = open_frame_within (frame_of f) start o h (ap frame_of e)
+pub small_within : (f : SmallFrame) (start : ℕ) (o : List ℕ) → ((k : List Frame) × AreSound (frame_of f ∷ k) o) → f ≡ SmallOpenType start → start < length o
+small_within f start o h e = open_frame_within (frame_of f) start o h (ap frame_of e)
 
-pub enclosing_ends : (f : Enclosing) (start : ℕ) (o p : List ℕ) (r : Result (Unit {0}) EncodeError) → f ≡ EnclosingOpenType start → MatchResult r (λ _. Adds (written (Oer.counted (drop (start + 1) o)) 0) (take start o) p) (λ e. e ≡ OutOfMemory) → MatchResult r (λ _. (k : List Frame) → Does ends (frame_of f ∷ k) o k p) (λ e. (k : List Frame) → Cannot ends (frame_of f ∷ k) o e)
-enclosing_ends f start o p r e m = open_frame_ends (frame_of f) start o p r (ap frame_of e) m
+pub small_ends : (f : SmallFrame) (start : ℕ) (o p : List ℕ) (r : Result (Unit {0}) EncodeError) → f ≡ SmallOpenType start → MatchResult r (λ _. Adds (written (Oer.counted (drop (start + 1) o)) 0) (take start o) p) (λ e. e ≡ OutOfMemory) → MatchResult r (λ _. (k : List Frame) → Does ends (frame_of f ∷ k) o k p) (λ e. (k : List Frame) → Cannot ends (frame_of f ∷ k) o e)
+small_ends f start o p r e m = open_frame_ends (frame_of f) start o p r (ap frame_of e) m
 
 pub does_end_alternative : (fs rest : List Frame) (o : List ℕ) → fs ≡ Alternative ∷ rest → Does ends fs o rest o
 does_end_alternative fs rest o a = record { after = λ s h. go s (on_top fs rest Alternative o s a h) }

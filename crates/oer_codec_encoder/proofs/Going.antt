@@ -1,25 +1,25 @@
--- What goes on where nothing encloses one value alone, in the octets and the frames of an encoder.
+-- What goes on where no small frame is innermost, in the octets and the frames of an encoder.
 use Rattle.std.proofs.Common.{◌≡◌, ℕ, Bool, List, ◌∷◌, reverse, Option, Some, None, Vec, Box, Global, Result, Ok, Err, MatchResult, refl, ap, sym, ◌∙◌}
 use Rattle.asn1_schema_faults.specs.declared.EncodeError.{EncodeError}
 use Rattle.asn1_schema_presented.specs.Records.{further}
 use Rattle.oer_codec_encoder.specs.declared.frame.Bag.{Bag as BagFrame}
 use Rattle.oer_codec_encoder.specs.declared.frame.Frame.{Frame}
 use Rattle.oer_codec_encoder.specs.declared.frame.Frame.TheVariants.{Members, Bag}
-use Rattle.oer_codec_encoder.specs.declared.frames.Enclosing.{Enclosing}
-use Rattle.oer_codec_encoder.specs.declared.frames.Enclosing.TheVariants.{Members as EnclosingMembers}
-use Rattle.oer_codec_encoder.specs.declared.frames.Enclosing.TheVariants.{Alternative as EnclosingAlternative}
-use Rattle.oer_codec_encoder.specs.declared.frames.Enclosing.TheVariants.{OpenType as EnclosingOpenType}
+use Rattle.oer_codec_encoder.specs.declared.frames.SmallFrame.{SmallFrame}
+use Rattle.oer_codec_encoder.specs.declared.frames.SmallFrame.TheVariants.{Members as SmallMembers}
+use Rattle.oer_codec_encoder.specs.declared.frames.SmallFrame.TheVariants.{Alternative as SmallAlternative}
+use Rattle.oer_codec_encoder.specs.declared.frames.SmallFrame.TheVariants.{OpenType as SmallOpenType}
 use Rattle.oer_codec_encoder.specs.Frames.{frame_of, others_of, frames_of, NoMember}
 use Rattle.oer_codec_encoder.specs.Fronts.{ground}
 use Rattle.oer_codec_encoder.specs.Holding.{NextOfBag, Does, Cannot}
 use Rattle.oer_codec_encoder.proofs.BagScopes.{does_next}
 use Rattle.oer_codec_encoder.proofs.Refusals.{cannot, no_member_of_bag}
 
-pub none_encloses : (e : Option Enclosing) (i : Option Frame) (f : Frame) (fs : List Frame) → e ≡ None → i ≡ Some f → frames_of e i fs ≡ f ∷ reverse fs
-none_encloses e i f fs a b = ap (λ x. frames_of x i fs) a ∙ ap (λ x. others_of x fs) b
+pub none_small : (e : Option SmallFrame) (i : Option Frame) (f : Frame) (fs : List Frame) → e ≡ None → i ≡ Some f → frames_of e i fs ≡ f ∷ reverse fs
+none_small e i f fs a b = ap (λ x. frames_of x i fs) a ∙ ap (λ x. others_of x fs) b
 
-pub list_encloses : (e : Option Enclosing) (i : Option Frame) (due : ℕ) (fs : List Frame) → e ≡ Some (EnclosingMembers due) → frames_of e i fs ≡ Members due ∷ others_of i fs
-list_encloses e i due fs a = ap (λ x. frames_of x i fs) a
+pub list_small : (e : Option SmallFrame) (i : Option Frame) (due : ℕ) (fs : List Frame) → e ≡ Some (SmallMembers due) → frames_of e i fs ≡ Members due ∷ others_of i fs
+list_small e i due fs a = ap (λ x. frames_of x i fs) a
 
 pub bag_goes_on : (more : Bool) (fs rest gs : List Frame) (b c : Box BagFrame Global) (o p : List ℕ) (r : Result (Unit {0}) EncodeError) → fs ≡ Bag b ∷ rest → MatchResult r (λ _. NextOfBag more b.value o c.value p) (NoMember more b.value.due) → gs ≡ Bag c ∷ rest → MatchResult r (λ _. Does (further more) fs o gs p) (Cannot (further more) fs o)
 bag_goes_on more fs rest gs b c o p (Ok u) a m d = does_next fs rest gs b c o p a d more m
@@ -33,12 +33,12 @@ sets_aside fs rest gs k b f next o p d g v w e =
     let around : rest ≡ k = cc q in
     (next, g ∙ ap (λ l. Bag next ∷ l) around, v ∙ ap (λ (x : Box BagFrame Global). let a = x.value in record a { outer = o }) same, w ∙ ap (λ (x : Box BagFrame Global). x.value.outer) same)
 
--- what encloses one value alone, or a list, has nothing apart
-pub ground_enclosing : (e : Enclosing) (k : List Frame) (o : List ℕ) → ground (frame_of e ∷ k) o ≡ ground k o
-ground_enclosing (EnclosingMembers due) k o = refl
-ground_enclosing EnclosingAlternative k o = refl
-ground_enclosing (EnclosingOpenType start) k o = refl
+-- a small frame has nothing apart
+pub ground_small : (e : SmallFrame) (k : List Frame) (o : List ℕ) → ground (frame_of e ∷ k) o ≡ ground k o
+ground_small (SmallMembers due) k o = refl
+ground_small SmallAlternative k o = refl
+ground_small (SmallOpenType start) k o = refl
 
-pub ground_others : (e : Option Enclosing) (i : Option Frame) (fs : List Frame) (o : List ℕ) → ground (others_of i fs) o ≡ ground (frames_of e i fs) o
+pub ground_others : (e : Option SmallFrame) (i : Option Frame) (fs : List Frame) (o : List ℕ) → ground (others_of i fs) o ≡ ground (frames_of e i fs) o
 ground_others None i fs o = refl
-ground_others (Some e) i fs o = sym (ground_enclosing e (others_of i fs) o)
+ground_others (Some e) i fs o = sym (ground_small e (others_of i fs) o)

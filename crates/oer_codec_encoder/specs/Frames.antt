@@ -6,25 +6,25 @@ use Rattle.oer_codec_encoder.specs.declared.frame.Additions.{Additions}
 use Rattle.oer_codec_encoder.specs.declared.frame.Frame.{Frame}
 use Rattle.oer_codec_encoder.specs.declared.frame.Frame.TheVariants.{OpenType, Members, Alternative}
 use Rattle.oer_codec_encoder.specs.declared.frame.Preamble.{Preamble}
-use Rattle.oer_codec_encoder.specs.declared.frames.Enclosing.{Enclosing}
-use Rattle.oer_codec_encoder.specs.declared.frames.Enclosing.TheVariants.{Alternative as EnclosingAlternative}
-use Rattle.oer_codec_encoder.specs.declared.frames.Enclosing.TheVariants.{OpenType as EnclosingOpenType}
-use Rattle.oer_codec_encoder.specs.declared.frames.Enclosing.TheVariants.{Members as EnclosingMembers}
+use Rattle.oer_codec_encoder.specs.declared.frames.SmallFrame.{SmallFrame}
+use Rattle.oer_codec_encoder.specs.declared.frames.SmallFrame.TheVariants.{Alternative as SmallAlternative}
+use Rattle.oer_codec_encoder.specs.declared.frames.SmallFrame.TheVariants.{OpenType as SmallOpenType}
+use Rattle.oer_codec_encoder.specs.declared.frames.SmallFrame.TheVariants.{Members as SmallMembers}
 
--- The frame of what encloses one value alone, or of a list.
-abbrev pub frame_of : Enclosing → Frame
-frame_of (EnclosingMembers due) = Members due
-frame_of EnclosingAlternative = Alternative
-frame_of (EnclosingOpenType start) = OpenType start
+-- The frame that a small frame is.
+abbrev pub frame_of : SmallFrame → Frame
+frame_of (SmallMembers due) = Members due
+frame_of SmallAlternative = Alternative
+frame_of (SmallOpenType start) = OpenType start
 
--- What is open but for what encloses one value alone, or a list, the innermost first: it stands alone, and those around
--- it in the order in which they began.
+-- What is open but for a small frame, the innermost first: it stands alone, and those around it in the order in which
+-- they began.
 abbrev pub others_of : Option Frame → List Frame → List Frame
 others_of None fs = []
 others_of (Some f) fs = f ∷ reverse fs
 
--- All that is open: what encloses one value alone, or a list, is innermost of all.
-abbrev pub frames_of : Option Enclosing → Option Frame → List Frame → List Frame
+-- All that is open: a small frame is innermost of all.
+abbrev pub frames_of : Option SmallFrame → Option Frame → List Frame → List Frame
 frames_of None i fs = others_of i fs
 frames_of (Some e) i fs = frame_of e ∷ others_of i fs
 

@@ -57,7 +57,7 @@ pub(crate) fn begin_additions(
 ///
 /// `CallOutOfPlace` if nothing that is open takes this call, and `OutOfMemory`.
 #[inline(always)]
-pub(crate) fn put_addition(
+pub(crate) fn encode_addition(
     octets: &mut Vec<u8>,
     frames: &mut Frames,
     present: bool,

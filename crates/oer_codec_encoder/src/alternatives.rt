@@ -6,7 +6,7 @@ ghost use Rattle.oer_codec_encoder.specs.Fronts.{Keeps};
 ghost use Rattle.oer_codec_encoder.specs.Holding.{Does, Cannot};
 ghost use Rattle.oer_codec_encoder.specs.Steps.{tag_at, tags_among};
 
-use crate::frames::{Enclosing, Frames};
+use crate::frames::{Frames, SmallFrame};
 use crate::open_types::open_in_place;
 use asn1_schema_faults::EncodeError;
 use asn1_schema_tags::Tag;
@@ -66,7 +66,7 @@ pub(crate) fn begin_choice(
     if chosen.added {
         open_in_place(octets, frames)?;
     } else {
-        frames.enclose(Enclosing::Alternative)?;
+        frames.open_small(SmallFrame::Alternative)?;
     }
     Ok(())
 }

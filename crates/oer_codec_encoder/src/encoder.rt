@@ -4,12 +4,12 @@ ghost use Rattle.asn1_schema_encode.specs.Writes.{Refused};
 ghost use Rattle.asn1_schema_presented.specs.Records.{one_of};
 ghost use Rattle.oer_codec_encoder.specs.Stepping.{Puts};
 
-use crate::additions::{begin_additions, end_addition, put_addition};
+use crate::additions::{begin_additions, encode_addition, end_addition};
 use crate::alternatives::begin_choice;
 use crate::bags::begin_bag;
 use crate::frames::Frames;
 use crate::options::EncoderOptions;
-use crate::sequences::{begin_components, begin_members, put_presence_bit};
+use crate::sequences::{begin_components, begin_members, encode_presence_bit};
 use asn1_schema_constraints::{Bounded, Constraints};
 use asn1_schema_encode::{begin_record, go_on};
 use asn1_schema_faults::{CodecKind, EncodeError};
@@ -255,7 +255,7 @@ impl<'buffer> asn1_schema_encode::Encoder for Encoder<'buffer> {
         value: Oid,
         _identifier: Identifier,
     ) -> Result<(), EncodeError> {
-        record!(self, push_identifier(self.output, self.alloc, &value))
+        record!(self, push_identifier(self.output, &value))
     }
 
     #[inline(always)]
@@ -294,8 +294,11 @@ impl<'buffer> asn1_schema_encode::Encoder for Encoder<'buffer> {
     }
 
     #[inline(always)]
-    fn put_further(&mut self, more: bool) -> Result<(), EncodeError> {
-        record!(self, self.frames.put_further(self.output, self.alloc, more))
+    fn encode_further(&mut self, more: bool) -> Result<(), EncodeError> {
+        record!(
+            self,
+            self.frames.encode_further(self.output, self.alloc, more)
+        )
     }
 
     #[inline(always)]
@@ -333,10 +336,10 @@ impl<'buffer> asn1_schema_encode::Encoder for Encoder<'buffer> {
     }
 
     #[inline(always)]
-    fn put_presence_bit(&mut self, present: bool) -> Result<(), EncodeError> {
+    fn encode_presence_bit(&mut self, present: bool) -> Result<(), EncodeError> {
         record!(
             self,
-            put_presence_bit(self.output, &mut self.frames, present)
+            encode_presence_bit(self.output, &mut self.frames, present)
         )
     }
 
@@ -346,8 +349,11 @@ impl<'buffer> asn1_schema_encode::Encoder for Encoder<'buffer> {
     }
 
     #[inline(always)]
-    fn put_addition(&mut self, present: bool) -> Result<(), EncodeError> {
-        record!(self, put_addition(self.output, &mut self.frames, present))
+    fn encode_addition(&mut self, present: bool) -> Result<(), EncodeError> {
+        record!(
+            self,
+            encode_addition(self.output, &mut self.frames, present)
+        )
     }
 
     #[inline(always)]

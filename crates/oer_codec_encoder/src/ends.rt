@@ -9,7 +9,7 @@ ghost use Rattle.oer_codec_encoder.specs.Holding.{AreSound, BagEnds, Does, Canno
 
 use crate::bags::{exchange, push_members};
 use crate::frame::{Additions, Bag, Frame};
-use crate::frames::Enclosing;
+use crate::frames::SmallFrame;
 use crate::open_types::put_length;
 use crate::sequences::raise_bit;
 use asn1_schema_faults::EncodeError;
@@ -54,27 +54,27 @@ fn end_bag(octets: &mut Vec<u8>, alloc: Global, bag: &mut Bag) -> Result<(), Enc
     Ok(())
 }
 
-/// Ends what encloses one value alone, or a list (X.696 17, 20 and 30).
+/// Ends a small frame, which is innermost of all (X.696 17, 20 and 30).
 ///
 /// # Errors
 ///
 /// `CallOutOfPlace` if a member of a list is due, and `OutOfMemory`.
 #[inline(always)]
-pub(crate) fn end_enclosing(
+pub(crate) fn end_small(
     octets: &mut Vec<u8>,
     alloc: Global,
-    enclosing: Enclosing,
+    small: SmallFrame,
 ) -> Result<(), EncodeError>
-    requires { (k : _) × AreSound (frame_of enclosing ∷ k) octets.old.items }
+    requires { (k : _) × AreSound (frame_of small ∷ k) octets.old.items }
     ensures step { MatchResult result
-        (λ _. (k : _) → Does ends (frame_of enclosing ∷ k) octets.old.items k octets.new.items)
-        (λ e. (k : _) → Cannot ends (frame_of enclosing ∷ k) octets.old.items e) }
-    ensures kept { OnErr result ((k : _) → Keeps (frame_of enclosing ∷ k) octets.old.items k octets.new.items) }
+        (λ _. (k : _) → Does ends (frame_of small ∷ k) octets.old.items k octets.new.items)
+        (λ e. (k : _) → Cannot ends (frame_of small ∷ k) octets.old.items e) }
+    ensures kept { OnErr result ((k : _) → Keeps (frame_of small ∷ k) octets.old.items k octets.new.items) }
 {
-    match enclosing {
-        Enclosing::Members { due: 0 } | Enclosing::Alternative => Ok(()),
-        Enclosing::Members { .. } => Err(EncodeError::CallOutOfPlace),
-        Enclosing::OpenType { start } => put_length(octets, alloc, start),
+    match small {
+        SmallFrame::Members { due: 0 } | SmallFrame::Alternative => Ok(()),
+        SmallFrame::Members { .. } => Err(EncodeError::CallOutOfPlace),
+        SmallFrame::OpenType { start } => put_length(octets, alloc, start),
     }
 }
 
@@ -98,10 +98,7 @@ pub(crate) fn end_frame(
 {
     match frame {
         Frame::Components(preamble) => {
-            if preamble.extensible {
-                return Err(EncodeError::CallOutOfPlace);
-            }
-            if preamble.due > 0 {
+            if preamble.extensible || preamble.due > 0 {
                 return Err(EncodeError::CallOutOfPlace);
             }
             Ok(())

@@ -8,18 +8,19 @@ ghost use Rattle.oer_codec_encoder.specs.Fronts.{ground, Keeps};
 ghost use Rattle.oer_codec_encoder.specs.Holding.{AreSound, Does, Cannot};
 
 use crate::bags::{exchange, next_of_bag};
-use crate::ends::{end_enclosing, end_frame};
+use crate::ends::{end_frame, end_small};
 use crate::frame::{Additions, Frame, Preamble};
 use crate::sequences::count_member;
+use asn1_schema_encode::let_go;
 use asn1_schema_faults::EncodeError;
 use std::alloc::{AllocError, Global};
 use std::marker::Model;
 use std::mem;
 
-/// What is innermost of all and takes no more than one number: what encloses one value alone, or a list, while nothing
-/// has begun in a member of it.
+/// A frame that is innermost of all and takes no more than one number: what encloses one value alone, or a list while
+/// nothing has begun in a member of it.
 #[derive(Clone, Copy)]
-pub(crate) enum Enclosing {
+pub(crate) enum SmallFrame {
     /// A list.
     Members {
         /// How many members are due.
@@ -34,25 +35,25 @@ pub(crate) enum Enclosing {
     },
 }
 
-impl Enclosing {
+impl SmallFrame {
     /// The frame that it is.
     #[inline(always)]
     fn frame(self) -> Frame
         ensures { result ≡ frame_of self }
     {
         match self {
-            Enclosing::Members { due } => Frame::Members { due },
-            Enclosing::Alternative => Frame::Alternative,
-            Enclosing::OpenType { start } => Frame::OpenType { start },
+            SmallFrame::Members { due } => Frame::Members { due },
+            SmallFrame::Alternative => Frame::Alternative,
+            SmallFrame::OpenType { start } => Frame::OpenType { start },
         }
     }
 }
 
-/// All that has begun and has not ended. What encloses one value alone, or a list, is innermost of all, if something
-/// does; then comes the innermost of the other frames, and what is around it. Neither of the two takes memory.
+/// All that has begun and has not ended. A small frame is innermost of all, if there is one; then comes the innermost
+/// of the other frames, and what is around it. Neither of the two takes memory.
 #[derive(Drop)]
 pub(crate) struct Frames {
-    enclosing: Option<Enclosing>,
+    small: Option<SmallFrame>,
     innermost: Option<Frame>,
     outer: Vec<Frame>,
 }
@@ -64,10 +65,10 @@ impl Model for Frames {
 
     ghost Value = { List Frame };
 
-    ghost view = { λ f. frames_of f.enclosing f.innermost f.outer.items };
+    ghost view = { λ f. frames_of f.small f.innermost f.outer.items };
 }
 
-/// Opens a frame inside all others, where nothing encloses one value alone. If memory is refused, all is as it was.
+/// Opens a frame inside all others, where no small frame is innermost. If memory is refused, all is as it was.
 #[inline(always)]
 fn put(
     innermost: &mut Option<Frame>,
@@ -94,43 +95,43 @@ fn put(
     Ok(())
 }
 
-/// Opens what encloses one value alone, or a list, as a frame inside all others. It is seldom called: where something
-/// begins in an open type, in an alternative or in the first member of a list.
+/// Opens a small frame as a frame inside all others. It is seldom called: where something begins in an open type, in an
+/// alternative or in the first member of a list.
 #[cold]
-fn put_enclosing(
+fn put_small(
     innermost: &mut Option<Frame>,
     outer: &mut Vec<Frame>,
-    enclosing: Enclosing,
+    small: SmallFrame,
 ) -> Result<(), AllocError>
-    ensures ok { OnOk result (others_of innermost.new outer.new.items ≡ frame_of enclosing
+    ensures ok { OnOk result (others_of innermost.new outer.new.items ≡ frame_of small
         ∷ others_of innermost.old outer.old.items) }
     ensures kept { OnErr result
         (others_of innermost.new outer.new.items ≡ others_of innermost.old outer.old.items) }
 {
-    put(innermost, outer, enclosing.frame())
+    put(innermost, outer, small.frame())
 }
 
-/// Moves what encloses one value alone, if something does, to the other frames. If memory is refused, all is as it was.
+/// Moves the small frame, if there is one, to the other frames. If memory is refused, all is as it was.
 #[inline(always)]
 fn settle(
-    enclosing: &mut Option<Enclosing>,
+    small: &mut Option<SmallFrame>,
     innermost: &mut Option<Frame>,
     outer: &mut Vec<Frame>,
 ) -> Result<(), AllocError>
-    ensures none { OnOk result (enclosing.new ≡ None) }
+    ensures none { OnOk result (small.new ≡ None) }
     ensures same { OnOk result (others_of innermost.new outer.new.items
-        ≡ frames_of enclosing.old innermost.old outer.old.items) }
-    ensures kept { OnErr result (frames_of enclosing.new innermost.new outer.new.items
-        ≡ frames_of enclosing.old innermost.old outer.old.items) }
+        ≡ frames_of small.old innermost.old outer.old.items) }
+    ensures kept { OnErr result (frames_of small.new innermost.new outer.new.items
+        ≡ frames_of small.old innermost.old outer.old.items) }
 {
-    if let Some(around) = *enclosing {
-        put_enclosing(innermost, outer, around)?;
-        *enclosing = None;
+    if let Some(around) = *small {
+        put_small(innermost, outer, around)?;
+        *small = None;
     }
     Ok(())
 }
 
-/// Leaves the innermost frame, where nothing encloses one value alone.
+/// Leaves the innermost frame, where no small frame is innermost.
 #[inline(always)]
 fn leave(innermost: &mut Option<Frame>, outer: &mut Vec<Frame>)
     ensures { (f : _) → innermost.old ≡ Some f → others_of innermost.old outer.old.items
@@ -143,8 +144,8 @@ fn leave(innermost: &mut Option<Frame>, outer: &mut Vec<Frame>)
     }
 }
 
-/// Leaves the innermost frame, where nothing encloses one value alone, if it is an open type, and answers where the
-/// room for its number is.
+/// Leaves the innermost frame, where no small frame is innermost, if it is an open type, and answers where the room for
+/// its number is.
 #[inline(always)]
 fn leave_open_type(innermost: &mut Option<Frame>, outer: &mut Vec<Frame>) -> Option<usize>
     ensures some { IfSome result (λ start. others_of innermost.old outer.old.items
@@ -162,7 +163,7 @@ fn leave_open_type(innermost: &mut Option<Frame>, outer: &mut Vec<Frame>) -> Opt
     Some(start)
 }
 
-/// Ends the innermost frame, where nothing encloses one value alone.
+/// Ends the innermost frame, where no small frame is innermost.
 #[inline(always)]
 fn end_other(
     octets: &mut Vec<u8>,
@@ -222,7 +223,7 @@ impl Frames {
         ensures { result ≡ [] }
     {
         Frames {
-            enclosing: None,
+            small: None,
             innermost: None,
             outer: Vec::new(alloc),
         }
@@ -233,7 +234,7 @@ impl Frames {
     pub(crate) fn clear(&mut self)
         ensures { self.new ≡ [] }
     {
-        self.enclosing = None;
+        self.small = None;
         if self.innermost.is_some() {
             self.innermost = None;
         }
@@ -242,8 +243,7 @@ impl Frames {
         }
     }
 
-    /// Lets all go that is open. At the end of a message nothing is, and mostly no memory was taken: then there is
-    /// nothing to call.
+    /// Lets all go that is open.
     #[inline(always)]
     pub(crate) fn let_go(self) {
         let Frames {
@@ -251,16 +251,7 @@ impl Frames {
             outer,
             ..
         } = self;
-        if innermost.is_none() {
-            mem::forget(innermost);
-        } else {
-            drop(innermost);
-        }
-        if outer.capacity() == 0 {
-            mem::forget(outer);
-        } else {
-            drop(outer);
-        }
+        let_go(innermost, outer);
     }
 
     /// Leaves nothing open, and takes back the octets in front of the outermost bag, if one is open.
@@ -278,7 +269,7 @@ impl Frames {
         ensures { (b : _) (k : _) → self.old ≡ Bag b ∷ k → let a = b.value in (c : _) × (self.new ≡ Bag c ∷ k)
             × (c.value ≡ record a { outer = octets.old }) × (octets.new ≡ a.outer) }
     {
-        let (None, Some(Frame::Bag(bag))) = (&self.enclosing, &mut self.innermost) else {
+        let (None, Some(Frame::Bag(bag))) = (&self.small, &mut self.innermost) else {
             return;
         };
         exchange(octets, bag);
@@ -290,18 +281,18 @@ impl Frames {
         ensures ok { OnOk result (self.new ≡ frame ∷ self.old) }
         ensures kept { OnErr result (self.new ≡ self.old) }
     {
-        settle(&mut self.enclosing, &mut self.innermost, &mut self.outer)?;
+        settle(&mut self.small, &mut self.innermost, &mut self.outer)?;
         put(&mut self.innermost, &mut self.outer, frame)
     }
 
-    /// Opens what encloses one value alone inside all others. If memory is refused, all is as it was.
+    /// Opens a small frame inside all others. If memory is refused, all is as it was.
     #[inline(always)]
-    pub(crate) fn enclose(&mut self, enclosing: Enclosing) -> Result<(), AllocError>
-        ensures ok { OnOk result (self.new ≡ frame_of enclosing ∷ self.old) }
+    pub(crate) fn open_small(&mut self, small: SmallFrame) -> Result<(), AllocError>
+        ensures ok { OnOk result (self.new ≡ frame_of small ∷ self.old) }
         ensures kept { OnErr result (self.new ≡ self.old) }
     {
-        settle(&mut self.enclosing, &mut self.innermost, &mut self.outer)?;
-        self.enclosing = Some(enclosing);
+        settle(&mut self.small, &mut self.innermost, &mut self.outer)?;
+        self.small = Some(small);
         Ok(())
     }
 
@@ -312,12 +303,12 @@ impl Frames {
         ensures none { IfNone result ((start : _) (k : _) → self.old ≡ OpenType start ∷ k → ⊥) }
         ensures still { IfNone result (self.new ≡ self.old) }
     {
-        match self.enclosing {
-            Some(Enclosing::OpenType { start }) => {
-                self.enclosing = None;
+        match self.small {
+            Some(SmallFrame::OpenType { start }) => {
+                self.small = None;
                 Some(start)
             }
-            Some(Enclosing::Members { .. } | Enclosing::Alternative) => None,
+            Some(SmallFrame::Members { .. } | SmallFrame::Alternative) => None,
             None => leave_open_type(&mut self.innermost, &mut self.outer),
         }
     }
@@ -338,9 +329,9 @@ impl Frames {
             (Cannot ends self.old octets.old.items) }
         ensures kept { OnErr result (Keeps self.old octets.old.items self.new octets.new.items) }
     {
-        if let Some(enclosing) = self.enclosing {
-            self.enclosing = None;
-            return end_enclosing(octets, alloc, enclosing);
+        if let Some(small) = self.small {
+            self.small = None;
+            return end_small(octets, alloc, small);
         }
         end_other(octets, alloc, &mut self.innermost, &mut self.outer)
     }
@@ -351,7 +342,7 @@ impl Frames {
         ensures some { IfSome result (λ p. (k : _) × (self.now ≡ Components p ∷ k)) }
         ensures none { IfNone result ((p : _) (k : _) → self.now ≡ Components p ∷ k → ⊥) }
     {
-        match (&self.enclosing, &self.innermost) {
+        match (&self.small, &self.innermost) {
             (None, Some(Frame::Components(preamble))) => Some(*preamble),
             _ => None,
         }
@@ -375,7 +366,7 @@ impl Frames {
         ensures none { IfNone result ((p : _) (k : _) → self.old ≡ Components p ∷ k → p.due ≡ 0) }
         ensures still { IfNone result (self.new ≡ self.old) }
     {
-        match (&self.enclosing, &mut self.innermost) {
+        match (&self.small, &mut self.innermost) {
             (None, Some(Frame::Components(preamble))) => {
                 if preamble.due == 0 {
                     return None;
@@ -396,7 +387,7 @@ impl Frames {
     ///
     /// `CallOutOfPlace` if nothing that is open takes this call, and `OutOfMemory`.
     #[inline(always)]
-    pub(crate) fn put_further(
+    pub(crate) fn encode_further(
         &mut self,
         octets: &mut Vec<u8>,
         alloc: Global,
@@ -407,8 +398,8 @@ impl Frames {
             (Cannot (further more) self.old octets.old.items) }
         ensures kept { OnErr result (Keeps self.old octets.old.items self.new octets.new.items) }
     {
-        match (&mut self.enclosing, &mut self.innermost) {
-            (Some(Enclosing::Members { due }), _) => {
+        match (&mut self.small, &mut self.innermost) {
+            (Some(SmallFrame::Members { due }), _) => {
                 count_member(due, more)?;
                 return Ok(());
             }
@@ -428,7 +419,7 @@ impl Frames {
         ensures none { IfNone result ((a : _) (k : _) → self.old ≡ Added a ∷ k → a.due ≡ 0) }
         ensures still { IfNone result (self.new ≡ self.old) }
     {
-        match (&self.enclosing, &mut self.innermost) {
+        match (&self.small, &mut self.innermost) {
             (None, Some(Frame::Added(additions))) => {
                 if additions.due == 0 {
                     return None;
@@ -449,7 +440,7 @@ impl Frames {
         ensures some { IfSome result (λ a. (k : _) × (self.now ≡ Added a.now ∷ k)) }
         ensures none { IfNone result ((a : _) (k : _) → self.now ≡ Added a ∷ k → ⊥) }
     {
-        match (&self.enclosing, &self.innermost) {
+        match (&self.small, &self.innermost) {
             (None, Some(Frame::Added(additions))) => Some(additions),
             _ => None,
         }

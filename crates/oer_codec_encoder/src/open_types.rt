@@ -7,7 +7,7 @@ ghost use Rattle.asn1_model.specs.Versions.{Begins};
 ghost use Rattle.oer_codec_encoder.specs.declared.frame.Frame.TheVariants.{OpenType};
 ghost use Rattle.oer_codec_writing.specs.Writing.{Adds};
 
-use crate::frames::{Enclosing, Frames};
+use crate::frames::{Frames, SmallFrame};
 use asn1_schema_faults::EncodeError;
 use oer_codec_writing::{push_counted, short_length};
 use std::alloc::{AllocError, Global};
@@ -22,7 +22,7 @@ pub(crate) fn open_in_place(octets: &mut Vec<u8>, frames: &mut Frames) -> Result
 {
     let start = octets.len();
     octets.push(0)?;
-    frames.enclose(Enclosing::OpenType { start })?;
+    frames.open_small(SmallFrame::OpenType { start })?;
     Ok(())
 }
 

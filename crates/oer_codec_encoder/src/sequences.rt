@@ -11,7 +11,7 @@ ghost use Rattle.oer_codec_encoder.specs.Fronts.{Keeps};
 ghost use Rattle.oer_codec_encoder.specs.Holding.{AreSound, Does, Cannot};
 
 use crate::frame::{Frame, Preamble};
-use crate::frames::{Enclosing, Frames};
+use crate::frames::{Frames, SmallFrame};
 use asn1_schema_constraints::{Bounded, Constraints};
 use asn1_schema_faults::EncodeError;
 use oer_codec_writing::{preamble_len, push_count};
@@ -84,7 +84,7 @@ pub(crate) fn raise_bit(octets: &mut Vec<u8>, start: usize, place: usize)
 ///
 /// `CallOutOfPlace` if nothing that is open takes this call, and `OutOfMemory`.
 #[inline]
-pub(crate) fn put_presence_bit(
+pub(crate) fn encode_presence_bit(
     octets: &mut Vec<u8>,
     frames: &mut Frames,
     present: bool,
@@ -128,7 +128,7 @@ pub(crate) fn begin_members(
         return Err(EncodeError::SizeConstraintNotSatisfied);
     }
     push_count(octets, count)?;
-    frames.enclose(Enclosing::Members { due: count })?;
+    frames.open_small(SmallFrame::Members { due: count })?;
     Ok(())
 }
 

@@ -16,5 +16,6 @@ pub mod TagFronts
 pub mod ItemFronts
 pub mod Enumerations
 pub mod Places
+pub mod ChoiceFronts
 pub mod BitmapFronts
 pub mod Skipping

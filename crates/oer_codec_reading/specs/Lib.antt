@@ -4,5 +4,6 @@ pub mod Whole
 pub mod Bits
 pub mod Characters
 pub mod Tags
+pub mod Alternatives
 pub mod Items
 pub mod Skipping

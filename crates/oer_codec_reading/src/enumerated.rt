@@ -19,10 +19,8 @@ use asn1_values_natives::Wide;
 fn native_number(octets: &[u8]) -> Option<isize>
     ensures { result ≡ native_of (signed_number octets.now) }
 {
-    if octets.len() == 1 {
-        if octets[0] < 128 {
-            return Some(octets[0] as isize);
-        }
+    if octets.len() == 1 && octets[0] < 128 {
+        return Some(octets[0] as isize);
     }
     wide_number(octets)
 }

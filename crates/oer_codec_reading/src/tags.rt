@@ -70,7 +70,7 @@ fn number_of(tag: &Tag) -> u32
 
 /// Goes through the numbers of the tags of a table: 32 bits hold each of them, so a tag with a larger number has no
 /// place in it.
-pub fn visit_numbers(table: &[Tag])
+pub(crate) fn visit_numbers(table: &[Tag])
     ensures { each_is is_in_32_bits (map tag_of table.now) ≡ true }
 {
     for entry in table {

@@ -1,14 +1,15 @@
 -- The texts of bits.
-use Rattle.std.proofs.Common.{◌≡◌, ℕ, ◌+◌, ◌-◌, ◌*◌, ◌/◌, ◌^◌, ◌<◌, ◌≤◌, ◌==◌, suc, Bool, true, false, List, [], ◌∷◌, ◌++◌, length, get_or, drop, take, replicate, min, Option, Some, None, option_map, option_and_then, refl, ap, sym, ◌∙◌, append_assoc, length-append, arith}
-use Rattle.std.proofs.lemmas.Bool.{eq-eqb}
-use Rattle.std.proofs.lemmas.List.{append-nil, length-replicate}
+use Rattle.std.proofs.Common.{◌≡◌, ℕ, ◌+◌, ◌-◌, ◌*◌, ◌/◌, ◌%◌, ◌^◌, ◌<◌, ◌≤◌, ◌==◌, suc, Bool, true, false, List, [], ◌∷◌, ◌++◌, length, get_or, drop, take, replicate, min, Option, Some, None, option_map, option_and_then, refl, ap, sym, ◌∙◌, append_assoc, length-append, drop-cons, inl, inr, arith}
+use Rattle.std.proofs.lemmas.Bool.{eq-eqb, cases_lt}
+use Rattle.std.proofs.lemmas.Nat.{shr_below, shl_whole}
+use Rattle.std.proofs.lemmas.List.{append-nil, length-replicate, length-take, length-take-le, take-append-drop, take-append-le, take_at, drop_at, get_or-take, get_or_past}
 use Rattle.asn1_model.specs.Form.{written, only_if, exactly}
 use Rattle.asn1_model.specs.Schema.{Size, Counts, bit_string}
 use Rattle.asn1_model.specs.Value.{bit_list}
 use Rattle.asn1_model.specs.Numbers.{binary, missing, octet_bits, packed}
 use Rattle.asn1_model.specs.Oer
 use Rattle.asn1_values_bits.specs.Octets.{padded}
-use Rattle.asn1_values_bits.proofs.Binary.{length-octet_bits}
+use Rattle.asn1_values_bits.proofs.Binary.{length-binary, binary_split, length-octet_bits, octet_bits-append, octet_bits-take}
 use Rattle.asn1_values_bits.proofs.Leading.{octet_leads, packed-next}
 use Rattle.oer_codec_writing.specs.Writing.{Adds, bits_heading}
 use Rattle.oer_codec_writing.proofs.ScalarTexts.{if_true, if_false}
@@ -105,3 +106,70 @@ whole_added old mid new whole rest h e n =
 pub none_left : (octets old : List ℕ) (rest : List Bool) → length rest ≤ 0 → octets ++ packed (padded rest) ≡ old → octets ≡ old
 none_left octets old [] h e = sym (append-nil octets) ∙ e
 none_left octets old (b ∷ bs) h e = absurd (omega arith)
+
+-- ---- the first bits of octets
+
+front_split : (a b : List Bool) (few n : ℕ) → few ≤ length b → n ≡ length a + few → take n (a ++ b) ≡ a ++ take few b
+front_split a b few n h e =
+    ap (take n) (ap (λ l. a ++ l) (sym (take-append-drop few b)) ∙ sym (append_assoc a (take few b) (drop few b)))
+    ∙ take_at (a ++ take few b) (drop few b) n (omega (arith, e, length-append a (take few b), length-take-le few b h))
+
+-- so many whole octets, and some bits of the next one
+first_bits : (os : List ℕ) (whole few n : ℕ) → whole < length os → few ≤ 8 → n ≡ whole * 8 + few → take n (octet_bits os) ≡ octet_bits (take whole os) ++ take few (binary 8 (get_or os whole 0))
+first_bits os whole few n h k e =
+    let o : ℕ = get_or os whole 0 in
+    let front : List ℕ = take whole os in
+    let rest : List Bool = octet_bits (drop (suc whole) os) in
+    let parts : front ++ (o ∷ drop (suc whole) os) ≡ os = ap (λ l. front ++ l) (sym (drop-cons os whole 0 h)) ∙ take-append-drop whole os in
+    let here : octet_bits os ≡ octet_bits front ++ (binary 8 o ++ rest) = ap octet_bits (sym parts) ∙ octet_bits-append front (o ∷ drop (suc whole) os) in
+    let eight : length (binary 8 o) ≡ 8 = length-binary 8 o in
+    ap (take n) here
+    ∙ front_split (octet_bits front) (binary 8 o ++ rest) few n (omega (arith, k, eight, length-append (binary 8 o) rest)) (omega (arith, e, length-octet_bits front, length-take-le whole os (omega (arith, h))))
+    ∙ ap (λ l. octet_bits front ++ l) (take-append-le few (binary 8 o) rest (omega (arith, k, eight)))
+
+-- the first bits of an octet, and these with zero bits behind them
+high_below : (o few : ℕ) → few < 8 → o < 256 → o / 2 ^ (8 - few) < 2 ^ few
+high_below o few h l =
+    let all : few + (8 - few) ≡ 8 = omega arith in
+    let whole : 2 ^ (few + (8 - few)) ≡ 256 = ap (λ k. 2 ^ k) all in
+    shr_below o few (8 - few) (omega (arith, whole, l))
+
+high_alone : (o few : ℕ) → few < 8 → o < 256 → o / 2 ^ (8 - few) * 2 ^ (8 - few) % 2 ^ 8 ≡ o / 2 ^ (8 - few) * 2 ^ (8 - few)
+high_alone o few h l = shl_whole (o / 2 ^ (8 - few)) few (8 - few) 8 (high_below o few h l) (omega arith)
+
+bits_of_octet : (o few : ℕ) → 0 < few → few < 8 → o < 256 → packed (padded (take few (binary 8 o))) ≡ o / 2 ^ (8 - few) * 2 ^ (8 - few) ∷ []
+bits_of_octet o few p h l =
+    let v : ℕ = o / 2 ^ (8 - few) in
+    let bs : List Bool = take few (binary 8 o) in
+    let all : few + (8 - few) ≡ 8 = omega arith in
+    let long : length bs ≡ few = length-take-le few (binary 8 o) (omega (arith, length-binary 8 o, h)) in
+    let parts : binary 8 o ≡ binary few v ++ binary (8 - few) o = ap (λ k. binary k o) (sym all) ∙ binary_split few (8 - few) o in
+    let digits : bs ≡ binary few v = ap (take few) parts ∙ take_at (binary few v) (binary (8 - few) o) few (length-binary few v) in
+    let whole : take few bs ≡ bs = ap (take few) (sym (append-nil bs)) ∙ take_at bs [] few long in
+    let none : drop few bs ≡ [] = ap (drop few) (sym (append-nil bs)) ∙ drop_at bs [] few long in
+    octet_leads bs few v (omega (arith, long, p)) (omega (arith, long, h)) (sym digits ∙ sym whole) (high_below o few h l)
+    ∙ ap (λ r. o / 2 ^ (8 - few) * 2 ^ (8 - few) ∷ packed (padded r)) none
+
+octets_taken : (os : List ℕ) (k : ℕ) → ((i : ℕ) → get_or os i 0 < 256) → (i : ℕ) → get_or (take k os) i 0 < 256
+octets_taken os k h i = elim (cases_lt i k) [
+  | inl l ↦ let e : get_or (take k os) i 0 ≡ get_or os i 0 = get_or-take k os i 0 l in omega (arith, e, h i)
+  | inr l ↦ let e : get_or (take k os) i 0 ≡ 0 = get_or_past (take k os) i 0 (omega (arith, length-take k os, l)) in omega (arith, e)
+]
+
+pub whole_first_added : (old new os : List ℕ) (n : ℕ) → ((i : ℕ) → get_or os i 0 < 256) → n ≤ length os * 8 → n % 8 ≡ 0 → new ≡ old ++ take (n / 8) os → new ≡ old ++ packed (padded (take n (octet_bits os)))
+whole_first_added old new os n h l e a =
+    let k : ℕ = n / 8 in
+    let t : List ℕ = take k os in
+    let times : k * 8 ≡ n = omega arith in
+    let bits : octet_bits t ≡ take n (octet_bits os) = octet_bits-take k os (omega arith) ∙ ap (λ j. take j (octet_bits os)) times in
+    let none : octet_bits t ++ [] ≡ take n (octet_bits os) = append-nil (octet_bits t) ∙ bits in
+    whole_added old new new t [] (octets_taken os k h) a (sym (append-nil new)) ∙ ap (λ b. old ++ packed (padded b)) none
+
+pub first_added : (old mid new os : List ℕ) (n x : ℕ) → ((i : ℕ) → get_or os i 0 < 256) → n ≤ length os * 8 → 0 < n % 8 → x ≡ get_or os (n / 8) 0 / 2 ^ (8 - n % 8) * 2 ^ (8 - n % 8) % 2 ^ 8 → mid ≡ old ++ take (n / 8) os → new ≡ mid ++ x ∷ [] → new ≡ old ++ packed (padded (take n (octet_bits os)))
+first_added old mid new os n x h l d e a b =
+    let k : ℕ = n / 8 in
+    let few : ℕ = n % 8 in
+    let o : ℕ = get_or os k 0 in
+    let last : packed (padded (take few (binary 8 o))) ≡ x ∷ [] = bits_of_octet o few d (omega arith) (h k) ∙ ap (λ y. y ∷ []) (sym (e ∙ high_alone o few (omega arith) (h k))) in
+    whole_added old mid new (take k os) (take few (binary 8 o)) (octets_taken os k h) a (b ∙ ap (λ l. mid ++ l) (sym last))
+    ∙ ap (λ b. old ++ packed (padded b)) (sym (first_bits os k few n (omega arith) (omega arith) (omega arith)))

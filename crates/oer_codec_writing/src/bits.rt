@@ -1,5 +1,5 @@
 //! Bits (X.696 13).
-ghost use Rattle.std.specs.Prelude.{◌≡◌, ◌++◌, length, MatchResult, OnErr};
+ghost use Rattle.std.specs.Prelude.{◌≡◌, ◌*◌, ◌≤◌, ◌++◌, length, take, MatchResult, OnErr};
 ghost use Rattle.asn1_model.specs.Form.{written};
 ghost use Rattle.asn1_model.specs.Numbers.{missing, octet_bits, packed};
 ghost use Rattle.asn1_model.specs.Oer.{bit_string_form, form};
@@ -40,26 +40,34 @@ fn push_by_octets(octets: &mut Vec<u8>, value: BitStr) -> Result<(), EncodeError
     Ok(())
 }
 
-/// Adds whole octets in one run, and the bits behind them as octets.
-fn push_whole(octets: &mut Vec<u8>, whole: &[u8], rest: BitStr) -> Result<(), EncodeError>
+/// Adds the first bits of octets, where the unused bits of the last one are zero (X.696 13). Whole octets are copied in
+/// one run.
+fn push_first_bits(octets: &mut Vec<u8>, held: &[u8], count: usize) -> Result<(), EncodeError>
+    requires { count ≤ length held.now * 8 }
     ensures text { MatchResult result (λ _. octets.new.items ≡ octets.old.items
-        ++ packed (padded (octet_bits whole.now ++ bits_of rest.entry))) (λ e. e ≡ EncodeError.OutOfMemory) }
+        ++ packed (padded (take count (octet_bits held.now)))) (λ e. e ≡ EncodeError.OutOfMemory) }
     ensures kept { OnErr result (Begins octets.old.items octets.new.items) }
 {
-    octets.extend_from_slice(whole)?;
-    push_by_octets(octets, rest)?;
+    let whole = count / 8;
+    let few = count % 8;
+    octets.extend_from_slice(&held[..whole])?;
+    if few == 0 {
+        return Ok(());
+    }
+    octets.push(held[whole] >> (8 - few) << (8 - few))?;
     Ok(())
 }
 
-/// Adds bits as octets, where the unused bits of the last one are zero (X.696 13). Whole octets are copied in one run.
+/// Adds bits as octets, where the unused bits of the last one are zero (X.696 13).
 fn push_bits(octets: &mut Vec<u8>, value: BitStr) -> Result<(), EncodeError>
     ensures text { MatchResult result (λ _. octets.new.items ≡ octets.old.items
         ++ packed (padded (bits_of value.entry))) (λ e. e ≡ EncodeError.OutOfMemory) }
     ensures kept { OnErr result (Begins octets.old.items octets.new.items) }
 {
-    let (whole, rest) = value.whole_octets();
-    push_whole(octets, whole, rest)?;
-    Ok(())
+    match value.holding_octets() {
+        Some(held) => push_first_bits(octets, held, value.len()),
+        None => push_by_octets(octets, value),
+    }
 }
 
 /// Adds what stands in front of so many bits where their number is not fixed: the length of what follows, and the

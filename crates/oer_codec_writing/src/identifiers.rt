@@ -7,27 +7,26 @@ ghost use Rattle.asn1_model.specs.Value.{arcs};
 ghost use Rattle.asn1_model.specs.Versions.{Begins};
 ghost use Rattle.oer_codec_writing.specs.Writing.{Adds, Refuses};
 
-use crate::lengths::push_counted;
+use crate::lengths::push_length;
 use asn1_schema_faults::EncodeError;
-use asn1_values_identifiers::{IdentifierError, Oid, oid_octets};
-use std::alloc::Global;
+use asn1_values_identifiers::{Oid, content_count, push_contents, subidentifiers_of};
 
-/// Adds an OBJECT IDENTIFIER (X.696 21). One of a single arc has no contents.
+/// Adds an OBJECT IDENTIFIER (X.696 21): its contents octets behind their number, without memory of their own. One of a
+/// single arc has no contents.
 ///
 /// # Errors
 ///
 /// `OutOfMemory`; any other only where the value has no encoding in this form.
-pub fn push_identifier(octets: &mut Vec<u8>, alloc: Global, value: &Oid) -> Result<(), EncodeError>
+pub fn push_identifier(octets: &mut Vec<u8>, value: &Oid) -> Result<(), EncodeError>
     ensures text { MatchResult result (λ _. Adds (written (form object_identifier (arcs value.now)) 0) octets.old.items
         octets.new.items) (Refuses (written (form object_identifier (arcs value.now)) 0)) }
     ensures kept { OnErr result (Begins octets.old.items octets.new.items) }
 {
-    match oid_octets(alloc, value) {
-        Ok(contents) => {
-            push_counted(octets, contents.as_slice())?;
-            Ok(())
-        }
-        Err(IdentifierError::Truncated) => Err(EncodeError::ValueConstraintNotSatisfied),
-        Err(_) => Err(EncodeError::OutOfMemory),
-    }
+    let Some(parts) = subidentifiers_of(value) else {
+        return Err(EncodeError::ValueConstraintNotSatisfied);
+    };
+    let (first, others) = parts;
+    push_length(octets, content_count(first, others))?;
+    push_contents(octets, first, others)?;
+    Ok(())
 }

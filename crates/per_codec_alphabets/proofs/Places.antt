@@ -10,7 +10,7 @@ use Rattle.per_codec_alphabets.specs.declared.runs.CharacterRun.{CharacterRun}
 some_same : {X : Type 0} {x y : X} → Some x ≡ Some y → x ≡ y
 some_same e = cc
 
-more_map : (a b : ℕ) (p : Option ℕ) → option_map (λ j. a + j) (option_map (λ j. b + j) p) ≡ option_map (λ j. a + b + j) p
+pub more_map : (a b : ℕ) (p : Option ℕ) → option_map (λ j. a + j) (option_map (λ j. b + j) p) ≡ option_map (λ j. a + b + j) p
 more_map a b None = refl
 more_map a b (Some j) = ap (λ n. Some n) (omega arith)
 
@@ -97,7 +97,7 @@ largest_joined a b [] = refl
 largest_joined a b (r ∷ []) = refl
 largest_joined a b (r ∷ s ∷ rs) = largest_joined a b (s ∷ rs)
 
-runs_behind : (xs : List CharacterRun) (ys : List CharacterRun) → runs_of (xs ++ ys) ≡ runs_of xs ++ runs_of ys
+pub runs_behind : (xs : List CharacterRun) (ys : List CharacterRun) → runs_of (xs ++ ys) ≡ runs_of xs ++ runs_of ys
 runs_behind [] ys = refl
 runs_behind (x ∷ xs) ys = ap (λ rs. run_of x ∷ rs) (runs_behind xs ys)
 
@@ -127,7 +127,7 @@ many_more rs ss r e = many_end rs r ∙ ap (λ n. n + (r.last + 1 - r.first)) e 
     many_end [] r = omega arith
     many_end (q ∷ rs) r = let i = many_end rs r in omega arith
 
-largest_end : (rs : List Run) (r : Run) → largest (rs ++ r ∷ []) ≡ r.last
+pub largest_end : (rs : List Run) (r : Run) → largest (rs ++ r ∷ []) ≡ r.last
 largest_end [] r = refl
 largest_end (q ∷ []) r = refl
 largest_end (q ∷ s ∷ rs) r = largest_end (s ∷ rs) r
@@ -141,7 +141,7 @@ behind_step : (m n : ℕ) (p q : Option ℕ) → option_map (λ j. m + j) (or_be
 behind_step m n (Some i) q = refl
 behind_step m n None q = more_map m n q
 
-none_added : (q : Option ℕ) → q ≡ option_map (λ j. 0 + j) q
+pub none_added : (q : Option ℕ) → q ≡ option_map (λ j. 0 + j) q
 none_added None = refl
 none_added (Some i) = ap Some (omega arith)
 
@@ -161,7 +161,7 @@ same_more rs ss ts r h k = record {
 }
 
 -- ---- characters that a test leaves
-map_end : (cs : List ℕ) (c : ℕ) → singles (cs ++ c ∷ []) ≡ singles cs ++ run c c ∷ []
+pub map_end : (cs : List ℕ) (c : ℕ) → singles (cs ++ c ∷ []) ≡ singles cs ++ run c c ∷ []
 map_end [] c = refl
 map_end (d ∷ cs) c = ap (λ rs. run d d ∷ rs) (map_end cs c)
 

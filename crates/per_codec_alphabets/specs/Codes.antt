@@ -1,6 +1,7 @@
 -- Codes of the characters of strings in the packed encoding rules (X.691 30.5).
-use Rattle.std.specs.Prelude.{◌≡◌, ℕ, ◌+◌, ◌-◌, ◌^◌, ltb, cond, List, [], ◌∷◌, ◌++◌, filter, map, Option, Some, None}
-use Rattle.std.specs.Prelude.{option_map}
+use Rattle.std.specs.Prelude.{◌≡◌, ℕ, ◌+◌, ◌-◌, ◌^◌, Bool, ltb, cond, List, [], ◌∷◌, ◌++◌, filter, map, Option, Some}
+use Rattle.std.specs.Prelude.{None, is_some, option_map, unwrap_or}
+use Rattle.asn1_model.specs.Numbers.{binary}
 use Rattle.asn1_model.specs.Schema.{StringKind}
 use Rattle.asn1_model.specs.Strings.{Run, run, characters_of, is_among, how_many, largest, place_of, sorted}
 use Rattle.per_codec_alphabets.specs.declared.runs.CharacterRun.{CharacterRun}
@@ -35,6 +36,14 @@ character_at (r ∷ rs) i =
 -- The code of a character: its own number if the largest fits in the bits, else its place (X.691 30.5.4).
 abbrev pub code_of : Coded → ℕ → Option ℕ
 code_of a c = option_map (λ i. cond (ltb (largest a.runs) (2 ^ a.code_bits)) c i) (place_of c a.runs)
+
+-- Whether a character has a code.
+abbrev pub has_code : Coded → ℕ → Bool
+has_code a c = is_some (code_of a c)
+
+-- The code of a character in bits; 0 in place of none.
+abbrev pub text_of : Coded → ℕ → List Bool
+text_of a c = binary a.code_bits (unwrap_or (code_of a c) 0)
 
 -- The same characters in the same places, perhaps in other runs.
 pub record SameCharacters (rs ss : List Run) : Type 0 where

@@ -7,12 +7,13 @@ use Rattle.asn1_schema_constraints.specs.declared.extensions.Extensible.{Extensi
 use Rattle.asn1_schema_constraints.specs.declared.extensions.PermittedAlphabet.{PermittedAlphabet}
 use Rattle.per_codec_alphabets.specs.Codes.{runs_of}
 use Rattle.per_codec_alphabets.specs.declared.alphabet.Runs.{Runs}
-use Rattle.per_codec_alphabets.specs.declared.alphabet.Runs.TheVariants.{Own, Kept}
+use Rattle.per_codec_alphabets.specs.declared.alphabet.Runs.TheVariants.{Own, InPlace, Apart}
 
--- The runs, of a type or left of them.
+-- The runs, of a type or left of these.
 abbrev pub held_runs : Runs → List Run
 held_runs (Own rs) = runs_of rs.now
-held_runs (Kept rs) = runs_of rs.items
+held_runs (InPlace rs) = runs_of rs
+held_runs (Apart rs) = runs_of rs.items
 
 -- The characters that a constraint leaves of a kind of string (X.680 51.7).
 abbrev pub permitted_by : StringKind → Option (Extensible PermittedAlphabet) → List Run

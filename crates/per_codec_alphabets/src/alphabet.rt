@@ -7,6 +7,7 @@ ghost use Rattle.per_codec_alphabets.specs.Codes.{runs_of, code_of, SameCharacte
 ghost use Rattle.per_codec_alphabets.specs.Held.{held_runs, permitted_by};
 ghost use Rattle.per_codec_limits.specs.Variants.{is_aligned};
 
+use crate::few::FewRuns;
 use crate::runs::{
     CharacterRun, character_at, count, kept_runs, last_character, own_runs, place_among,
 };
@@ -21,8 +22,10 @@ use std::marker::Model;
 enum Runs {
     /// Those of a type.
     Own(&'static [CharacterRun]),
-    /// Those that a constraint leaves.
-    Kept(Vec<CharacterRun>),
+    /// Those that a constraint leaves, if they are few.
+    InPlace(FewRuns),
+    /// Others that a constraint leaves.
+    Apart(Vec<CharacterRun>),
 }
 
 /// The characters that a permitted alphabet leaves of a type of strings (the effective permitted alphabet, X.691 30.5),
@@ -53,7 +56,8 @@ impl EffectiveAlphabet {
     /// The characters of the type `S` under a permitted alphabet, if there is one and it has no extension marker.
     ///
     /// In the aligned variant a code takes 1, 2, 4, 8 or 16 bits, or none (X.691 30.5.2). Memory is taken only under a
-    /// constraint that counts: once, and again to put characters that it does not list in ascending order into that.
+    /// constraint that counts and lists its characters in more than eight runs, or one of them twice: once, and again
+    /// to put characters that it does not list in ascending order into that.
     ///
     /// # Errors
     ///
@@ -135,7 +139,8 @@ impl Runs {
     {
         match self {
             Runs::Own(runs) => runs,
-            Runs::Kept(runs) => runs,
+            Runs::InPlace(runs) => runs.as_slice(),
+            Runs::Apart(runs) => runs,
         }
     }
 }
@@ -154,7 +159,12 @@ fn permitted_runs<S: StaticPermittedAlphabet>(
                 constraint: alphabet,
                 extensible: None,
             },
-        ) => { Ok(Runs::Kept(kept_runs::<S>(alloc, alphabet.characters)?)) }
+        ) => {
+            if let Some(runs) = FewRuns::kept::<S>(alphabet.characters) {
+                return Ok(Runs::InPlace(runs));
+            }
+            Ok(Runs::Apart(kept_runs::<S>(alloc, alphabet.characters)?))
+        }
         _ => Ok(Runs::Own(own_runs::<S>())),
     }
 }

@@ -3,6 +3,7 @@
 #![tactic(auto)]
 
 mod alphabet;
+mod few;
 mod runs;
 
 pub use alphabet::EffectiveAlphabet;

@@ -17,7 +17,6 @@ ghost use Rattle.per_codec_fronts.specs.Takes.{alternative, Front, completion};
 ghost use Rattle.per_codec_reading.specs.Fronts.{freedoms, is_aligned, IsFresh};
 
 use crate::completion::{read_completion, read_to_end};
-use crate::octets::read_held_octets;
 use crate::options::DecoderOptions;
 use crate::{
     Additions, Enclosing, Ending, Frame, Scopes, read_bitmap, read_members, read_preamble,
@@ -33,9 +32,7 @@ use asn1_values_bits::BitStr;
 use asn1_values_identifiers::ObjectIdentifier;
 use asn1_values_integers::IntegerType;
 use per_codec_reading::units::{read_boolean, read_null};
-use per_codec_reading::{
-    Variant, read_bit_string, read_object_identifier, read_octet_string_in, read_utf8_string,
-};
+use per_codec_reading::{Variant, read_bit_string, read_object_identifier, read_utf8_string};
 use per_codec_reading_values::{
     Stretch, read_characters, read_integer, read_item, read_place_of_alternative, skip_unknown,
 };
@@ -173,16 +170,13 @@ impl<'input> Decoder<'input> {
         ensures after { result ≡ Err DecodeError.AlreadyFailed → HasFailed self.old }
     {
         go_on(self.failed)?;
-        let mut cursor = self.place.cursor();
-        if let Some(bits) = self.place.lent_bits() {
-            let lent = read_octet_string_in(alloc, bits, &mut cursor, self.variant, sizes, held);
-            let position = cursor.position();
-            return self.settle(position, lent);
+        match self
+            .place
+            .take_octet_string(alloc, self.variant, sizes, held)
+        {
+            Ok(octets) => Ok(octets),
+            Err(error) => Err(self.refuse(error)),
         }
-        let answer = read_held_octets(alloc, &mut cursor, self.variant, sizes, held);
-        let position = cursor.position();
-        let octets = self.settle(position, answer)?;
-        Ok(CowSlice::Owned(octets))
     }
 
     // Goes on behind what a reader found, at this position, or fails as it did.

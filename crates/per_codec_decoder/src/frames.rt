@@ -376,10 +376,6 @@ impl<'input> Scopes<'input> {
         ensures behind { IfSome result (λ ending. LeavesBehind ending self.old.behind self.new.behind) }
         ensures none { IfNone result (NoEnd self.old.scopes) }
     {
-        if let Some(Enclosing::Alternative) = &self.enclosing {
-            self.enclosing = None;
-            return Some(Ending::Nothing);
-        }
         if let Some(enclosing) = self.enclosing.take() {
             return Some(enclosing.ending());
         }

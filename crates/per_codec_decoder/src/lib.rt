@@ -7,7 +7,6 @@ mod completion;
 pub mod decoder;
 mod frames;
 mod members;
-mod octets;
 pub mod options;
 mod preamble;
 

@@ -10,6 +10,7 @@ ghost use Rattle.per_codec_reading.specs.Sizes.{admitted};
 ghost use Rattle.per_codec_decoder.specs.Members.{AreBehind, HasMembers, NoFurther, NoMembers, NoneAreBehind};
 
 use asn1_schema_constraints::{Bounded, Sizes};
+use asn1_schema_decode::most_members;
 use asn1_schema_faults::DecodeError;
 use per_codec_reading::lengths::{Length, read_length};
 use per_codec_reading::{Cursor, FRAGMENT, LengthDeterminant, Variant, is_admitted, read_heading};
@@ -185,16 +186,6 @@ fn total_of(fragments: &[u8], last: usize) -> Option<usize>
         total = total.checked_add(usize::from(*fragment) * FRAGMENT)?;
     }
     total.checked_add(last)
-}
-
-/// The greatest number of members that a type of the program with these bounds holds.
-fn most_members(held: Bounded<usize>) -> usize
-    ensures { (members_of held).high ≡ Some result }
-{
-    match held.as_end() {
-        Some(end) => *end,
-        None => usize::MAX,
-    }
 }
 
 /// Reads what stands in front of the members of a list or bag under a size constraint (X.691 20 and 22).

@@ -1,5 +1,5 @@
 -- Additions that begin, come and end, in the bits and the frames of an encoder.
-use Rattle.std.proofs.Common.{◌≡◌, ℕ, zero, suc, ◌-◌, ◌<◌, Bool, true, false, cond, List, [], ◌∷◌, ◌++◌, length, reverse, Option, Some, None, option_map, Vec, Global, refl, ap, subst, sym, ◌∙◌, arith}
+use Rattle.std.proofs.Common.{◌≡◌, ℕ, zero, suc, ◌-◌, ◌<◌, Bool, true, false, cond, List, [], ◌∷◌, ◌++◌, length, reverse, Option, Some, None, option_map, refl, ap, subst, sym, ◌∙◌, arith}
 use Rattle.std.proofs.lemmas.List.{append-nil}
 use Rattle.asn1_schema_presented.specs.Records.{additions_begin, addition, addition_ends}
 use Rattle.per_codec_packing.specs.Texts.{Text, as_text, plain}
@@ -14,13 +14,13 @@ use Rattle.per_codec_encoder.specs.Holding.{at, preamble, IsOpen, IsAdded, Holds
 use Rattle.per_codec_encoder.proofs.Scopes.{length-open, on_top, put_back}
 
 -- the additions of a sequence, by their parts
-abbrev pub kept : ℕ → ℕ → Place → Place → Vec (Option (List Bool)) Global → Additions
+abbrev pub kept : ℕ → ℕ → Place → Place → List (Option (List Bool)) → Additions
 kept due given start end v = record { due = due; given = given; start = start; end = end; slots = v }
 
 -- ---- they begin
 
 module _ (fs rest : List Frame) (f : Frame) (e : Bool) (due given : ℕ) (start : Place) (o : Packed) (a : fs ≡ rest ++ f ∷ []) (b : f ≡ Components e due given start) where
-  pub does_begin_additions : (gs : List Frame) (end : Place) (count : ℕ) (v : Vec (Option (List Bool)) Global) → e ≡ true → due ≡ 0 → end.bits ≡ length (solid o.text) → at end ≡ length o.text → v.items ≡ [] → gs ≡ rest ++ Added (kept count given start end v) ∷ [] → (al : Bool) → Does al (additions_begin count) fs o gs o
+  pub does_begin_additions : (gs : List Frame) (end : Place) (count : ℕ) (v : List (Option (List Bool))) → e ≡ true → due ≡ 0 → end.bits ≡ length (solid o.text) → at end ≡ length o.text → v ≡ [] → gs ≡ rest ++ Added (kept count given start end v) ∷ [] → (al : Bool) → Does al (additions_begin count) fs o gs o
   does_begin_additions gs end count v c d k l i y al = record { after = λ s h. go s (on_top fs rest f (Components true 0 given start) o s a (b ∙ (ap (λ x. Components x due given start) c ∙ ap (λ k. Components true k given start) d)) h) }
     where
       go : (s : State) → IsOpen (λ q t. Holds (reverse rest) q t) true 0 given start o s → (t : State) × (run al (additions_begin count) s ≡ Some t) × Holds (reverse gs) o t
@@ -83,44 +83,44 @@ module _ (fs rest : List Frame) (f : Frame) (ad : Additions) (o : Packed) (a : f
   below q t = Holds (reverse rest) q t
 
   abbrev Open : State → Type 0
-  Open s = IsAdded below ad.due ad.given ad.start ad.end ad.slots.items o s
+  Open s = IsAdded below ad.due ad.given ad.start ad.end ad.slots o s
 
   top : (s : State) → Holds (reverse fs) o s → Open s
   top s h = on_top fs rest f (Added ad) o s a b h
 
   abbrev then_state : (s : State) → Open s → ℕ → List (Option (List Bool)) → State
-  then_state s h n slots = turned below ad.due ad.given ad.start ad.end ad.slots.items o s h n slots
+  then_state s h n slots = turned below ad.due ad.given ad.start ad.end ad.slots o s h n slots
 
   then_open : (s : State) (h : Open s) (n : ℕ) (slots others : List (Option (List Bool))) → others ≡ slots → IsAdded below n ad.given ad.start ad.end others o (then_state s h n slots)
-  then_open s h n slots others e = subst (λ l. IsAdded below n ad.given ad.start ad.end l o (then_state s h n slots)) (sym e) (still_open below ad.due ad.given ad.start ad.end ad.slots.items o s h n slots)
+  then_open s h n slots others e = subst (λ l. IsAdded below n ad.given ad.start ad.end l o (then_state s h n slots)) (sym e) (still_open below ad.due ad.given ad.start ad.end ad.slots o s h n slots)
 
-  one_due : (s : State) (h : Open s) (al present : Bool) → (ad.due ≡ 0 → ⊥) → run al (addition present) s ≡ run al (addition present) (then_state s h (suc (ad.due - 1)) ad.slots.items)
+  one_due : (s : State) (h : Open s) (al present : Bool) → (ad.due ≡ 0 → ⊥) → run al (addition present) s ≡ run al (addition present) (then_state s h (suc (ad.due - 1)) ad.slots)
   one_due s h al present n =
       let one : ad.due ≡ suc (ad.due - 1) = omega arith in
-      ap (run al (addition present)) (h.is ∙ ap (λ k. then_state s h k ad.slots.items) one)
+      ap (run al (addition present)) (h.is ∙ ap (λ k. then_state s h k ad.slots) one)
 
-  pub does_pass : (gs : List Frame) (v : Vec (Option (List Bool)) Global) (present : Bool) → present ≡ false → (ad.due ≡ 0 → ⊥) → v.items ≡ ad.slots.items ++ None ∷ [] → gs ≡ rest ++ Added (kept (ad.due - 1) ad.given ad.start ad.end v) ∷ [] → (al : Bool) → Does al (addition present) fs o gs o
+  pub does_pass : (gs : List Frame) (v : List (Option (List Bool))) (present : Bool) → present ≡ false → (ad.due ≡ 0 → ⊥) → v ≡ ad.slots ++ None ∷ [] → gs ≡ rest ++ Added (kept (ad.due - 1) ad.given ad.start ad.end v) ∷ [] → (al : Bool) → Does al (addition present) fs o gs o
   does_pass gs v true p n i y al = cc
   does_pass gs v false p n i y al = record { after = λ s h. go s (top s h) }
     where
       go : (s : State) → Open s → (t : State) × (run al (addition false) s ≡ Some t) × Holds (reverse gs) o t
       go s h =
-          let slots : List (Option (List Bool)) = ad.slots.items ++ None ∷ [] in
-          (then_state s h (ad.due - 1) slots, one_due s h al false n, put_back rest gs (Added (kept (ad.due - 1) ad.given ad.start ad.end v)) o (then_state s h (ad.due - 1) slots) y (then_open s h (ad.due - 1) slots v.items i))
+          let slots : List (Option (List Bool)) = ad.slots ++ None ∷ [] in
+          (then_state s h (ad.due - 1) slots, one_due s h al false n, put_back rest gs (Added (kept (ad.due - 1) ad.given ad.start ad.end v)) o (then_state s h (ad.due - 1) slots) y (then_open s h (ad.due - 1) slots v i))
 
-  pub does_open : (gs hs : List Frame) (v : Vec (Option (List Bool)) Global) (outer p : Packed) (present : Bool) → present ≡ true → (ad.due ≡ 0 → ⊥) → v.items ≡ ad.slots.items → outer ≡ o → p ≡ record { text = []; placed = true } → gs ≡ rest ++ Added (kept (ad.due - 1) ad.given ad.start ad.end v) ∷ [] → hs ≡ gs ++ OpenType outer ∷ [] → (al : Bool) → Does al (addition present) fs o hs p
+  pub does_open : (gs hs : List Frame) (v : List (Option (List Bool))) (outer p : Packed) (present : Bool) → present ≡ true → (ad.due ≡ 0 → ⊥) → v ≡ ad.slots → outer ≡ o → p ≡ record { text = []; placed = true } → gs ≡ rest ++ Added (kept (ad.due - 1) ad.given ad.start ad.end v) ∷ [] → hs ≡ gs ++ OpenType outer ∷ [] → (al : Bool) → Does al (addition present) fs o hs p
   does_open gs hs v outer p false c n j i e y x al = cc
   does_open gs hs v outer p true c n j i e y x al = record { after = λ s h. go s (top s h) }
     where
       go : (s : State) → Open s → (t : State) × (run al (addition true) s ≡ Some t) × Holds (reverse hs) p t
       go s h =
-          let t : State = then_state s h (ad.due - 1) ad.slots.items in
+          let t : State = then_state s h (ad.due - 1) ad.slots in
           let z : State = ([], open_type t.0 ∷ t.1) in
-          let under : Holds (reverse gs) o t = put_back rest gs (Added (kept (ad.due - 1) ad.given ad.start ad.end v)) o t y (then_open s h (ad.due - 1) ad.slots.items v.items j) in
+          let under : Holds (reverse gs) o t = put_back rest gs (Added (kept (ad.due - 1) ad.given ad.start ad.end v)) o t y (then_open s h (ad.due - 1) ad.slots v j) in
           (z, one_due s h al true n, put_back gs hs (OpenType outer) p z x (t, ap (λ (l : Packed). let q : State = (l.text, open_type t.0 ∷ t.1) in q) (sym e), ap (λ (l : Packed). l.placed) e, subst (λ l. Holds (reverse gs) l t) (sym i) under))
 
   pub none_due : (al present : Bool) → ad.due ≡ 0 → (s : State) → Holds (reverse fs) o s → run al (addition present) s ≡ None
-  none_due al present n s q = let h = top s q in ap (run al (addition present)) (h.is ∙ ap (λ k. then_state s h k ad.slots.items) n)
+  none_due al present n s q = let h = top s q in ap (run al (addition present)) (h.is ∙ ap (λ k. then_state s h k ad.slots) n)
 
 -- the additions behind the next one, by their parts
 next_is : {here : Bool} {x y : Additions} → Next here x y → y ≡ kept (x.due - 1) x.given x.start x.end y.slots
@@ -132,26 +132,26 @@ next_is {here} {x} {y} n =
 
 pub does_no_addition : (present : Bool) (fs gs : List Frame) (o : Packed) → present ≡ false → CountsAddition present fs gs → (al : Bool) → Does al (addition present) fs o gs o
 does_no_addition present fs gs o e c al =
-    does_pass fs c.around (Added c.old) c.old o c.before refl gs c.new.slots present e (λ z. absurd (omega (arith, z, c.next.one))) (c.next.slots ∙ ap (λ b. cond b c.old.slots.items (c.old.slots.items ++ None ∷ [])) e) (c.after ∙ ap (λ x. c.around ++ Added x ∷ []) (next_is c.next)) al
+    does_pass fs c.around (Added c.old) c.old o c.before refl gs c.new.slots present e (λ z. absurd (omega (arith, z, c.next.one))) (c.next.slots ∙ ap (λ b. cond b c.old.slots (c.old.slots ++ None ∷ [])) e) (c.after ∙ ap (λ x. c.around ++ Added x ∷ []) (next_is c.next)) al
 
 pub does_addition : (present : Bool) (fs gs hs : List Frame) (o outer p : Packed) → present ≡ true → CountsAddition present fs gs → outer ≡ o → p ≡ record { text = []; placed = true } → hs ≡ gs ++ OpenType outer ∷ [] → (al : Bool) → Does al (addition present) fs o hs p
 does_addition present fs gs hs o outer p e c i n x al =
-    does_open fs c.around (Added c.old) c.old o c.before refl gs hs c.new.slots outer p present e (λ z. absurd (omega (arith, z, c.next.one))) (c.next.slots ∙ ap (λ b. cond b c.old.slots.items (c.old.slots.items ++ None ∷ [])) e) i n (c.after ∙ ap (λ x. c.around ++ Added x ∷ []) (next_is c.next)) x al
+    does_open fs c.around (Added c.old) c.old o c.before refl gs hs c.new.slots outer p present e (λ z. absurd (omega (arith, z, c.next.one))) (c.next.slots ∙ ap (λ b. cond b c.old.slots (c.old.slots ++ None ∷ [])) e) i n (c.after ∙ ap (λ x. c.around ++ Added x ∷ []) (next_is c.next)) x al
 
 -- ---- one that is there ends
 
 module _ (fs mid rest : List Frame) (f g : Frame) (ad : Additions) (outer o : Packed) (a : fs ≡ mid ++ f ∷ []) (b : f ≡ OpenType outer) where
-  pub does_end_addition : (gs : List Frame) (v : Vec (Option (List Bool)) Global) (p : Packed) (contents : List Bool) → mid ≡ rest ++ g ∷ [] → g ≡ Added ad → p ≡ outer → (o.placed ≡ true → plain o.text ≡ Some contents) → v.items ≡ ad.slots.items ++ Some contents ∷ [] → gs ≡ rest ++ Added (kept ad.due ad.given ad.start ad.end v) ∷ [] → (al : Bool) → Does al addition_ends fs o gs p
+  pub does_end_addition : (gs : List Frame) (v : List (Option (List Bool))) (p : Packed) (contents : List Bool) → mid ≡ rest ++ g ∷ [] → g ≡ Added ad → p ≡ outer → (o.placed ≡ true → plain o.text ≡ Some contents) → v ≡ ad.slots ++ Some contents ∷ [] → gs ≡ rest ++ Added (kept ad.due ad.given ad.start ad.end v) ∷ [] → (al : Bool) → Does al addition_ends fs o gs p
   does_end_addition gs v p contents c d e i j y al = record { after = λ s h. let k = on_top fs mid f (OpenType outer) o s a b h in go s k (on_top mid rest g (Added ad) outer k.0 c d k.3) }
     where
-      go : (s : State) (k : Holds (OpenType outer ∷ reverse mid) o s) → IsAdded (λ q t. Holds (reverse rest) q t) ad.due ad.given ad.start ad.end ad.slots.items outer k.0 → (t : State) × (run al addition_ends s ≡ Some t) × Holds (reverse gs) p t
+      go : (s : State) (k : Holds (OpenType outer ∷ reverse mid) o s) → IsAdded (λ q t. Holds (reverse rest) q t) ad.due ad.given ad.start ad.end ad.slots outer k.0 → (t : State) × (run al addition_ends s ≡ Some t) × Holds (reverse gs) p t
       go s k h =
-          let ends_with : List Bool → State = λ w. then_state mid rest g ad outer c d k.0 h ad.due (ad.slots.items ++ Some w ∷ []) in
-          let slots : List (Option (List Bool)) = ad.slots.items ++ Some contents ∷ [] in
-          let inside : (let l : State = (o.text, open_type k.0.0 ∷ k.0.1) in l) ≡ (o.text, open_type h.inner ∷ added ad.due h.presence_bits h.root ad.slots.items h.outer.0 ∷ h.outer.1) = ap (λ (u : State). let l : State = (o.text, open_type u.0 ∷ u.1) in l) h.is in (
+          let ends_with : List Bool → State = λ w. then_state mid rest g ad outer c d k.0 h ad.due (ad.slots ++ Some w ∷ []) in
+          let slots : List (Option (List Bool)) = ad.slots ++ Some contents ∷ [] in
+          let inside : (let l : State = (o.text, open_type k.0.0 ∷ k.0.1) in l) ≡ (o.text, open_type h.inner ∷ added ad.due h.presence_bits h.root ad.slots h.outer.0 ∷ h.outer.1) = ap (λ (u : State). let l : State = (o.text, open_type u.0 ∷ u.1) in l) h.is in (
             ends_with contents,
             ap (run al addition_ends) (k.1 ∙ inside) ∙ ap (option_map ends_with) (i k.2),
-            put_back rest gs (Added (kept ad.due ad.given ad.start ad.end v)) p (ends_with contents) y (subst (λ l. IsAdded (λ q t. Holds (reverse rest) q t) ad.due ad.given ad.start ad.end v.items l (ends_with contents)) (sym e) (then_open mid rest g ad outer c d k.0 h ad.due slots v.items j)),
+            put_back rest gs (Added (kept ad.due ad.given ad.start ad.end v)) p (ends_with contents) y (subst (λ l. IsAdded (λ q t. Holds (reverse rest) q t) ad.due ad.given ad.start ad.end v l (ends_with contents)) (sym e) (then_open mid rest g ad outer c d k.0 h ad.due slots v j)),
           )
 
   -- nothing but an addition ends so

@@ -1,7 +1,7 @@
 -- Ends of what is open, in the bits and the frames of an encoder.
-use Rattle.std.proofs.Common.{◌≡◌, ℕ, zero, suc, ◌+◌, ◌-◌, ◌<◌, ◌≤◌, Bool, true, false, cond, List, [], ◌∷◌, ◌++◌, length, take, drop, get_or, reverse, Option, Some, None, option_map, option_and_then, refl, ap, subst, sym, ◌∙◌, arith, append_assoc, length-append}
+use Rattle.std.proofs.Common.{◌≡◌, ℕ, zero, suc, ◌+◌, ◌-◌, ◌<◌, ◌≤◌, Bool, true, false, cond, List, [], ◌∷◌, ◌++◌, length, take, reverse, Option, Some, None, option_map, option_and_then, refl, ap, subst, sym, ◌∙◌, arith, append_assoc, length-append}
 use Rattle.std.proofs.lemmas.List.{append-nil}
-use Rattle.asn1_model.specs.Form.{exactly, is_any_present, is_present}
+use Rattle.asn1_model.specs.Form.{exactly, is_any_present}
 use Rattle.asn1_model.specs.Per
 use Rattle.asn1_schema_presented.specs.Records.{ends}
 use Rattle.per_codec_packing.specs.Texts.{Text, bit, padding, as_text, plain, on, text_at}
@@ -9,9 +9,8 @@ use Rattle.per_codec_packing.proofs.Formed.{length-text}
 use Rattle.per_codec_packing.specs.Packed.{Packed, Adds, place, plus, solid, with_bit}
 use Rattle.per_codec_packing.proofs.Adding.{added as text_added}
 use Rattle.per_codec_packing.proofs.Bits.{solid-append, changed_behind}
-use Rattle.per_codec_encoder.specs.Steps.{added, members, position, State, adds_text, extended_text, run}
-use Rattle.per_codec_writing.specs.Additions.{as_open_types}
-use Rattle.per_codec_writing.proofs.AdditionTexts.{from_here}
+use Rattle.per_codec_encoder.specs.Steps.{components, added, members, position, State, adds_text, extended_text, run}
+use Rattle.per_codec_additions.specs.Additions.{as_open_types}
 use Rattle.per_codec_encoder.specs.declared.frame.Additions.{Additions}
 use Rattle.per_codec_encoder.specs.declared.frame.Frame.{Frame}
 use Rattle.per_codec_encoder.specs.declared.frame.Frame.TheVariants.{Components, Added, OpenType, Members, Alternative}
@@ -43,6 +42,24 @@ does_end_alternative fs rest f a b al o = record { after = λ s h. go s (on_top 
     go : (s : State) → Holds (Alternative ∷ reverse rest) o s → (t : State) × (run al ends s ≡ Some t) × Holds (reverse rest) o t
     go s h = (h.0, ap (run al ends) h.1, h.2)
 
+-- ---- something is due of what is innermost
+
+pub cannot_end_components : (fs rest : List Frame) (f : Frame) (e : Bool) (due given : ℕ) (start : Place) → fs ≡ rest ++ f ∷ [] → f ≡ Components e due given start → (e ≡ false → 0 < due) → (al : Bool) (o : Packed) (s : State) → Holds (reverse fs) o s → run al ends s ≡ None
+cannot_end_components fs rest f e due given start a b n al o s q = let h = on_top fs rest f (Components e due given start) o s a b q in ap (run al ends) h.is ∙ go e due n h.inner h.presence_bits h.outer
+  where
+    go : (e : Bool) (due : ℕ) → (e ≡ false → 0 < due) → (os : Text) (ms : List Bool) (t : State) → run al ends (os, components e due ms t.0 ∷ t.1) ≡ None
+    go false zero n os ms t = absurd (omega (arith, n refl))
+    go false (suc due) n os ms t = refl
+    go true due n os ms t = refl
+
+pub cannot_end_members : (fs rest : List Frame) (f : Frame) (d : Due) → fs ≡ rest ++ f ∷ [] → f ≡ Members d → (d.units ≡ 0 → d.behind ≡ None → ⊥) → (al : Bool) (o : Packed) (s : State) → Holds (reverse fs) o s → run al ends s ≡ None
+cannot_end_members fs rest f d a b n al o s q = let h = on_top fs rest f (Members d) o s a b q in ap (run al ends) h.1 ∙ go d.units d.behind n h.0
+  where
+    go : (units : ℕ) (behind : Option ℕ) → (units ≡ 0 → behind ≡ None → ⊥) → (t : State) → run al ends (t.0, members units (determinants_of behind) ∷ t.1) ≡ None
+    go zero None n t = absurd (n refl refl)
+    go zero (Some k) n t = refl
+    go (suc units) behind n t = refl
+
 -- ---- open types
 
 pub does_end_open : (al : Bool) (fs rest : List Frame) (f : Frame) (outer o front p : Packed) (contents : List Bool) → fs ≡ rest ++ f ∷ [] → f ≡ OpenType outer → (o.placed ≡ true → plain o.text ≡ Some contents) → front ≡ outer → Adds (text_at (Per.open_type al (exactly contents)) (place front)) front p → Does al ends fs o rest p
@@ -66,13 +83,13 @@ does_end_open al fs rest f outer o front p contents a b c d x = record { after =
 
 module _ (al : Bool) (fs rest : List Frame) (f : Frame) (ad : Additions) (o cut : Packed) (a : fs ≡ rest ++ f ∷ []) (b : f ≡ Added ad) (c : cut ≡ instead (take (at ad.end) o.text) o) where
   abbrev Open : State → Type 0
-  Open s = IsAdded (λ q t. Holds (reverse rest) q t) ad.due ad.given ad.start ad.end ad.slots.items o s
+  Open s = IsAdded (λ q t. Holds (reverse rest) q t) ad.due ad.given ad.start ad.end ad.slots o s
 
   top : (s : State) → Holds (reverse fs) o s → Open s
   top s h = on_top fs rest f (Added ad) o s a b h
 
   cut_is : (s : State) (h : Open s) → cut ≡ instead (h.front ++ (as_text (preamble true h.presence_bits) ++ h.root)) o
-  cut_is s h = c ∙ ap (λ t. instead t o) (head_shown _ ad.due ad.given ad.start ad.end ad.slots.items o s h)
+  cut_is s h = c ∙ ap (λ t. instead t o) (head_shown _ ad.due ad.given ad.start ad.end ad.slots o s h)
 
   -- the extension bit stands before the end of the root
   pub bit_within : AreSound fs o → ad.start.bits < length (solid cut.text)
@@ -81,23 +98,23 @@ module _ (al : Bool) (fs rest : List Frame) (f : Frame) (ad : Additions) (o cut 
       let all : length (solid cut.text) ≡ length (solid h.front) + suc (length (solid (as_text h.presence_bits ++ h.root))) = ap (λ (p : Packed). length (solid p.text)) (cut_is q.state h) ∙ ap length (solid-append h.front (bit false ∷ (as_text h.presence_bits ++ h.root))) ∙ length-append (solid h.front) (false ∷ solid (as_text h.presence_bits ++ h.root)) in
       omega (arith, all, h.bits)
 
-  ended_as : (s : State) (h : Open s) → ad.due ≡ 0 → run al ends s ≡ adds_text (extended_text al h.presence_bits h.root ad.slots.items (place (instead h.front o))) h.outer
+  ended_as : (s : State) (h : Open s) → ad.due ≡ 0 → run al ends s ≡ adds_text (extended_text al h.presence_bits h.root ad.slots (place (instead h.front o))) h.outer
   ended_as s h n =
-      ap (run al ends) (h.is ∙ ap (λ k. let l : State = (h.inner, added k h.presence_bits h.root ad.slots.items h.outer.0 ∷ h.outer.1) in l) n)
-      ∙ ap (λ q. adds_text (extended_text al h.presence_bits h.root ad.slots.items q) h.outer) (at_end (reverse rest) (instead h.front o) h.outer h.under)
+      ap (run al ends) (h.is ∙ ap (λ k. let l : State = (h.inner, added k h.presence_bits h.root ad.slots h.outer.0 ∷ h.outer.1) in l) n)
+      ∙ ap (λ q. adds_text (extended_text al h.presence_bits h.root ad.slots q) h.outer) (at_end (reverse rest) (instead h.front o) h.outer h.under)
 
   -- a text behind what stood in front of the sequence
   behind_front : (s : State) (h : Open s) (p : Packed) (w : Text) → p ≡ instead (h.front ++ w) o → (let z : State = (h.outer.0 ++ w, h.outer.1) in Holds (reverse rest) p z)
   behind_front s h p w e = subst (λ l. Holds (reverse rest) l (h.outer.0 ++ w, h.outer.1)) (sym e) (appended (reverse rest) (instead h.front o) h.outer w h.under)
 
-  pub does_end_none : (p : Packed) → ad.due ≡ 0 → is_any_present ad.slots.items ≡ false → p ≡ cut → Does al ends fs o rest p
+  pub does_end_none : (p : Packed) → ad.due ≡ 0 → is_any_present ad.slots ≡ false → p ≡ cut → Does al ends fs o rest p
   does_end_none p n none e = record { after = λ s h. go s (top s h) }
     where
       go : (s : State) → Open s → (t : State) × (run al ends s ≡ Some t) × Holds (reverse rest) p t
       go s h =
           let t : Text = as_text (false ∷ h.presence_bits) ++ h.root in (
             (h.outer.0 ++ t, h.outer.1),
-            ended_as s h n ∙ ap (λ x. adds_text x h.outer) (not_there h.presence_bits h.root ad.slots.items (place (instead h.front o)) none),
+            ended_as s h n ∙ ap (λ x. adds_text x h.outer) (not_there h.presence_bits h.root ad.slots (place (instead h.front o)) none),
             behind_front s h p t (e ∙ cut_is s h),
           )
         where
@@ -125,11 +142,11 @@ module _ (al : Bool) (fs rest : List Frame) (f : Frame) (ad : Additions) (o cut 
       go false = refl
       go true = ap (λ (k : ℕ). Some k) n
 
-  pub does_end_some : (p : Packed) → ad.due ≡ 0 → is_any_present ad.slots.items ≡ true → Adds (text_at (Per.additions al (as_open_types al ad.slots.items)) (place cut)) extended p → Does al ends fs o rest p
+  pub does_end_some : (p : Packed) → ad.due ≡ 0 → is_any_present ad.slots ≡ true → Adds (text_at (Per.additions al (as_open_types al ad.slots)) (place cut)) extended p → Does al ends fs o rest p
   does_end_some p n some x = record { after = λ s h. go s (top s h) }
     where
       y : Per.BitForm
-      y = Per.additions al (as_open_types al ad.slots.items)
+      y = Per.additions al (as_open_types al ad.slots)
 
       t : (w : Text) × (text_at y (place cut) ≡ Some w) × (plus extended w ≡ p)
       t = text_added (text_at y (place cut)) extended p x
@@ -146,11 +163,11 @@ module _ (al : Bool) (fs rest : List Frame) (f : Frame) (ad : Additions) (o cut 
           ∙ ap (λ l. instead l o) (append_assoc h.front (as_text (true ∷ ms) ++ h.root) t.0 ∙ ap (λ l. h.front ++ l) (append_assoc (as_text (true ∷ ms)) h.root t.0)) in (
             (h.outer.0 ++ whole, h.outer.1),
             ended_as s h n
-                ∙ ap (λ z. adds_text z h.outer) (there ms h.root ad.slots.items (place (instead h.front o)) some ∙ ap (λ k. option_map (λ w. as_text (true ∷ ms) ++ (h.root ++ w)) (text_at y k)) (sym (same_length s h)) ∙ ap (option_map (λ w. as_text (true ∷ ms) ++ (h.root ++ w))) t.1),
+                ∙ ap (λ z. adds_text z h.outer) (there ms h.root ad.slots (place (instead h.front o)) some ∙ ap (λ k. option_map (λ w. as_text (true ∷ ms) ++ (h.root ++ w)) (text_at y k)) (sym (same_length s h)) ∙ ap (option_map (λ w. as_text (true ∷ ms) ++ (h.root ++ w))) t.1),
             behind_front s h p whole text_is,
           )
 
-  pub does_end_added : (slots : List (Option (List Bool))) (p : Packed) → slots ≡ ad.slots.items → ad.due ≡ 0 → (is_any_present slots ≡ true → Adds (text_at (Per.additions al (as_open_types al slots)) (place cut)) extended p) → (is_any_present slots ≡ false → p ≡ cut) → Does al ends fs o rest p
+  pub does_end_added : (slots : List (Option (List Bool))) (p : Packed) → slots ≡ ad.slots → ad.due ≡ 0 → (is_any_present slots ≡ true → Adds (text_at (Per.additions al (as_open_types al slots)) (place cut)) extended p) → (is_any_present slots ≡ false → p ≡ cut) → Does al ends fs o rest p
   does_end_added slots p e n x y = go (is_any_present slots) refl
     where
       go : (t : Bool) → is_any_present slots ≡ t → Does al ends fs o rest p
@@ -161,35 +178,13 @@ module _ (al : Bool) (fs rest : List Frame) (f : Frame) (ad : Additions) (o cut 
   cannot_end_added n s q =
       let h = top s q in
       let one : ad.due ≡ suc (ad.due - 1) = omega (arith, n) in
-      ap (run al ends) (h.is ∙ ap (λ k. let l : State = (h.inner, added k h.presence_bits h.root ad.slots.items h.outer.0 ∷ h.outer.1) in l) one)
+      ap (run al ends) (h.is ∙ ap (λ k. let l : State = (h.inner, added k h.presence_bits h.root ad.slots h.outer.0 ∷ h.outer.1) in l) one)
 
 -- the end of the root is a place in the text
 pub root_ends : (fs rest : List Frame) (f : Frame) (ad : Additions) (o : Packed) → fs ≡ rest ++ f ∷ [] → f ≡ Added ad → AreSound fs o → (ad.end.bits + ad.end.paddings ≤ length o.text) × (length (solid (take (ad.end.bits + ad.end.paddings) o.text)) ≡ ad.end.bits)
 root_ends fs rest f ad o a b q =
     let h = on_top fs rest f (Added ad) o q.state a b q.holds in
-    (omega (arith, length-added _ ad.due ad.given ad.start ad.end ad.slots.items o q.state h), ap (λ t. length (solid t)) (head_shown _ ad.due ad.given ad.start ad.end ad.slots.items o q.state h) ∙ h.end_bits)
-
--- ---- whether an addition is there
-
-pub slot_there : (slots : List (Option (List Bool))) (i : ℕ) (x : Option (List Bool)) → i < length slots → x ≡ get_or slots i x → is_present x ≡ true → is_any_present (drop i slots) ≡ true
-slot_there slots i x h e s = ap is_any_present (from_here slots i x h e) ∙ go x s
-  where
-    go : (y : Option (List Bool)) → is_present y ≡ true → is_any_present (y ∷ drop (i + 1) slots) ≡ true
-    go None s = cc
-    go (Some w) s = refl
-
-pub slot_absent : (slots : List (Option (List Bool))) (i : ℕ) (x : Option (List Bool)) → i < length slots → x ≡ get_or slots i x → is_present x ≡ false → is_any_present (drop i slots) ≡ is_any_present (drop (i + 1) slots)
-slot_absent slots i x h e s = ap is_any_present (from_here slots i x h e) ∙ go x s
-  where
-    go : (y : Option (List Bool)) → is_present y ≡ false → is_any_present (y ∷ drop (i + 1) slots) ≡ is_any_present (drop (i + 1) slots)
-    go None s = refl
-    go (Some w) s = cc
-
-pub none_left : (slots : List (Option (List Bool))) (i : ℕ) → length slots ≤ i → is_any_present (drop i slots) ≡ false
-none_left [] zero h = refl
-none_left [] (suc i) h = refl
-none_left (x ∷ slots) zero h = absurd (omega arith)
-none_left (x ∷ slots) (suc i) h = none_left slots i (omega arith)
+    (omega (arith, length-added _ ad.due ad.given ad.start ad.end ad.slots o q.state h), ap (λ t. length (solid t)) (head_shown _ ad.due ad.given ad.start ad.end ad.slots o q.state h) ∙ h.end_bits)
 
 -- the extension bit is set in front of the additions
 pub behind_bit_set : (x : Per.BitForm) (old extended new : Packed) (i : ℕ) → extended ≡ record { text = with_bit i true old.text; placed = old.placed } → Adds (text_at x (place extended)) extended new → Adds (text_at x (place old)) (record { text = with_bit i true old.text; placed = old.placed }) new

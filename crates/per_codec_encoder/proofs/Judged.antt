@@ -14,7 +14,7 @@ use Rattle.per_codec_packing.specs.Packed.{Packed, place, plus}
 use Rattle.per_codec_writing.specs.Writing.{padding_if}
 use Rattle.per_codec_writing.proofs.LengthTexts.{adds_short, adds_long, adds_fragment}
 use Rattle.per_codec_writing.proofs.ConstrainedTexts.{constrained_bits, adds_octet, adds_two_octets}
-use Rattle.per_codec_writing.specs.Headings.{Heading, before_all, general, sized_count, extensible_count, Heads}
+use Rattle.per_codec_writing.specs.Headings.{Heading, before_all, count_up_to, general, sized_count, extensible_count, Heads}
 use Rattle.per_codec_writing.specs.declared.lengths.Due.{Due}
 use Rattle.per_codec_writing.proofs.HeadingTexts.{few_heads, fragment_heads}
 use Rattle.per_codec_encoder.specs.Steps.{list_heading}
@@ -91,7 +91,7 @@ module _ (al : Bool) where
   sized_there c None n w q = general_there al n q
   sized_there c (Some high) n w q = go (ltb high 65536) refl
     where
-      go : (t : Bool) → ltb high 65536 ≡ t → IsThere (cond t (option_map (λ w. before_all n w) (text_at (Per.constrained al (high - c.low) (n - c.low)) q)) (general al n q))
+      go : (t : Bool) → ltb high 65536 ≡ t → IsThere (count_up_to al c.low false n q (cond t (Some high) None))
       go true t =
           let p = and_parts (leb c.low n) (leb n high) w in
           let low = leb-true c.low n p.0 in

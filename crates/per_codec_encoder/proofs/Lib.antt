@@ -12,7 +12,7 @@ pub mod Lists
 pub mod StepSequences
 pub mod StepAdditions
 pub mod Choices
-pub mod Pads
+pub mod PaddingAlone
 pub mod StepBags
 pub mod Types
 pub mod Chains

@@ -1,15 +1,14 @@
 -- Lists: a count in front of all members, or length determinants between them.
-use Rattle.std.proofs.Common.{◌≡◌, ℕ, zero, suc, ◌+◌, ◌-◌, ◌*◌, ◌≤◌, ltb, leb, Bool, true, false, cond, ◌&&◌, List, [], ◌∷◌, ◌++◌, length, take, drop, Option, Some, None, option_map, option_and_then, refl, ap, sym, ◌∙◌, append_assoc, arith}
+use Rattle.std.proofs.Common.{◌≡◌, ℕ, zero, suc, ◌+◌, Bool, true, false, List, ◌∷◌, ◌++◌, length, take, drop, Option, Some, None, option_map, option_and_then, refl, ap, sym, ◌∙◌, append_assoc, arith}
 use Rattle.std.proofs.lemmas.List.{append-nil}
-use Rattle.std.proofs.lemmas.Bool.{leb-true, and_parts}
 use Rattle.asn1_model.specs.Value.{Value, members as in_list, Values, no_more, member, each}
 use Rattle.asn1_model.specs.Schema.{Counts, Size, Schema, sequence_of}
-use Rattle.asn1_model.specs.Numbers.{binary, is_count_within}
-use Rattle.asn1_model.specs.Form.{exactly, both, only_if, joined}
+use Rattle.asn1_model.specs.Numbers.{is_count_within}
+use Rattle.asn1_model.specs.Form.{both, joined}
 use Rattle.asn1_model.specs.Per
 use Rattle.asn1_schema_presented.specs.Records.{Record, further, ends}
 use Rattle.asn1_schema_presented.specs.Presents.{presents, member_records, member_count}
-use Rattle.per_codec_packing.specs.Texts.{Text, bit, moved, on, text_at}
+use Rattle.per_codec_packing.specs.Texts.{Text, on, text_at}
 use Rattle.per_codec_writing.specs.Headings.{general, sized_count, form_due}
 use Rattle.per_codec_writing.proofs.HeadingForms.{left, Ready, by_heading, next_text, AllSound, next_sound, Leads, general_leads, count_leads, if_leads, extensible_leads}
 use Rattle.per_codec_encoder.specs.Steps.{LengthDeterminants, Scope, members, offset, position, Heading, next_determinant, list_heading, headed, counted_on, runs}

@@ -114,8 +114,8 @@ shown_is (Components e due given start ∷ fs) o s h =
     (ap (λ t. shown fs (instead t o)) (front_shown _ e due given start o s h) ∙ shown_is fs (instead h.front o) h.outer h.under)
     ∙ sym h.is
 shown_is (Added a ∷ fs) o s h =
-    same_added a.due a.slots.items _ h.inner _ h.presence_bits _ h.root _ h.outer (behind_shown _ a.due a.given a.start a.end a.slots.items o s h) (given_shown _ a.due a.given a.start a.end a.slots.items o s h) (root_shown _ a.due a.given a.start a.end a.slots.items o s h)
-    (ap (λ t. shown fs (instead t o)) (before_shown _ a.due a.given a.start a.end a.slots.items o s h) ∙ shown_is fs (instead h.front o) h.outer h.under)
+    same_added a.due a.slots _ h.inner _ h.presence_bits _ h.root _ h.outer (behind_shown _ a.due a.given a.start a.end a.slots o s h) (given_shown _ a.due a.given a.start a.end a.slots o s h) (root_shown _ a.due a.given a.start a.end a.slots o s h)
+    (ap (λ t. shown fs (instead t o)) (before_shown _ a.due a.given a.start a.end a.slots o s h) ∙ shown_is fs (instead h.front o) h.outer h.under)
     ∙ sym h.is
 shown_is (OpenType front ∷ fs) o s h = ap (λ (t : State). let l : State = (o.text, open_type t.0 ∷ t.1) in l) (shown_is fs front h.0 h.3) ∙ sym h.1
 shown_is (Bag b ∷ fs) o s h = ap (λ (t : State). let l : State = (o.text, bag_of b.value t.0 ∷ t.1) in l) (shown_is fs b.value.outer h.0 h.3) ∙ sym h.1
@@ -148,7 +148,7 @@ at_end (Components e due given start ∷ fs) o s h =
 at_end (Added a ∷ fs) o s h =
     ap position h.is
     ∙ moved_on (offset h.outer.1) o.placed (length h.outer.0) (length h.front) (1 + length h.presence_bits + length h.root) (length h.inner) (length o.text) (at_end fs (instead h.front o) h.outer h.under)
-    (omega (arith, h.starts, h.told, h.ends, length-added _ a.due a.given a.start a.end a.slots.items o s h))
+    (omega (arith, h.starts, h.told, h.ends, length-added _ a.due a.given a.start a.end a.slots o s h))
 at_end (OpenType front ∷ fs) o s h = ap position h.1 ∙ first_at_end o h.2
 at_end (Bag b ∷ fs) o s h = ap position h.1 ∙ ap (λ b. cond b (Some (length o.text)) None) (sym h.2)
 at_end (Alternative ∷ fs) o s h = ap position h.1 ∙ at_end fs o h.0 h.2

@@ -13,7 +13,7 @@ use Rattle.per_codec_encoder.specs.Steps.{LengthDeterminants, Scope, bag_members
 use Rattle.per_codec_encoder.specs.Ties.{BridgesAt, Bridges}
 use Rattle.per_codec_packing.proofs.Formed.{chain_same, in_turn}
 use Rattle.per_codec_encoder.proofs.Bridge.{one_text}
-use Rattle.per_codec_encoder.proofs.Pads.{Pads, AllPad, each_pads, form_pads, told_bits}
+use Rattle.per_codec_encoder.proofs.PaddingAlone.{PaddingAlone, AllPaddingAlone, each_padding, form_padding, told_bits}
 use Rattle.per_codec_writing.specs.Headings.{form_due}
 use Rattle.per_codec_writing.proofs.HeadingForms.{by_heading}
 use Rattle.per_codec_encoder.proofs.Lists.{length-each, list_text}
@@ -150,11 +150,11 @@ abbrev Found : List Per.BitForm → Option (List Text) → Type 0
 Found xs None = with_keys complete_bits (stands_before Per.bit_less) xs ≡ None
 Found xs (Some ts) = (ys : List Told) × (forms_of ys ≡ xs) × (texts_of ys ≡ ts)
 
-no_key : (x : Per.BitForm) → Pads x → text_at x None ≡ None → complete_bits x ≡ None
+no_key : (x : Per.BitForm) → PaddingAlone x → text_at x None ≡ None → complete_bits x ≡ None
 unfolding written Per.complete
 no_key x h e = ap (option_and_then (λ w. written (Per.padded w) 0)) (told_bits h 0 ∙ ap (option_and_then (λ t. written (as_form t) 0)) e)
 
-found : (xs : List Per.BitForm) → AllPad xs → Found xs (all_texts xs)
+found : (xs : List Per.BitForm) → AllPaddingAlone xs → Found xs (all_texts xs)
 found [] h = ([], refl, refl)
 found (x ∷ xs) h = go (text_at x None) refl (all_texts xs) (found xs h.1)
   where
@@ -303,5 +303,5 @@ bags z held s b al (bag vs) os k rest = judged (list_heading al z held (member_c
         members_kept al z held s (b al) os k rest vs None []
         ∙ chain_same (all_texts us) _ (λ ts. option_and_then (λ w. runs al rest (os ++ w, k)) (text_at (ordered al z held q (map as_form ts)) q)) (λ ts. one_text al (text_at (ordered al z held q (map as_form ts)) q) os k rest)
         ∙ sym (in_turn (all_texts us) (λ ts. text_at (ordered al z held q (map as_form ts)) q) (λ w. runs al rest (os ++ w, k)))
-        ∙ ap (option_and_then (λ w. runs al rest (os ++ w, k))) (by_texts al z held q us (all_texts us) (found us (each_pads (λ v. Per.form al s v) (λ v. form_pads al s v) vs)))
+        ∙ ap (option_and_then (λ w. runs al rest (os ++ w, k))) (by_texts al z held q us (all_texts us) (found us (each_padding (λ v. Per.form al s v) (λ v. form_padding al s v) vs)))
 bags z held s b al v os k rest = refl

@@ -1,9 +1,19 @@
 -- The frames of an encoder, and how the additions of the innermost go on.
-use Rattle.std.specs.Prelude.{◌≡◌, ◌-◌, ◌<◌, Bool, cond, List, [], ◌∷◌, ◌++◌, Option, Some, None}
+use Rattle.std.specs.Prelude.{◌≡◌, ◌-◌, ◌<◌, Bool, true, false, cond, List, [], ◌∷◌, ◌++◌, Option, Some, None}
 use Rattle.per_codec_encoder.specs.declared.frame.Additions.{Additions}
 use Rattle.per_codec_encoder.specs.declared.frame.Frame.{Frame}
 use Rattle.per_codec_packing.specs.Packed.{Packed}
-use Rattle.per_codec_encoder.specs.declared.frame.Frame.TheVariants.{Added, OpenType}
+use Rattle.per_codec_encoder.specs.declared.frame.Frame.TheVariants.{Components, Added, OpenType, Members, Bag}
+use Rattle.per_codec_encoder.specs.declared.frame.Frame.TheVariants.{Alternative}
+
+-- Whether something is written at the end of a frame.
+abbrev pub is_written_at_end : Frame → Bool
+is_written_at_end (Components e due given start) = false
+is_written_at_end (Added a) = true
+is_written_at_end (OpenType o) = true
+is_written_at_end (Members d) = false
+is_written_at_end (Bag b) = true
+is_written_at_end Alternative = false
 
 -- An open type, if there is one, is open within others: the text in front of it is given.
 abbrev pub enclosed : Option Packed → List Frame → List Frame
@@ -17,7 +27,7 @@ pub record Next (here : Bool) (a b : Additions) : Type 0 where
   pub given : b.given ≡ a.given
   pub start : b.start ≡ a.start
   pub end : b.end ≡ a.end
-  pub slots : b.slots.items ≡ cond here a.slots.items (a.slots.items ++ None ∷ [])
+  pub slots : b.slots ≡ cond here a.slots (a.slots ++ None ∷ [])
 
 -- The additions with the bits of one more, which is there.
 pub record Keeps (contents : List Bool) (a b : Additions) : Type 0 where
@@ -25,7 +35,7 @@ pub record Keeps (contents : List Bool) (a b : Additions) : Type 0 where
   pub given : b.given ≡ a.given
   pub start : b.start ≡ a.start
   pub end : b.end ≡ a.end
-  pub slots : b.slots.items ≡ a.slots.items ++ Some contents ∷ []
+  pub slots : b.slots ≡ a.slots ++ Some contents ∷ []
 
 -- The next addition of the innermost sequence is counted.
 pub record CountsAddition (here : Bool) (fs gs : List Frame) : Type 0 where

@@ -43,7 +43,7 @@ shown (Added a ∷ fs) o =
     let below = shown fs (instead (take (at a.start) o.text) o) in (
       drop (at a.end) o.text,
       added a.due (solid (take a.given (drop (at a.start + 1) o.text)))
-          (drop (at a.start + (1 + a.given)) (take (at a.end) o.text)) a.slots.items below.0 ∷ below.1,
+          (drop (at a.start + (1 + a.given)) (take (at a.end) o.text)) a.slots below.0 ∷ below.1,
     )
 shown (OpenType front ∷ fs) o =
     let below = shown fs front in
@@ -96,7 +96,7 @@ pub record IsAdded (below : Packed → State → Type 0) (due given : ℕ) (star
 abbrev pub Holds : List Frame → Packed → State → Type 0
 Holds [] o s = (o.placed ≡ true) × (s ≡ (o.text, []))
 Holds (Components e due given start ∷ fs) o s = IsOpen (λ p t. Holds fs p t) e due given start o s
-Holds (Added a ∷ fs) o s = IsAdded (λ p t. Holds fs p t) a.due a.given a.start a.end a.slots.items o s
+Holds (Added a ∷ fs) o s = IsAdded (λ p t. Holds fs p t) a.due a.given a.start a.end a.slots o s
 Holds (OpenType front ∷ fs) o s = (outer : State) × (s ≡ (o.text, open_type outer.0 ∷ outer.1)) × (o.placed ≡ true)
     × Holds fs front outer
 Holds (Members d ∷ fs) o s = (outer : State) × (s ≡ (outer.0, members d.units (determinants_of d.behind) ∷ outer.1))

@@ -1,12 +1,12 @@
 -- What a writer of the packed encoding rules (X.691) holds: the text of the innermost open scope, and the open scopes.
 -- Each record changes them. What is written depends on how many bits stand in front of it in its message or open type.
-use Rattle.std.specs.Prelude.{◌≡◌, ℕ, zero, suc, ◌+◌, ◌-◌, ◌*◌, ltb, leb, Bool, true, false, cond, ◌&&◌, List, [], ◌∷◌}
+use Rattle.std.specs.Prelude.{◌≡◌, ℕ, zero, suc, ◌+◌, ◌-◌, Bool, true, false, cond, List, [], ◌∷◌}
 use Rattle.std.specs.Prelude.{◌++◌, length, map, Option, Some, None, option_map, option_and_then}
 use Rattle.asn1_model.specs.Value.{truth, number, item, bit_list, octet_list, text, arcs}
 use Rattle.asn1_model.specs.Schema.{Counts, Size, boolean, integer, enumerated, bit_string, octet_string}
 use Rattle.asn1_model.specs.Schema.{character_string, object_identifier}
-use Rattle.asn1_model.specs.Numbers.{binary, is_count_within}
-use Rattle.asn1_model.specs.Form.{exactly, both, only_if, is_any_present}
+use Rattle.asn1_model.specs.Numbers.{is_count_within}
+use Rattle.asn1_model.specs.Form.{exactly, both, is_any_present}
 use Rattle.asn1_model.specs.Per
 use Rattle.per_codec_packing.specs.Texts.{Text, as_text, plain, moved, on, text_at, as_form}
 pub use Rattle.per_codec_writing.specs.Headings.{LengthDeterminants, Heading, next_determinant, heading}

@@ -8,8 +8,8 @@ use crate::frame::{Additions, Frame, Place};
 use crate::frames::Frames;
 use crate::nested::Nested;
 use asn1_schema_faults::EncodeError;
+use per_codec_additions::Slots;
 use per_codec_packing::Packing;
-use per_codec_writing::Slot;
 use std::alloc::Global;
 use std::mem;
 
@@ -44,7 +44,7 @@ pub(crate) fn open_additions(
         return Err(EncodeError::CallOutOfPlace);
     }
     let (given, start) = (*given, *start);
-    let slots = Vec::with_capacity(alloc, count)?;
+    let slots = Slots::with_capacity(alloc, count)?;
     frames.replace(Frame::Added(Additions {
         due: count,
         given,
@@ -66,7 +66,7 @@ pub(crate) fn count_addition(additions: &mut Additions, present: bool) -> Result
         return Err(EncodeError::CallOutOfPlace);
     }
     if !present {
-        additions.slots.push(Slot::absent())?;
+        additions.slots.push_absent()?;
     }
     additions.due -= 1;
     Ok(())
@@ -78,7 +78,7 @@ pub(crate) fn count_addition(additions: &mut Additions, present: bool) -> Result
 ///
 /// `CallOutOfPlace` where no addition is due of what is innermost; `OutOfMemory`.
 #[inline]
-pub(crate) fn put_addition(
+pub(crate) fn encode_addition(
     output: &mut Packing,
     frames: &mut Frames,
     alloc: Global,

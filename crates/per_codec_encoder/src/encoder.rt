@@ -7,7 +7,7 @@ ghost use Rattle.per_codec_packing.specs.Texts.{as_text};
 ghost use Rattle.per_codec_encoder.specs.Ties.{octets_of};
 ghost use Rattle.per_codec_encoder.specs.Stepping.{Puts, is_aligned as are_aligned};
 
-use crate::additions::{end_addition, put_addition};
+use crate::additions::{encode_addition, end_addition};
 use crate::alternatives::begin_alternative;
 use crate::bags::begin_bag;
 use crate::ends::end_scope;
@@ -338,11 +338,11 @@ impl asn1_schema_encode::Encoder for Encoder {
     }
 
     #[inline(always)]
-    fn put_further(&mut self, more: bool) -> Result<(), EncodeError> {
+    fn encode_further(&mut self, more: bool) -> Result<(), EncodeError> {
         record!(
             self,
             self.frames
-                .put_further(&mut self.output, self.alloc, self.variant, more)
+                .encode_further(&mut self.output, self.alloc, self.variant, more)
         )
     }
 
@@ -381,10 +381,10 @@ impl asn1_schema_encode::Encoder for Encoder {
     }
 
     #[inline(always)]
-    fn put_presence_bit(&mut self, present: bool) -> Result<(), EncodeError> {
+    fn encode_presence_bit(&mut self, present: bool) -> Result<(), EncodeError> {
         record!(
             self,
-            self.frames.put_presence_bit(&mut self.output, present)
+            self.frames.encode_presence_bit(&mut self.output, present)
         )
     }
 
@@ -397,10 +397,10 @@ impl asn1_schema_encode::Encoder for Encoder {
     }
 
     #[inline(always)]
-    fn put_addition(&mut self, present: bool) -> Result<(), EncodeError> {
+    fn encode_addition(&mut self, present: bool) -> Result<(), EncodeError> {
         record!(
             self,
-            put_addition(&mut self.output, &mut self.frames, self.alloc, present)
+            encode_addition(&mut self.output, &mut self.frames, self.alloc, present)
         )
     }
 

@@ -6,8 +6,9 @@ ghost use Rattle.asn1_model.specs.Per.{additions};
 ghost use Rattle.asn1_schema_presented.specs.Records.{ends};
 ghost use Rattle.per_codec_packing.specs.Packed.{Adds, Packed, place, solid, with_bit};
 ghost use Rattle.per_codec_packing.specs.Texts.{text_at};
-ghost use Rattle.per_codec_writing.specs.Additions.{as_open_types};
+ghost use Rattle.per_codec_additions.specs.Additions.{as_open_types};
 ghost use Rattle.per_codec_encoder.specs.declared.frame.Frame.{Frame};
+ghost use Rattle.per_codec_encoder.specs.Frames.{is_written_at_end};
 ghost use Rattle.per_codec_encoder.specs.Holding.{AreSound, Does, Cannot};
 ghost use Rattle.per_codec_limits.specs.Variants.{is_aligned};
 
@@ -15,32 +16,20 @@ use crate::bags::end_bag;
 use crate::frame::{Additions, Frame};
 use crate::frames::Frames;
 use asn1_schema_faults::EncodeError;
+use per_codec_additions::{Slots, push_additions};
 use per_codec_limits::Variant;
 use per_codec_packing::Packing;
-use per_codec_writing::{Slot, push_additions, push_open_type};
+use per_codec_writing::push_open_type;
 use std::alloc::Global;
 use std::mem;
-
-/// Whether an addition is there.
-fn is_extended(slots: &[Slot]) -> bool
-    ensures { result ≡ is_any_present slots.now }
-{
-    for slot in slots {
-        if slot.is_present() {
-            return true;
-        }
-    }
-    false
-}
 
 /// Sets the extension bit at a place and adds the additions, if one is there (X.691 19.1 and 19.7 to 19.9). The
 /// only error is want of memory.
 fn push_extension(
     output: &mut Packing,
     variant: Variant,
-    alloc: Global,
     extension_bit: usize,
-    slots: &[Slot],
+    slots: &Slots,
 ) -> Result<(), EncodeError>
     requires { extension_bit < length (solid output.old.text) }
     ensures only { IfErr result (λ e. e ≡ EncodeError.OutOfMemory) }
@@ -50,11 +39,11 @@ fn push_extension(
         (record { text = with_bit extension_bit true output.old.text; placed = output.old.placed }) output.new) }
     ensures none { IfOk result (λ _. is_any_present slots.now ≡ false → output.new ≡ output.old) }
 {
-    if !is_extended(slots) {
+    if !slots.is_any_present() {
         return Ok(());
     }
     output.set(extension_bit, true);
-    push_additions(output, variant, alloc, slots)?;
+    push_additions(output, variant, slots)?;
     Ok(())
 }
 
@@ -64,7 +53,6 @@ fn push_extension(
 fn end_additions(
     output: &mut Packing,
     additions: Additions,
-    alloc: Global,
     variant: Variant,
 ) -> Result<(), EncodeError>
     requires { (around : List Frame) × AreSound (around ++ Frame.Added additions ∷ []) output.old }
@@ -77,8 +65,7 @@ fn end_additions(
         return Err(EncodeError::CallOutOfPlace);
     }
     output.truncate(additions.end.bits, additions.end.paddings);
-    let slots = additions.slots.as_slice();
-    push_extension(output, variant, alloc, additions.start.bits, slots)?;
+    push_extension(output, variant, additions.start.bits, &additions.slots)?;
     Ok(())
 }
 
@@ -98,8 +85,10 @@ fn end_open_type(output: &mut Packing, outer: Packing, variant: Variant) -> Resu
 /// Whether nothing of a frame is due, and nothing is written at its end.
 #[inline(always)]
 pub(crate) fn is_complete(frame: &Frame) -> bool
-    ensures { result ≡ true → (al : Bool) (fs : List Frame) (o : Packed)
+    ensures complete { result ≡ true → (al : Bool) (fs : List Frame) (o : Packed)
         → Does al ends (fs ++ frame.now ∷ []) o fs o }
+    ensures due { result ≡ false → is_written_at_end frame.now ≡ false → (al : Bool) (fs : List Frame) (o : Packed)
+        → Cannot al ends (fs ++ frame.now ∷ []) o EncodeError.CallOutOfPlace }
 {
     match frame {
         Frame::Components {
@@ -135,26 +124,8 @@ fn end_taken(
         (Cannot (is_aligned variant) ends frames.old output.old) }
 {
     match frames.pop() {
-        Some(
-            Frame::Components {
-                extensible,
-                due,
-                ..
-            },
-        ) => {
-            if extensible || due > 0 {
-                return Err(EncodeError::CallOutOfPlace);
-            }
-            Ok(())
-        }
-        Some(Frame::Added(additions)) => end_additions(output, additions, alloc, variant),
+        Some(Frame::Added(additions)) => end_additions(output, additions, variant),
         Some(Frame::OpenType { outer }) => end_open_type(output, outer, variant),
-        Some(Frame::Members(due)) => {
-            if due.units > 0 || due.behind.is_some() {
-                return Err(EncodeError::CallOutOfPlace);
-            }
-            Ok(())
-        }
         Some(Frame::Bag(boxed)) => {
             let bag = Box::into_inner(boxed);
             if bag.due > 0 {
@@ -163,7 +134,12 @@ fn end_taken(
             end_bag(output, bag, alloc, variant)?;
             Ok(())
         }
-        Some(Frame::Alternative) => Ok(()),
+        Some(frame) => {
+            if !is_complete(&frame) {
+                return Err(EncodeError::CallOutOfPlace);
+            }
+            Ok(())
+        }
         None => Err(EncodeError::CallOutOfPlace),
     }
 }

@@ -3,8 +3,9 @@ ghost use Rattle.std.specs.Prelude.{◌≡◌, ◌+◌, length};
 ghost use Rattle.per_codec_packing.specs.Packed.{solid};
 
 use asn1_schema_constraints::{Bounded, Sizes};
+use per_codec_additions::Slots;
 use per_codec_packing::{Packing, Texts};
-use per_codec_writing::{Due, Slot};
+use per_codec_writing::Due;
 
 /// A place in a text.
 #[derive(Clone, Copy, PartialEq, Eq)]
@@ -69,7 +70,7 @@ pub(crate) struct Additions {
     /// Where the root ends.
     pub end: Place,
     /// Those that were told: the bits of each that is there.
-    pub slots: Vec<Slot>,
+    pub slots: Slots,
 }
 
 /// A bag. Each of its members stands alone until the bag ends, which puts them in their order (X.691 22).

@@ -175,7 +175,7 @@ impl Frames {
     ///
     /// `CallOutOfPlace` where no sequence, set or group is innermost of which a presence bit is due.
     #[inline(always)]
-    pub(crate) fn put_presence_bit(
+    pub(crate) fn encode_presence_bit(
         &mut self,
         output: &mut Packing,
         present: bool,
@@ -197,7 +197,7 @@ impl Frames {
     ///
     /// `CallOutOfPlace` where no list or bag is innermost, or more or fewer members come than were told; `OutOfMemory`.
     #[inline(always)]
-    pub(crate) fn put_further(
+    pub(crate) fn encode_further(
         &mut self,
         output: &mut Packing,
         alloc: Global,
@@ -214,7 +214,7 @@ impl Frames {
         next_member(output, &mut self.nested, alloc, variant, more)
     }
 
-    /// Keeps the bits of an addition of the innermost sequence or set.
+    /// Keeps the bits of an addition of the innermost sequence or set. Their memory is room for the next open type.
     ///
     /// # Errors
     ///
@@ -228,7 +228,9 @@ impl Frames {
         if self.enclosing.is_some() {
             return Err(EncodeError::CallOutOfPlace);
         }
-        self.nested.keep_addition(&mut self.room, contents)
+        let kept = self.nested.keep_addition(&contents);
+        self.room = contents.into_vec();
+        kept
     }
 
     /// Counts the next addition of the innermost sequence or set.

@@ -1,11 +1,13 @@
 //! Lists, whose members stand behind their number, or in fragments behind length determinants (X.691 11.9 and 20).
-ghost use Rattle.std.specs.Prelude.{◌≡◌, MatchResult};
+ghost use Rattle.std.specs.Prelude.{◌≡◌, IfOk, MatchResult};
 ghost use Rattle.asn1_schema_presented.specs.Records.{list_begins};
 ghost use Rattle.asn1_schema_constraints.specs.Bounds.{members_of};
 ghost use Rattle.asn1_schema_constraints.specs.Terms.{size_of};
 ghost use Rattle.per_codec_encoder.specs.Headings.{GoesOn, GoesOnInList, NoMember};
 ghost use Rattle.per_codec_encoder.specs.Holding.{Does, Cannot};
 ghost use Rattle.per_codec_limits.specs.Variants.{is_aligned};
+ghost use Rattle.per_codec_packing.specs.Packed.{place};
+ghost use Rattle.per_codec_writing.specs.Headings.{general, Heads, IsDue};
 
 use crate::frame::Frame;
 use crate::frames::Frames;
@@ -41,9 +43,25 @@ pub(crate) fn begin_members(
     Ok(())
 }
 
+/// Adds a further length determinant of a list, in front of so many members (X.691 11.9.3.8). Few lists come to one.
+/// The only error is want of memory.
+#[cold]
+fn push_further_length_determinant(
+    output: &mut Packing,
+    variant: Variant,
+    count: usize,
+) -> Result<Due, EncodeError>
+    ensures heads { MatchResult result
+        (λ due. Heads (general (is_aligned variant) count (place output.old)) output.old due output.new)
+        (λ e. e ≡ EncodeError.OutOfMemory) }
+    ensures due { IfOk result (λ due. IsDue count due) }
+{
+    push_length_determinant(output, variant, count)
+}
+
 /// Adds the length determinant that stands in front of the next member or the end, if one does (X.691 11.9.3.8). The
 /// only error is want of memory.
-#[cold]
+#[inline(always)]
 fn push_next_length_determinant(
     output: &mut Packing,
     variant: Variant,
@@ -54,7 +72,7 @@ fn push_next_length_determinant(
 {
     match due.behind {
         Some(count) if due.units == 0 => {
-            let next = push_length_determinant(output, variant, count)?;
+            let next = push_further_length_determinant(output, variant, count)?;
             Ok(next)
         }
         _ => Ok(due),

@@ -1,5 +1,5 @@
 //! What is open but for an open type innermost of all, from the outermost on.
-ghost use Rattle.std.specs.Prelude.{◌≡◌, ◌++◌, ◌∷◌, [], Bool, List, MatchOption, OnOk, IfErr, Some, true, false};
+ghost use Rattle.std.specs.Prelude.{◌≡◌, ◌++◌, ◌∷◌, [], Bool, List, MatchOption, OnOk, IfErr, true, false};
 ghost use Rattle.std.specs.Prelude.{option_to_list};
 ghost use Rattle.asn1_schema_presented.specs.Records.{addition, addition_ends, ends};
 ghost use Rattle.per_codec_packing.specs.Packed.{Packed};
@@ -10,9 +10,9 @@ ghost use Rattle.per_codec_encoder.specs.Holding.{Cannot, Does};
 use crate::additions::count_addition;
 use crate::ends::is_complete;
 use crate::frame::Frame;
+use asn1_schema_encode::let_go;
 use asn1_schema_faults::EncodeError;
 use asn1_values_bits::BitBuffer;
-use per_codec_writing::Slot;
 use std::alloc::{AllocError, Global};
 use std::marker::Model;
 use std::mem;
@@ -34,20 +34,6 @@ impl Model for Nested {
     ghost view = { λ f. f.outer.items ++ option_to_list f.innermost };
 
     ghost invariant = { λ f. f.innermost ≡ None → f.outer.items ≡ [] };
-}
-
-/// An addition that is there, by its bits. Where few of them are kept in place, `room` is their memory then.
-#[inline(always)]
-fn kept_slot(room: &mut Vec<u8>, contents: BitBuffer) -> Slot
-    ensures { result ≡ Some contents }
-{
-    match Slot::in_place(&contents) {
-        Some(slot) => {
-            *room = contents.into_vec();
-            slot
-        }
-        None => Slot::apart(contents),
-    }
 }
 
 impl Nested {
@@ -74,21 +60,11 @@ impl Nested {
         }
     }
 
-    /// Lets all go that is open. At the end of a message nothing is, and mostly no memory was taken: then there is
-    /// nothing to call.
+    /// Lets all go that is open.
     #[inline(always)]
     pub(crate) fn let_go(self) {
         let Nested { innermost, outer } = self;
-        if innermost.is_none() {
-            mem::forget(innermost);
-        } else {
-            drop(innermost);
-        }
-        if outer.capacity() == 0 {
-            mem::forget(outer);
-        } else {
-            drop(outer);
-        }
+        let_go(innermost, outer);
     }
 
     /// Opens a frame within what is innermost, which is let go where memory is refused.
@@ -165,26 +141,19 @@ impl Nested {
         self.innermost = Some(frame);
     }
 
-    /// Keeps the bits of an addition of the innermost sequence or set. Where few of them are kept in place, `room` is
-    /// their memory then.
+    /// Keeps the bits of an addition of the innermost sequence or set.
     ///
     /// # Errors
     ///
     /// `CallOutOfPlace` where no such type is innermost; `OutOfMemory`.
     #[inline(always)]
-    pub(crate) fn keep_addition(
-        &mut self,
-        room: &mut Vec<u8>,
-        contents: BitBuffer,
-    ) -> Result<(), EncodeError>
-        ensures ok { OnOk result (KeepsAddition contents self.old self.new) }
+    pub(crate) fn keep_addition(&mut self, contents: &BitBuffer) -> Result<(), EncodeError>
+        ensures ok { OnOk result (KeepsAddition contents.now self.old self.new) }
         ensures only { IfErr result (λ e. (al : Bool) (outer o : Packed)
             → Cannot al addition_ends (self.old ++ Frame.OpenType outer ∷ []) o e) }
     {
         match &mut self.innermost {
-            Some(Frame::Added(additions)) => {
-                additions.slots.push(kept_slot(room, contents))?;
-            }
+            Some(Frame::Added(additions)) => additions.slots.push_present(contents)?,
             _ => return Err(EncodeError::CallOutOfPlace),
         }
         Ok(())

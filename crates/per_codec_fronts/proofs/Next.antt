@@ -82,11 +82,11 @@ module _ (free : Per.Freedom → Bool) where
 
   bit_strings : (al : Bool) (z : Size) (h : Counts) (v w : List Bool) → Alike free (Per.form al (bit_string z h) (bit_list v)) (Per.form al (bit_string z h) (bit_list w)) (v ≡ w)
   unfolding Per.form
-  bit_strings al z h v w = agree_map free (λ q. pairs_equal v w q) (sized_alike free Bool (λ a b. a ≡ b) (λ b. exactly (b ∷ [])) (λ a b. agree_first free (λ e. agree_map free (λ u. e) (agree_nothing free))) al z h (Per.pads_string 1 (length v)) (Per.pads_string 1 (length w)) v w (λ l. ap (λ n. Per.pads_string 1 n z.counts) l))
+  bit_strings al z h v w = agree_map free (λ q. pairs_equal v w q) (sized_alike free Bool (λ a b. a ≡ b) (λ b. exactly (b ∷ [])) (λ a b. agree_first free (λ e. agree_map free (λ u. e) (agree_nothing free))) al z h (Per.string_has_padding 1 (length v)) (Per.string_has_padding 1 (length w)) v w (λ l. ap (λ n. Per.string_has_padding 1 n z.counts) l))
 
   octet_strings : (al : Bool) (z : Size) (h : Counts) (v w : List ℕ) → Alike free (Per.form al (octet_string z h) (octet_list v)) (Per.form al (octet_string z h) (octet_list w)) (v ≡ w)
   unfolding Per.form
-  octet_strings al z h v w = agree_if free (each_is is_octet v) (each_is is_octet w) _ _ (λ i j. agree_map free (λ q. octets_again v w i j q) (sized_alike free ℕ same_bits (λ o. exactly (binary 8 o)) (λ o p. agree_exactly free _ _ refl) al z h (Per.pads_string 8 (length v)) (Per.pads_string 8 (length w)) v w (λ l. ap (λ n. Per.pads_string 8 n z.counts) l)))
+  octet_strings al z h v w = agree_if free (each_is is_octet v) (each_is is_octet w) _ _ (λ i j. agree_map free (λ q. octets_again v w i j q) (sized_alike free ℕ same_bits (λ o. exactly (binary 8 o)) (λ o p. agree_exactly free _ _ refl) al z h (Per.string_has_padding 8 (length v)) (Per.string_has_padding 8 (length w)) v w (λ l. ap (λ n. Per.string_has_padding 8 n z.counts) l)))
 
   strings : (al : Bool) (k : StringKind) (z : Size) (l : Alphabet) (h : Counts) (v w : List ℕ) → Alike free (Per.form al (character_string k z l h) (text v)) (Per.form al (character_string k z l h) (text w)) (v ≡ w)
   unfolding Per.form

@@ -1,7 +1,8 @@
 -- What stands in front of the items of a size, of a string as of a list or bag (X.691 16, 17, 20, 22 and 30).
-use Rattle.std.specs.Prelude.{ℕ, not, ltb, Bool, true, false, cond, [], ◌∷◌, Option, Some, None}
+use Rattle.std.specs.Prelude.{ℕ, not, Bool, true, false, [], ◌∷◌, Option, None}
 use Rattle.asn1_model.specs.Form.{exactly, only_if, nothing_more}
 use Rattle.asn1_model.specs.Per
+use Rattle.per_codec_limits.specs.Counts.{below_long_count}
 
 -- An extension bit, where the type or size is extensible: whether the count of a size is outside the root, or told so
 -- (X.691 16.6, 17.3, 20.4 and 30.4), or an item or alternative is added (X.691 14.3 and 23.5).
@@ -13,5 +14,4 @@ extension_bit true outside = exactly (outside ∷ [])
 -- 11.9.4.1).
 abbrev pub told_highest : Bool → Option ℕ → Option ℕ
 told_highest true high = None
-told_highest false None = None
-told_highest false (Some high) = cond (ltb high 65536) (Some high) None
+told_highest false high = below_long_count high

@@ -8,7 +8,7 @@ pub mod padding;
 pub mod variant;
 
 pub use counts::told_highest;
-pub use padding::{pads_characters, pads_string};
+pub use padding::{characters_have_padding, string_has_padding};
 pub use variant::Variant;
 
 /// How many units the smallest fragment has; others have two to four times as many (X.691 11.9.3.8).

@@ -1,6 +1,6 @@
 //! Where padding stands in front of units behind a constrained number, in the aligned variant (X.691 16, 17 and 30).
 ghost use Rattle.std.specs.Prelude.{◌≡◌};
-ghost use Rattle.asn1_model.specs.Per.{pads_characters as characters_are_padded, pads_string as string_is_padded};
+ghost use Rattle.asn1_model.specs.Per;
 ghost use Rattle.asn1_schema_constraints.specs.Bounds.{counts_of};
 
 use asn1_schema_constraints::Bounded;
@@ -9,8 +9,8 @@ use asn1_schema_constraints::Bounded;
 /// stands in front of no bits, nor of a string of a fixed size of at most 16 bits (X.691 16.9 to 16.11 and 17.6 to
 /// 17.8).
 #[inline(always)]
-pub fn pads_string(root: Bounded<usize>, unit: u32, count: usize) -> bool
-    ensures { result ≡ string_is_padded unit count (counts_of root) }
+pub fn string_has_padding(root: Bounded<usize>, unit: u32, count: usize) -> bool
+    ensures { result ≡ Per.string_has_padding unit count (counts_of root) }
 {
     let has_bits = count > 0 && unit > 0;
     let Some(highest) = root.as_end() else {
@@ -23,13 +23,13 @@ pub fn pads_string(root: Bounded<usize>, unit: u32, count: usize) -> bool
 /// Whether padding stands in front of so many characters, each of so many bits: as in front of a string, but not where
 /// as many as there may be have fewer than 16 bits (X.691 30.5.6 and 30.5.7).
 #[inline(always)]
-pub fn pads_characters(root: Bounded<usize>, unit: u32, count: usize) -> bool
-    ensures { result ≡ characters_are_padded unit count (counts_of root) }
+pub fn characters_have_padding(root: Bounded<usize>, unit: u32, count: usize) -> bool
+    ensures { result ≡ Per.characters_have_padding unit count (counts_of root) }
 {
-    let is_padded = pads_string(root, unit, count);
+    let has_padding = string_has_padding(root, unit, count);
     let Some(highest) = root.as_end() else {
-        return is_padded;
+        return has_padding;
     };
     let most = (*highest as u128) * (unit as u128);
-    is_padded && most >= 16
+    has_padding && most >= 16
 }

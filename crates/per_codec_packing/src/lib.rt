@@ -7,7 +7,6 @@ mod packing;
 pub mod text_laws;
 mod text_view;
 mod texts;
-mod views;
 
 pub use completion::complete_in;
 pub use packing::Packing;

@@ -8,13 +8,9 @@ ghost use Rattle.per_codec_packing.specs.Packed.{Adds, padding_at, place, plus, 
 ghost use Rattle.per_codec_packing.specs.Viewed.{text_of};
 
 use crate::text_view::TextView;
-use crate::views::{push_number, push_view};
 use asn1_values_bits::{BitBuffer, BitStr, free_bits};
 use std::alloc::{AllocError, Global};
 use std::marker::Model;
-
-// How many octets are at most added as one number.
-const NUMBER_OCTETS: usize = 16;
 
 /// A text that grows at its end. Where its place is known, it begins with its message or open type and is bits alone.
 /// Where it is not, as that of a member of a bag, padding up to octets (X.691 11.1) is left open until the text is
@@ -156,10 +152,6 @@ impl Packing {
             self.bits.push_bits(bytes[0] as u128, 8)?;
             return Ok(());
         }
-        if bytes.len() <= NUMBER_OCTETS && self.bits.len() % 8 > 0 {
-            push_number(&mut self.bits, BitStr::front_of(bytes, bytes.len() * 8))?;
-            return Ok(());
-        }
         self.bits.extend_from_bytes(bytes)?;
         Ok(())
     }
@@ -173,7 +165,7 @@ impl Packing {
         ensures ok { OnOk result (self.new ≡ plus self.old (as_text (bits_of bits.entry))) }
         ensures err { OnErr result (self.new ≡ self.old) }
     {
-        push_view(&mut self.bits, bits)?;
+        self.bits.extend_from_bitslice(bits)?;
         Ok(())
     }
 
@@ -237,7 +229,19 @@ impl Packing {
     /// # Errors
     ///
     /// Want of memory; a part of the text may then be there.
+    #[inline(always)]
     pub fn append_text(&mut self, text: TextView<'_>) -> Result<(), AllocError>
+        ensures { OnOk result (Adds (text_at (as_form (text_of text.entry)) (place self.old)) self.old self.new) }
+    {
+        if text.paddings.is_empty() {
+            self.extend_from_bitslice(text.bits)?;
+            return Ok(());
+        }
+        self.append_pieces(text)
+    }
+
+    // Adds a text piece by piece: the bits up to each padding, and this.
+    fn append_pieces(&mut self, text: TextView<'_>) -> Result<(), AllocError>
         ensures { OnOk result (Adds (text_at (as_form (text_of text.entry)) (place self.old)) self.old self.new) }
     {
         let mut from = 0;

@@ -4,7 +4,6 @@ ghost use Rattle.per_codec_packing.specs.Viewed.{text_of};
 
 use crate::packing::Packing;
 use crate::text_view::TextView;
-use crate::views::push_view;
 use asn1_values_bits::BitBuffer;
 use std::alloc::{AllocError, Global};
 use std::marker::Model;
@@ -46,6 +45,19 @@ impl Model for Texts {
     ghost invariant = { λ t. AreParts t.bits t.paddings.items t.parts.items };
 }
 
+// Adds padding behind that of earlier texts: mostly there is none.
+#[inline(always)]
+fn push_paddings(all: &mut Vec<usize>, paddings: &[usize]) -> Result<(), AllocError>
+    ensures ok { OnOk result (all.new.items ≡ all.old.items ++ paddings.now) }
+    ensures err { OnErr result (all.new.items ≡ all.old.items) }
+{
+    if paddings.is_empty() {
+        return Ok(());
+    }
+    all.extend_from_slice(paddings)?;
+    Ok(())
+}
+
 impl Texts {
     /// No texts. It takes no memory before it is handed one.
     pub fn new(alloc: Global) -> Self
@@ -77,8 +89,8 @@ impl Texts {
         let added = text.as_text();
         let first_bit = self.bits.len();
         let first_padding = self.paddings.len();
-        push_view(&mut self.bits, added.bits)?;
-        self.paddings.extend_from_slice(added.paddings)?;
+        self.bits.extend_from_bitslice(added.bits)?;
+        push_paddings(&mut self.paddings, added.paddings)?;
         let part = Part {
             bits: Span {
                 from: first_bit,

@@ -42,25 +42,25 @@ module _ (free : Per.Freedom → Bool) (al : Bool) where
       n h.determinant b (subst (λ t. T t mid) (sym q.0) (subst (λ p. T h.is_outside p) (sym q.1) s.2))
 
   -- ---- units behind a determinant
-  pub no_padding : (w : ℕ) (pads : ℕ → Counts → Bool) (c : Counts) (n : ℕ) (padded : Bool) (m : Place) (e : DecodeError) → padded ≡ pads n c → Misses free (Per.at_octet (al && padded)) m e → (told : Option ℕ) → MissesRest free (determinant_form al c told (Constrained n)) (units_told al w pads c told) m e
-  no_padding w pads c n padded m e i x None a f = absurd (of_refused free a m f)
-  no_padding w pads c n padded m e i x (Some high) a f = misses_also free (Per.at_octet (al && padded)) (told_units al w pads c high) m a e (λ z. no_octet free al w pads c high n a m f (subst (λ t. NoneStands free (Per.at_octet (al && t)) m) i z)) x
+  pub no_padding : (w : ℕ) (has_padding : ℕ → Counts → Bool) (c : Counts) (n : ℕ) (padded : Bool) (m : Place) (e : DecodeError) → padded ≡ has_padding n c → Misses free (Per.at_octet (al && padded)) m e → (told : Option ℕ) → MissesRest free (determinant_form al c told (Constrained n)) (units_told al w has_padding c told) m e
+  no_padding w has_padding c n padded m e i x None a f = absurd (of_refused free a m f)
+  no_padding w has_padding c n padded m e i x (Some high) a f = misses_also free (Per.at_octet (al && padded)) (told_units al w has_padding c high) m a e (λ z. no_octet free al w has_padding c high n a m f (subst (λ t. NoneStands free (Per.at_octet (al && t)) m) i z)) x
 
-  pub no_bits : (w : ℕ) (pads : ℕ → Counts → Bool) (c : Counts) (n : ℕ) (m o : Place) → Front free (Per.at_octet (al && pads n c) nothing_more) m o → length o.1 < n * w → (told : Option ℕ) (a : Place) → Front free (determinant_form al c told (Constrained n)) a m → NoneStands free (units_told al w pads c told) a
-  no_bits w pads c n m o k l None a f = absurd (of_refused free a m f)
-  no_bits w pads c n m o k l (Some high) a f = few_bits free al w pads c high n a m o f k l
+  pub no_bits : (w : ℕ) (has_padding : ℕ → Counts → Bool) (c : Counts) (n : ℕ) (m o : Place) → Front free (Per.at_octet (al && has_padding n c) nothing_more) m o → length o.1 < n * w → (told : Option ℕ) (a : Place) → Front free (determinant_form al c told (Constrained n)) a m → NoneStands free (units_told al w has_padding c told) a
+  no_bits w has_padding c n m o k l None a f = absurd (of_refused free a m f)
+  no_bits w has_padding c n m o k l (Some high) a f = few_bits free al w has_padding c high n a m o f k l
 
-  pub constrained_units : (w : ℕ) (pads : ℕ → Counts → Bool) (c : Counts) (n : ℕ) (bs : List Bool) (m o b : Place) → Front free (Per.at_octet (al && pads n c) nothing_more) m o → Leads bs o b → length bs ≡ n * w → (told : Option ℕ) → Completes free (determinant_form al c told (Constrained n)) (units_told al w pads c told (n, bs)) m b
-  constrained_units w pads c n bs m o b k l e None a f = absurd (of_refused free a m f)
-  constrained_units w pads c n bs m o b k l e (Some high) a f = told_stands free al w pads c high n bs a m o b f k l e
+  pub constrained_units : (w : ℕ) (has_padding : ℕ → Counts → Bool) (c : Counts) (n : ℕ) (bs : List Bool) (m o b : Place) → Front free (Per.at_octet (al && has_padding n c) nothing_more) m o → Leads bs o b → length bs ≡ n * w → (told : Option ℕ) → Completes free (determinant_form al c told (Constrained n)) (units_told al w has_padding c told (n, bs)) m b
+  constrained_units w has_padding c n bs m o b k l e None a f = absurd (of_refused free a m f)
+  constrained_units w has_padding c n bs m o b k l e (Some high) a f = told_stands free al w has_padding c high n bs a m o b f k l e
 
-  pub general_units : (w : ℕ) (pads : ℕ → Counts → Bool) (c : Counts) (l : Length) (us : Units) (m b : Place) → Completes free (length_form al l) (counted_units al w us) m b → (told : Option ℕ) → Completes free (determinant_form al c told (General l)) (units_told al w pads c told us) m b
-  general_units w pads c l us m b h None a f = h a f
-  general_units w pads c l us m b h (Some high) a f = absurd (of_refused free a m f)
+  pub general_units : (w : ℕ) (has_padding : ℕ → Counts → Bool) (c : Counts) (l : Length) (us : Units) (m b : Place) → Completes free (length_form al l) (counted_units al w us) m b → (told : Option ℕ) → Completes free (determinant_form al c told (General l)) (units_told al w has_padding c told us) m b
+  general_units w has_padding c l us m b h None a f = h a f
+  general_units w has_padding c l us m b h (Some high) a f = absurd (of_refused free a m f)
 
-  pub no_general_units : (w : ℕ) (pads : ℕ → Counts → Bool) (c : Counts) (l : Length) (m : Place) (e : DecodeError) → MissesRest free (length_form al l) (counted_units al w) m e → (told : Option ℕ) → MissesRest free (determinant_form al c told (General l)) (units_told al w pads c told) m e
-  no_general_units w pads c l m e h None a f = h a f
-  no_general_units w pads c l m e h (Some high) a f = absurd (of_refused free a m f)
+  pub no_general_units : (w : ℕ) (has_padding : ℕ → Counts → Bool) (c : Counts) (l : Length) (m : Place) (e : DecodeError) → MissesRest free (length_form al l) (counted_units al w) m e → (told : Option ℕ) → MissesRest free (determinant_form al c told (General l)) (units_told al w has_padding c told) m e
+  no_general_units w has_padding c l m e h None a f = h a f
+  no_general_units w has_padding c l m e h (Some high) a f = absurd (of_refused free a m f)
 
   -- units in one run, by what tells their number
   pub in_one_run : (c : Counts) (told : Option ℕ) (d : LengthDeterminant) (n : ℕ) (a b : Place) → Front free (determinant_form al c told d) a b → InOneRun told n → HoldsOneRun d n
@@ -70,12 +70,12 @@ module _ (free : Per.Freedom → Bool) (al : Bool) where
   in_one_run c (Some high) (General l) n a b f h = absurd (of_refused free a b f)
 
   -- ---- and back: what stands in front of units
-  pub units_headed : (w : ℕ) (pads : ℕ → Counts → Bool) (c : Counts) (told : Option ℕ) (us : Units) (a b : Place) → Front free (units_told al w pads c told us) a b → NoneStands free (determinant_form al c told) a → ⊥
-  units_headed w pads c (Some high) us a b f n =
+  pub units_headed : (w : ℕ) (has_padding : ℕ → Counts → Bool) (c : Counts) (told : Option ℕ) (us : Units) (a b : Place) → Front free (units_told al w has_padding c told us) a b → NoneStands free (determinant_form al c told) a → ⊥
+  units_headed w has_padding c (Some high) us a b f n =
       let i = if_out free (length us.1 == us.0 * w) _ a b f in
-      let s = split free (told_count al c.low high us.0) (Per.at_octet (al && pads us.0 c) (exactly us.1)) a b i.1 in
+      let s = split free (told_count al c.low high us.0) (Per.at_octet (al && has_padding us.0 c) (exactly us.1)) a b i.1 in
       n (Constrained us.0) s.0 s.1
-  units_headed w pads c None us a b f n = no_piece free al w a (λ x p g. let o = piece_out free al w x.0 x.1 a p g in n (General x.0) o.1 o.2) us.0 us.1 b (run_out free al w us.0 us.1 a b f)
+  units_headed w has_padding c None us a b f n = no_piece free al w a (λ x p g. let o = piece_out free al w x.0 x.1 a p g in n (General x.0) o.1 o.2) us.0 us.1 b (run_out free al w us.0 us.1 a b f)
 
 -- the extension bit in front
 pub bit_in_front : (free : Per.Freedom → Bool) (e o : Bool) (a b : Place) → Front free (extension_bit e o) a b → is_outside e a.1 ≡ o

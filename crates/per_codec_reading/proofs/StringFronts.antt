@@ -20,7 +20,7 @@ use Rattle.per_codec_fronts.proofs.Fronts.{if_in, if_out, of_refused}
 use Rattle.per_codec_reading.specs.Fronts.{NoneStands, IsFresh, Misses}
 use Rattle.per_codec_reading.proofs.Fronts.{none_misses}
 use Rattle.per_codec_reading.specs.Units.{Units, units_of}
-use Rattle.per_codec_reading.specs.Sizes.{pads_of, sized_units}
+use Rattle.per_codec_reading.specs.Sizes.{contents_have_padding, sized_units}
 use Rattle.per_codec_reading.specs.declared.sized.Contents.TheVariants.{Strings}
 use Rattle.per_codec_reading.proofs.OctetFronts.{length-octet_bits, octet_pieces}
 use Rattle.per_codec_reading.proofs.RunFronts.{one}
@@ -30,11 +30,11 @@ bit_pieces [] = refl
 bit_pieces (b ∷ bs) = ap (λ us. exactly (b ∷ []) ∷ us) (bit_pieces bs)
 
 module _ (free : Per.Freedom → Bool) (al : Bool) where
-  pub sized_size : (z : Size) (h : Counts) (w : ℕ) (pads : ℕ → Counts → Bool) (us : Units) (a b : Place) → Front free (sized_units al z h w pads us) a b → length us.1 ≡ us.0 * w
-  sized_size z h w pads us a b f = eqb-true _ _ (if_out free (length us.1 == us.0 * w) _ a b f).0
+  pub sized_size : (z : Size) (h : Counts) (w : ℕ) (has_padding : ℕ → Counts → Bool) (us : Units) (a b : Place) → Front free (sized_units al z h w has_padding us) a b → length us.1 ≡ us.0 * w
+  sized_size z h w has_padding us a b f = eqb-true _ _ (if_out free (length us.1 == us.0 * w) _ a b f).0
 
   -- ---- OCTET STRING
-  pub octet_string_stands : (z : Size) (h : Counts) (us : Units) (os : List ℕ) (a b : Place) → Front free (sized_units al z h 8 (pads_of Strings 8) us) a b → each_is is_octet os ≡ true → octet_bits os ≡ us.1 → Front free (Per.form al (octet_string z h) (octet_list os)) a b
+  pub octet_string_stands : (z : Size) (h : Counts) (us : Units) (os : List ℕ) (a b : Place) → Front free (sized_units al z h 8 (contents_have_padding Strings 8) us) a b → each_is is_octet os ≡ true → octet_bits os ≡ us.1 → Front free (Per.form al (octet_string z h) (octet_list os)) a b
   unfolding Per.form
   octet_string_stands z h us os a b f s e =
       let i = if_out free (length us.1 == us.0 * 8) _ a b f in
@@ -43,33 +43,33 @@ module _ (free : Per.Freedom → Bool) (al : Bool) where
       let m = ap length e in
       let k : us.0 ≡ length os = omega arith in
       let q : units_of 8 us.0 us.1 ≡ Per.octet_units os = ap (λ j. units_of 8 j us.1) k ∙ ap (units_of 8 (length os)) (sym e) ∙ octet_pieces os in
-      let g = subst (λ u. Front free (Per.sized al z h (Per.pads_string 8 us.0) u) a b) q i.1 in
-      if_in free (each_is is_octet os) _ a b s (subst (λ j. Front free (Per.sized al z h (Per.pads_string 8 j) (Per.octet_units os)) a b) k g)
+      let g = subst (λ u. Front free (Per.sized al z h (Per.string_has_padding 8 us.0) u) a b) q i.1 in
+      if_in free (each_is is_octet os) _ a b s (subst (λ j. Front free (Per.sized al z h (Per.string_has_padding 8 j) (Per.octet_units os)) a b) k g)
 
-  pub no_octet_string : (z : Size) (h : Counts) (a : Place) → NoneStands free (sized_units al z h 8 (pads_of Strings 8)) a → NoneStands free (Per.form al (octet_string z h)) a
+  pub no_octet_string : (z : Size) (h : Counts) (a : Place) → NoneStands free (sized_units al z h 8 (contents_have_padding Strings 8)) a → NoneStands free (Per.form al (octet_string z h)) a
   unfolding Per.form
   no_octet_string z h a n (octet_list os) b f =
       let i = if_out free (each_is is_octet os) _ a b f in
-      let g = subst (λ u. Front free (Per.sized al z h (Per.pads_string 8 (length os)) u) a b) (sym (octet_pieces os)) i.1 in
+      let g = subst (λ u. Front free (Per.sized al z h (Per.string_has_padding 8 (length os)) u) a b) (sym (octet_pieces os)) i.1 in
       n (length os, octet_bits os) b (if_in free (length (octet_bits os) == length os * 8) _ a b (eq-eqb _ _ (length-octet_bits os)) g)
   no_octet_string z h a n v b f = of_refused free a b f
 
   -- ---- BIT STRING
-  pub bit_string_stands : (z : Size) (h : Counts) (us : Units) (a b : Place) → Front free (sized_units al z h 1 (pads_of Strings 1) us) a b → Front free (Per.form al (bit_string z h) (bit_list us.1)) a b
+  pub bit_string_stands : (z : Size) (h : Counts) (us : Units) (a b : Place) → Front free (sized_units al z h 1 (contents_have_padding Strings 1) us) a b → Front free (Per.form al (bit_string z h) (bit_list us.1)) a b
   unfolding Per.form
   bit_string_stands z h us a b f =
       let i = if_out free (length us.1 == us.0 * 1) _ a b f in
       let n = eqb-true _ _ i.0 in
       let k : us.0 ≡ length us.1 = omega arith in
       let q : units_of 1 us.0 us.1 ≡ Per.bit_units us.1 = ap (λ j. units_of 1 j us.1) k ∙ bit_pieces us.1 in
-      let g = subst (λ u. Front free (Per.sized al z h (Per.pads_string 1 us.0) u) a b) q i.1 in
-      subst (λ j. Front free (Per.sized al z h (Per.pads_string 1 j) (Per.bit_units us.1)) a b) k g
+      let g = subst (λ u. Front free (Per.sized al z h (Per.string_has_padding 1 us.0) u) a b) q i.1 in
+      subst (λ j. Front free (Per.sized al z h (Per.string_has_padding 1 j) (Per.bit_units us.1)) a b) k g
 
-  pub no_bit_string : (z : Size) (h : Counts) (a : Place) → NoneStands free (sized_units al z h 1 (pads_of Strings 1)) a → NoneStands free (Per.form al (bit_string z h)) a
+  pub no_bit_string : (z : Size) (h : Counts) (a : Place) → NoneStands free (sized_units al z h 1 (contents_have_padding Strings 1)) a → NoneStands free (Per.form al (bit_string z h)) a
   unfolding Per.form
   no_bit_string z h a n (bit_list bs) b f =
       let l : length bs ≡ length bs * 1 = omega arith in
-      let g = subst (λ u. Front free (Per.sized al z h (Per.pads_string 1 (length bs)) u) a b) (sym (bit_pieces bs)) f in
+      let g = subst (λ u. Front free (Per.sized al z h (Per.string_has_padding 1 (length bs)) u) a b) (sym (bit_pieces bs)) f in
       n (length bs, bs) b (if_in free (length bs == length bs * 1) _ a b (eq-eqb _ _ l) g)
   no_bit_string z h a n v b f = of_refused free a b f
 

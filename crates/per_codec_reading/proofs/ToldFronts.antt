@@ -43,27 +43,27 @@ module _ (free : Per.Freedom → Bool) where
   pub no_number : (al : Bool) (low high : ℕ) (a : Place) → NoneStands free (Per.constrained al (high - low)) a → NoneStands free (told_count al low high) a
   no_number al low high a n k b f = n (k - low) b (if_out free (leb low k && leb k high) _ a b f).1
 
-  module _ (al : Bool) (w : ℕ) (pads : ℕ → Counts → Bool) (c : Counts) (high : ℕ) where
+  module _ (al : Bool) (w : ℕ) (has_padding : ℕ → Counts → Bool) (c : Counts) (high : ℕ) where
     -- what stands behind the number
-    behind : (n : ℕ) (us : Units) (a m b : Place) → Front free (told_count al c.low high n) a m → Front free (told_units al w pads c high us) a b → (length us.1 ≡ n * w) × Front free (Per.at_octet (al && pads n c) (exactly us.1)) m b
+    behind : (n : ℕ) (us : Units) (a m b : Place) → Front free (told_count al c.low high n) a m → Front free (told_units al w has_padding c high us) a b → (length us.1 ≡ n * w) × Front free (Per.at_octet (al && has_padding n c) (exactly us.1)) m b
     behind n us a m b h f =
         let i = if_out free (length us.1 == us.0 * w) _ a b f in
-        let s = split free (told_count al c.low high us.0) (Per.at_octet (al && pads us.0 c) (exactly us.1)) a b i.1 in
+        let s = split free (told_count al c.low high us.0) (Per.at_octet (al && has_padding us.0 c) (exactly us.1)) a b i.1 in
         let o = count_one al c.low high n us.0 a m s.0 h s.1 in
-        let g = subst (λ p. Front free (Per.at_octet (al && pads us.0 c) (exactly us.1)) p b) (sym o.1) s.2 in
-        (eqb-true _ _ i.0 ∙ ap (λ k. k * w) (sym o.0), subst (λ k. Front free (Per.at_octet (al && pads k c) (exactly us.1)) m b) (sym o.0) g)
+        let g = subst (λ p. Front free (Per.at_octet (al && has_padding us.0 c) (exactly us.1)) p b) (sym o.1) s.2 in
+        (eqb-true _ _ i.0 ∙ ap (λ k. k * w) (sym o.0), subst (λ k. Front free (Per.at_octet (al && has_padding k c) (exactly us.1)) m b) (sym o.0) g)
 
-    pub no_octet : (n : ℕ) (a m : Place) → Front free (told_count al c.low high n) a m → NoneStands free (Per.at_octet (al && pads n c)) m → NoneStands free (told_units al w pads c high) a
+    pub no_octet : (n : ℕ) (a m : Place) → Front free (told_count al c.low high n) a m → NoneStands free (Per.at_octet (al && has_padding n c)) m → NoneStands free (told_units al w has_padding c high) a
     no_octet n a m h z us b f = let g = behind n us a m b h f in z (exactly us.1) b g.1
 
-    pub few_bits : (n : ℕ) (a m o : Place) → Front free (told_count al c.low high n) a m → Front free (Per.at_octet (al && pads n c) nothing_more) m o → length o.1 < n * w → NoneStands free (told_units al w pads c high) a
+    pub few_bits : (n : ℕ) (a m o : Place) → Front free (told_count al c.low high n) a m → Front free (Per.at_octet (al && has_padding n c) nothing_more) m o → length o.1 < n * w → NoneStands free (told_units al w has_padding c high) a
     few_bits n a m o h k l us b f =
         let g = behind n us a m b h f in
-        let e = exactly_out free us.1 o b (behind_padding free (al && pads n c) (exactly us.1) m o b k g.1) in
+        let e = exactly_out free us.1 o b (behind_padding free (al && has_padding n c) (exactly us.1) m o b k g.1) in
         let d = g.0 in
         let i = ap length e.0 in
         let j = length-append us.1 b.1 in
         absurd (omega arith)
 
-    pub told_stands : (n : ℕ) (bs : List Bool) (a m o b : Place) → Front free (told_count al c.low high n) a m → Front free (Per.at_octet (al && pads n c) nothing_more) m o → Leads bs o b → length bs ≡ n * w → Front free (told_units al w pads c high (n, bs)) a b
-    told_stands n bs a m o b h k l e = if_in free (length bs == n * w) _ a b (eq-eqb _ _ e) (join free _ _ a m b h (after_padding free (al && pads n c) (exactly bs) m o b k (exactly_in free bs o b l)))
+    pub told_stands : (n : ℕ) (bs : List Bool) (a m o b : Place) → Front free (told_count al c.low high n) a m → Front free (Per.at_octet (al && has_padding n c) nothing_more) m o → Leads bs o b → length bs ≡ n * w → Front free (told_units al w has_padding c high (n, bs)) a b
+    told_stands n bs a m o b h k l e = if_in free (length bs == n * w) _ a b (eq-eqb _ _ e) (join free _ _ a m b h (after_padding free (al && has_padding n c) (exactly bs) m o b k (exactly_in free bs o b l)))

@@ -15,9 +15,9 @@ use Rattle.per_codec_reading.specs.declared.sizes.LengthDeterminant.{LengthDeter
 use Rattle.per_codec_reading.specs.declared.sizes.LengthDeterminant.TheVariants.{Constrained, General}
 
 -- Whether units behind a number that bounds tell stand at an octet (X.691 16, 17 and 30.5.6).
-abbrev pub pads_of : Contents → ℕ → ℕ → Counts → Bool
-pads_of Strings unit n c = Per.pads_string unit n c
-pads_of Characters unit n c = Per.pads_characters unit n c
+abbrev pub contents_have_padding : Contents → ℕ → ℕ → Counts → Bool
+contents_have_padding Strings unit n c = Per.string_has_padding unit n c
+contents_have_padding Characters unit n c = Per.characters_have_padding unit n c
 
 -- A number from a lowest to a highest one (X.691 11.9.4.1).
 abbrev pub told_count : Bool → ℕ → ℕ → ℕ → Per.BitForm
@@ -55,18 +55,18 @@ told_in_front z bs = told_highest (is_outside z.extensible bs) z.counts.high
 
 -- Units behind a number that bounds tell.
 abbrev pub told_units : Bool → ℕ → (ℕ → Counts → Bool) → Counts → ℕ → Units → Per.BitForm
-told_units al width pads c high us = only_if (length us.1 == us.0 * width)
-    (both (told_count al c.low high us.0) (Per.at_octet (al && pads us.0 c) (exactly us.1)))
+told_units al width has_padding c high us = only_if (length us.1 == us.0 * width)
+    (both (told_count al c.low high us.0) (Per.at_octet (al && has_padding us.0 c) (exactly us.1)))
 
 -- Units behind a number that a highest one tells, or behind a length of the general form.
 abbrev pub units_told : Bool → ℕ → (ℕ → Counts → Bool) → Counts → Option ℕ → Units → Per.BitForm
-units_told al width pads c None us = counted_units al width us
-units_told al width pads c (Some high) us = told_units al width pads c high us
+units_told al width has_padding c None us = counted_units al width us
+units_told al width has_padding c (Some high) us = told_units al width has_padding c high us
 
 -- Units of a size that may be extensible (X.691 16, 17 and 30).
 abbrev pub sized_units : Bool → Size → Counts → ℕ → (ℕ → Counts → Bool) → Units → Per.BitForm
-sized_units al z held width pads us = only_if (length us.1 == us.0 * width)
-    (Per.sized al z held (pads us.0) (units_of width us.0 us.1))
+sized_units al z held width has_padding us = only_if (length us.1 == us.0 * width)
+    (Per.sized al z held (has_padding us.0) (units_of width us.0 us.1))
 
 -- Whether the program's type holds so many items, and they are in the root or told to be outside (X.680 51.5).
 abbrev pub admitted : Counts → Counts → Bool → ℕ → Bool

@@ -26,5 +26,5 @@ pub use per_codec_limits::{FRAGMENT, LONG_COUNT, Variant};
 pub use runs::{Run, RunBits, read_counted};
 pub use sized::{Contents, read_sized};
 pub use sizes::{Heading, LengthDeterminant, is_admitted, read_heading};
-pub use strings::{lent_by, read_bit_string, read_octet_string, read_octet_string_in};
+pub use strings::read_bit_string;
 pub use texts::read_utf8_string;

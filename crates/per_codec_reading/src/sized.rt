@@ -8,7 +8,8 @@ ghost use Rattle.per_codec_fronts.specs.Takes.{Front};
 ghost use Rattle.per_codec_reading.specs.Fronts.{freedoms, Completes, Misses, MissesRest};
 ghost use Rattle.per_codec_reading.specs.Fronts as fronts;
 ghost use Rattle.per_codec_reading.specs.Runs.{units_in, IsLent, InOneRun, EndsWithLent};
-ghost use Rattle.per_codec_reading.specs.Sizes.{determinant_form, pads_of, sized_units, told_in_front, units_told};
+ghost use Rattle.per_codec_reading.specs.Sizes.{contents_have_padding, determinant_form, sized_units};
+ghost use Rattle.per_codec_reading.specs.Sizes.{told_in_front, units_told};
 ghost use Rattle.per_codec_reading.specs.Sizes.{HoldsOneRun, IsDeterminant};
 
 use crate::padding::read_padding;
@@ -17,7 +18,7 @@ use crate::sizes::{LengthDeterminant, is_admitted, read_heading};
 use crate::{Cursor, Variant};
 use asn1_schema_constraints::{Bounded, Sizes};
 use asn1_schema_faults::DecodeError;
-use per_codec_limits::{pads_characters, pads_string};
+use per_codec_limits::{characters_have_padding, string_has_padding};
 use std::alloc::Global;
 
 /// What units make up, which tells where padding stands in front of them.
@@ -32,12 +33,12 @@ pub enum Contents {
 /// Whether units behind a constrained number stand at an octet in the aligned variant (X.691 16.9 to 16.11, 17.6 to
 /// 17.8, 30.5.6 and 30.5.7).
 #[inline(always)]
-fn is_padded(contents: Contents, width: u32, root: Bounded<usize>, count: usize) -> bool
-    ensures { result ≡ pads_of contents width count (counts_of root) }
+fn has_padding(contents: Contents, width: u32, root: Bounded<usize>, count: usize) -> bool
+    ensures { result ≡ contents_have_padding contents width count (counts_of root) }
 {
     match contents {
-        Contents::Strings => pads_string(root, width, count),
-        Contents::Characters => pads_characters(root, width, count),
+        Contents::Strings => string_has_padding(root, width, count),
+        Contents::Characters => characters_have_padding(root, width, count),
     }
 }
 
@@ -49,14 +50,14 @@ fn is_padded(contents: Contents, width: u32, root: Bounded<usize>, count: usize)
 fn read_padding_if(
     cursor: &mut Cursor<'_>,
     variant: Variant,
-    is_padded: bool,
+    has_padding: bool,
 ) -> Result<(), DecodeError>
     ensures ok { OnOk result (Front (freedoms variant)
-        (Per.at_octet (fronts.is_aligned variant && is_padded) nothing_more) cursor.old cursor.new) }
+        (Per.at_octet (fronts.is_aligned variant && has_padding) nothing_more) cursor.old cursor.new) }
     ensures only { IfErr result (Misses (freedoms variant)
-        (Per.at_octet (fronts.is_aligned variant && is_padded)) cursor.old) }
+        (Per.at_octet (fronts.is_aligned variant && has_padding)) cursor.old) }
 {
-    if is_padded {
+    if has_padding {
         read_padding(cursor, variant)?;
     }
     Ok(())
@@ -81,19 +82,18 @@ fn read_units<'input>(
     requires { IsDeterminant determinant }
     ensures ok { IfOk result (λ run. (told : _) → Completes (freedoms variant)
         (determinant_form (fronts.is_aligned variant) (counts_of root) told determinant)
-        (units_told (fronts.is_aligned variant) width (pads_of contents width) (counts_of root) told (units_in run))
-        cursor.old cursor.new) }
+        (units_told (fronts.is_aligned variant) width (contents_have_padding contents width) (counts_of root) told
+        (units_in run)) cursor.old cursor.new) }
     ensures lent { IfOk result (λ run. HoldsOneRun determinant run.count → IsLent run.bits) }
     ensures last { IfOk result (λ run. EndsWithLent run.bits cursor.old cursor.new) }
     ensures only { IfErr result (λ e. (told : _) → MissesRest (freedoms variant)
         (determinant_form (fronts.is_aligned variant) (counts_of root) told determinant)
-        (units_told (fronts.is_aligned variant) width (pads_of contents width) (counts_of root) told)
+        (units_told (fronts.is_aligned variant) width (contents_have_padding contents width) (counts_of root) told)
         cursor.old e) }
 {
     match determinant {
         LengthDeterminant::Constrained(count) => {
-            let padded = is_padded(contents, width, root, count);
-            read_padding_if(cursor, variant, padded)?;
+            read_padding_if(cursor, variant, has_padding(contents, width, root, count))?;
             let bits = cursor.take(count * width as usize)?;
             Ok(Run {
                 count,
@@ -125,14 +125,14 @@ pub fn read_sized<'input>(
     contents: Contents,
 ) -> Result<Run<'input>, DecodeError>
     ensures ok { IfOk result (λ run. Front (freedoms variant)
-        (sized_units (fronts.is_aligned variant) (size_of sizes) (counts_of held) width (pads_of contents width)
-        (units_in run)) cursor.old cursor.new) }
+        (sized_units (fronts.is_aligned variant) (size_of sizes) (counts_of held) width
+        (contents_have_padding contents width) (units_in run)) cursor.old cursor.new) }
     ensures lent { IfOk result (λ run. InOneRun (told_in_front (size_of sizes) cursor.old.1) run.count
         → IsLent run.bits) }
     ensures last { IfOk result (λ run. EndsWithLent run.bits cursor.old cursor.new) }
     ensures only { IfErr result (Misses (freedoms variant)
-        (sized_units (fronts.is_aligned variant) (size_of sizes) (counts_of held) width (pads_of contents width))
-        cursor.old) }
+        (sized_units (fronts.is_aligned variant) (size_of sizes) (counts_of held) width
+        (contents_have_padding contents width)) cursor.old) }
 {
     let heading = read_heading(cursor, variant, sizes)?;
     let run = read_units(

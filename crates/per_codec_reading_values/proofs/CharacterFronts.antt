@@ -18,7 +18,7 @@ use Rattle.asn1_laws_fronts.proofs.PerNumbers.{Alike, binary_alike, length-binar
 use Rattle.asn1_laws_fronts.proofs.Strings.{Orderly, place_top, place_fits}
 use Rattle.asn1_laws_fronts.proofs.Units.{sized_alike}
 use Rattle.asn1_values_alphabets.specs.Permitted.{permits_all}
-use Rattle.per_codec_alphabets.specs.Codes.{Coded, SameCharacters, code_of}
+use Rattle.per_codec_alphabets.specs.Codes.{Coded, SameCharacters, code_of, has_code, text_of}
 use Rattle.per_codec_fronts.specs.Takes.{Place, Front}
 use Rattle.per_codec_fronts.proofs.Fronts.{if_in, if_out, of_refused}
 use Rattle.per_codec_fronts.proofs.Next.{same_fronts}
@@ -27,10 +27,10 @@ use Rattle.asn1_schema_faults.specs.declared.DecodeError.TheVariants.{OutOfMemor
 use Rattle.per_codec_reading.specs.Fronts.{NoneStands, IsFresh, Misses}
 use Rattle.per_codec_reading.proofs.Fronts.{none_misses}
 use Rattle.per_codec_reading.specs.Units.{Units, pieces, units_of}
-use Rattle.per_codec_reading.specs.Sizes.{pads_of, sized_units}
+use Rattle.per_codec_reading.specs.Sizes.{contents_have_padding, sized_units}
 use Rattle.per_codec_reading.specs.declared.sized.Contents.TheVariants.{Characters}
 use Rattle.per_codec_reading.proofs.UnitFronts.{length-pieces}
-use Rattle.per_codec_reading_values.specs.Spelled.{has_code, text_of, Spells, Stuck, IsFitting}
+use Rattle.per_codec_reading_values.specs.Spelled.{Spells, Stuck, IsFitting}
 use Rattle.per_codec_reading_values.proofs.Steps.{front, split_bits}
 
 -- ---- codes fit in their bits
@@ -163,11 +163,11 @@ pairs_coded a rs [] s p = refl
 pairs_coded a rs (c ∷ cs) s p = and_from _ _ (mapped_some (λ i. cond (ltb (largest a.runs) (2 ^ a.code_bits)) c i) (place_of c a.runs) (ap is_some (s.places c) ∙ p.0)) (pairs_coded a rs cs s p.1)
 
 module _ (free : Per.Freedom → Bool) (al : Bool) where
-  wide_alike : (w : ℕ) (z : Size) (held : Counts) (pads pads' : Counts → Bool) (ts us : List (List Bool)) → AreWide w ts → AreWide w us → (length ts ≡ length us → pads z.counts ≡ pads' z.counts) → Alike free (Per.sized al z held pads (map (λ t. exactly t) ts)) (Per.sized al z held pads' (map (λ t. exactly t) us)) (ts ≡ us)
-  wide_alike w z held pads pads' ts us h k e =
-      let x = sized_alike free (Wide w) (SameTexts w) (form_of w) (λ x y. agree_exactly free x.0 y.0 (x.1 ∙ sym y.1)) al z held pads pads' (wides w ts h) (wides w us k) (λ n. e (sym (length-wides w ts h) ∙ n ∙ length-wides w us k)) in
+  wide_alike : (w : ℕ) (z : Size) (held : Counts) (has_padding has_padding' : Counts → Bool) (ts us : List (List Bool)) → AreWide w ts → AreWide w us → (length ts ≡ length us → has_padding z.counts ≡ has_padding' z.counts) → Alike free (Per.sized al z held has_padding (map (λ t. exactly t) ts)) (Per.sized al z held has_padding' (map (λ t. exactly t) us)) (ts ≡ us)
+  wide_alike w z held has_padding has_padding' ts us h k e =
+      let x = sized_alike free (Wide w) (SameTexts w) (form_of w) (λ x y. agree_exactly free x.0 y.0 (x.1 ∙ sym y.1)) al z held has_padding has_padding' (wides w ts h) (wides w us k) (λ n. e (sym (length-wides w ts h) ∙ n ∙ length-wides w us k)) in
       let y = agree_map free (wides_equal w ts us h k) x in
-      subst (λ f. Alike free (Per.sized al z held pads f) (Per.sized al z held pads' (map (λ t. exactly t) us)) (ts ≡ us)) (wide_forms w ts h) (subst (λ f. Alike free (Per.sized al z held pads (map (form_of w) (wides w ts h))) (Per.sized al z held pads' f) (ts ≡ us)) (wide_forms w us k) y)
+      subst (λ f. Alike free (Per.sized al z held has_padding f) (Per.sized al z held has_padding' (map (λ t. exactly t) us)) (ts ≡ us)) (wide_forms w ts h) (subst (λ f. Alike free (Per.sized al z held has_padding (map (form_of w) (wides w ts h))) (Per.sized al z held has_padding' f) (ts ≡ us)) (wide_forms w us k) y)
 
   placed_alike : (rs : List Run) → Orderly rs → (c d : ℕ) → Alike free (Per.character (Per.character_bits al rs) rs c) (Per.character (Per.character_bits al rs) rs d) (HasPlace rs c d)
   unfolding Per.character
@@ -176,27 +176,27 @@ module _ (free : Per.Freedom → Bool) (al : Bool) where
   all_coded : (z : Size) (held : Counts) (a : Coded) (rs : List Run) (cs : List ℕ) (p q : Place) → SameCharacters a.runs rs → Orderly rs → Front free (Per.characters al z held rs cs) p q → each_is (has_code a) cs ≡ true
   unfolding Per.characters
   all_coded z held a rs cs p q s o f =
-      let x = sized_alike free ℕ (HasPlace rs) (Per.character (Per.character_bits al rs) rs) (placed_alike rs o) al z held (Per.pads_characters (Per.character_bits al rs) (length cs)) (Per.pads_characters (Per.character_bits al rs) (length cs)) cs cs (λ n. refl) in
+      let x = sized_alike free ℕ (HasPlace rs) (Per.character (Per.character_bits al rs) rs) (placed_alike rs o) al z held (Per.characters_have_padding (Per.character_bits al rs) (length cs)) (Per.characters_have_padding (Per.character_bits al rs) (length cs)) cs cs (λ n. refl) in
       pairs_coded a rs cs s (same_fronts free x p q q f f).0
 
 module _ (free : Per.Freedom → Bool) (al : Bool) (k : StringKind) (z : Size) (l : Alphabet) (a : Coded) (s : SameCharacters a.runs (permitted k l)) (b : a.code_bits ≡ Per.character_bits al (permitted k l)) (o : is_of_octets k ≡ false) (holds : (cs : List ℕ) → may_hold k cs ≡ permits_all k cs) where
   abbrev in_codes : List ℕ → Per.BitForm
-  in_codes cs = Per.sized al z any_count (Per.pads_characters a.code_bits (length cs)) (map (λ t. exactly t) (map (text_of a) cs))
+  in_codes cs = Per.sized al z any_count (Per.characters_have_padding a.code_bits (length cs)) (map (λ t. exactly t) (map (text_of a) cs))
 
   abbrev of_units : Units → Per.BitForm
-  of_units us = sized_units al z any_count a.code_bits (pads_of Characters a.code_bits) us
+  of_units us = sized_units al z any_count a.code_bits (contents_have_padding Characters a.code_bits) us
 
   of_width : (cs : List ℕ) → each_is (has_code a) cs ≡ true → Per.characters al z any_count (permitted k l) cs ≡ in_codes cs
   unfolding Per.characters
-  of_width cs h = ap (λ n. Per.sized al z any_count (Per.pads_characters n (length cs)) (map (Per.character n (permitted k l)) cs)) (sym b) ∙ ap (λ us. Per.sized al z any_count (Per.pads_characters a.code_bits (length cs)) us) (forms a (permitted k l) cs s h)
+  of_width cs h = ap (λ n. Per.sized al z any_count (Per.characters_have_padding n (length cs)) (map (Per.character n (permitted k l)) cs)) (sym b) ∙ ap (λ us. Per.sized al z any_count (Per.characters_have_padding a.code_bits (length cs)) us) (forms a (permitted k l) cs s h)
 
   pub codes_stand : (us : Units) (cs : List ℕ) (p q : Place) → Front free (of_units us) p q → length cs ≡ us.0 → Spells k a cs us.1 → Front free (Per.form al (character_string k z l any_count) (text cs)) p q
   unfolding Per.form Per.string_form
   codes_stand us cs p q f e t =
       let i = if_out free (length us.1 == us.0 * a.code_bits) _ p q f in
       let g : units_of a.code_bits us.0 us.1 ≡ map (λ t. exactly t) (map (text_of a) cs) = ap (λ w. units_of a.code_bits us.0 w) (sym t.spelled) ∙ ap (λ n. units_of a.code_bits n (flat_map (text_of a) cs)) (sym e) ∙ ap (map (λ u. exactly u)) (pieces_of a cs) in
-      let x = subst (λ ts. Front free (Per.sized al z any_count (Per.pads_characters a.code_bits us.0) ts) p q) g i.1 in
-      let y : Front free (in_codes cs) p q = subst (λ n. Front free (Per.sized al z any_count (Per.pads_characters a.code_bits n) (map (λ t. exactly t) (map (text_of a) cs))) p q) (sym e) x in
+      let x = subst (λ ts. Front free (Per.sized al z any_count (Per.characters_have_padding a.code_bits us.0) ts) p q) g i.1 in
+      let y : Front free (in_codes cs) p q = subst (λ n. Front free (Per.sized al z any_count (Per.characters_have_padding a.code_bits n) (map (λ t. exactly t) (map (text_of a) cs))) p q) (sym e) x in
       let v = subst (λ f. Front free f p q) (sym (of_width cs t.coded)) y in
       if_in free (may_hold k cs) _ p q (holds cs ∙ t.permitted) (subst (λ t. Front free (cond t (only_if (is_count_within any_count (length cs)) (Per.counted_octets al cs)) (Per.characters al z any_count (permitted k l) cs)) p q) (sym o) v)
 
@@ -218,7 +218,7 @@ module _ (free : Per.Freedom → Bool) (al : Bool) (k : StringKind) (z : Size) (
   no_codes w p n v q f =
       let x = told_of w v p q f in
       let ws = flat_map (text_of a) x.told in
-      n (length x.told, ws) q (if_in free (length ws == length x.told * a.code_bits) _ p q (eq-eqb _ _ (length-spelled a x.told)) (subst (λ ts. Front free (Per.sized al z any_count (Per.pads_characters a.code_bits (length x.told)) (map (λ t. exactly t) ts)) p q) (sym (pieces_of a x.told)) x.front_of))
+      n (length x.told, ws) q (if_in free (length ws == length x.told * a.code_bits) _ p q (eq-eqb _ _ (length-spelled a x.told)) (subst (λ ts. Front free (Per.sized al z any_count (Per.characters_have_padding a.code_bits (length x.told)) (map (λ t. exactly t) ts)) p q) (sym (pieces_of a x.told)) x.front_of))
 
   length-texts : (cs : List ℕ) → length (map (text_of a) cs) ≡ length cs
   length-texts [] = refl
@@ -229,7 +229,7 @@ module _ (free : Per.Freedom → Bool) (al : Bool) (k : StringKind) (z : Size) (
       let x = told_of w v p q f in
       let i = if_out free (length us.1 == us.0 * a.code_bits) _ p c g in
       let n = eqb-true _ _ i.0 in
-      let u = wide_alike free al a.code_bits z any_count (Per.pads_characters a.code_bits us.0) (Per.pads_characters a.code_bits (length x.told)) (pieces a.code_bits us.0 us.1) (map (text_of a) x.told) (wide_pieces a.code_bits us.0 us.1 n) (wide_texts a x.told) (λ e. ap (λ m. Per.pads_characters a.code_bits m z.counts) (sym (length-pieces a.code_bits us.0 us.1) ∙ e ∙ length-texts x.told)) in
+      let u = wide_alike free al a.code_bits z any_count (Per.characters_have_padding a.code_bits us.0) (Per.characters_have_padding a.code_bits (length x.told)) (pieces a.code_bits us.0 us.1) (map (text_of a) x.told) (wide_pieces a.code_bits us.0 us.1 n) (wide_texts a x.told) (λ e. ap (λ m. Per.characters_have_padding a.code_bits m z.counts) (sym (length-pieces a.code_bits us.0 us.1) ∙ e ∙ length-texts x.told)) in
       let r = spelled_pieces a us.0 us.1 x.told n (same_fronts free u p c q i.1 x.front_of).0 in
       let d = x.spells in
       t x.told r.0 (record { permitted = d.permitted; coded = d.coded; spelled = r.1 })

@@ -7,8 +7,8 @@ use Rattle.asn1_model.specs.Schema.{StringKind}
 use Rattle.asn1_model.specs.Strings.{each_is}
 use Rattle.asn1_laws_fronts.proofs.PerNumbers.{binary_equal, length-binary}
 use Rattle.asn1_values_alphabets.specs.Permitted.{permits}
-use Rattle.per_codec_alphabets.specs.Codes.{Coded, code_of}
-use Rattle.per_codec_reading_values.specs.Spelled.{has_code, text_of, Spells, Stuck, IsFitting}
+use Rattle.per_codec_alphabets.specs.Codes.{Coded, code_of, has_code, text_of}
+use Rattle.per_codec_reading_values.specs.Spelled.{Spells, Stuck, IsFitting}
 
 nothing_behind : (l : List Bool) → l ++ [] ≡ l
 nothing_behind [] = refl

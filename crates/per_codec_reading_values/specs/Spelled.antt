@@ -1,20 +1,11 @@
 -- Characters whose codes are some bits (X.691 30.5).
-use Rattle.std.specs.Prelude.{◌≡◌, ◌⊎◌, ℕ, ◌^◌, ◌<◌, Bool, true, List, length, flat_map, is_some, Some, unwrap_or}
-use Rattle.asn1_model.specs.Numbers.{binary}
+use Rattle.std.specs.Prelude.{◌≡◌, ◌⊎◌, ℕ, ◌^◌, ◌<◌, Bool, true, List, length, flat_map, Some}
 use Rattle.asn1_model.specs.Schema.{StringKind}
 use Rattle.asn1_model.specs.Strings.{each_is}
 use Rattle.asn1_schema_faults.specs.declared.DecodeError.{DecodeError}
 use Rattle.asn1_schema_faults.specs.declared.DecodeError.TheVariants.{OutOfMemory}
 use Rattle.asn1_values_alphabets.specs.Permitted.{permits_all}
-use Rattle.per_codec_alphabets.specs.Codes.{Coded, code_of}
-
--- Whether a character has a code.
-abbrev pub has_code : Coded → ℕ → Bool
-has_code a c = is_some (code_of a c)
-
--- The code of a character in bits; 0 in place of none.
-abbrev pub text_of : Coded → ℕ → List Bool
-text_of a c = binary a.code_bits (unwrap_or (code_of a c) 0)
+use Rattle.per_codec_alphabets.specs.Codes.{Coded, code_of, has_code, text_of}
 
 -- Permitted characters, whose codes one behind the other are these bits.
 pub record Spells (k : StringKind) (a : Coded) (cs : List ℕ) (w : List Bool) : Type 0 where

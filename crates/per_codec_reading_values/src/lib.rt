@@ -1,5 +1,5 @@
-//! Readers of whole numbers, of the places of items and of alternatives, of character strings, and of stretches of
-//! bits, presence bits and open types among them, in the packed encoding rules (X.691).
+//! Readers of whole numbers, of the places of items and of alternatives, of character strings, of octet strings, and of
+//! stretches of bits, presence bits and open types among them, in the packed encoding rules (X.691).
 #![tactic(auto)]
 
 pub mod bounded;
@@ -7,6 +7,8 @@ mod codes;
 pub mod fields;
 pub mod integers;
 pub mod items;
+mod lending;
+mod octet_strings;
 pub mod octets;
 pub mod places;
 pub mod skipping;

@@ -1,19 +1,30 @@
 //! A stretch of bits, and how far it is read.
 ghost use Rattle.std.specs.Prelude.{◌≡◌, ◌≤◌, ◌<◌, ◌+◌, ◌-◌, ◌^◌, ◌∷◌, [], length, take, drop, Some, None, IsTrue, ◌↔◌};
 ghost use Rattle.std.specs.Prelude.{OnOk, IfOk, IfErr, IfSome, IfNone};
+ghost use Rattle.std.specs.Cow.{cow_slice_items, IsBorrowedSlice};
 ghost use Rattle.asn1_model.specs.Numbers.{octet_bits};
+ghost use Rattle.asn1_model.specs.Per as Per;
+ghost use Rattle.asn1_model.specs.Schema as Asn1;
+ghost use Rattle.asn1_model.specs.Value as Asn1Value;
+ghost use Rattle.asn1_schema_constraints.specs.Bounds.{counts_of};
+ghost use Rattle.asn1_schema_constraints.specs.Terms.{size_of};
 ghost use Rattle.asn1_values_bits.specs.BitStr as bit_strs;
 ghost use Rattle.per_codec_fronts.specs.Takes.{Place, Front};
 ghost use Rattle.per_codec_reading.specs.Fronts as fronts;
 ghost use Rattle.per_codec_reading.specs.Fronts.{freedoms, Leads, Misses};
-ghost use Rattle.per_codec_reading.specs.Runs.{bits_in, StandsIn, storage_inside, storage_of};
+ghost use Rattle.per_codec_reading.specs.Runs.{bits_in, EndsAtOctet, InOneRun, storage_inside, storage_of};
+ghost use Rattle.per_codec_reading.specs.Sizes.{told_in_front};
 ghost use Rattle.per_codec_reading_values.specs.Fields.{EndsAt, field_form, octets_form};
 
 use crate::fields::{Field, read_field, read_octets};
+use crate::lending::lent_by;
+use crate::octet_strings::take_octet_string;
+use asn1_schema_constraints::{Bounded, Sizes};
 use asn1_schema_faults::{DecodeError, MOST_OCTETS};
 use asn1_values_bits::{BitBuffer, BitStr};
-use per_codec_reading::{Cursor, RunBits, Variant, lent_by};
+use per_codec_reading::{Cursor, RunBits, Variant};
 use std::alloc::{AllocError, Global};
+use std::borrow::CowSlice;
 use std::marker::Model;
 
 /// The bits of a message or of an open type, presence bits or a bitmap, lent or held, and how many of them are read.
@@ -204,19 +215,6 @@ impl<'input> Stretch<'input> {
         Cursor::behind(lent(&self.bits), self.position)
     }
 
-    /// All of the bits, where they are lent by the input.
-    #[inline(always)]
-    pub fn lent_bits(&self) -> Option<BitStr<'input>>
-        ensures stands { IfSome result (λ bits. StandsIn (bit_strs.bits_of bits) self.now.place) }
-        ensures lent { IfSome result (λ bits. self.now.storage ≡ Some (bit_strs.offset_of bits)) }
-        ensures joined { IfNone result (self.now.storage ≡ None) }
-    {
-        match &self.bits {
-            RunBits::Lent(bits) => Some(*bits),
-            RunBits::Joined(_) => None,
-        }
-    }
-
     /// The unread bits.
     #[inline(always)]
     pub fn bits(&self) -> BitStr<'_>
@@ -322,5 +320,44 @@ impl<'input> Stretch<'input> {
         let (bits, position) = take_octets(alloc, &self.bits, self.position, variant)?;
         self.move_to(position);
         Ok(Stretch::new(bits))
+    }
+
+    /// Takes a string of octets (X.691 17) under a size constraint, in a type of the program that holds so many. Where
+    /// they stand in one run that ends, and so begins, at an octet of the bits' storage they are lent, and no memory is
+    /// taken.
+    ///
+    /// # Errors
+    ///
+    /// `SizeConstraintNotSatisfied` if the size or the program's type does not admit as many, `Incomplete` if the bits
+    /// end early, the errors of a number and of a length, and `OutOfMemory`.
+    #[inline(always)]
+    pub fn take_octet_string(
+        &mut self,
+        alloc: Global,
+        variant: Variant,
+        sizes: Sizes,
+        held: Bounded<usize>,
+    ) -> Result<CowSlice<'input, u8>, DecodeError>
+        ensures ok { IfOk result (λ octets. Front (freedoms variant)
+            (Per.form (fronts.is_aligned variant) (Asn1.octet_string (size_of sizes) (counts_of held))
+            (Asn1Value.octet_list (cow_slice_items octets))) self.old.place self.new.place) }
+        ensures lent { IfOk result (λ octets. InOneRun (told_in_front (size_of sizes) self.old.place.1)
+            (length (cow_slice_items octets)) → EndsAtOctet self.old.storage self.new.place.0
+            → IsBorrowedSlice octets) }
+        ensures storage { OnOk result (self.new.storage ≡ self.old.storage) }
+        ensures only { IfErr result (Misses (freedoms variant)
+            (Per.form (fronts.is_aligned variant) (Asn1.octet_string (size_of sizes) (counts_of held)))
+            self.old.place) }
+    {
+        let (octets, position) = take_octet_string(
+            alloc,
+            &self.bits,
+            self.position,
+            variant,
+            sizes,
+            held,
+        )?;
+        self.move_to(position);
+        Ok(octets)
     }
 }

@@ -24,7 +24,7 @@ type Alphabet = (Kind, Variant, Option<(&'static [u32], bool)>);
 type Codes = (&'static [(u32, u32)], Option<u32>, Option<u32>);
 
 /// Alphabets, how wide their codes are, and some of these.
-const ROWS: [(Alphabet, u32, Codes); 14] = [
+const ROWS: [(Alphabet, u32, Codes); 17] = [
     (
         (Kind::Numeric, Variant::Unaligned, None),
         4,
@@ -70,6 +70,34 @@ const ROWS: [(Alphabet, u32, Codes); 14] = [
         ),
         1,
         (&[(48, 0), (49, 1)], Some(50), None),
+    ),
+    (
+        (
+            Kind::Visible,
+            Variant::Unaligned,
+            Some((&[97, 98, 65, 66, 67], false)),
+        ),
+        3,
+        (&[(65, 0), (67, 2), (97, 3), (98, 4)], Some(68), Some(5)),
+    ),
+    // Nine characters, no two of which stand side by side, in order and not.
+    (
+        (
+            Kind::Visible,
+            Variant::Unaligned,
+            Some((&[48, 50, 52, 54, 56, 65, 67, 69, 71], false)),
+        ),
+        4,
+        (&[(48, 0), (56, 4), (65, 5), (71, 8)], Some(49), Some(9)),
+    ),
+    (
+        (
+            Kind::Visible,
+            Variant::Unaligned,
+            Some((&[65, 67, 69, 71, 48, 50, 52, 54, 56], false)),
+        ),
+        4,
+        (&[(48, 0), (56, 4), (65, 5), (71, 8)], Some(49), Some(9)),
     ),
     // An extension marker makes a constraint count for nothing.
     (

@@ -4,11 +4,12 @@ use crate::spelled::push_spelled;
 use asn1_schema_faults::EncodeError;
 use asn1_schema_variants::Chosen;
 use asn1_values_bits::BitBuffer;
+use per_codec_additions::push_normally_few;
 use per_codec_packing::Packing;
 use per_codec_reading::Variant;
 use per_codec_writing::{
-    push_bitmap, push_boolean, push_constrained, push_fragment_length, push_normally_small,
-    push_open_type, push_place, push_short_length,
+    push_boolean, push_constrained, push_fragment_length, push_normally_small, push_open_type,
+    push_place, push_short_length,
 };
 use std::alloc::{AllocError, Global};
 use std::test::Fail;
@@ -87,7 +88,7 @@ fn push_bitmap_of_one(
     variant: Variant,
 ) -> Result<(), EncodeError> {
     let bitmap = bitmap_of_one(alloc)?;
-    push_bitmap(output, variant, &bitmap)
+    push_normally_few(output, variant, &bitmap.as_bitslice())
 }
 
 /// Writes a part.

@@ -8,28 +8,28 @@ use Rattle.asn1_model.specs.Strings.{Run, is_of_octets, may_hold, permitted, eac
 use Rattle.asn1_model.specs.Schema.{any_count}
 use Rattle.asn1_model.specs.Value.{text}
 use Rattle.asn1_model.specs.Per
-use Rattle.per_codec_alphabets.specs.Codes.{Coded, SameCharacters}
+use Rattle.per_codec_alphabets.specs.Codes.{Coded, SameCharacters, has_code}
 use Rattle.per_codec_packing.specs.Texts.{text_at}
 use Rattle.per_codec_writing.proofs.PaddingTexts.{if_true, cond_true, cond_false}
 use Rattle.per_codec_writing.specs.Units.{forms_of}
 use Rattle.per_codec_writing.proofs.PaddedSizes.{sized_padded}
-use Rattle.per_codec_writing.specs.Characters.{has_code, texts_of}
+use Rattle.per_codec_writing.specs.Characters.{texts_of}
 use Rattle.per_codec_writing.proofs.CharacterTexts.{forms, no_form}
 use Rattle.per_codec_writing.proofs.Refused.{none_sized}
 
 module _ (al : Bool) (z : Size) (h : Counts) (rs : List Run) (a : Coded) (cs : List ℕ) (s : SameCharacters a.runs rs) (b : a.code_bits ≡ Per.character_bits al rs) where
-  of_width : Per.characters al z h rs cs ≡ Per.sized al z h (Per.pads_characters a.code_bits (length cs)) (map (Per.character a.code_bits rs) cs)
+  of_width : Per.characters al z h rs cs ≡ Per.sized al z h (Per.characters_have_padding a.code_bits (length cs)) (map (Per.character a.code_bits rs) cs)
   unfolding Per.characters
-  of_width = ap (λ n. Per.sized al z h (Per.pads_characters n (length cs)) (map (Per.character n rs) cs)) (sym b)
+  of_width = ap (λ n. Per.sized al z h (Per.characters_have_padding n (length cs)) (map (Per.character n rs) cs)) (sym b)
 
   pub coded_none : (p : Option ℕ) → each_is (has_code a) cs ≡ false → text_at (Per.characters al z h rs cs) p ≡ None
-  coded_none p t = ap (λ x. text_at x p) of_width ∙ none_sized (Per.character a.code_bits rs) (has_code a) (λ c e q. no_form a rs c q s e) al z h (Per.pads_characters a.code_bits (length cs)) cs t p
+  coded_none p t = ap (λ x. text_at x p) of_width ∙ none_sized (Per.character a.code_bits rs) (has_code a) (λ c e q. no_form a rs c q s e) al z h (Per.characters_have_padding a.code_bits (length cs)) cs t p
 
 -- the sizes as a writer has them are y
-pub coded_text : (al : Bool) (z y : Size) (h : Counts) (rs : List Run) (a : Coded) (cs : List ℕ) → SameCharacters a.runs rs → a.code_bits ≡ Per.character_bits al rs → (pads : Bool) (p : Option ℕ) → each_is (has_code a) cs ≡ true → y ≡ z → pads ≡ Per.pads_characters a.code_bits (length cs) y.counts → text_at (Per.characters al z h rs cs) p ≡ text_at (Per.sized al y h (λ _. pads) (forms_of (texts_of a cs))) p
-coded_text al z y h rs a cs s b pads p t d e =
+pub coded_text : (al : Bool) (z y : Size) (h : Counts) (rs : List Run) (a : Coded) (cs : List ℕ) → SameCharacters a.runs rs → a.code_bits ≡ Per.character_bits al rs → (has_padding : Bool) (p : Option ℕ) → each_is (has_code a) cs ≡ true → y ≡ z → has_padding ≡ Per.characters_have_padding a.code_bits (length cs) y.counts → text_at (Per.characters al z h rs cs) p ≡ text_at (Per.sized al y h (λ _. has_padding) (forms_of (texts_of a cs))) p
+coded_text al z y h rs a cs s b has_padding p t d e =
     ap (λ x. text_at (Per.characters al x h rs cs) p) (sym d)
-    ∙ ap (λ x. text_at x p) (of_width al y h rs a cs s b ∙ ap (λ us. Per.sized al y h (Per.pads_characters a.code_bits (length cs)) us) (forms a rs cs s t) ∙ sized_padded al y h (Per.pads_characters a.code_bits (length cs)) (λ _. pads) (forms_of (texts_of a cs)) (sym e))
+    ∙ ap (λ x. text_at x p) (of_width al y h rs a cs s b ∙ ap (λ us. Per.sized al y h (Per.characters_have_padding a.code_bits (length cs)) us) (forms a rs cs s t) ∙ sized_padded al y h (Per.characters_have_padding a.code_bits (length cs)) (λ _. has_padding) (forms_of (texts_of a cs)) (sym e))
 
 any_held : (n : ℕ) → is_count_within any_count n ≡ true
 any_held n = ap (λ b. b && true) (le-leb 0 n (omega arith))

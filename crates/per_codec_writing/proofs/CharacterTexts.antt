@@ -7,13 +7,13 @@ use Rattle.asn1_model.specs.Form.{exactly, given}
 use Rattle.asn1_model.specs.Numbers.{binary}
 use Rattle.asn1_model.specs.Per
 use Rattle.asn1_model.specs.Strings.{Run, largest, place_of, each_is, is_among, is_in_run}
-use Rattle.per_codec_alphabets.specs.Codes.{Coded, SameCharacters}
+use Rattle.per_codec_alphabets.specs.Codes.{Coded, SameCharacters, has_code, text_of}
 use Rattle.per_codec_packing.specs.Texts.{as_text, text_at}
 use Rattle.per_codec_packing.proofs.Formed.{as_text-append}
 use Rattle.per_codec_packing.proofs.Adding.{plus_both}
 use Rattle.per_codec_writing.specs.Writing.{Packed, plus}
 use Rattle.per_codec_writing.specs.Units.{together, forms_of}
-use Rattle.per_codec_writing.specs.Characters.{has_code, text_of, texts_of}
+use Rattle.per_codec_writing.specs.Characters.{texts_of}
 
 -- ---- one text more
 together_end : (ts : List (List Bool)) (t : List Bool) → together (ts ++ t ∷ []) ≡ together ts ++ t

@@ -10,7 +10,7 @@ use Rattle.per_codec_packing.specs.Texts.{Text, bit, moved, on, text_at}
 use Rattle.per_codec_packing.specs.Packed.{Packed, Adds, place, plus}
 use Rattle.per_codec_packing.proofs.Formed.{behind, both_assoc}
 use Rattle.per_codec_packing.proofs.Adding.{added, adds_text, adds_both, adds_same, plus_both, behind as place_behind}
-use Rattle.per_codec_writing.specs.Headings.{LengthDeterminants, Heading, before_all, next_determinant, general, count_form, sized_count, behind_bit, extensible_count, heading, form_due, count_behind, determinants_of, Heads, IsDue}
+use Rattle.per_codec_writing.specs.Headings.{LengthDeterminants, Heading, before_all, next_determinant, general, count_form, count_up_to, sized_count, behind_bit, extensible_count, heading, form_due, count_behind, determinants_of, Heads, IsDue}
 use Rattle.per_codec_writing.specs.Units.{of_size}
 use Rattle.per_codec_writing.specs.declared.lengths.Due.{Due}
 use Rattle.per_codec_writing.proofs.PaddingTexts.{if_true, if_false}
@@ -100,19 +100,19 @@ number_text true false low high us n p = refl
 number_text false true low high us n p = refl
 number_text false false low high us n p = refl
 
-pub count_leads : (al : Bool) (c : Counts) (high : Option ℕ) (pads : Counts → Bool) (us : List Per.BitForm) → Leads al (λ p. sized_count al c high (pads c) (length us) p) (length us) us (Per.sized_root al c high pads us)
+pub count_leads : (al : Bool) (c : Counts) (high : Option ℕ) (has_padding : Counts → Bool) (us : List Per.BitForm) → Leads al (λ p. sized_count al c high (has_padding c) (length us) p) (length us) us (Per.sized_root al c high has_padding us)
 unfolding text_at Per.sized_root
-count_leads al c None pads us = general_leads al us
-count_leads al c (Some high) pads us = by_test (ltb high 65536)
+count_leads al c None has_padding us = general_leads al us
+count_leads al c (Some high) has_padding us = by_test (ltb high 65536)
   where
     go : (p : Option ℕ) (o : Option Text) → option_and_then (λ a. option_map (λ b. a ++ b) (text_at (joined us) (on p a))) o ≡ by_heading al us p (option_map (λ w. before_all (length us) w) o)
     go p None = refl
     go p (Some w) = refl
 
-    by_test : (t : Bool) → Leads al (λ p. cond t (option_map (λ w. before_all (length us) w) (text_at (count_form al c.low high (pads c) (length us)) p)) (general al (length us) p)) (length us) us (cond t (both (Per.constrained al (high - c.low) (length us - c.low)) (Per.at_octet (al && pads c) (joined us))) (Per.counted al us))
+    by_test : (t : Bool) → Leads al (λ p. count_up_to al c.low (has_padding c) (length us) p (cond t (Some high) None)) (length us) us (cond t (both (Per.constrained al (high - c.low) (length us - c.low)) (Per.at_octet (al && has_padding c) (joined us))) (Per.counted al us))
     by_test true = record {
-      text = λ p. number_text al (pads c) c.low high us (length us) p ∙ go p (text_at (count_form al c.low high (pads c) (length us)) p);
-      sound = λ p. before_all_sound (length us) (text_at (count_form al c.low high (pads c) (length us)) p);
+      text = λ p. number_text al (has_padding c) c.low high us (length us) p ∙ go p (text_at (count_form al c.low high (has_padding c) (length us)) p);
+      sound = λ p. before_all_sound (length us) (text_at (count_form al c.low high (has_padding c) (length us)) p);
     }
     by_test false = general_leads al us
 
@@ -146,8 +146,8 @@ extensible_leads al true true f g n us x y h k = let l = bit_leads al false f n 
 extensible_leads al true false f g n us x y h k = let l = bit_leads al true g n us y k in record { text = l.text; sound = l.sound }
 
 -- units of a size have the text of their heading, and of what is due behind it
-pub size_leads : (al : Bool) (z : Size) (pads : Bool) (us : List Per.BitForm) → Leads al (heading al z pads (length us)) (length us) us (of_size al z pads us)
-size_leads al z pads us = extensible_leads al z.extensible (is_count_within z.counts (length us)) (λ q. sized_count al z.counts z.counts.high pads (length us) q) (λ q. general al (length us) q) (length us) us (Per.sized_root al z.counts z.counts.high (λ _. pads) us) (Per.counted al us) (count_leads al z.counts z.counts.high (λ _. pads) us) (general_leads al us)
+pub size_leads : (al : Bool) (z : Size) (has_padding : Bool) (us : List Per.BitForm) → Leads al (heading al z has_padding (length us)) (length us) us (of_size al z has_padding us)
+size_leads al z has_padding us = extensible_leads al z.extensible (is_count_within z.counts (length us)) (λ q. sized_count al z.counts z.counts.high has_padding (length us) q) (λ q. general al (length us) q) (length us) us (Per.sized_root al z.counts z.counts.high (λ _. has_padding) us) (Per.counted al us) (count_leads al z.counts z.counts.high (λ _. has_padding) us) (general_leads al us)
 
 -- ---- what a writer adds behind a heading
 
@@ -164,11 +164,11 @@ heads_added al us x o d old mid new e h a =
 pub counted_added : (al : Bool) (us : List Per.BitForm) (n : ℕ) (d : Due) (old mid new : Packed) → n ≡ length us → Heads (general al n (place old)) old d mid → Adds (text_at (form_due al d.units (determinants_of d.behind) us) (place mid)) mid new → Adds (text_at (Per.counted al us) (place old)) old new
 counted_added al us n d old mid new e h a = heads_added al us (Per.counted al us) (general al (length us) (place old)) d old mid new ((general_leads al us).text (place old)) (subst (λ k. Heads (general al k (place old)) old d mid) e h) a
 
-pub size_added : (al : Bool) (z : Size) (pads : Bool) (us : List Per.BitForm) (n : ℕ) (d : Due) (old mid new : Packed) → n ≡ length us → Heads (heading al z pads n (place old)) old d mid → Adds (text_at (form_due al d.units (determinants_of d.behind) us) (place mid)) mid new → Adds (text_at (of_size al z pads us) (place old)) old new
-size_added al z pads us n d old mid new e h a = heads_added al us (of_size al z pads us) (heading al z pads (length us) (place old)) d old mid new ((size_leads al z pads us).text (place old)) (subst (λ k. Heads (heading al z pads k (place old)) old d mid) e h) a
+pub size_added : (al : Bool) (z : Size) (has_padding : Bool) (us : List Per.BitForm) (n : ℕ) (d : Due) (old mid new : Packed) → n ≡ length us → Heads (heading al z has_padding n (place old)) old d mid → Adds (text_at (form_due al d.units (determinants_of d.behind) us) (place mid)) mid new → Adds (text_at (of_size al z has_padding us) (place old)) old new
+size_added al z has_padding us n d old mid new e h a = heads_added al us (of_size al z has_padding us) (heading al z has_padding (length us) (place old)) d old mid new ((size_leads al z has_padding us).text (place old)) (subst (λ k. Heads (heading al z has_padding k (place old)) old d mid) e h) a
 
-pub size_none : (al : Bool) (z : Size) (pads : Bool) (us : List Per.BitForm) (n : ℕ) (q : Option ℕ) → n ≡ length us → heading al z pads n q ≡ None → text_at (of_size al z pads us) q ≡ None
-size_none al z pads us n q e h = (size_leads al z pads us).text q ∙ ap (by_heading al us q) (subst (λ k. heading al z pads k q ≡ None) e h)
+pub size_none : (al : Bool) (z : Size) (has_padding : Bool) (us : List Per.BitForm) (n : ℕ) (q : Option ℕ) → n ≡ length us → heading al z has_padding n q ≡ None → text_at (of_size al z has_padding us) q ≡ None
+size_none al z has_padding us n q e h = (size_leads al z has_padding us).text q ∙ ap (by_heading al us q) (subst (λ k. heading al z has_padding k q ≡ None) e h)
 
 -- ---- units that are due, and those behind the next length determinant
 
@@ -198,18 +198,18 @@ module _ (al : Bool) (us : List Per.BitForm) (from : ℕ) (d : Due) (w : from �
 
 -- ---- under the counts that a type holds
 
-pub held_added : (al : Bool) (z : Size) (h : Counts) (pads : Bool) (us : List Per.BitForm) (old new : Packed) → is_count_within h (length us) ≡ true → Adds (text_at (of_size al z pads us) (place old)) old new → Adds (text_at (Per.sized al z h (λ _. pads) us) (place old)) old new
+pub held_added : (al : Bool) (z : Size) (h : Counts) (has_padding : Bool) (us : List Per.BitForm) (old new : Packed) → is_count_within h (length us) ≡ true → Adds (text_at (of_size al z has_padding us) (place old)) old new → Adds (text_at (Per.sized al z h (λ _. has_padding) us) (place old)) old new
 unfolding Per.sized
-held_added al z h pads us old new e a = adds_same _ _ old new (if_true (is_count_within h (length us)) (of_size al z pads us) (place old) e) a
+held_added al z h has_padding us old new e a = adds_same _ _ old new (if_true (is_count_within h (length us)) (of_size al z has_padding us) (place old) e) a
 
-pub held_none : (al : Bool) (z : Size) (h : Counts) (pads : Bool) (us : List Per.BitForm) (q : Option ℕ) → text_at (of_size al z pads us) q ≡ None → text_at (Per.sized al z h (λ _. pads) us) q ≡ None
+pub held_none : (al : Bool) (z : Size) (h : Counts) (has_padding : Bool) (us : List Per.BitForm) (q : Option ℕ) → text_at (of_size al z has_padding us) q ≡ None → text_at (Per.sized al z h (λ _. has_padding) us) q ≡ None
 unfolding Per.sized
-held_none al z h pads us q e = go (is_count_within h (length us)) refl
+held_none al z h has_padding us q e = go (is_count_within h (length us)) refl
   where
-    go : (b : Bool) → is_count_within h (length us) ≡ b → text_at (only_if (is_count_within h (length us)) (of_size al z pads us)) q ≡ None
-    go true t = if_true (is_count_within h (length us)) (of_size al z pads us) q t ∙ e
-    go false t = if_false (is_count_within h (length us)) (of_size al z pads us) q t
+    go : (b : Bool) → is_count_within h (length us) ≡ b → text_at (only_if (is_count_within h (length us)) (of_size al z has_padding us)) q ≡ None
+    go true t = if_true (is_count_within h (length us)) (of_size al z has_padding us) q t ∙ e
+    go false t = if_false (is_count_within h (length us)) (of_size al z has_padding us) q t
 
-pub not_held : (al : Bool) (z : Size) (h : Counts) (pads : Bool) (us : List Per.BitForm) (q : Option ℕ) → is_count_within h (length us) ≡ false → text_at (Per.sized al z h (λ _. pads) us) q ≡ None
+pub not_held : (al : Bool) (z : Size) (h : Counts) (has_padding : Bool) (us : List Per.BitForm) (q : Option ℕ) → is_count_within h (length us) ≡ false → text_at (Per.sized al z h (λ _. has_padding) us) q ≡ None
 unfolding Per.sized
-not_held al z h pads us q e = if_false (is_count_within h (length us)) (of_size al z pads us) q e
+not_held al z h has_padding us q e = if_false (is_count_within h (length us)) (of_size al z has_padding us) q e

@@ -1,5 +1,5 @@
 -- What stands in front of units, in the bits of a writer: their number, or length determinants.
-use Rattle.std.proofs.Common.{◌≡◌, ℕ, ◌-◌, ◌*◌, ◌/◌, ◌<◌, ◌≤◌, ltb, leb, min, Bool, true, false, cond, ◌&&◌, ◌∷◌, Option, Some, None, option_map, Result, Ok, Err, IsErr, IsErrAnd, MatchResult, refl, ap, sym, subst, ◌∙◌, arith}
+use Rattle.std.proofs.Common.{◌≡◌, ℕ, ◌-◌, ◌*◌, ◌/◌, ◌<◌, ◌≤◌, leb, min, Bool, true, false, ◌&&◌, ◌∷◌, Option, Some, None, option_map, Result, Ok, Err, IsErr, IsErrAnd, MatchResult, refl, ap, sym, subst, ◌∙◌, arith}
 use Rattle.std.proofs.lemmas.Bool.{le-leb}
 use Rattle.asn1_model.specs.Schema.{Counts}
 use Rattle.asn1_model.specs.Numbers.{binary, missing}
@@ -11,7 +11,7 @@ use Rattle.per_codec_limits.specs.Counts.{below_long_count}
 use Rattle.per_codec_packing.specs.Texts.{Text, text_at}
 use Rattle.per_codec_packing.specs.Packed.{Packed, place, plus}
 use Rattle.per_codec_packing.proofs.Adding.{added, adds_padding, none_first}
-use Rattle.per_codec_writing.specs.Headings.{Heading, before_all, next_determinant, general, padding_behind, count_form, sized_count, heading_of, Heads, NoHeading}
+use Rattle.per_codec_writing.specs.Headings.{Heading, before_all, next_determinant, general, padding_behind, count_form, count_up_to, sized_count, heading_of, Heads, NoHeading}
 use Rattle.per_codec_writing.specs.Writing.{Adds, Refuses, padding_if}
 use Rattle.per_codec_writing.specs.declared.lengths.Due.{Due}
 use Rattle.per_codec_writing.proofs.PaddingTexts.{adds_both, plus_nothing}
@@ -52,7 +52,7 @@ adds_padding_behind : (al : Bool) (x : Per.BitForm) (old mid new : Packed) → A
 adds_padding_behind true x old mid new a e = adds_both x (placed (λ p. Per.padding (missing p))) old mid new a (adds_padding mid new e)
 adds_padding_behind false x old mid new a e = subst (λ m. Adds (text_at x (place old)) old m) (sym (e ∙ plus_nothing mid)) a
 
-pub count_added : (al : Bool) (low high n : ℕ) (pads : Bool) (old mid new : Packed) → pads ≡ true → Adds (text_at (Per.constrained al (high - low) (n - low)) (place old)) old mid → new ≡ plus mid (padding_if al (place mid)) → Adds (text_at (count_form al low high pads n) (place old)) old new
+pub count_added : (al : Bool) (low high n : ℕ) (has_padding : Bool) (old mid new : Packed) → has_padding ≡ true → Adds (text_at (Per.constrained al (high - low) (n - low)) (place old)) old mid → new ≡ plus mid (padding_if al (place mid)) → Adds (text_at (count_form al low high has_padding n) (place old)) old new
 count_added al low high n true old mid new t a e = adds_padding_behind al _ old mid new a e
 count_added al low high n false old mid new t a e = cc
 
@@ -60,24 +60,19 @@ no_padding_behind : (b : Bool) (x : Per.BitForm) (q : Option ℕ) → text_at x 
 no_padding_behind true x q e = none_first x (placed (λ p. Per.padding (missing p))) q e
 no_padding_behind false x q e = e
 
-pub count_none : (al : Bool) (low high n : ℕ) (pads : Bool) (q : Option ℕ) → text_at (Per.constrained al (high - low) (n - low)) q ≡ None → text_at (count_form al low high pads n) q ≡ None
-count_none al low high n pads q e = no_padding_behind (pads && al) _ q e
+pub count_none : (al : Bool) (low high n : ℕ) (has_padding : Bool) (q : Option ℕ) → text_at (Per.constrained al (high - low) (n - low)) q ≡ None → text_at (count_form al low high has_padding n) q ≡ None
+count_none al low high n has_padding q e = no_padding_behind (has_padding && al) _ q e
 
--- behind the test whether the highest number is below 65536
-narrow_cond : (b : Bool) (m h : ℕ) (f : ℕ → Option Heading) (g : Option Heading) → cond b (Some m) None ≡ Some h → cond b (f m) g ≡ f h
-narrow_cond true m h f g e = let k : m ≡ h = cc in ap f k
-narrow_cond false m h f g e = cc
+-- where the highest number is below 65536
+narrow_count : (al : Bool) (c : Counts) (o : Option ℕ) (has_padding : Bool) (n h : ℕ) (q : Option ℕ) → below_long_count o ≡ Some h → sized_count al c o has_padding n q ≡ option_map (λ w. before_all n w) (text_at (count_form al c.low h has_padding n) q)
+narrow_count al c o has_padding n h q e = ap (count_up_to al c.low has_padding n q) e
 
-narrow_count : (al : Bool) (c : Counts) (o : Option ℕ) (pads : Bool) (n h : ℕ) (q : Option ℕ) → below_long_count o ≡ Some h → sized_count al c o pads n q ≡ option_map (λ w. before_all n w) (text_at (count_form al c.low h pads n) q)
-narrow_count al c None pads n h q e = cc
-narrow_count al c (Some m) pads n h q e = narrow_cond (ltb m 65536) m h (λ j. option_map (λ w. before_all n w) (text_at (count_form al c.low j pads n) q)) (general al n q) e
-
-pub narrow_heads : (al : Bool) (c : Counts) (o : Option ℕ) (pads : Bool) (n h low : ℕ) (d : Due) (old new : Packed) → below_long_count o ≡ Some h → low ≡ c.low → d ≡ record { units = n; behind = None } → Adds (text_at (count_form al low h pads n) (place old)) old new → Heads (sized_count al c o pads n (place old)) old d new
-narrow_heads al c o pads n h low d old new a l e x =
-    let t = added (text_at (count_form al c.low h pads n) (place old)) old new (subst (λ j. Adds (text_at (count_form al j h pads n) (place old)) old new) l x) in
+pub narrow_heads : (al : Bool) (c : Counts) (o : Option ℕ) (has_padding : Bool) (n h low : ℕ) (d : Due) (old new : Packed) → below_long_count o ≡ Some h → low ≡ c.low → d ≡ record { units = n; behind = None } → Adds (text_at (count_form al low h has_padding n) (place old)) old new → Heads (sized_count al c o has_padding n (place old)) old d new
+narrow_heads al c o has_padding n h low d old new a l e x =
+    let t = added (text_at (count_form al c.low h has_padding n) (place old)) old new (subst (λ j. Adds (text_at (count_form al j h has_padding n) (place old)) old new) l x) in
     record {
       text = t.0;
-      is = narrow_count al c o pads n h (place old) a ∙ ap (option_map (λ w. before_all n w)) t.1 ∙ ap (λ y. Some (heading_of t.0 y)) (sym e);
+      is = narrow_count al c o has_padding n h (place old) a ∙ ap (option_map (λ w. before_all n w)) t.1 ∙ ap (λ y. Some (heading_of t.0 y)) (sym e);
       added = sym t.2;
     }
 
@@ -103,8 +98,8 @@ no_text u t f LengthExceedsPlatformSize h = f h
 no_text u t f CallOutOfPlace h = h
 no_text u t f AlreadyFailed h = h
 
-pub narrow_none : (al : Bool) (c : Counts) (o : Option ℕ) (pads : Bool) (n h low : ℕ) (old : Packed) → below_long_count o ≡ Some h → low ≡ c.low → (e : EncodeError) → Refuses (text_at (count_form al low h pads n) (place old)) e → NoHeading (sized_count al c o pads n (place old)) e
-narrow_none al c o pads n h low old a l e x = refused_so _ _ (λ q. narrow_count al c o pads n h (place old) a ∙ ap (option_map (λ w. before_all n w)) q) e (subst (λ j. Refuses (text_at (count_form al j h pads n) (place old)) e) l x)
+pub narrow_none : (al : Bool) (c : Counts) (o : Option ℕ) (has_padding : Bool) (n h low : ℕ) (old : Packed) → below_long_count o ≡ Some h → low ≡ c.low → (e : EncodeError) → Refuses (text_at (count_form al low h has_padding n) (place old)) e → NoHeading (sized_count al c o has_padding n (place old)) e
+narrow_none al c o has_padding n h low old a l e x = refused_so _ _ (λ q. narrow_count al c o has_padding n h (place old) a ∙ ap (option_map (λ w. before_all n w)) q) e (subst (λ j. Refuses (text_at (count_form al j h has_padding n) (place old)) e) l x)
 
 -- an error that is handed on
 pub raised_on : {T E : Type 0} (P : T → Type 0) (Q : E → Type 0) (x : E) (r : Result T E) → IsErr r → IsErrAnd r (λ y. y ≡ x) → Q x → MatchResult r P Q

@@ -14,10 +14,9 @@ pub mod NumberTexts
 pub mod BoundedTexts
 pub mod PlaceTexts
 pub mod OpenTypes
-pub mod AdditionTexts
 pub mod StringTexts
+pub mod IdentifierTexts
 pub mod CharacterTexts
 pub mod OctetTexts
 pub mod Refused
 pub mod CharacterStringTexts
-pub mod KeptSlots

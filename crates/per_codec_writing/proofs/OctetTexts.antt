@@ -9,12 +9,12 @@ use Rattle.asn1_model.specs.Schema.{StringKind, numeric, printable, visible, ia5
 use Rattle.asn1_model.specs.Strings.{Run, run, characters_of, is_among, is_octet, is_of_octets, each_is, largest, place_of}
 use Rattle.asn1_model.specs.Per
 use Rattle.asn1_values_alphabets.specs.Permitted.{permits_all}
-use Rattle.per_codec_alphabets.specs.Codes.{Coded, SameCharacters}
+use Rattle.per_codec_alphabets.specs.Codes.{Coded, SameCharacters, text_of}
 use Rattle.per_codec_packing.specs.Texts.{text_at}
 use Rattle.per_codec_writing.specs.Writing.{Packed, Adds, place}
 use Rattle.per_codec_writing.proofs.PaddingTexts.{adds_same, if_true}
 use Rattle.per_codec_writing.specs.Units.{forms_of}
-use Rattle.per_codec_writing.specs.Characters.{text_of, texts_of}
+use Rattle.per_codec_writing.specs.Characters.{texts_of}
 
 all_octets : (k : StringKind) → is_of_octets k ≡ true → characters_of k ≡ run 0 255 ∷ []
 all_octets numeric e = cc

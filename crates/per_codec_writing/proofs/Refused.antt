@@ -74,10 +74,10 @@ module _ (f : ℕ → Per.BitForm) (test : ℕ → Bool) (h : (c : ℕ) → test
   unfolding Per.counted text_at
   none_counted al cs e p = none_fragments al _ cs e p
 
-  none_root : (al : Bool) (c : Counts) (o : Option ℕ) (pads : Counts → Bool) (cs : List ℕ) → each_is test cs ≡ false → Never (Per.sized_root al c o pads (map f cs))
+  none_root : (al : Bool) (c : Counts) (o : Option ℕ) (has_padding : Counts → Bool) (cs : List ℕ) → each_is test cs ≡ false → Never (Per.sized_root al c o has_padding (map f cs))
   unfolding Per.sized_root
-  none_root al c None pads cs e p = none_counted al cs e p
-  none_root al c (Some high) pads cs e p = none_either (ltb high 65536) _ _ (none_second _ _ (none_at_octet (al && pads c) _ (none_joined cs e))) (none_counted al cs e) p
+  none_root al c None has_padding cs e p = none_counted al cs e p
+  none_root al c (Some high) has_padding cs e p = none_either (ltb high 65536) _ _ (none_second _ _ (none_at_octet (al && has_padding c) _ (none_joined cs e))) (none_counted al cs e) p
 
   none_with_extension_bit : (e b : Bool) (x y : Per.BitForm) → Never x → Never y → Never (Per.with_extension_bit e b x y)
   unfolding Per.with_extension_bit text_at
@@ -85,6 +85,6 @@ module _ (f : ℕ → Per.BitForm) (test : ℕ → Bool) (h : (c : ℕ) → test
   none_with_extension_bit true true x y h k p = none_second (exactly (false ∷ [])) x h p
   none_with_extension_bit true false x y h k p = none_second (exactly (true ∷ [])) y k p
 
-  pub none_sized : (al : Bool) (z : Size) (held : Counts) (pads : Counts → Bool) (cs : List ℕ) → each_is test cs ≡ false → Never (Per.sized al z held pads (map f cs))
+  pub none_sized : (al : Bool) (z : Size) (held : Counts) (has_padding : Counts → Bool) (cs : List ℕ) → each_is test cs ≡ false → Never (Per.sized al z held has_padding (map f cs))
   unfolding Per.sized
-  none_sized al z held pads cs e p = none_if _ _ (none_with_extension_bit z.extensible _ _ _ (none_root al z.counts z.counts.high pads cs e) (none_counted al cs e)) p
+  none_sized al z held has_padding cs e p = none_if _ _ (none_with_extension_bit z.extensible _ _ _ (none_root al z.counts z.counts.high has_padding cs e) (none_counted al cs e)) p

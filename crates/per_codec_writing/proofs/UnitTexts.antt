@@ -1,6 +1,6 @@
 -- Octets, bits and other units of known texts, one behind the other.
 use Rattle.std.proofs.Common.{◌≡◌, ℕ, ◌-◌, ◌≤◌, Bool, List, [], ◌∷◌, ◌++◌, length, map, flat_map, take, drop, slice_range, refl, ap, subst, sym, ◌∙◌, arith}
-use Rattle.std.proofs.lemmas.List.{take-map, drop-map}
+use Rattle.std.proofs.lemmas.List.{take-map, drop-map, map-append}
 use Rattle.std.proofs.lemmas.List.Concat.{flat_map-append}
 use Rattle.asn1_model.specs.Form.{exactly, joined}
 use Rattle.asn1_model.specs.Numbers.{binary, octet_bits}
@@ -16,7 +16,7 @@ use Rattle.per_codec_writing.specs.Members.{forms_of as forms_of_members}
 use Rattle.per_codec_writing.proofs.Adding.{adds_joined}
 use Rattle.per_codec_writing.proofs.PaddingTexts.{plus_nothing}
 
-range-map : {X Y : Type 0} (f : X → Y) (xs : List X) (i j : ℕ) → slice_range (map f xs) i j ≡ map f (slice_range xs i j)
+pub range-map : {X Y : Type 0} (f : X → Y) (xs : List X) (i j : ℕ) → slice_range (map f xs) i j ≡ map f (slice_range xs i j)
 range-map f xs i j = ap (take (j - i)) (drop-map f i xs) ∙ take-map f (j - i) (drop i xs)
 
 octets_together : (os : List ℕ) → together (map (binary 8) os) ≡ octet_bits os
@@ -54,6 +54,11 @@ octets_added os i j old new e =
     subst (λ us. Adds (text_at (joined us) (place old)) old new) (forms_of_octets l ∙ sym (range-map (λ o. exactly (binary 8 o)) os i j))
     (adds_joined (map (binary 8) l) old new (e ∙ ap (λ t. plus old (as_text t)) (sym (octets_together l))))
 
+pub all_octets_added : (os : List ℕ) (old new : Packed) → new ≡ plus old (as_text (octet_bits os)) → Adds (text_at (joined (Per.octet_units os)) (place old)) old new
+all_octets_added os old new e =
+    subst (λ us. Adds (text_at (joined us) (place old)) old new) (forms_of_octets os)
+    (adds_joined (map (binary 8) os) old new (e ∙ ap (λ t. plus old (as_text t)) (sym (octets_together os))))
+
 pub bits_added : (bs : List Bool) (i j : ℕ) (old new : Packed) → new ≡ plus old (as_text (slice_range bs i j)) → Adds (text_at (joined (slice_range (Per.bit_units bs) i j)) (place old)) old new
 bits_added bs i j old new e =
     let l : List Bool = slice_range bs i j in
@@ -74,3 +79,5 @@ low_bits_moved w rest front behind bs mid new all j h e n =
 pub no_low_bits : (w : ℕ) (rest : List ℕ) (new all : Packed) → length rest ≤ 0 → plus new (as_text (flat_map (binary w) rest)) ≡ all → new ≡ all
 no_low_bits w [] new all h e = sym (plus_nothing new) ∙ e
 no_low_bits w (o ∷ os) new all h e = absurd (omega arith)
+
+-- ---- presence bits, some after others

@@ -1,6 +1,6 @@
 -- What stands in front of the units of a string, a list or a bag: the extension bit, their number and padding, or the
 -- length determinants of fragments of them (X.691 11.9, 16, 17, 20, 22 and 30).
-use Rattle.std.specs.Prelude.{◌≡◌, ℕ, ◌+◌, ◌-◌, ◌*◌, ltb, leb, Bool, true, false, cond, ◌&&◌, List, [], ◌∷◌, take, drop}
+use Rattle.std.specs.Prelude.{◌≡◌, ℕ, ◌+◌, ◌-◌, ◌*◌, leb, Bool, true, false, cond, ◌&&◌, List, [], ◌∷◌, take, drop}
 use Rattle.std.specs.Prelude.{Option, Some, None, option_map}
 use Rattle.asn1_model.specs.Schema.{Counts, Size}
 use Rattle.asn1_model.specs.Numbers.{binary, is_count_within, missing}
@@ -8,6 +8,7 @@ use Rattle.asn1_model.specs.Form.{exactly, both, only_if, joined, placed}
 use Rattle.asn1_model.specs.Per
 use Rattle.asn1_schema_faults.specs.declared.EncodeError.{EncodeError}
 use Rattle.asn1_schema_faults.specs.declared.EncodeError.TheVariants.{OutOfMemory, CallOutOfPlace, AlreadyFailed}
+use Rattle.per_codec_limits.specs.Counts.{below_long_count}
 use Rattle.per_codec_packing.specs.Texts.{Text, bit, moved, text_at}
 use Rattle.per_codec_packing.specs.Packed.{Packed, plus}
 use Rattle.per_codec_writing.specs.declared.lengths.Due.{Due}
@@ -48,14 +49,19 @@ padding_behind true x = both x (placed (λ p. Per.padding (missing p)))
 
 -- The number of n units of low to high, and the padding behind it.
 abbrev pub count_form : Bool → ℕ → ℕ → Bool → ℕ → Per.BitForm
-count_form al low high pads n = padding_behind (pads && al) (Per.constrained al (high - low) (n - low))
+count_form al low high has_padding n = padding_behind (has_padding && al) (Per.constrained al (high - low) (n - low))
+
+-- The number of n units, from the lowest to the highest that tells its form, and the padding behind it, else a length
+-- determinant in the general form.
+abbrev pub count_up_to : Bool → ℕ → Bool → ℕ → Option ℕ → Option ℕ → Option Heading
+count_up_to al low has_padding n q None = general al n q
+count_up_to al low has_padding n q (Some high) =
+    option_map (λ w. before_all n w) (text_at (count_form al low high has_padding n) q)
 
 -- The number of n units of the root of a size, by its bounds where the highest is below 65536, and the padding behind
 -- it, else in the general form (X.691 11.9.4.1, 16.8 to 16.11, 17.5 to 17.8, 20.5, 30.5.6 and 30.5.7).
 abbrev pub sized_count : Bool → Counts → Option ℕ → Bool → ℕ → Option ℕ → Option Heading
-sized_count al c None pads n q = general al n q
-sized_count al c (Some high) pads n q = cond (ltb high 65536)
-    (option_map (λ w. before_all n w) (text_at (count_form al c.low high pads n) q)) (general al n q)
+sized_count al c high has_padding n q = count_up_to al c.low has_padding n q (below_long_count high)
 
 -- A heading behind a bit.
 abbrev pub behind_bit : Bool → (Option ℕ → Option Heading) → Option ℕ → Option Heading
@@ -72,8 +78,8 @@ extensible_count true in_root root outside q = cond in_root (behind_bit false ro
 -- What stands in front of n units of a size, at a position; whether padding stands behind their number, where this is
 -- one by the bounds of the root.
 abbrev pub heading : Bool → Size → Bool → ℕ → Option ℕ → Option Heading
-heading al z pads n q = extensible_count z.extensible (is_count_within z.counts n)
-    (λ q. sized_count al z.counts z.counts.high pads n q) (λ q. general al n q) q
+heading al z has_padding n q = extensible_count z.extensible (is_count_within z.counts n)
+    (λ q. sized_count al z.counts z.counts.high has_padding n q) (λ q. general al n q) q
 
 -- The form of units where so many are due before these length determinants.
 abbrev pub form_due : Bool → ℕ → LengthDeterminants → List Per.BitForm → Per.BitForm

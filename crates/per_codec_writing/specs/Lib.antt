@@ -4,6 +4,4 @@ pub mod Headings
 pub mod Members
 pub mod Keys
 pub mod Places
-pub mod Additions
-pub mod Slots
 pub mod Characters

@@ -15,5 +15,5 @@ forms_of ts = map (λ t. exactly t) ts
 
 -- Units of a size; whether padding stands in front of them, where their number is one by the bounds of the root.
 abbrev pub of_size : Bool → Size → Bool → List Per.BitForm → Per.BitForm
-of_size al z pads us = Per.with_extension_bit z.extensible (is_count_within z.counts (length us))
-    (Per.sized_root al z.counts z.counts.high (λ _. pads) us) (Per.counted al us)
+of_size al z has_padding us = Per.with_extension_bit z.extensible (is_count_within z.counts (length us))
+    (Per.sized_root al z.counts z.counts.high (λ _. has_padding) us) (Per.counted al us)

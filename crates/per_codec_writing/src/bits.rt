@@ -14,7 +14,7 @@ use crate::push_sized;
 use asn1_schema_constraints::{Bounded, Constraints};
 use asn1_schema_faults::EncodeError;
 use asn1_values_bits::BitStr;
-use per_codec_limits::{Variant, pads_string};
+use per_codec_limits::{Variant, string_has_padding};
 use per_codec_packing::Packing;
 
 /// Adds a BIT STRING (X.691 16), of which the program's type holds as many bits as `held` tells.
@@ -38,7 +38,7 @@ pub fn push_bit_string(
         (bit_list (bits_of value.entry))) (place output.old))) }
 {
     let sizes = constraints.sizes();
-    let pads = pads_string(sizes.root, 1, value.len());
-    push_sized(output, variant, sizes, held, pads, &value)?;
+    let has_padding = string_has_padding(sizes.root, 1, value.len());
+    push_sized(output, variant, sizes, held, has_padding, &value)?;
     Ok(())
 }

@@ -2,7 +2,8 @@
 ghost use Rattle.std.specs.Prelude.{◌≡◌, ◌≤◌, true, map, IfSome};
 ghost use Rattle.asn1_model.specs.Numbers.{binary};
 ghost use Rattle.asn1_model.specs.Strings.{each_is};
-ghost use Rattle.per_codec_writing.specs.Characters.{texts_of, has_code};
+ghost use Rattle.per_codec_alphabets.specs.Codes.{has_code};
+ghost use Rattle.per_codec_writing.specs.Characters.{texts_of};
 ghost use Rattle.per_codec_writing.specs.Units.{forms_of};
 
 use crate::Units;
@@ -47,10 +48,7 @@ impl<S: StaticPermittedAlphabet> CharacterUnits<'_, S> {
         if self.alphabet.width() > 8 {
             return None;
         }
-        let Some(octets) = self.string.char_octets() else {
-            return None;
-        };
-        Some(octets)
+        self.string.char_octets()
     }
 }
 

@@ -7,9 +7,9 @@ ghost use Rattle.asn1_model.specs.Schema.{any_count};
 ghost use Rattle.asn1_model.specs.Value.{text};
 ghost use Rattle.asn1_schema_constraints.specs.Terms.{sizes_of, size_of, alphabet_of};
 ghost use Rattle.asn1_values_alphabets.specs.Permitted.{permits_all};
-ghost use Rattle.per_codec_alphabets.specs.Codes.{SameCharacters};
+ghost use Rattle.per_codec_alphabets.specs.Codes.{SameCharacters, has_code};
 ghost use Rattle.per_codec_packing.specs.Texts.{text_at};
-ghost use Rattle.per_codec_writing.specs.Characters.{has_code, texts_of};
+ghost use Rattle.per_codec_writing.specs.Characters.{texts_of};
 ghost use Rattle.per_codec_writing.specs.Units.{forms_of};
 ghost use Rattle.per_codec_writing.specs.Writing.{Adds, Refuses, place};
 ghost use Rattle.per_codec_limits.specs.Variants.{is_aligned};
@@ -21,7 +21,7 @@ use asn1_schema_constraints::{Bounded, Constraints, Extensible, PermittedAlphabe
 use asn1_schema_faults::EncodeError;
 use asn1_values_alphabets::StaticPermittedAlphabet;
 use per_codec_alphabets::{EffectiveAlphabet, is_of_octets};
-use per_codec_limits::{Variant, pads_characters};
+use per_codec_limits::{Variant, characters_have_padding};
 use per_codec_packing::Packing;
 use std::alloc::Global;
 
@@ -66,6 +66,7 @@ fn have_codes<S: StaticPermittedAlphabet>(
     requires { SameCharacters units.now.alphabet.now.runs (permitted S.kind (alphabet_of alphabet)) }
     ensures { result ≡ each_is (has_code units.now.alphabet.now) (S.characters units.now.string.now) }
 {
+    // The proof alone needs it: all characters of a string are those of its kind.
     let _count = units.string.char_count();
     if is_narrowed(alphabet) {
         return units.has_codes();
@@ -78,24 +79,24 @@ fn push_coded<S: StaticPermittedAlphabet>(
     output: &mut Packing,
     variant: Variant,
     sizes: Sizes,
-    pads: bool,
+    has_padding: bool,
     units: &CharacterUnits<S>,
 ) -> Result<(), EncodeError>
     requires { each_is (has_code units.now.alphabet.now) (S.characters units.now.string.now) ≡ true }
     ensures { MatchResult result (λ _. Adds
-        (text_at (sized (is_aligned variant) (size_of sizes) any_count (λ _. pads)
+        (text_at (sized (is_aligned variant) (size_of sizes) any_count (λ _. has_padding)
         (forms_of (texts_of units.now.alphabet.now (S.characters units.now.string.now))))
         (place output.old)) output.old output.new)
-        (Refuses (text_at (sized (is_aligned variant) (size_of sizes) any_count (λ _. pads)
+        (Refuses (text_at (sized (is_aligned variant) (size_of sizes) any_count (λ _. has_padding)
         (forms_of (texts_of units.now.alphabet.now (S.characters units.now.string.now))))
         (place output.old))) }
 {
     if let Some(octets) = units.octet_codes() {
         let width = units.alphabet.width();
         let numbers = NumberUnits { octets, width };
-        return push_sized(output, variant, sizes, Bounded::None, pads, &numbers);
+        return push_sized(output, variant, sizes, Bounded::None, has_padding, &numbers);
     }
-    push_sized(output, variant, sizes, Bounded::None, pads, units)
+    push_sized(output, variant, sizes, Bounded::None, has_padding, units)
 }
 
 /// Adds the characters of a string by their codes, behind their number (X.691 30.5).
@@ -124,8 +125,8 @@ fn push_codes<S: StaticPermittedAlphabet>(
         return Err(EncodeError::AlphabetConstraintNotSatisfied);
     }
     let sizes = constraints.sizes();
-    let pads = pads_characters(sizes.root, alphabet.width(), value.char_count());
-    push_coded(output, variant, sizes, pads, &units)?;
+    let has_padding = characters_have_padding(sizes.root, alphabet.width(), value.char_count());
+    push_coded(output, variant, sizes, has_padding, &units)?;
     Ok(())
 }
 
@@ -151,6 +152,7 @@ pub fn push_characters<S: StaticPermittedAlphabet>(
         (alphabet_of constraints.entry.permitted_alphabet) any_count) (text (S.characters value.now)))
         (place output.old))) }
 {
+    // The proof alone needs it: all characters of a string are those of its kind.
     let _count = value.char_count();
     if is_of_octets::<S>() {
         push_octets(output, variant, alloc, value)?;

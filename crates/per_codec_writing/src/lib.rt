@@ -1,9 +1,8 @@
 //! Writers of the packed encoding rules (X.691): of padding, length determinants and whole numbers, of what stands in
-//! front of units of a size and of these, of the scalar types, of the places of items and alternatives, open types and
-//! additions, and of the members of bags in the order of their complete encodings.
+//! front of units of a size and of these, of the scalar types, of the places of items and alternatives, of open types,
+//! and of the members of bags in the order of their complete encodings.
 #![tactic(auto)]
 
-mod additions;
 mod bag;
 mod bits;
 mod booleans;
@@ -22,12 +21,10 @@ mod padding;
 mod places;
 mod sized;
 mod sizes;
-mod slots;
 mod small;
 mod texts;
 mod units;
 
-pub use additions::{push_additions, push_bitmap};
 pub use bag::push_bag;
 pub use bits::push_bit_string;
 pub use booleans::push_boolean;
@@ -44,7 +41,6 @@ pub use per_codec_limits::{FRAGMENT, LONG_COUNT};
 pub use places::{push_enumerated, push_place};
 pub use sized::push_sized;
 pub use sizes::push_size;
-pub use slots::Slot;
 pub use small::push_normally_small;
 pub use texts::push_utf8;
 pub use units::Units;

@@ -1,4 +1,4 @@
-//! Octets as units of fewer bits.
+//! The low bits of octets as units, at most eight of each.
 ghost use Rattle.std.specs.Prelude.{◌≡◌, ◌≤◌, flat_map, length, map, MatchResult};
 ghost use Rattle.asn1_model.specs.Numbers.{binary};
 ghost use Rattle.per_codec_packing.specs.Texts.{as_text};

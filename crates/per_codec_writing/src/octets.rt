@@ -12,7 +12,7 @@ ghost use Rattle.per_codec_limits.specs.Variants.{is_aligned};
 use crate::push_sized;
 use asn1_schema_constraints::{Bounded, Constraints};
 use asn1_schema_faults::EncodeError;
-use per_codec_limits::{Variant, pads_string};
+use per_codec_limits::{Variant, string_has_padding};
 use per_codec_packing::Packing;
 
 /// Adds an OCTET STRING (X.691 17), of which the program's type holds as many octets as `held` tells.
@@ -36,8 +36,8 @@ pub fn push_octet_string(
         (octet_list value.now)) (place output.old))) }
 {
     let sizes = constraints.sizes();
-    let pads = pads_string(sizes.root, 8, value.len());
+    let has_padding = string_has_padding(sizes.root, 8, value.len());
     let octets = value;
-    push_sized(output, variant, sizes, held, pads, &octets)?;
+    push_sized(output, variant, sizes, held, has_padding, &octets)?;
     Ok(())
 }

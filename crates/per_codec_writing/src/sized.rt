@@ -25,22 +25,23 @@ pub(crate) fn push_of_size<U: Units>(
     output: &mut Packing,
     variant: Variant,
     sizes: Sizes,
-    pads: bool,
+    has_padding: bool,
     units: &U,
 ) -> Result<(), EncodeError>
     ensures { MatchResult result (λ _. Adds
-        (text_at (of_size (is_aligned variant) (size_of sizes) pads (U.forms units.now)) (place output.old))
+        (text_at (of_size (is_aligned variant) (size_of sizes) has_padding (U.forms units.now)) (place output.old))
         output.old output.new)
-        (Refuses (text_at (of_size (is_aligned variant) (size_of sizes) pads (U.forms units.now)) (place output.old))) }
+        (Refuses (text_at (of_size (is_aligned variant) (size_of sizes) has_padding (U.forms units.now))
+        (place output.old))) }
 {
-    let due = push_size(output, variant, sizes, pads, units.count())?;
+    let due = push_size(output, variant, sizes, has_padding, units.count())?;
     push_due(output, variant, due, units)?;
     Ok(())
 }
 
-/// Adds units of a size (X.691 16, 17 and 30). `held` are the numbers of units that the program's type holds; `pads`
-/// tells whether padding stands in front of the units, in the aligned variant, where their number is one by the bounds
-/// of the root.
+/// Adds units of a size (X.691 16, 17 and 30). `held` are the numbers of units that the program's type holds;
+/// `has_padding` tells whether padding stands in front of the units, in the aligned variant, where their number is one
+/// by the bounds of the root.
 ///
 /// # Errors
 ///
@@ -52,18 +53,18 @@ pub fn push_sized<U: Units>(
     variant: Variant,
     sizes: Sizes,
     held: Bounded<usize>,
-    pads: bool,
+    has_padding: bool,
     units: &U,
 ) -> Result<(), EncodeError>
     ensures { MatchResult result (λ _. Adds
-        (text_at (sized (is_aligned variant) (size_of sizes) (counts_of held) (λ _. pads) (U.forms units.now))
+        (text_at (sized (is_aligned variant) (size_of sizes) (counts_of held) (λ _. has_padding) (U.forms units.now))
         (place output.old)) output.old output.new)
-        (Refuses (text_at (sized (is_aligned variant) (size_of sizes) (counts_of held) (λ _. pads) (U.forms units.now))
-        (place output.old))) }
+        (Refuses (text_at (sized (is_aligned variant) (size_of sizes) (counts_of held) (λ _. has_padding)
+        (U.forms units.now)) (place output.old))) }
 {
     if !held.contains(&units.count()) {
         return Err(EncodeError::SizeConstraintNotSatisfied);
     }
-    push_of_size(output, variant, sizes, pads, units)?;
+    push_of_size(output, variant, sizes, has_padding, units)?;
     Ok(())
 }

@@ -16,24 +16,24 @@ use asn1_schema_faults::EncodeError;
 use per_codec_limits::{Variant, told_highest};
 use per_codec_packing::Packing;
 
-/// Adds a number of units, one of `low` to `high`, and padding behind it if `pads` tells so (X.691 11.9.4.1).
+/// Adds a number of units, one of `low` to `high`, and padding behind it if `has_padding` tells so (X.691 11.9.4.1).
 #[inline(always)]
 fn push_number(
     output: &mut Packing,
     variant: Variant,
     low: usize,
     high: usize,
-    pads: bool,
+    has_padding: bool,
     count: usize,
 ) -> Result<(), EncodeError>
     requires least { low ≤ count }
     requires most { count ≤ high }
     ensures { MatchResult result (λ _. Adds
-        (text_at (count_form (is_aligned variant) low high pads count) (place output.old)) output.old output.new)
-        (Refuses (text_at (count_form (is_aligned variant) low high pads count) (place output.old))) }
+        (text_at (count_form (is_aligned variant) low high has_padding count) (place output.old)) output.old output.new)
+        (Refuses (text_at (count_form (is_aligned variant) low high has_padding count) (place output.old))) }
 {
     push_constrained(output, variant, (high - low) as u128, (count - low) as u128)?;
-    if pads {
+    if has_padding {
         push_padding(output, variant)?;
     }
     Ok(())
@@ -46,21 +46,22 @@ fn push_root_count(
     output: &mut Packing,
     variant: Variant,
     root: Bounded<usize>,
-    pads: bool,
+    has_padding: bool,
     count: usize,
 ) -> Result<Due, EncodeError>
     requires { is_count_within (counts_of root) count ≡ true }
     ensures heads { MatchResult result (λ due. Heads
-        (sized_count (is_aligned variant) (counts_of root) (upper root) pads count (place output.old)) output.old due
-        output.new)
-        (NoHeading (sized_count (is_aligned variant) (counts_of root) (upper root) pads count (place output.old))) }
+        (sized_count (is_aligned variant) (counts_of root) (upper root) has_padding count (place output.old))
+        output.old due output.new)
+        (NoHeading (sized_count (is_aligned variant) (counts_of root) (upper root) has_padding count
+        (place output.old))) }
     ensures due { IfOk result (λ due. IsDue count due) }
 {
     let Some(high) = told_highest(root) else {
         let due = push_length_determinant(output, variant, count)?;
         return Ok(due);
     };
-    push_number(output, variant, root.minimum(), high, pads, count)?;
+    push_number(output, variant, root.minimum(), high, has_padding, count)?;
     Ok(Due {
         units: count,
         behind: None,
@@ -68,8 +69,8 @@ fn push_root_count(
 }
 
 /// Adds what stands in front of so many units of a size: the extension bit, if the size is extensible, and their number
-/// or the first length determinant in the general form. `pads` tells whether padding stands behind a number by the
-/// bounds of the root, in the aligned variant.
+/// or the first length determinant in the general form. `has_padding` tells whether padding stands behind a number by
+/// the bounds of the root, in the aligned variant.
 ///
 /// # Errors
 ///
@@ -79,12 +80,12 @@ pub fn push_size(
     output: &mut Packing,
     variant: Variant,
     sizes: Sizes,
-    pads: bool,
+    has_padding: bool,
     count: usize,
 ) -> Result<Due, EncodeError>
     ensures heads { MatchResult result (λ due. Heads
-        (heading (is_aligned variant) (size_of sizes) pads count (place output.old)) output.old due output.new)
-        (NoHeading (heading (is_aligned variant) (size_of sizes) pads count (place output.old))) }
+        (heading (is_aligned variant) (size_of sizes) has_padding count (place output.old)) output.old due output.new)
+        (NoHeading (heading (is_aligned variant) (size_of sizes) has_padding count (place output.old))) }
     ensures due { IfOk result (λ due. IsDue count due) }
 {
     let in_root = sizes.root.contains(&count);
@@ -92,12 +93,12 @@ pub fn push_size(
         if !in_root {
             return Err(EncodeError::SizeConstraintNotSatisfied);
         }
-        let due = push_root_count(output, variant, sizes.root, pads, count)?;
+        let due = push_root_count(output, variant, sizes.root, has_padding, count)?;
         return Ok(due);
     }
     output.push(!in_root)?;
     if in_root {
-        let due = push_root_count(output, variant, sizes.root, pads, count)?;
+        let due = push_root_count(output, variant, sizes.root, has_padding, count)?;
         return Ok(due);
     }
     let due = push_length_determinant(output, variant, count)?;

@@ -1,6 +1,6 @@
 use Rattle.std.proofs.Common.{sym}
 use Rattle.std.proofs.lemmas.Result.{err_from_is_err_and}
-use Rattle.asn1_relay_core.proofs.Coded.{right_not_read, right_surplus, right_answered, right_not_written, none_left, some_left, source_names_none, target_names_none, source_names_no_call, target_names_no_call}
+use Rattle.asn1_relay_core.proofs.Coded.{right_not_read, right_surplus, right_answered, right_not_written, none_left, some_left, source_names_none, target_names_none, source_names_no_call, target_names_no_call, source_names_no_size, target_names_no_size}
 use Rattle.asn1_relay_core.proofs.translation.recode.Goals as goal
 
 pub returns-in_err-value-clause-right : goal.returns-in_err-value-clause-right
@@ -55,3 +55,13 @@ pub returns-in_err-encode-clause-in_place : goal.returns-in_err-encode-clause-in
 returns-in_err-encode-clause-in_place g c =
     let p = err_from_is_err_and c.from_residual-in_err-encode.result c.from_residual-in_err-encode.ensures.1 in
     rw p.1 (target_names_no_call _ p.0 p.2 c.in_err-encode.ensures.in_place)
+
+pub returns-in_err-value-clause-fits : goal.returns-in_err-value-clause-fits
+returns-in_err-value-clause-fits g c =
+    let p = err_from_is_err_and c.from_residual.result c.from_residual.ensures.1 in
+    rw p.1 (source_names_no_size _ p.0 p.2)
+
+pub returns-in_err-encode-clause-fits : goal.returns-in_err-encode-clause-fits
+returns-in_err-encode-clause-fits g c =
+    let p = err_from_is_err_and c.from_residual-in_err-encode.result c.from_residual-in_err-encode.ensures.1 in
+    rw p.1 (target_names_no_size _ p.0 p.2 c.in_err-encode.ensures.fits)

@@ -1,4 +1,4 @@
-use Rattle.std.proofs.Common.{rules, sym, ◌≡◌, List, take, MatchResult, subst, arith, ap, ◌∷◌, refl}
+use Rattle.std.proofs.Common.{rules, sym, ◌≡◌, List, take, MatchResult, subst, arith, ap, ◌∙◌, ◌∷◌, refl}
 use Rattle.oer_codec_encoder.specs.declared.frame.Bag.{Bag}
 use Rattle.oer_codec_encoder.specs.Frames.{NoEnd}
 use Rattle.oer_codec_encoder.specs.Holding.{BagEnds}
@@ -12,6 +12,7 @@ use Rattle.std.specs.Box.{with_value}
 use Rattle.oer_codec_encoder.proofs.Fronts.{keeps_bag, keeps_room, keeps_same}
 use Rattle.std.proofs.lemmas.Result.{on_err_weaker}
 use Rattle.oer_codec_encoder.proofs.ends.end_frame.Goals as goal
+use Rattle.oer_codec_encoder.proofs.ends.end_frame.Goals.{then-preamble-via-then-preamble, then-preamble-via-else-preamble+then-preamble-gt0}
 
 pub returns-else-preamble-gt0-clause-step : goal.returns-else-preamble-gt0-clause-step
 returns-else-preamble-gt0-clause-step c =
@@ -44,10 +45,11 @@ returns-in-Bag-clause-step c =
     bag_ends c.args.frame.now c.in-Bag.bag o p r c.in-Bag.is (subst (λ (b : Bag). MatchResult r (λ _. BagEnds b o p) (NoEnd b.due)) c.deref_mut.ensures.value c.end_bag.ensures.step)
 
 pub returns-then-preamble-clause-kept : goal.returns-then-preamble-clause-kept
-returns-then-preamble-clause-kept c k = keeps_same _ _ _ _ (ap (λ g. g ∷ k) (sym c.in-Components.is)) refl
-
-pub returns-then-preamble-gt0-clause-kept : goal.returns-then-preamble-gt0-clause-kept
-returns-then-preamble-gt0-clause-kept c k = keeps_same _ _ _ _ (ap (λ g. g ∷ k) (sym c.in-Components.is)) refl
+returns-then-preamble-clause-kept c k =
+    elim c.then-preamble.branch [
+      | then-preamble-via-then-preamble w ↦ keeps_same _ _ _ _ (ap (λ g. g ∷ k) (w.frame-is ∙ sym c.in-Components.is)) refl
+      | then-preamble-via-else-preamble+then-preamble-gt0 w ↦ keeps_same _ _ _ _ (ap (λ g. g ∷ k) (w.frame-is ∙ sym c.in-Components.is)) refl
+    ]
 
 pub returns-in-Members-clause-kept : goal.returns-in-Members-clause-kept
 returns-in-Members-clause-kept c k = keeps_same _ _ _ _ (ap (λ g. g ∷ k) (search rules)) refl

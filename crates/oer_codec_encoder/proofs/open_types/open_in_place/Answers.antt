@@ -6,5 +6,5 @@ use Rattle.oer_codec_encoder.proofs.open_types.open_in_place.Goals as goal
 pub returns-in_err-push-clause-kept : goal.returns-in_err-push-clause-kept
 returns-in_err-push-clause-kept c = though_refused _ (begins_same _ _ c.in_err-push.ensures.items)
 
-pub returns-in_err-enclose-clause-kept : goal.returns-in_err-enclose-clause-kept
-returns-in_err-enclose-clause-kept c = though_refused _ (begins_added _ _ _ c.in_ok-push.ensures.items)
+pub returns-in_err-open_small-clause-kept : goal.returns-in_err-open_small-clause-kept
+returns-in_err-open_small-clause-kept c = though_refused _ (begins_added _ _ _ c.in_ok-push.ensures.items)

@@ -1,11 +1,12 @@
-use Rattle.std.proofs.Common.{◌++◌, ap, ◌∙◌}
-use Rattle.asn1_model.specs.Numbers.{packed}
+use Rattle.std.proofs.Common.{◌≡◌, ◌++◌, take, length, ap, ◌∙◌, arith}
+use Rattle.std.proofs.lemmas.List.{length-take}
+use Rattle.asn1_model.specs.Numbers.{octet_bits, packed}
+use Rattle.asn1_values_bits.specs.BitStr.{bits_of}
 use Rattle.asn1_values_bits.specs.Octets.{padded}
-use Rattle.asn1_values_bits.proofs.Refused.{though_refused}
+use Rattle.asn1_values_bits.proofs.Binary.{length-octet_bits}
 use Rattle.oer_codec_writing.proofs.bits.push_bits.Goals as goal
 
-pub returns-clause-text : goal.returns-clause-text
-returns-clause-text c = c.in_ok-push_whole.ensures.text ∙ ap (λ b. c.args.octets.now.items ++ packed (padded b)) c.whole_octets.ensures
-
-pub returns-in_err-push_whole-clause-kept : goal.returns-in_err-push_whole-clause-kept
-returns-in_err-push_whole-clause-kept c = though_refused _ c.in_err-push_whole.ensures.kept
+pub push_first_bits-requires : goal.push_first_bits-requires
+push_first_bits-requires c =
+    let bits = octet_bits c.in-Some.held.now in
+    omega (arith, ap length c.in-Some.ensures.bits, length-take (length (bits_of c.args.value)) bits, length-octet_bits c.in-Some.held.now, c.len.ensures)

@@ -15,7 +15,7 @@ pub returns : goal.returns
 returns c = λ around.
     let ad = c.args.additions in
     let x = c.in_ok-push_extension.ensures in
-    does_end_added (is_aligned c.args.variant) (around ++ Added ad ∷ []) around (Added ad) ad c.args.output.now c.truncate.new.self refl refl c.truncate.ensures c.as_slice-slots.result.now c.push_extension.new.output c.as_slice-slots.ensures.value (omega (arith, c.if-additions-gt0.false)) x.some x.none
+    does_end_added (is_aligned c.args.variant) (around ++ Added ad ∷ []) around (Added ad) ad c.args.output.now c.truncate.new.self refl refl c.truncate.ensures ad.slots c.push_extension.new.output refl (omega (arith, c.if-additions-gt0.false)) x.some x.none
 
 pub truncate-requires-clause-within : goal.truncate-requires-clause-within
 truncate-requires-clause-within c =

@@ -4,14 +4,8 @@ use Rattle.per_codec_encoder.specs.Holding.{AreSound}
 use Rattle.per_codec_writing.proofs.HeadingTexts.{raised_on}
 use Rattle.per_codec_encoder.proofs.Innermost.{around_is, ended_within, ended_unless_full}
 use Rattle.per_codec_encoder.proofs.Bagging.{does_end_bag, cannot_end_bag}
-use Rattle.per_codec_encoder.proofs.Ending.{does_end_components}
 use Rattle.per_codec_limits.specs.Variants.{is_aligned}
 use Rattle.per_codec_encoder.proofs.ends.end_taken.Goals as goal
-
-pub returns-else-due-gt0 : goal.returns-else-due-gt0
-returns-else-due-gt0 c =
-    let f = c.in-Some-Components in
-    does_end_components c.args.frames.now c.pop.new.self f.field-0 f.extensible f.due _ _ f.ensures.items f.field-0-is c.if-extensible.false (omega arith) (is_aligned c.args.variant) c.args.output.now
 
 pub returns-in-Some-Added : goal.returns-in-Some-Added
 returns-in-Some-Added c =

@@ -7,7 +7,7 @@ use Rattle.per_codec_fronts.proofs.Fronts.{split}
 use Rattle.per_codec_reading.specs.Fronts.{freedoms, is_aligned}
 use Rattle.per_codec_reading.proofs.Fronts.{misses_also, root_told_outside_is_free}
 use Rattle.per_codec_reading.specs.Runs.{units_in, InOneRun}
-use Rattle.per_codec_reading.specs.Sizes.{pads_of, determinant_form, heading_form, sized_units, units_told}
+use Rattle.per_codec_reading.specs.Sizes.{contents_have_padding, determinant_form, heading_form, sized_units, units_told}
 use Rattle.per_codec_reading.proofs.LastFronts.{lent_behind}
 use Rattle.per_codec_reading.proofs.HeadingFronts.{in_one_run, bit_in_front}
 use Rattle.per_codec_reading.proofs.SizedFronts.{sized_in, no_heading, no_units, not_admitted}
@@ -20,9 +20,9 @@ returns-in_err-heading-clause-only c =
     let al = is_aligned c.args.variant in
     let z = size_of c.args.sizes in
     let h = counts_of c.args.held in
-    let pads = pads_of c.args.contents c.args.width in
+    let has_padding = contents_have_padding c.args.contents c.args.width in
     let a = c.args.cursor.now in
-    rw (p.1, p.2) (misses_also f (heading_form al z) (sized_units al z h c.args.width pads) a a _ (no_heading f al z h c.args.width pads a) c.in_err-heading.ensures.only)
+    rw (p.1, p.2) (misses_also f (heading_form al z) (sized_units al z h c.args.width has_padding) a a _ (no_heading f al z h c.args.width has_padding a) c.in_err-heading.ensures.only)
 
 pub returns-in_err-run-clause-only : goal.returns-in_err-run-clause-only
 returns-in_err-run-clause-only c =
@@ -32,12 +32,12 @@ returns-in_err-run-clause-only c =
     let z = size_of c.args.sizes in
     let h = counts_of c.args.held in
     let w = c.args.width in
-    let pads = pads_of c.args.contents c.args.width in
+    let has_padding = contents_have_padding c.args.contents c.args.width in
     let heading = c.in_ok-heading.heading in
     let o = heading.is_outside in
     let a = c.args.cursor.now in
     let s = split f (extension_bit z.extensible o) (determinant_form al z.counts (told_highest o z.counts.high) heading.determinant) a c.read_heading.new.cursor c.in_ok-heading.ensures.ok in
-    rw (p.1, p.2) (misses_also f (units_told al w pads z.counts (told_highest o z.counts.high)) (sized_units al z h w pads) s.0 a _ (no_units f al z h w pads o a s.0 s.1) (c.in_err-run.ensures.only (told_highest o z.counts.high) s.0 s.2))
+    rw (p.1, p.2) (misses_also f (units_told al w has_padding z.counts (told_highest o z.counts.high)) (sized_units al z h w has_padding) s.0 a _ (no_units f al z h w has_padding o a s.0 s.1) (c.in_err-run.ensures.only (told_highest o z.counts.high) s.0 s.2))
 
 pub returns-then-not-is_admitted-clause-only : goal.returns-then-not-is_admitted-clause-only
 returns-then-not-is_admitted-clause-only c =
@@ -46,14 +46,14 @@ returns-then-not-is_admitted-clause-only c =
     let z = size_of c.args.sizes in
     let h = counts_of c.args.held in
     let w = c.args.width in
-    let pads = pads_of c.args.contents c.args.width in
+    let has_padding = contents_have_padding c.args.contents c.args.width in
     let heading = c.in_ok-heading.heading in
     let o = heading.is_outside in
     let us = units_in c.in_ok-run.run' in
     let a = c.args.cursor.now in
     let b = c.read_units.new.cursor in
     let s = split f (extension_bit z.extensible o) (determinant_form al z.counts (told_highest o z.counts.high) heading.determinant) a c.read_heading.new.cursor c.in_ok-heading.ensures.ok in
-    not_admitted f al z h w pads us o a s.0 b s.1 (c.in_ok-run.ensures.ok (told_highest o z.counts.high) s.0 s.2) (sym c.if-not-is_admitted.ensures.counts)
+    not_admitted f al z h w has_padding us o a s.0 b s.1 (c.in_ok-run.ensures.ok (told_highest o z.counts.high) s.0 s.2) (sym c.if-not-is_admitted.ensures.counts)
 
 pub returns-clause-ok : goal.returns-clause-ok
 returns-clause-ok c =
@@ -62,14 +62,14 @@ returns-clause-ok c =
     let z = size_of c.args.sizes in
     let h = counts_of c.args.held in
     let w = c.args.width in
-    let pads = pads_of c.args.contents c.args.width in
+    let has_padding = contents_have_padding c.args.contents c.args.width in
     let heading = c.in_ok-heading.heading in
     let o = heading.is_outside in
     let us = units_in c.in_ok-run.run' in
     let a = c.args.cursor.now in
     let b = c.read_units.new.cursor in
     let s = split f (extension_bit z.extensible o) (determinant_form al z.counts (told_highest o z.counts.high) heading.determinant) a c.read_heading.new.cursor c.in_ok-heading.ensures.ok in
-    sized_in f al z h w pads us o a s.0 b (root_told_outside_is_free c.args.variant) s.1 (c.in_ok-run.ensures.ok (told_highest o z.counts.high) s.0 s.2) (sym c.if-not-is_admitted.ensures.counts)
+    sized_in f al z h w has_padding us o a s.0 b (root_told_outside_is_free c.args.variant) s.1 (c.in_ok-run.ensures.ok (told_highest o z.counts.high) s.0 s.2) (sym c.if-not-is_admitted.ensures.counts)
 
 pub returns-clause-lent : goal.returns-clause-lent
 returns-clause-lent c = λ one.

@@ -9,7 +9,7 @@ use Rattle.per_codec_fronts.specs.Takes.{Front}
 use Rattle.per_codec_reading.specs.Fronts.{freedoms, is_aligned}
 use Rattle.per_codec_reading.proofs.Fronts.{misses_also}
 use Rattle.per_codec_reading.specs.Runs.{units_in}
-use Rattle.per_codec_reading.specs.Sizes.{pads_of, sized_units}
+use Rattle.per_codec_reading.specs.Sizes.{contents_have_padding, sized_units}
 use Rattle.per_codec_reading.specs.declared.sized.Contents.TheVariants.{Strings}
 use Rattle.per_codec_reading.proofs.StringFronts.{bit_string_stands, no_bit_string}
 use Rattle.per_codec_reading.proofs.strings.read_bit_string.Goals as goal
@@ -22,7 +22,7 @@ returns-in_err-units-clause-only c =
     let z = size_of c.args.sizes in
     let h = counts_of c.args.held in
     let a = c.args.cursor.now in
-    rw (p.1, p.2) (misses_also f (sized_units al z h 1 (pads_of Strings 1)) (Per.form al (bit_string z h)) a a _ (no_bit_string f al z h a) c.in_err-units.ensures.only)
+    rw (p.1, p.2) (misses_also f (sized_units al z h 1 (contents_have_padding Strings 1)) (Per.form al (bit_string z h)) a a _ (no_bit_string f al z h a) c.in_err-units.ensures.only)
 
 pub returns-clause-ok : goal.returns-clause-ok
 returns-clause-ok c =

@@ -13,5 +13,5 @@ use Rattle.per_codec_writing.proofs.characters.push_coded.Goals as goal
 pub returns-in-Some : goal.returns-in-Some
 returns-in-Some g c =
     let old = c.args.output.now in
-    subst (λ us. MatchResult c.push_sized.result (λ _. Adds (text_at (Per.sized (is_aligned c.args.variant) (size_of c.args.sizes) any_count (λ _. c.args.pads) us) (place old)) old c.push_sized.new.output) (Refuses (text_at (Per.sized (is_aligned c.args.variant) (size_of c.args.sizes) any_count (λ _. c.args.pads) us) (place old))))
+    subst (λ us. MatchResult c.push_sized.result (λ _. Adds (text_at (Per.sized (is_aligned c.args.variant) (size_of c.args.sizes) any_count (λ _. c.args.has_padding) us) (place old)) old c.push_sized.new.output) (Refuses (text_at (Per.sized (is_aligned c.args.variant) (size_of c.args.sizes) any_count (λ _. c.args.has_padding) us) (place old))))
     (ap (λ w. forms_of (map (binary w) c.in-Some.octets.now)) c.width-width.ensures.bits ∙ c.in-Some.ensures.codes c.requires) c.push_sized.ensures

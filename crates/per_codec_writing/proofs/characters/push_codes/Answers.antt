@@ -21,14 +21,14 @@ returns-in_err-push_coded g c =
     let p = err_from_is_err_and c.from_residual-in_err-push_coded.result c.from_residual-in_err-push_coded.ensures.1 in
     let cs = g.S.StaticPermittedAlphabet.characters c.args.value.now in
     let y = size_of c.sizes-sizes.result in
-    let pads : c.pads_characters-pads.result ≡ Per.pads_characters c.in_ok-alphabet.alphabet.code_bits (length cs) y.counts = c.pads_characters-pads.ensures ∙ ap (λ n. Per.pads_characters n c.char_count.result y.counts) c.width.ensures.bits ∙ ap (λ n. Per.pads_characters c.in_ok-alphabet.alphabet.code_bits n y.counts) c.char_count.ensures.count in
-    let same = coded_text (is_aligned c.args.variant) (sizes_of c.args.constraints.size) y any_count (permitted g.S.StaticPermittedAlphabet.kind (alphabet_of c.args.constraints.permitted_alphabet)) c.in_ok-alphabet.alphabet cs c.in_ok-alphabet.ensures.characters c.in_ok-alphabet.ensures.width c.pads_characters-pads.result (place c.args.output.now) (sym c.if-not-have_codes.ensures) c.sizes-sizes.ensures pads in
+    let has_padding : c.characters_have_padding-has_padding.result ≡ Per.characters_have_padding c.in_ok-alphabet.alphabet.code_bits (length cs) y.counts = c.characters_have_padding-has_padding.ensures ∙ ap (λ n. Per.characters_have_padding n c.char_count.result y.counts) c.width.ensures.bits ∙ ap (λ n. Per.characters_have_padding c.in_ok-alphabet.alphabet.code_bits n y.counts) c.char_count.ensures.count in
+    let same = coded_text (is_aligned c.args.variant) (sizes_of c.args.constraints.size) y any_count (permitted g.S.StaticPermittedAlphabet.kind (alphabet_of c.args.constraints.permitted_alphabet)) c.in_ok-alphabet.alphabet cs c.in_ok-alphabet.ensures.characters c.in_ok-alphabet.ensures.width c.characters_have_padding-has_padding.result (place c.args.output.now) (sym c.if-not-have_codes.ensures) c.sizes-sizes.ensures has_padding in
     rw (p.1, p.2) (refuses_also _ _ _ (λ e. same ∙ e) c.in_err-push_coded.ensures)
 
 pub returns : goal.returns
 returns g c =
     let cs = g.S.StaticPermittedAlphabet.characters c.args.value.now in
     let y = size_of c.sizes-sizes.result in
-    let pads : c.pads_characters-pads.result ≡ Per.pads_characters c.in_ok-alphabet.alphabet.code_bits (length cs) y.counts = c.pads_characters-pads.ensures ∙ ap (λ n. Per.pads_characters n c.char_count.result y.counts) c.width.ensures.bits ∙ ap (λ n. Per.pads_characters c.in_ok-alphabet.alphabet.code_bits n y.counts) c.char_count.ensures.count in
-    let same = coded_text (is_aligned c.args.variant) (sizes_of c.args.constraints.size) y any_count (permitted g.S.StaticPermittedAlphabet.kind (alphabet_of c.args.constraints.permitted_alphabet)) c.in_ok-alphabet.alphabet cs c.in_ok-alphabet.ensures.characters c.in_ok-alphabet.ensures.width c.pads_characters-pads.result (place c.args.output.now) (sym c.if-not-have_codes.ensures) c.sizes-sizes.ensures pads in
+    let has_padding : c.characters_have_padding-has_padding.result ≡ Per.characters_have_padding c.in_ok-alphabet.alphabet.code_bits (length cs) y.counts = c.characters_have_padding-has_padding.ensures ∙ ap (λ n. Per.characters_have_padding n c.char_count.result y.counts) c.width.ensures.bits ∙ ap (λ n. Per.characters_have_padding c.in_ok-alphabet.alphabet.code_bits n y.counts) c.char_count.ensures.count in
+    let same = coded_text (is_aligned c.args.variant) (sizes_of c.args.constraints.size) y any_count (permitted g.S.StaticPermittedAlphabet.kind (alphabet_of c.args.constraints.permitted_alphabet)) c.in_ok-alphabet.alphabet cs c.in_ok-alphabet.ensures.characters c.in_ok-alphabet.ensures.width c.characters_have_padding-has_padding.result (place c.args.output.now) (sym c.if-not-have_codes.ensures) c.sizes-sizes.ensures has_padding in
     adds_same _ _ c.args.output.now c.push_coded.new.output same c.in_ok-push_coded.ensures

@@ -1,18 +1,26 @@
-use Rattle.std.proofs.Common.{rules, subst, ◌∙◌}
+use Rattle.std.proofs.Common.{subst, sym}
 use Rattle.asn1_model.specs.Per
+use Rattle.asn1_values_identifiers.specs.Groups.{contents}
+use Rattle.asn1_values_identifiers.proofs.Counts.{contents_octets}
 use Rattle.per_codec_packing.specs.Texts.{text_at}
 use Rattle.per_codec_writing.specs.Writing.{Adds, place}
+use Rattle.per_codec_writing.proofs.IdentifierTexts.{short_counted}
 use Rattle.per_codec_writing.proofs.PaddingTexts.{adds_same}
 use Rattle.per_codec_writing.proofs.StringTexts.{identifier_text, one_arc}
 use Rattle.per_codec_limits.specs.Variants.{is_aligned}
 use Rattle.per_codec_writing.proofs.identifiers.push_identifier.Goals as goal
 
-pub returns-in_ok-push_counted_octets-in-Ok : goal.returns-in_ok-push_counted_octets-in-Ok
-returns-in_ok-push_counted_octets-in-Ok c =
+pub returns : goal.returns
+returns c =
+    let al = is_aligned c.args.variant in
     let old = c.args.output.now in
-    let new = c.push_counted_octets.new.output in
-    adds_same _ _ old new (identifier_text (is_aligned c.args.variant) c.args.value.now (place old) c.in-Ok.ensures.identifier)
-    (subst (λ l. Adds (text_at (Per.counted_octets (is_aligned c.args.variant) l) (place old)) old new) (c.as_slice.ensures.value ∙ c.in-Ok.ensures.octets) c.in_ok-push_counted_octets-in-Ok.ensures)
+    let mid = c.push_short_length.new.output in
+    let new = c.push_contents.new.output in
+    let first = c.in-Some.parts.0 in
+    let others = c.in-Some.parts.1.now in
+    adds_same _ _ old new (identifier_text al c.args.value.now (place old) c.in-Some.ensures.identifier)
+    (subst (λ l. Adds (text_at (Per.counted_octets al l) (place old)) old new) (sym c.in-Some.ensures.octets)
+    (short_counted al (contents first others) c.content_count-count.result old mid new (contents_octets first others) c.content_count-count.ensures c.if-count-ge-FRAGMENT.false c.in_ok-push_short_length.ensures c.in_ok-push_contents.ensures))
 
-pub returns-in-Err-Truncated : goal.returns-in-Err-Truncated
-returns-in-Err-Truncated c = one_arc (is_aligned c.args.variant) c.args.value.now (place c.args.output.now) (c.oid_octets.ensures.truncated.0 (search rules))
+pub returns-in_default : goal.returns-in_default
+returns-in_default c = one_arc (is_aligned c.args.variant) c.args.value.now (place c.args.output.now) c.in_default.ensures.none

@@ -7,7 +7,7 @@ use Rattle.per_codec_writing.proofs.sizes.push_root_count.Goals as goal
 pub returns-in_err-push_number-clause-heads : goal.returns-in_err-push_number-clause-heads
 returns-in_err-push_number-clause-heads c =
     let e = c.from_residual-in_err-push_number in
-    raised_on _ _ _ e.result e.ensures.0 e.ensures.1 (narrow_none (is_aligned c.args.variant) (counts_of c.args.root) (upper c.args.root) c.args.pads c.args.count c.in-Some.high c.minimum.result c.args.output.now (sym c.told_highest.ensures.highest ∙ c.in-Some.is) c.minimum.ensures _ c.in_err-push_number.ensures)
+    raised_on _ _ _ e.result e.ensures.0 e.ensures.1 (narrow_none (is_aligned c.args.variant) (counts_of c.args.root) (upper c.args.root) c.args.has_padding c.args.count c.in-Some.high c.minimum.result c.args.output.now (sym c.told_highest.ensures.highest ∙ c.in-Some.is) c.minimum.ensures _ c.in_err-push_number.ensures)
 
 pub returns-clause-heads : goal.returns-clause-heads
-returns-clause-heads c = narrow_heads (is_aligned c.args.variant) (counts_of c.args.root) (upper c.args.root) c.args.pads c.args.count c.in-Some.high c.minimum.result _ c.args.output.now c.push_number.new.output (sym c.told_highest.ensures.highest ∙ c.in-Some.is) c.minimum.ensures refl c.in_ok-push_number.ensures
+returns-clause-heads c = narrow_heads (is_aligned c.args.variant) (counts_of c.args.root) (upper c.args.root) c.args.has_padding c.args.count c.in-Some.high c.minimum.result _ c.args.output.now c.push_number.new.output (sym c.told_highest.ensures.highest ∙ c.in-Some.is) c.minimum.ensures refl c.in_ok-push_number.ensures

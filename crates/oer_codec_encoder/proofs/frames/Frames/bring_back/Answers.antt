@@ -7,4 +7,4 @@ pub returns-clause-octets : goal.returns-clause-octets
 returns-clause-octets c =
     let i = c.self.inside in
     let o = c.args.octets.now.items in
-    c.bring_others_back.ensures ∙ ground_others i.enclosing i.innermost i.outer.items o ∙ ap (λ l. ground l o) c.self.view_is
+    c.bring_others_back.ensures ∙ ground_others i.small i.innermost i.outer.items o ∙ ap (λ l. ground l o) c.self.view_is

@@ -8,7 +8,7 @@ pub returns-then-additions-gt0-clause-none : goal.returns-then-additions-gt0-cla
 returns-then-additions-gt0-clause-none c =
     let x = c.in-Some-Added.additions in
     let k = c.pop.new.self.scopes in
-    let e = sym c.take.ensures.value ∙ c.in_default-take.is ∙ sym c.take.ensures.after in
+    let e = sym c.take.ensures.value ∙ c.in_default.is ∙ sym c.take.ensures.after in
     let s = ap (λ (o : Open). o.scopes) (sym c.self.view_is) ∙ ap (λ e. scopes_of e c.self.inside.innermost c.self.inside.outer.items) e ∙ c.in-Some-Added.ensures.some ∙ ap (λ f. scope_of f ∷ k) c.in-Some-Added.field-0-is in
     no_end_due x.left x.bitmap.place.1 (unknown_presence x) c.args.self.now.scopes k c.if-additions-gt0.true s
 
@@ -16,7 +16,7 @@ pub returns-then-is_empty-clause-some : goal.returns-then-is_empty-clause-some
 returns-then-is_empty-clause-some c =
     let x = c.in-Some-Added.additions in
     let k = c.pop.new.self.scopes in
-    let e = sym c.take.ensures.value ∙ c.in_default-take.is ∙ sym c.take.ensures.after in
+    let e = sym c.take.ensures.value ∙ c.in_default.is ∙ sym c.take.ensures.after in
     let s = ap (λ (o : Open). o.scopes) (sym c.self.view_is) ∙ ap (λ e. scopes_of e c.self.inside.innermost c.self.inside.outer.items) e ∙ c.in-Some-Added.ensures.some ∙ ap (λ f. scope_of f ∷ k) c.in-Some-Added.field-0-is in
     let none : x.left ≤ 0 = let t = c.if-additions-gt0.false in omega (arith, t) in
     let empty : x.bitmap.place.1 ≡ [] = search rules in

@@ -10,4 +10,4 @@ returns-clause-ended c = λ e al o.
     let f = c.in-Some.innermost in
     let is = innermost_is c.args.self.now outer c.self.inside.innermost f c.self.view_is c.in-Some.is in
     let left = c.leave.ensures outer f is in
-    subst (λ k. Does al ends k o c.leave.new.self o) (sym is) (subst (λ k. Does al ends (outer ++ f ∷ []) o k o) (sym left) (c.is_complete.ensures c.if-not-is_complete.false al outer o))
+    subst (λ k. Does al ends k o c.leave.new.self o) (sym is) (subst (λ k. Does al ends (outer ++ f ∷ []) o k o) (sym left) (c.is_complete.ensures.complete c.if-not-is_complete.false al outer o))

@@ -1,44 +1,20 @@
-use Rattle.std.proofs.Common.{length, get_or, drop, ap, refl, ◌∙◌, arith}
-use Rattle.std.proofs.lemmas.List.{length-take-le}
+use Rattle.std.proofs.Common.{◌≡◌, ◌∙◌, [], length, sym, subst, arith}
+use Rattle.std.proofs.lemmas.Bool.{eqb-true}
 use Rattle.asn1_values_bits.specs.BitStr.{bits_of}
+use Rattle.per_codec_packing.specs.Packed.{Adds, place}
+use Rattle.per_codec_packing.specs.Spread.{spread}
+use Rattle.per_codec_packing.specs.Texts.{text_at, as_form}
 use Rattle.per_codec_packing.specs.Viewed.{text_of}
-use Rattle.per_codec_packing.proofs.Appending.{not_before, not_past, last_within, one_piece, last_piece}
+use Rattle.per_codec_packing.proofs.Adding.{adds_form_bits}
+use Rattle.per_codec_packing.proofs.Spread.{none_left}
 use Rattle.per_codec_packing.proofs.packing.Packing.append_text.Goals as goal
 
-pub split_at-requires : goal.split_at-requires
-split_at-requires c =
-    let at = c.loop-padding in
-    not_past (bits_of c.args.text.bits) c.args.text.paddings.now at.from at.padding-index c.args.self.now at.self at.invariant (get_or c.args.text.paddings.now at.padding-index 0) c.loop-padding-test.true refl
-
-pub split_at-requires-in-loop-padding : goal.split_at-requires-in-loop-padding
-split_at-requires-in-loop-padding c =
-    let at = c.loop-padding in
-    let bits = bits_of c.args.text.bits in
-    let paddings = c.args.text.paddings.now in
-    let padding = get_or paddings at.padding-index 0 in
-    let past = not_past bits paddings at.from at.padding-index c.args.self.now at.self at.invariant padding c.loop-padding-test.true refl in
-    let before = not_before bits paddings at.from at.padding-index c.args.self.now at.self at.invariant padding c.loop-padding-test.true refl in
-    let size = ap length c.split_at.ensures.front ∙ length-take-le padding bits past in
-    omega (arith, size, before)
-
-pub loop-padding-preserved : goal.loop-padding-preserved
-loop-padding-preserved c =
-    let at = c.loop-padding in
-    let paddings = c.args.text.paddings.now in
-    one_piece (bits_of c.args.text.bits) paddings at.from at.padding-index c.args.self.now at.self at.invariant (get_or paddings at.padding-index 0) c.loop-padding-test.true refl
-    (bits_of c.split_at-in-loop-padding.result.1) c.extend_from_bitslice.new.self c.push_padding.new.self
-    (c.split_at-in-loop-padding.ensures.rest ∙ ap (drop at.from) c.split_at.ensures.front)
-    c.in_ok-extend_from_bitslice.ensures.ok c.in_ok-push_padding.ensures.ok
-
-pub split_at-requires-2 : goal.split_at-requires-2
-split_at-requires-2 c =
-    let at = c.loop-padding in
-    last_within (bits_of c.args.text.bits) c.args.text.paddings.now at.from at.padding-index c.args.self.now at.self at.invariant
-
-pub returns : goal.returns
+pub returns-then-is_empty : goal.returns-then-is_empty
 unfolding text_of
-returns c =
-    let at = c.loop-padding in
-    last_piece (bits_of c.args.text.bits) c.args.text.paddings.now at.from at.padding-index c.args.self.now at.self at.invariant
-    (bits_of c.split_at-2.result.1) c.extend_from_bitslice-2.new.self c.loop-padding-test.false
-    c.split_at-2.ensures.rest c.in_ok-extend_from_bitslice-2.ensures.ok
+returns-then-is_empty c =
+    let bits = bits_of c.args.text.bits in
+    let old = c.args.self.now in
+    let new = c.extend_from_bitslice.new.self in
+    let no_length = eqb-true (length c.args.text.paddings.now) 0 (sym c.is_empty.ensures ∙ c.if-is_empty.true) in
+    let none : c.args.text.paddings.now ≡ [] = none_left 0 c.args.text.paddings.now (omega (arith, no_length)) in
+    subst (λ l. Adds (text_at (as_form (spread 0 bits l)) (place old)) old new) (sym none) (adds_form_bits bits old new c.in_ok-extend_from_bitslice.ensures.ok)

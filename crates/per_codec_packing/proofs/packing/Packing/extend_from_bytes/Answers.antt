@@ -1,7 +1,5 @@
-use Rattle.std.proofs.Common.{◌≡◌, ◌*◌, ◌++◌, ◌∙◌, Bool, List, length, ap, subst, arith}
-use Rattle.std.proofs.lemmas.List.{take_all}
+use Rattle.std.proofs.Common.{◌≡◌, ◌++◌, ◌∙◌, ap}
 use Rattle.asn1_model.specs.Numbers.{octet_bits}
-use Rattle.asn1_values_bits.proofs.Binary.{length-octet_bits}
 use Rattle.per_codec_packing.proofs.Kept.{one_octet, with_bits, bits_added}
 use Rattle.per_codec_packing.proofs.packing.Packing.extend_from_bytes.Goals as goal
 
@@ -13,16 +11,6 @@ returns-then-bytes-eq1-clause-ok c =
     let bits = octet_bits c.args.bytes.now in
     let added : c.push_bits.new.self ≡ c.self.inside.bits ++ bits = c.in_ok-push_bits.ensures.ok ∙ ap (λ l. c.self.inside.bits ++ l) (one_octet c.args.bytes.now 0 c.if-bytes-eq1.true) in
     bits_added c.self.inside.bits c.self.inside.paddings.items c.self.inside.is_placed c.self.invariant c.args.self.now c.self.view_is bits c.push_bits.new.self added
-
-pub invariant_of-self-then-len-gt0 : goal.invariant_of-self-then-len-gt0
-invariant_of-self-then-len-gt0 c = with_bits c.self.inside.bits c.self.inside.paddings.items c.self.inside.is_placed c.self.invariant _ c.push_number.new.buffer c.in_ok-push_number.ensures.ok
-
-pub returns-then-len-gt0-clause-ok : goal.returns-then-len-gt0-clause-ok
-returns-then-len-gt0-clause-ok c =
-    let bits = octet_bits c.args.bytes.now in
-    let all = take_all (length c.args.bytes.now * 8) bits (omega (arith, length-octet_bits c.args.bytes.now)) in
-    let added : c.push_number.new.buffer ≡ c.self.inside.bits ++ bits = subst (λ (l : List Bool). c.push_number.new.buffer ≡ c.self.inside.bits ++ l) (c.front_of.ensures.bits ∙ all) c.in_ok-push_number.ensures.ok in
-    bits_added c.self.inside.bits c.self.inside.paddings.items c.self.inside.is_placed c.self.invariant c.args.self.now c.self.view_is bits c.push_number.new.buffer added
 
 pub invariant_of-self-2 : goal.invariant_of-self-2
 invariant_of-self-2 c = with_bits c.self.inside.bits c.self.inside.paddings.items c.self.inside.is_placed c.self.invariant (octet_bits c.args.bytes.now) c.extend_from_bytes.new.self c.in_ok-extend_from_bytes.ensures.ok

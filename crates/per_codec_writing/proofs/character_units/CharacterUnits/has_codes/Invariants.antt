@@ -1,6 +1,6 @@
 use Rattle.std.proofs.Common.{◌≡◌, drop}
 use Rattle.asn1_model.specs.Strings.{each_is}
-use Rattle.per_codec_writing.specs.Characters.{has_code}
+use Rattle.per_codec_alphabets.specs.Codes.{has_code}
 use Rattle.per_codec_writing.proofs.character_units.CharacterUnits.has_codes.Given as goal
 
 abbrev pub invariant-loop-place : goal.invariant-loop-place

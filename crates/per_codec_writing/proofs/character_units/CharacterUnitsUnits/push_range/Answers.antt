@@ -4,7 +4,8 @@ use Rattle.asn1_model.specs.Numbers.{binary}
 use Rattle.per_codec_packing.specs.Texts.{as_text}
 use Rattle.per_codec_writing.specs.Writing.{plus}
 use Rattle.per_codec_writing.specs.Units.{together}
-use Rattle.per_codec_writing.specs.Characters.{text_of, texts_of}
+use Rattle.per_codec_alphabets.specs.Codes.{text_of}
+use Rattle.per_codec_writing.specs.Characters.{texts_of}
 use Rattle.per_codec_writing.proofs.CharacterTexts.{length-forms, one_more}
 use Rattle.per_codec_writing.proofs.UnitTexts.{range_added}
 use Rattle.per_codec_writing.proofs.character_units.CharacterUnitsUnits.push_range.Goals as goal

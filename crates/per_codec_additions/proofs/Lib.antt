@@ -1,0 +1,2 @@
+pub mod AdditionTexts
+pub mod KeptSlots

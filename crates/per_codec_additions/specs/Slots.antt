@@ -1,0 +1,66 @@
+-- How additions are kept until their sequence or set ends.
+use Rattle.std.specs.Prelude.{◌≡◌, ℕ, ◌≤◌, ⊤, Bool, true, false, List, [], ◌∷◌, length, map, take, Option, Some, None}
+use Rattle.std.specs.List.{slice_range}
+use Rattle.asn1_model.specs.Form.{is_any_present}
+use Rattle.asn1_model.specs.Numbers.{octet_bits, packed}
+use Rattle.asn1_values_bits.specs.Octets.{padded}
+use Rattle.per_codec_additions.specs.declared.slots.Slot.{Slot}
+use Rattle.per_codec_additions.specs.declared.slots.Slot.TheVariants.{Absent, InPlace, Shared}
+
+-- The octets of the complete encoding of bits (X.691 11.1): these with zero bits behind them, and one zero octet in
+-- place of no bits.
+abbrev pub complete_octets : List Bool → List ℕ
+complete_octets [] = 0 ∷ []
+complete_octets (b ∷ bs) = packed (padded (b ∷ bs))
+
+-- So many bits of octets.
+abbrev pub first_bits : ℕ → List ℕ → List Bool
+first_bits n os = take n (octet_bits os)
+
+-- The bits of an addition that is there; longer ones stand in these octets.
+abbrev pub kept_bits : List ℕ → Slot → Option (List Bool)
+kept_bits shared Absent = None
+kept_bits shared (InPlace os count n) = Some (first_bits n (take count os))
+kept_bits shared (Shared from to n) = Some (first_bits n (slice_range shared from to))
+
+-- Whether an addition is there.
+abbrev pub is_there : Slot → Bool
+is_there Absent = false
+is_there (InPlace os count n) = true
+is_there (Shared from to n) = true
+
+-- The first octets are the complete encoding of the bits.
+pub record AreInPlace (os : List ℕ) (count n : ℕ) : Type 0 where
+  pub within : count ≤ 16
+  pub octets : take count os ≡ complete_octets (first_bits n (take count os))
+
+-- The octets from one place up to another are.
+pub record AreShared (shared : List ℕ) (from to n : ℕ) : Type 0 where
+  pub ordered : from ≤ to
+  pub within : to ≤ length shared
+  pub octets : slice_range shared from to ≡ complete_octets (first_bits n (slice_range shared from to))
+
+-- An addition is kept so.
+abbrev pub IsKept : List ℕ → Slot → Type 0
+IsKept shared Absent = ⊤
+IsKept shared (InPlace os count n) = AreInPlace os count n
+IsKept shared (Shared from to n) = AreShared shared from to n
+
+-- It is kept so, by these bits.
+pub record Keeps (shared : List ℕ) (slot : Slot) (bits : List Bool) : Type 0 where
+  pub kept : IsKept shared slot
+  pub is : kept_bits shared slot ≡ Some bits
+
+-- The bits of each addition that is there.
+abbrev pub all_bits : List ℕ → List Slot → List (Option (List Bool))
+all_bits shared slots = map (kept_bits shared) slots
+
+-- Each addition is kept so.
+abbrev pub EachIsKept : List ℕ → List Slot → Type 0
+EachIsKept shared [] = ⊤
+EachIsKept shared (s ∷ ss) = IsKept shared s × EachIsKept shared ss
+
+-- All are kept so, and it is known whether one of them is there.
+pub record AreKept (shared : List ℕ) (slots : List Slot) (any : Bool) : Type 0 where
+  pub each : EachIsKept shared slots
+  pub is_any : any ≡ is_any_present (all_bits shared slots)

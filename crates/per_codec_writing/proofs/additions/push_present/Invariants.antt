@@ -1,8 +1,0 @@
-use Rattle.std.proofs.Common.{drop}
-use Rattle.per_codec_packing.specs.Packed.{Packed}
-use Rattle.per_codec_writing.proofs.AdditionTexts.{Present}
-use Rattle.per_codec_limits.specs.Variants.{is_aligned}
-use Rattle.per_codec_writing.proofs.additions.push_present.Given as goal
-
-abbrev pub invariant-loop-slot : goal.invariant-loop-slot
-invariant-loop-slot l = (new : Packed) → Present (is_aligned l.variant) (drop l.slot-index l.slots) l.output new → Present (is_aligned l.variant) l.slots l.fn.output new
