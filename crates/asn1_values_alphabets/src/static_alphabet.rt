@@ -1,6 +1,6 @@
 //! Types of strings with an alphabet of their own, and how such a string is made of a text.
 ghost use Rattle.std.specs.Prelude.{◌≡◌, ◌<◌, ℕ, List, [], ◌∷◌, ◌++◌, length, slice_index, IsTrue, IfOk, IfErr, OnOk};
-ghost use Rattle.std.specs.Prelude.{IfSome, OnErr};
+ghost use Rattle.std.specs.Prelude.{IfSome, MatchResult, OnErr};
 ghost use Rattle.std.specs.Str.{chars};
 ghost use Rattle.asn1_model.specs.Schema.{StringKind};
 ghost use Rattle.asn1_model.specs.Strings.{may_hold};
@@ -54,6 +54,13 @@ pub trait StaticPermittedAlphabet: Drop {
     /// The characters as octets, of a type that keeps each in one.
     fn char_octets(&self) -> Option<&[u8]>
         ensures { IfSome result (λ octets. octets.now ≡ characters self.now) };
+
+    /// The string whose characters are these octets, of a type that keeps each in one; none of another type. The octets
+    /// are copied in one run.
+    fn from_octets(alloc: Global, octets: &[u8]) -> Option<Result<Self, PermittedAlphabetError>>
+        ensures { IfSome result (λ made. MatchResult made
+            (λ s. (characters s ≡ octets.now) × IsTrue (permits_all kind octets.now))
+            (IsRefusalOf kind refused octets.now)) };
 
     // what the type may hold is what its kind may hold
     ghost holds: { (cs : List ℕ) → may_hold kind cs ≡ permits_all kind cs };

@@ -296,6 +296,10 @@ impl StaticPermittedAlphabet for BmpString {
     fn char_octets(&self) -> Option<&[u8]> {
         None
     }
+
+    fn from_octets(_alloc: Global, _octets: &[u8]) -> Option<Result<Self, PermittedAlphabetError>> {
+        None
+    }
 }
 
 impl Clone for BmpString {

@@ -370,6 +370,10 @@ impl<K: CharacterKind> StaticPermittedAlphabet for RestrictedString<K> {
     fn char_octets(&self) -> Option<&[u8]> {
         Some(self.as_bytes())
     }
+
+    fn from_octets(alloc: Global, octets: &[u8]) -> Option<Result<Self, PermittedAlphabetError>> {
+        Some(RestrictedString::from_bytes(alloc, octets))
+    }
 }
 
 /// Refuses octets that a string of the kind may not hold, by the first such one.
