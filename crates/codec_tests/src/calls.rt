@@ -10,7 +10,6 @@ use oer_codec::reading::{decode_with_constraints, decode_with_remainder};
 use oer_codec::{coer, oer, writing};
 use oer_codec_reading::EncodingRules;
 use std::alloc::{AllocError, Global};
-use std::test::Fail;
 
 /// OCTET STRING (SIZE (5)).
 type FiveOctets = Constrained<SizeRange<5, 5>, OctetString>;
@@ -72,17 +71,21 @@ fn adds_bag(alloc: Global, buffer: &mut Vec<u8>) -> Result<bool, EncodeError> {
     Ok(buffer.as_slice() == [0xAA, 0xFF, 0xFF, 0x01, 0x02, 0x01, 0x02].as_slice())
 }
 
-/// A buffer is as it was where a value is refused, and else a value stands behind what it held.
-#[test]
-fn buffers(rt: HostRuntime) -> Result<(), Fail> {
-    let alloc = rt.alloc();
-    let mut buffer = vec![in alloc; 0xAAu8]?;
-    assert!(rt; four_are_refused(alloc, &mut buffer)?);
-    assert!(rt; list_of_four_is_refused(alloc, &mut buffer)?);
-    assert!(rt; bag_is_refused(alloc, &mut buffer)?);
-    assert!(rt; adds_true(alloc, &mut buffer)?);
-    assert!(rt; adds_bag(alloc, &mut buffer)?);
-    Ok(())
+/// Whether a buffer is as it was where a value is refused, and else a value stands behind what it held.
+fn is_kept_or_added_to(alloc: Global, buffer: &mut Vec<u8>) -> bool {
+    four_are_refused(alloc, buffer) == Ok(true)
+        && list_of_four_is_refused(alloc, buffer) == Ok(true)
+        && bag_is_refused(alloc, buffer) == Ok(true)
+        && adds_true(alloc, buffer) == Ok(true)
+        && adds_bag(alloc, buffer) == Ok(true)
+}
+
+/// Whether a buffer of one octet is so.
+fn is_buffer_right(alloc: Global) -> bool {
+    match Vec::from_array(alloc, [0xAA]) {
+        Ok(mut buffer) => is_kept_or_added_to(alloc, &mut buffer),
+        Err(_) => false,
+    }
 }
 
 /// Why a value has no canonical encoding under one constraint.
@@ -112,17 +115,19 @@ fn size(low: usize, high: usize) -> Constraint<'static> {
     Constraint::Size(Extensible::new(Size::new(Bounded::const_new(low, high))))
 }
 
-#[test]
-fn values_outside_their_constraints(rt: HostRuntime) -> Result<(), Fail> {
-    let alloc = rt.alloc();
-    let five = Constraint::Value(Extensible::new(Value::new(Bounded::const_new(5, 5))));
+/// The constraint to numbers from one to another.
+fn numbers(low: i128, high: i128) -> Constraint<'static> {
+    Constraint::Value(Extensible::new(Value::new(Bounded::const_new(low, high))))
+}
+
+/// Whether values outside their constraints have none.
+fn are_outside(alloc: Global) -> bool {
     let outside = Some(EncodeError::ValueConstraintNotSatisfied);
-    assert!(rt; refusal(alloc, five, &6u8) == outside);
-    assert!(rt; refusal(alloc, five, &6u16) == outside);
-    assert!(rt; octets_are_refused(alloc, size(3, 6), &[1, 2])?);
-    assert!(rt; octets_are_refused(alloc, size(3, 6), &[1, 2, 3, 4, 5, 6, 7])?);
-    assert!(rt; fourteen_are_refused(alloc, size(15, 15))?);
-    Ok(())
+    refusal(alloc, numbers(5, 5), &6u8) == outside
+        && refusal(alloc, numbers(5, 5), &6u16) == outside
+        && octets_are_refused(alloc, size(3, 6), &[1, 2]) == Ok(true)
+        && octets_are_refused(alloc, size(3, 6), &[1, 2, 3, 4, 5, 6, 7]) == Ok(true)
+        && fourteen_are_refused(alloc, size(15, 15)) == Ok(true)
 }
 
 /// Whether true stands in front, and this behind it.
@@ -142,14 +147,17 @@ fn is_seven_under(
     Ok(number == 7)
 }
 
-/// What stands behind a value is lent, or passed over; given constraints stand in place of those of the type.
+/// Whether what stands behind a value is lent, or passed over; given constraints stand in place of those of the type.
+fn are_behind(alloc: Global) -> bool {
+    let octet = [numbers(0, 255)];
+    is_true_before(alloc, &[0xFF, 0x01, 0x02], &[0x01, 0x02]) == Ok(true)
+        && is_true_before(alloc, &[0xFF], &[]) == Ok(true)
+        && is_seven_under(alloc, Constraints::NONE, &[0x01, 0x07]) == Ok(true)
+        && is_seven_under(alloc, Constraints::new(&octet), &[0x07, 0x01]) == Ok(true)
+}
+
 #[test]
-fn octets_behind_a_value(rt: HostRuntime) -> Result<(), Fail> {
+fn calls(rt: HostRuntime) {
     let alloc = rt.alloc();
-    assert!(rt; is_true_before(alloc, &[0xFF, 0x01, 0x02], &[0x01, 0x02])?);
-    assert!(rt; is_true_before(alloc, &[0xFF], &[])?);
-    assert!(rt; is_seven_under(alloc, Constraints::NONE, &[0x01, 0x07])?);
-    let octet = Constraint::Value(Extensible::new(Value::new(Bounded::const_new(0, 255))));
-    assert!(rt; is_seven_under(alloc, Constraints::new(&[octet]), &[0x07, 0x01])?);
-    Ok(())
+    assert!(rt; is_buffer_right(alloc) && are_outside(alloc) && are_behind(alloc));
 }

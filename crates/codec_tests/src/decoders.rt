@@ -41,7 +41,9 @@ type Answer = Result<bool, DecodeError>;
 const NO_NUMBER: Answer = Err(DecodeError::InvalidTagNumberOnChoice);
 
 /// Calls, octets, and the answer of the basic rules and that of the canonical ones.
-const CHOICES: [(&[Step], &[u8], Answer, Answer); 7] = [
+type Row = (&'static [Step], &'static [u8], Answer, Answer);
+
+const CHOICES: [Row; 7] = [
     (ROOT, &[0x85, 0xFF], Ok(true), Ok(true)),
     (ADDITION, &[0x82, 0x01, 0xFF], Ok(true), Ok(true)),
     (
@@ -71,14 +73,18 @@ const CHOICES: [(&[Step], &[u8], Answer, Answer); 7] = [
     (ROOT, &[0xBF, 0x80, 0x01, 0x01, 0x07], NO_NUMBER, NO_NUMBER),
 ];
 
-/// The octets that are not read as their row says, if there are such.
-fn wrong_choice(alloc: Global) -> Option<&'static [u8]> {
-    for (steps, octets, basic, canonical) in &CHOICES {
-        let calls = (*steps, NOTHING);
-        if are_in_octets(alloc, DecoderOptions::oer(), calls, octets) != *basic
-            || are_in_octets(alloc, DecoderOptions::coer(), calls, octets) != *canonical
-        {
-            return Some(*octets);
+/// Whether octets are read as their row says.
+fn is_right(alloc: Global, (steps, octets, basic, canonical): Row) -> bool {
+    let calls = (steps, NOTHING);
+    are_in_octets(alloc, DecoderOptions::oer(), calls, octets) == basic
+        && are_in_octets(alloc, DecoderOptions::coer(), calls, octets) == canonical
+}
+
+/// The place of the first row that is wrong, if one is.
+fn wrong_choice(alloc: Global, rows: &[Row]) -> Option<usize> {
+    for place in 0..rows.len() {
+        if !is_right(alloc, rows[place]) {
+            return Some(place);
         }
     }
     None
@@ -86,7 +92,7 @@ fn wrong_choice(alloc: Global) -> Option<&'static [u8]> {
 
 #[test]
 fn choices(rt: HostRuntime) {
-    assert_none(&rt, &wrong_choice(rt.alloc()));
+    assert_none(&rt, wrong_choice(rt.alloc(), &CHOICES));
 }
 
 /// Reads a truth value in front by a decoder of its own, of which no call was refused before.
@@ -101,13 +107,12 @@ fn truth_in_front(
     decoder.decode_bool(Tag::BOOL)
 }
 
-#[test]
-fn a_decoder_that_has_not_failed(rt: HostRuntime) {
-    let alloc = rt.alloc();
+/// Whether truth values in front are read or refused.
+fn are_in_front(alloc: Global) -> bool {
     let (basic, canonical) = (DecoderOptions::oer(), DecoderOptions::coer());
-    assert!(rt; truth_in_front(alloc, &[0xFF], canonical) == Ok(true));
-    assert!(rt; truth_in_front(alloc, &[0x05], canonical) == Err(DecodeError::InvalidBool));
-    assert!(rt; truth_in_front(alloc, &[], basic) == Err(DecodeError::Incomplete));
+    truth_in_front(alloc, &[0xFF], canonical) == Ok(true)
+        && truth_in_front(alloc, &[0x05], canonical) == Err(DecodeError::InvalidBool)
+        && truth_in_front(alloc, &[], basic) == Err(DecodeError::Incomplete)
 }
 
 /// Whether the octet in front is refused, and what stands behind it is then not read either.
@@ -131,13 +136,6 @@ fn canonical_rules_refuse(alloc: Global, octets: &[u8]) -> bool {
 fn basic_rules_take(alloc: Global, octets: &[u8]) -> bool {
     let mut decoder = Decoder::new(alloc, octets, DecoderOptions::oer());
     is_true_before(&mut decoder, 0xFF)
-}
-
-#[test]
-fn a_decoder_that_has_failed(rt: HostRuntime) {
-    let alloc = rt.alloc();
-    assert!(rt; canonical_rules_refuse(alloc, &[0x05, 0xFF]));
-    assert!(rt; basic_rules_take(alloc, &[0x05, 0xFF]));
 }
 
 /// Begins a list.
@@ -186,8 +184,12 @@ fn none_are_full_of_sequences(alloc: Global) -> Result<bool, DecodeError> {
 }
 
 #[test]
-fn the_level_past_128(rt: HostRuntime) {
+fn decoders_that_fail(rt: HostRuntime) {
     let alloc = rt.alloc();
+    assert!(rt; are_in_front(alloc));
+    assert!(rt;
+        canonical_rules_refuse(alloc, &[0x05, 0xFF]) && basic_rules_take(alloc, &[0x05, 0xFF])
+    );
     assert!(rt; are_full_of_lists(alloc, &[0x01; 258]) == Ok(true));
     assert!(rt; none_are_full_of_sequences(alloc) == Ok(true));
 }

@@ -8,7 +8,6 @@ use asn1_schema_variants::Chosen;
 use oer_codec::coer::{Encoder, EncoderOptions};
 use per_codec::uper;
 use std::alloc::{AllocError, Global};
-use std::test::Fail;
 
 /// SEQUENCE {..., a SEQUENCE {..., b BOOLEAN}} with b true, an addition in an addition.
 const NESTED: [Step; 11] = [
@@ -61,20 +60,12 @@ fn keeps_room(
     Ok(between == room && worker.capacity() == room && buffer.as_slice() == THREE.as_slice())
 }
 
-/// Whether a worker that holds something is used again and again.
+/// Whether a worker that holds something is used again and again: what it holds does not matter, and it keeps its room
+/// from message to message, also where one addition stands in another.
 fn is_used_again(alloc: Global) -> Result<bool, EncodeError> {
     let mut worker = used_worker(alloc)?;
     let mut buffer = Vec::new(alloc);
     keeps_room(alloc, &mut buffer, &mut worker)
-}
-
-/// What a worker holds does not matter, and it keeps its room from message to message, also where one addition stands
-/// in another.
-#[test]
-fn one_worker_for_more_messages(rt: HostRuntime) -> Result<(), Fail> {
-    let alloc = rt.alloc();
-    assert!(rt; is_used_again(alloc)?);
-    Ok(())
 }
 
 /// Writes true: whether it alone is the output.
@@ -123,13 +114,6 @@ fn refuses_without_marker(alloc: Global) -> bool {
     answer == Err(EncodeError::ValueConstraintNotSatisfied)
 }
 
-#[test]
-fn encoders_that_have_failed(rt: HostRuntime) {
-    let alloc = rt.alloc();
-    assert!(rt; two_are_put_out(alloc) == Ok(true));
-    assert!(rt; refuses_without_marker(alloc));
-}
-
 /// Whether the octet of TRUE is taken from an encoder once, and of what is left then, which is nothing, the octet of no
 /// bits.
 fn gives_true_once(encoder: &mut uper::Encoder) -> Result<bool, EncodeError> {
@@ -150,18 +134,27 @@ fn is_taken_once(encoder: &mut uper::Encoder) -> bool {
     gives_true_once(encoder) == Ok(true) && refuses_to_end(encoder)
 }
 
-#[test]
-fn what_is_held_is_taken_once(rt: HostRuntime) -> Result<(), Fail> {
-    let alloc = rt.alloc();
-    let options = uper::EncoderOptions::unaligned();
-    let room = vec![in alloc; 1u8, 2, 3]?;
-    let mut encoder = uper::Encoder::new_with_output(alloc, options, room);
-    assert!(rt; is_taken_once(&mut encoder));
-    Ok(())
+/// Whether an encoder that has room does both.
+fn is_held_taken_once(alloc: Global) -> bool {
+    match Vec::from_array(alloc, [1, 2, 3]) {
+        Ok(room) => {
+            let options = uper::EncoderOptions::unaligned();
+            is_taken_once(&mut uper::Encoder::new_with_output(alloc, options, room))
+        }
+        Err(_) => false,
+    }
+}
+
+/// Whether an encoder of bits refuses an added alternative without an extension marker.
+fn refuses_packed_without_marker(alloc: Global) -> bool {
+    let mut encoder = uper::Encoder::new(alloc, uper::EncoderOptions::aligned());
+    begin_without_marker(&mut encoder, &[]).is_err()
 }
 
 #[test]
-fn an_added_alternative_without_an_extension_marker(rt: HostRuntime) {
-    let mut encoder = uper::Encoder::new(rt.alloc(), uper::EncoderOptions::aligned());
-    assert!(rt; begin_without_marker(&mut encoder, &[]).is_err());
+fn encoders(rt: HostRuntime) {
+    let alloc = rt.alloc();
+    assert!(rt; is_used_again(alloc) == Ok(true) && two_are_put_out(alloc) == Ok(true));
+    assert!(rt; refuses_without_marker(alloc) && refuses_packed_without_marker(alloc));
+    assert!(rt; is_held_taken_once(alloc));
 }

@@ -362,12 +362,18 @@ fn are_read(
 /// The tables of tags of all choices.
 type Tables<'a> = (&'a [Tag], &'a [TagPlace]);
 
+/// Whether calls write these octets, and find what they write in these.
+fn are_kept(alloc: Global, rules: Rules, calls: (&[Step], Lent<'_>), octets: &[u8]) -> bool {
+    are_written(alloc, rules, calls, octets) == Ok(true)
+        && are_read(alloc, rules, calls, octets) == Ok(true)
+}
+
 /// Whether a message stands in the octets of its row.
 fn is_right(
     alloc: Global,
     (tags, places): Tables<'_>,
     (rules, steps, string, spelled): Row,
-) -> Result<bool, Fail> {
+) -> Result<bool, AllocError> {
     let string = octets(alloc, string)?;
     let octets = octets(alloc, spelled)?;
     let lent = Lent {
@@ -375,22 +381,24 @@ fn is_right(
         places,
         string: string.as_slice(),
     };
-    let is_written = are_written(alloc, rules, (steps, lent), &octets)?;
-    Ok(is_written && are_read(alloc, rules, (steps, lent), &octets)?)
+    Ok(are_kept(alloc, rules, (steps, lent), &octets))
 }
 
-/// The octets of the first row that is wrong, if one is.
-fn wrong_row(alloc: Global, tables: Tables<'_>) -> Result<Option<&'static str>, Fail> {
-    for row in &ROWS {
-        if !is_right(alloc, tables, *row)? {
-            return Ok(Some(row.3));
+/// The place of the first row that is wrong, if one is.
+fn wrong_row(alloc: Global, tables: Tables<'_>, rows: &[Row]) -> Option<usize> {
+    for place in 0..rows.len() {
+        if is_right(alloc, tables, rows[place]) != Ok(true) {
+            return Some(place);
         }
     }
-    Ok(None)
+    None
 }
 
+/// Rules, calls, and the octets in which the place of an alternative is none.
+type PlaceRow = (Rules, &'static [Step], &'static str);
+
 /// Places that no alternative has, behind 300 added ones and behind 300 root ones.
-const BEHIND_THE_LAST: [(Rules, &[Step], &str); 6] = [
+const BEHIND_THE_LAST: [PlaceRow; 6] = [
     (UPER, addition!(300), "C0 80 4B 00 C0 80 53 40"),
     (APER, addition!(300), "C0 02 01 2C 03 02 01 4D"),
     (UPER, root!(300), "96 40"),
@@ -399,51 +407,64 @@ const BEHIND_THE_LAST: [(Rules, &[Step], &str); 6] = [
     (COER, root!(300), "BF 82 2C FF"),
 ];
 
-/// The octets of the first row whose place is not refused, if one is not.
-fn wrong_place(alloc: Global, (tags, places): Tables<'_>) -> Result<Option<&'static str>, Fail> {
+/// Whether the place of an alternative is refused in the octets of a row.
+fn is_place_refused(
+    alloc: Global,
+    (tags, places): Tables<'_>,
+    (rules, steps, spelled): PlaceRow,
+) -> Result<bool, AllocError> {
+    let octets = octets(alloc, spelled)?;
     let lent = Lent {
         tags,
         places,
         string: &[],
     };
-    for (rules, steps, spelled) in &BEHIND_THE_LAST {
-        if !is_place_refused(alloc, *rules, (*steps, lent), spelled)? {
-            return Ok(Some(*spelled));
-        }
-    }
-    Ok(None)
-}
-
-/// Whether the place of an alternative is refused in these octets.
-fn is_place_refused(
-    alloc: Global,
-    rules: Rules,
-    calls: (&[Step], Lent<'_>),
-    spelled: &str,
-) -> Result<bool, Fail> {
-    let octets = octets(alloc, spelled)?;
-    let answer = are_read(alloc, rules, calls, &octets);
+    let answer = are_read(alloc, rules, (steps, lent), &octets);
     Ok(answer == Err(DecodeError::InvalidTagVariantOnChoice))
 }
 
-/// The octets of the first row of either table that is wrong, if one is.
-fn wrong_row_by(alloc: Global, tables: Tables<'_>) -> Result<Option<&'static str>, Fail> {
-    match wrong_row(alloc, tables)? {
-        None => wrong_place(alloc, tables),
-        wrong => Ok(wrong),
+/// The place of the first row whose alternative is not refused, if there is one.
+fn wrong_place(alloc: Global, tables: Tables<'_>, rows: &[PlaceRow]) -> Option<usize> {
+    for place in 0..rows.len() {
+        if is_place_refused(alloc, tables, rows[place]) != Ok(true) {
+            return Some(place);
+        }
+    }
+    None
+}
+
+/// The place of the first row of either table that is wrong, if one is; those of the second are counted on from the
+/// first.
+fn wrong_by_tables(
+    alloc: Global,
+    tables: Tables<'_>,
+    rows: &[Row],
+    refused: &[PlaceRow],
+) -> Option<usize> {
+    match wrong_row(alloc, tables, rows) {
+        Some(place) => Some(place),
+        None => match wrong_place(alloc, tables, refused) {
+            Some(place) => Some(place.saturating_add(rows.len())),
+            None => None,
+        },
     }
 }
 
-/// The octets of the first row that is wrong, if one is.
-fn first_wrong(alloc: Global) -> Result<Option<&'static str>, Fail> {
+/// The same, with the tags from [0] to [300].
+fn first_wrong(
+    alloc: Global,
+    rows: &[Row],
+    refused: &[PlaceRow],
+) -> Result<Option<usize>, AllocError> {
     let tags = tags(alloc)?;
     let places = places_of(alloc, &tags)?;
-    wrong_row_by(alloc, (&tags, &places))
+    Ok(wrong_by_tables(alloc, (&tags, &places), rows, refused))
 }
 
 #[test]
 fn messages(rt: HostRuntime) -> Result<(), Fail> {
-    assert_none(&rt, &first_wrong(rt.alloc())?);
+    let wrong = first_wrong(rt.alloc(), &ROWS, &BEHIND_THE_LAST)?;
+    assert_none(&rt, wrong);
     Ok(())
 }
 
@@ -480,16 +501,26 @@ const OF_TWO: &[Step] = bag!(2, (true, 1), (false, 2));
 
 const OF_THREE: &[Step] = bag!(3, (true, 1), (false, 2), (false, 3));
 
-/// The members of a bag stand in their order, also behind other bits, and are padded where they stand. Three are too
-/// many here.
+/// Whether the members of a bag stand in their order, also behind other bits, and are padded where they stand. Three
+/// are too many here.
+fn are_bags(alloc: Global) -> bool {
+    are_written(
+        alloc,
+        UPER,
+        (OF_TWO, NOTHING),
+        &[0xC0, 0x00, 0x50, 0x00, 0x10],
+    ) == Ok(true)
+        && are_written(
+            alloc,
+            APER,
+            (OF_TWO, NOTHING),
+            &[0xC0, 0x00, 0x02, 0x80, 0x00, 0x01],
+        ) == Ok(true)
+        && are_written(alloc, APER, (OF_THREE, NOTHING), &[])
+            == Err(EncodeError::SizeConstraintNotSatisfied)
+}
+
 #[test]
-fn bags_behind_a_bit(rt: HostRuntime) -> Result<(), Fail> {
-    let alloc = rt.alloc();
-    let octets = [0xC0, 0x00, 0x50, 0x00, 0x10];
-    assert!(rt; are_written(alloc, UPER, (OF_TWO, NOTHING), &octets)?);
-    let octets = [0xC0, 0x00, 0x02, 0x80, 0x00, 0x01];
-    assert!(rt; are_written(alloc, APER, (OF_TWO, NOTHING), &octets)?);
-    let refused = are_written(alloc, APER, (OF_THREE, NOTHING), &[]);
-    assert!(rt; refused == Err(EncodeError::SizeConstraintNotSatisfied));
-    Ok(())
+fn bags_behind_a_bit(rt: HostRuntime) {
+    assert!(rt; are_bags(rt.alloc()));
 }

@@ -7,7 +7,6 @@ use oer_codec_reading::units::read_null;
 use oer_codec_reading::{Cursor, EncodingRules, read_tag};
 use oer_codec_writing::push_tag;
 use std::alloc::Global;
-use std::test::Fail;
 
 /// Octets, and the tag that each set of rules finds in front of them.
 #[derive(Drop)]
@@ -79,21 +78,14 @@ fn greatest_of_one_octet(alloc: Global) -> Result<bool, EncodeError> {
     Ok(octets.as_slice() == [0xBE, 0xBF, 0x3F].as_slice())
 }
 
-/// The octets whose tag is not found as their row says, if there are such.
-fn wrong_tag() -> Option<&'static [u8]> {
-    for row in &TAGS {
-        if !is_right(row) {
-            return Some(row.octets);
+/// The place of the first row whose tag is not found as it says, if there is one.
+fn wrong_tag(rows: &[Row]) -> Option<usize> {
+    for place in 0..rows.len() {
+        if !is_right(&rows[place]) {
+            return Some(place);
         }
     }
     None
-}
-
-#[test]
-fn tags(rt: HostRuntime) -> Result<(), Fail> {
-    assert_none(&rt, &wrong_tag());
-    assert!(rt; greatest_of_one_octet(rt.alloc())?);
-    Ok(())
 }
 
 /// Whether two octets behind their number are lent, and one behind them is too few for its own.
@@ -109,18 +101,27 @@ fn takes_nothing(cursor: &mut Cursor<'_>) -> bool {
     read_null(cursor, EncodingRules::Coer) == Ok(()) && cursor.len() == length
 }
 
-#[test]
-fn cursors(rt: HostRuntime) {
+/// Whether the greatest length is read.
+fn is_greatest_length() -> bool {
     let greatest = [0x88, 0xFF, 0xFF, 0xFF, 0xFF, 0xFF, 0xFF, 0xFF, 0xFF];
-    let length = read_length(&mut Cursor::new(&greatest), EncodingRules::Coer);
-    assert!(rt; length == Ok(usize::MAX));
-    assert!(rt; lends_two(&mut Cursor::new(&[0x02, 0xAA, 0xBB, 0xCC])));
+    read_length(&mut Cursor::new(&greatest), EncodingRules::Coer) == Ok(usize::MAX)
+}
+
+/// Whether one octet is left behind nothing.
+fn is_one_left() -> bool {
     let mut one = Cursor::new(&[0x01]);
-    assert!(rt; takes_nothing(&mut one) && one.len() == 1 && !one.is_empty());
+    takes_nothing(&mut one) && one.len() == 1 && !one.is_empty()
+}
+
+/// Whether rules are told apart.
+fn are_told_apart(oer: EncodingRules, coer: EncodingRules) -> bool {
+    oer.is_oer() && !oer.is_coer() && coer.is_coer() && oer < coer
 }
 
 #[test]
-fn rules_are_told_apart(rt: HostRuntime) {
-    let (oer, coer) = (EncodingRules::Oer, EncodingRules::Coer);
-    assert!(rt; oer.is_oer() && !oer.is_coer() && coer.is_coer() && oer < coer);
+fn tags_and_lengths(rt: HostRuntime) {
+    assert_none(&rt, wrong_tag(&TAGS));
+    assert!(rt; greatest_of_one_octet(rt.alloc()) == Ok(true) && is_greatest_length());
+    assert!(rt; lends_two(&mut Cursor::new(&[0x02, 0xAA, 0xBB, 0xCC])) && is_one_left());
+    assert!(rt; are_told_apart(EncodingRules::Oer, EncodingRules::Coer));
 }

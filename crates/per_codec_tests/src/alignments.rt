@@ -1,4 +1,5 @@
 //! Each kind without components, and lists, behind 0 to 7 bits, unaligned and aligned.
+use crate::common::assert_none;
 use crate::spelled::push_spelled;
 use asn1_schema_constraints::{Bounded, Constraints, Extensible, Size, Value as Range};
 use asn1_schema_decode::{Decode, Decoder as _};
@@ -14,7 +15,6 @@ use asn1_values_strings::{BmpString, GeneralString, NumericString, VisibleString
 use per_codec::uper::{Decoder, DecoderOptions, Encoder, EncoderOptions};
 use per_codec_reading::Variant;
 use std::alloc::{AllocError, Global};
-use std::test::Fail;
 
 /// A value, and its type.
 enum Value {
@@ -49,9 +49,11 @@ enum Limit {
 /// behind it in the aligned one.
 type Row = (Value, Limit, &'static str);
 
-/// Truth values, nothing, and numbers (X.691 11.5, 12, 13 and 24). A message of no bits has an octet. A range of 256
-/// numbers and one of 65536 take whole octets; of a wider one the number of octets comes first in the aligned variant.
-const NUMBERS: [Row; 8] = [
+/// Values of each kind, and lists.
+const ROWS: [Row; 32] = [
+    // Truth values, nothing, and numbers (X.691 11.5, 12, 13 and 24). A message of no bits has an octet. A range
+    // of 256 numbers and one of 65536 take whole octets; of a wider one the number of octets comes first in the
+    // aligned variant.
     (Value::Truth(true), Limit::Any, "b1"),
     (Value::Nothing, Limit::Any, ""),
     (Value::Number(4096), Limit::Any, "| 02 10 00"),
@@ -68,10 +70,8 @@ const NUMBERS: [Row; 8] = [
         Limit::Most(1234311),
         "96 AC b00111 / b10 | 12 D5 87",
     ),
-];
-
-/// Strings behind their length (X.691 16, 17, 24 and 30). Characters of seven bits have eight in the aligned variant.
-const STRINGS: [Row; 10] = [
+    // Strings behind their length (X.691 16, 17, 24 and 30). Characters of seven bits have eight in the aligned
+    // variant.
     (Value::Bits("FF b010000"), Limit::Any, "| 0E FF b010000"),
     (Value::Bits("b11111"), Limit::Any, "| 05 b11111"),
     (Value::Octets(&[1, 2, 3]), Limit::Any, "| 03 01 02 03"),
@@ -94,11 +94,9 @@ const STRINGS: [Row; 10] = [
         Limit::Any,
         "| 06 2A 86 48 86 F7 0D",
     ),
-];
-
-/// Strings under a size (X.691 16, 17 and 30). Up to 16 bits of a fixed size, and up to two octets of one, stand right
-/// behind what is before them. Of characters whose number of octets is not known a size counts for nothing.
-const SIZED: [Row; 12] = [
+    // Strings under a size (X.691 16, 17 and 30). Up to 16 bits of a fixed size, and up to two octets of one,
+    // stand right behind what is before them. Of characters whose number of octets is not known a size counts for
+    // nothing.
     (Value::General("abc"), Limit::Fixed(2), "| 03 61 62 63"),
     (Value::Bits("FF FF"), Limit::Fixed(16), "FF FF"),
     (Value::Bits("FF FF b1"), Limit::Fixed(17), "| FF FF b1"),
@@ -119,10 +117,7 @@ const SIZED: [Row; 12] = [
         Limit::Extensible(1, 3),
         "b1 | 04 01 02 03 04",
     ),
-];
-
-/// Lists (X.691 20). Behind the bits of a member the next one is padded again.
-const LISTS: [Row; 2] = [
+    // Lists (X.691 20). Behind the bits of a member the next one is padded again.
     (Value::Numbers(&[1, 2]), Limit::Any, "| 02 01 01 01 02"),
     (Value::Lists(&[1, 3]), Limit::Any, "| 02 | 01 b1 | 03 b111"),
 ];
@@ -158,14 +153,6 @@ fn write_bits(encoder: &mut Encoder, count: usize) -> Result<(), EncodeError> {
     Ok(())
 }
 
-/// Writes a value.
-fn write<T: Encode>(encoder: &mut Encoder, value: &T, limit: Limit) -> Result<(), EncodeError> {
-    match constraints_of(limit) {
-        Some(constraints) => value.encode_with_constraints(encoder, constraints),
-        None => value.encode(encoder),
-    }
-}
-
 /// Writes so many set bits and the value behind them.
 fn write_behind<T: Encode>(
     encoder: &mut Encoder,
@@ -174,7 +161,18 @@ fn write_behind<T: Encode>(
     limit: Limit,
 ) -> Result<(), EncodeError> {
     write_bits(encoder, count)?;
-    write(encoder, value, limit)
+    match constraints_of(limit) {
+        Some(constraints) => value.encode_with_constraints(encoder, constraints),
+        None => value.encode(encoder),
+    }
+}
+
+/// How a variant is written.
+fn options(variant: Variant) -> EncoderOptions {
+    match variant {
+        Variant::Unaligned => EncoderOptions::unaligned(),
+        Variant::Aligned => EncoderOptions::aligned(),
+    }
 }
 
 /// The message of so many set bits and the value behind them.
@@ -184,11 +182,7 @@ fn message<T: Encode>(
     value: &T,
     limit: Limit,
 ) -> Result<Vec<u8>, EncodeError> {
-    let options = match variant {
-        Variant::Unaligned => EncoderOptions::unaligned(),
-        Variant::Aligned => EncoderOptions::aligned(),
-    };
-    let mut encoder = Encoder::new(alloc, options);
+    let mut encoder = Encoder::new(alloc, options(variant));
     write_behind(&mut encoder, count, value, limit)?;
     encoder.output_into_vec()
 }
@@ -201,15 +195,6 @@ fn skip(decoder: &mut Decoder<'_>, count: usize) -> Result<(), DecodeError> {
     Ok(())
 }
 
-/// Reads a value under constraints.
-fn read_under<T: Decode>(
-    alloc: Global,
-    decoder: &mut Decoder<'_>,
-    constraints: Constraints<'_>,
-) -> Result<T, DecodeError> {
-    T::decode_with_constraints(alloc, decoder, constraints)
-}
-
 /// Reads a value.
 fn read<T: Decode>(
     alloc: Global,
@@ -217,7 +202,7 @@ fn read<T: Decode>(
     limit: Limit,
 ) -> Result<T, DecodeError> {
     match constraints_of(limit) {
-        Some(constraints) => read_under(alloc, decoder, constraints),
+        Some(constraints) => T::decode_with_constraints(alloc, decoder, constraints),
         None => T::decode(alloc, decoder),
     }
 }
@@ -259,19 +244,31 @@ fn is_written_behind<T: Encode>(
     Ok(written.as_slice() == octets)
 }
 
-/// So many set bits and these: padding follows up to whole octets, of which there is one at least.
-fn expected(
+/// Whether the value behind so many bits is read from these octets.
+fn is_read_behind<T: Decode + PartialEq>(
     alloc: Global,
     (variant, count): (Variant, usize),
+    value: &T,
+    limit: Limit,
+    octets: &[u8],
+) -> Result<bool, DecodeError> {
+    let mut decoder = Decoder::new(alloc, octets, DecoderOptions { variant });
+    reads_behind(alloc, &mut decoder, count, value, limit)
+}
+
+/// Adds so many set bits and these: padding follows up to whole octets, of which there is one at least.
+fn push_expected(
+    message: &mut BitBuffer,
+    (variant, count): (Variant, usize),
     spelled: &str,
-) -> Result<Vec<u8>, Fail> {
-    let mut message = BitBuffer::new(alloc);
+) -> Result<(), AllocError> {
     message.resize(count, true)?;
-    push_spelled(&mut message, spelled, variant)?;
+    push_spelled(message, spelled, variant)?;
     if message.is_empty() {
-        message.resize(8, false)?;
+        message.resize(8, false)
+    } else {
+        Ok(())
     }
-    Ok(message.into_vec())
 }
 
 /// Whether the value has these bits behind so many others in one variant, and is read back.
@@ -281,43 +278,58 @@ fn stands_behind<T: Encode + Decode + PartialEq>(
     value: &T,
     limit: Limit,
     spelled: &str,
-) -> Result<bool, Fail> {
-    let (variant, count) = front;
-    let octets = expected(alloc, front, spelled)?;
-    let is_written = is_written_behind(alloc, front, value, limit, &octets)?;
-    let mut decoder = Decoder::new(alloc, octets.as_slice(), DecoderOptions { variant });
-    let is_read = reads_behind(alloc, &mut decoder, count, value, limit);
-    Ok(is_written && is_read == Ok(true))
+) -> Result<bool, AllocError> {
+    let mut message = BitBuffer::new(alloc);
+    push_expected(&mut message, front, spelled)?;
+    let octets = message.as_bytes();
+    Ok(
+        is_written_behind(alloc, front, value, limit, octets) == Ok(true)
+            && is_read_behind(alloc, front, value, limit, octets) == Ok(true),
+    )
 }
 
 /// Whether the value stands as its row says behind 0 to 7 bits, and is read back.
 fn stands<T: Encode + Decode + PartialEq>(
     alloc: Global,
-    value: T,
+    value: &T,
     (limit, spelled): (Limit, &str),
-) -> Result<bool, Fail> {
+) -> bool {
     let (unaligned, aligned) = spelled.split_once('/').unwrap_or((spelled, spelled));
     for count in 0..8 {
-        if !stands_behind(alloc, (Variant::Unaligned, count), &value, limit, unaligned)?
-            || !stands_behind(alloc, (Variant::Aligned, count), &value, limit, aligned)?
+        if stands_behind(alloc, (Variant::Unaligned, count), value, limit, unaligned) != Ok(true)
+            || stands_behind(alloc, (Variant::Aligned, count), value, limit, aligned) != Ok(true)
         {
-            return Ok(false);
+            return false;
         }
     }
-    Ok(true)
+    true
+}
+
+/// Whether a value was made, and stands as its row says.
+fn is_kept<T: Encode + Decode + PartialEq + Drop, E: Drop>(
+    alloc: Global,
+    made: Result<T, E>,
+    row: (Limit, &str),
+) -> bool {
+    match made {
+        Ok(value) => stands(alloc, &value, row),
+        Err(_) => false,
+    }
 }
 
 /// These bits.
-fn bits(alloc: Global, spelled: &str) -> Result<BitString, Fail> {
+fn bits(alloc: Global, spelled: &str) -> Result<BitString, AllocError> {
     let mut bits = BitBuffer::new(alloc);
     push_spelled(&mut bits, spelled, Variant::Unaligned)?;
     Ok(BitString::from_buffer(bits))
 }
 
 /// The identifier of these arcs.
-fn identifier(alloc: Global, arcs: &[u32]) -> Result<ObjectIdentifier, Fail> {
-    let oid = Oid::new(arcs).ok_or("no identifier")?;
-    Ok(ObjectIdentifier::from_oid(alloc, &oid)?)
+fn identifier(alloc: Global, arcs: &[u32]) -> Result<ObjectIdentifier, AllocError> {
+    match Oid::new(arcs) {
+        Some(oid) => ObjectIdentifier::from_oid(alloc, &oid),
+        None => Err(AllocError),
+    }
 }
 
 /// A list of numbers.
@@ -339,50 +351,37 @@ fn lists(alloc: Global, counts: &[usize]) -> Result<Vec<Vec<bool>>, AllocError> 
     Ok(lists)
 }
 
-/// Whether a value that is no character string stands as its row says.
-fn is_right(alloc: Global, (value, limit, spelled): &Row) -> Result<bool, Fail> {
+/// Whether a value stands as its row says.
+fn is_right(alloc: Global, (value, limit, spelled): &Row) -> bool {
     let row = (*limit, *spelled);
     match value {
-        Value::Truth(value) => stands(alloc, *value, row),
-        Value::Nothing => stands(alloc, (), row),
-        Value::Number(value) => stands(alloc, Integer::from(*value), row),
-        Value::Bits(spelled) => stands(alloc, bits(alloc, spelled)?, row),
-        Value::Octets(octets) => stands(alloc, OctetString::from_slice(alloc, octets)?, row),
-        Value::Text(text) => stands(alloc, String::from_str(alloc, text)?, row),
-        Value::Identifier(arcs) => stands(alloc, identifier(alloc, arcs)?, row),
-        Value::Numbers(members) => stands(alloc, numbers(alloc, members)?, row),
-        Value::Lists(counts) => stands(alloc, lists(alloc, counts)?, row),
-        text => is_right_text(alloc, text, row),
+        Value::Truth(value) => stands(alloc, value, row),
+        Value::Nothing => stands(alloc, &(), row),
+        Value::Number(value) => stands(alloc, &Integer::from(*value), row),
+        Value::Bits(spelled) => is_kept(alloc, bits(alloc, spelled), row),
+        Value::Octets(octets) => is_kept(alloc, OctetString::from_slice(alloc, octets), row),
+        Value::Text(text) => is_kept(alloc, String::from_str(alloc, text), row),
+        Value::Identifier(arcs) => is_kept(alloc, identifier(alloc, arcs), row),
+        Value::Numbers(members) => is_kept(alloc, numbers(alloc, members), row),
+        Value::Lists(counts) => is_kept(alloc, lists(alloc, counts), row),
+        Value::Numeric(text) => is_kept(alloc, NumericString::from_text(alloc, text), row),
+        Value::Visible(text) => is_kept(alloc, VisibleString::from_text(alloc, text), row),
+        Value::General(text) => is_kept(alloc, GeneralString::from_text(alloc, text), row),
+        Value::Bmp(text) => is_kept(alloc, BmpString::from_text(alloc, text), row),
     }
 }
 
-/// Whether a character string stands as its row says.
-fn is_right_text(alloc: Global, value: &Value, row: (Limit, &str)) -> Result<bool, Fail> {
-    match value {
-        Value::Numeric(text) => stands(alloc, NumericString::from_text(alloc, text)?, row),
-        Value::Visible(text) => stands(alloc, VisibleString::from_text(alloc, text)?, row),
-        Value::General(text) => stands(alloc, GeneralString::from_text(alloc, text)?, row),
-        Value::Bmp(text) => stands(alloc, BmpString::from_text(alloc, text)?, row),
-        _ => Ok(false),
-    }
-}
-
-/// The place of the first row of a table that is wrong, if one is.
-fn wrong_row(alloc: Global, rows: &[Row]) -> Result<Option<usize>, Fail> {
+/// The place of the first row that is wrong, if one is.
+fn wrong_row(alloc: Global, rows: &[Row]) -> Option<usize> {
     for place in 0..rows.len() {
-        if !is_right(alloc, &rows[place])? {
-            return Ok(Some(place));
+        if !is_right(alloc, &rows[place]) {
+            return Some(place);
         }
     }
-    Ok(None)
+    None
 }
 
 #[test]
-fn values_behind_bits(rt: HostRuntime) -> Result<(), Fail> {
-    let tables: [&[Row]; 4] = [&NUMBERS, &STRINGS, &SIZED, &LISTS];
-    for rows in tables {
-        let wrong = wrong_row(rt.alloc(), rows)?;
-        assert!(rt; wrong == None, "{wrong:?}");
-    }
-    Ok(())
+fn values_behind_bits(rt: HostRuntime) {
+    assert_none(&rt, wrong_row(rt.alloc(), &ROWS));
 }

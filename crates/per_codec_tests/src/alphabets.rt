@@ -1,10 +1,10 @@
 //! Widths and codes of characters under constraints (X.691 30.5).
+use crate::common::assert_none;
 use asn1_schema_constraints::{Extensible, PermittedAlphabet};
 use asn1_values_strings::{BmpString, Ia5String, NumericString, PrintableString, VisibleString};
 use per_codec_alphabets::EffectiveAlphabet;
 use per_codec_reading::Variant;
 use std::alloc::{AllocError, Global};
-use std::test::Fail;
 
 /// A type of strings.
 #[derive(Clone, Copy)]
@@ -16,108 +16,100 @@ enum Kind {
     Bmp,
 }
 
-/// A type, the variant, and the characters that are permitted, where there is a constraint, and whether it has an
-/// extension marker.
-type Alphabet = (Kind, Variant, Option<(&'static [u32], bool)>);
+/// Whether characters are permitted by a constraint.
+#[derive(Clone, Copy)]
+enum Marker {
+    /// There is none.
+    None,
+    /// By one without an extension marker.
+    Closed,
+    /// By one with an extension marker.
+    Open,
+}
 
-/// Characters and their codes, a character without a code, and a code without a character.
-type Codes = (&'static [(u32, u32)], Option<u32>, Option<u32>);
+/// An alphabet, how wide its codes are, and some of these.
+#[derive(Clone, Copy)]
+struct Row {
+    kind: Kind,
+    variant: Variant,
+    marker: Marker,
+    /// The characters that are permitted.
+    permitted: &'static [u32],
+    width: u32,
+    /// Characters and their codes.
+    codes: &'static [(u32, u32)],
+    /// Characters without a code.
+    characters: &'static [u32],
+    /// Codes without a character.
+    unused: &'static [u32],
+}
 
-/// Alphabets, how wide their codes are, and some of these.
-const ROWS: [(Alphabet, u32, Codes); 17] = [
+/// A row, in the order of its fields.
+macro_rules! row {
     (
-        (Kind::Numeric, Variant::Unaligned, None),
-        4,
-        (
-            &[(49, 2), (50, 3), (51, 4), (32, 0), (57, 10)],
-            Some(65),
-            Some(11),
-        ),
-    ),
-    ((Kind::Numeric, Variant::Aligned, None), 4, NONE),
-    ((Kind::Printable, Variant::Unaligned, None), 7, NONE),
-    (
-        (Kind::Printable, Variant::Aligned, None),
-        8,
-        (&[(32, 32), (65, 65), (122, 122)], Some(64), Some(64)),
-    ),
-    ((Kind::Visible, Variant::Unaligned, None), 7, NONE),
-    ((Kind::Visible, Variant::Aligned, None), 8, NONE),
-    ((Kind::Ia5, Variant::Unaligned, None), 7, NONE),
-    ((Kind::Ia5, Variant::Aligned, None), 8, NONE),
-    ((Kind::Bmp, Variant::Unaligned, None), 16, NONE),
-    ((Kind::Bmp, Variant::Aligned, None), 16, NONE),
-    (
-        (Kind::Visible, Variant::Aligned, Some((&[48, 49], false))),
-        1,
-        (&[(48, 0), (49, 1)], None, None),
-    ),
-    (
-        (
-            Kind::Numeric,
-            Variant::Aligned,
-            Some((&[32, 49, 50, 51, 65, 57], false)),
-        ),
-        4,
-        (&[(32, 0), (49, 1), (51, 3), (57, 4)], Some(65), Some(5)),
-    ),
+        $kind:ident $variant:ident $marker:ident $permitted:tt $width:literal $codes:tt $characters:tt $unused:tt
+    ) => {
+        Row {
+            kind: Kind::$kind,
+            variant: Variant::$variant,
+            marker: Marker::$marker,
+            permitted: &$permitted,
+            width: $width,
+            codes: &$codes,
+            characters: &$characters,
+            unused: &$unused,
+        }
+    };
+}
+
+const ROWS: [Row; 17] = [
+    row!(Numeric Unaligned None [] 4 [(49, 2), (50, 3), (51, 4), (32, 0), (57, 10)] [65] [11]),
+    row!(Numeric Aligned None [] 4 [] [] []),
+    row!(Printable Unaligned None [] 7 [] [] []),
+    row!(Printable Aligned None [] 8 [(32, 32), (65, 65), (122, 122)] [64] [64]),
+    row!(Visible Unaligned None [] 7 [] [] []),
+    row!(Visible Aligned None [] 8 [] [] []),
+    row!(Ia5 Unaligned None [] 7 [] [] []),
+    row!(Ia5 Aligned None [] 8 [] [] []),
+    row!(Bmp Unaligned None [] 16 [] [] []),
+    row!(Bmp Aligned None [] 16 [] [] []),
+    row!(Visible Aligned Closed [48, 49] 1 [(48, 0), (49, 1)] [] []),
+    row!(Numeric Aligned Closed [32, 49, 50, 51, 65, 57] 4 [(32, 0), (49, 1), (51, 3), (57, 4)] [65] [5]),
     // Codes ascend with the characters, however these are listed.
-    (
-        (
-            Kind::Visible,
-            Variant::Unaligned,
-            Some((&[49, 48, 49], false)),
-        ),
-        1,
-        (&[(48, 0), (49, 1)], Some(50), None),
-    ),
-    (
-        (
-            Kind::Visible,
-            Variant::Unaligned,
-            Some((&[97, 98, 65, 66, 67], false)),
-        ),
-        3,
-        (&[(65, 0), (67, 2), (97, 3), (98, 4)], Some(68), Some(5)),
-    ),
+    row!(Visible Unaligned Closed [49, 48, 49] 1 [(48, 0), (49, 1)] [50] []),
+    row!(Visible Unaligned Closed [97, 98, 65, 66, 67] 3 [(65, 0), (67, 2), (97, 3), (98, 4)] [68] [5]),
     // Nine characters, no two of which stand side by side, in order and not.
-    (
-        (
-            Kind::Visible,
-            Variant::Unaligned,
-            Some((&[48, 50, 52, 54, 56, 65, 67, 69, 71], false)),
-        ),
-        4,
-        (&[(48, 0), (56, 4), (65, 5), (71, 8)], Some(49), Some(9)),
+    row!(
+        Visible Unaligned Closed [48, 50, 52, 54, 56, 65, 67, 69, 71] 4
+        [(48, 0), (56, 4), (65, 5), (71, 8)] [49] [9]
     ),
-    (
-        (
-            Kind::Visible,
-            Variant::Unaligned,
-            Some((&[65, 67, 69, 71, 48, 50, 52, 54, 56], false)),
-        ),
-        4,
-        (&[(48, 0), (56, 4), (65, 5), (71, 8)], Some(49), Some(9)),
+    row!(
+        Visible Unaligned Closed [65, 67, 69, 71, 48, 50, 52, 54, 56] 4
+        [(48, 0), (56, 4), (65, 5), (71, 8)] [49] [9]
     ),
     // An extension marker makes a constraint count for nothing.
-    (
-        (Kind::Visible, Variant::Unaligned, Some((&[48, 49], true))),
-        7,
-        (&[(65, 65)], None, None),
-    ),
+    row!(Visible Unaligned Open [48, 49] 7 [(65, 65)] [] []),
 ];
 
-const NONE: Codes = (&[], None, None);
+/// The constraint of a row, where there is one.
+fn constraint(
+    marker: Marker,
+    permitted: &'static [u32],
+) -> Option<Extensible<'static, PermittedAlphabet<'static>>> {
+    match marker {
+        Marker::None => None,
+        Marker::Closed => Some(Extensible::new(PermittedAlphabet::new(permitted))),
+        Marker::Open => {
+            Some(Extensible::new(PermittedAlphabet::new(permitted)).set_extensible(true))
+        }
+    }
+}
 
 /// The alphabet of a row.
-fn alphabet(
-    alloc: Global,
-    (kind, variant, permitted): Alphabet,
-) -> Result<EffectiveAlphabet, AllocError> {
-    let permitted = permitted.map(|(characters, is_extensible)| {
-        Extensible::new(PermittedAlphabet::new(characters)).set_extensible(is_extensible)
-    });
-    match kind {
+fn alphabet(alloc: Global, row: &Row) -> Result<EffectiveAlphabet, AllocError> {
+    let variant = row.variant;
+    let permitted = constraint(row.marker, row.permitted);
+    match row.kind {
         Kind::Numeric => EffectiveAlphabet::new::<NumericString>(alloc, variant, permitted),
         Kind::Printable => EffectiveAlphabet::new::<PrintableString>(alloc, variant, permitted),
         Kind::Visible => EffectiveAlphabet::new::<VisibleString>(alloc, variant, permitted),
@@ -126,20 +118,24 @@ fn alphabet(
     }
 }
 
-/// Whether a character has no code, where there is one here.
-fn has_no_code(alphabet: &EffectiveAlphabet, character: Option<u32>) -> bool {
-    match character {
-        Some(character) => alphabet.code(character).is_none(),
-        None => true,
+/// Whether characters have no code.
+fn have_no_code(alphabet: &EffectiveAlphabet, characters: &[u32]) -> bool {
+    for character in characters {
+        if alphabet.code(*character).is_some() {
+            return false;
+        }
     }
+    true
 }
 
-/// Whether a code has no character, where there is one here.
-fn has_no_character(alphabet: &EffectiveAlphabet, code: Option<u32>) -> bool {
-    match code {
-        Some(code) => alphabet.character(code).is_none(),
-        None => true,
+/// Whether codes have no character.
+fn have_no_character(alphabet: &EffectiveAlphabet, codes: &[u32]) -> bool {
+    for code in codes {
+        if alphabet.character(*code).is_some() {
+            return false;
+        }
     }
+    true
 }
 
 /// Whether a character has this code, which stands for it.
@@ -148,7 +144,7 @@ fn has_code(alphabet: &EffectiveAlphabet, character: u32, code: u32) -> bool {
 }
 
 /// Whether each character has its code, and each code stands for its character.
-fn has_codes(alphabet: &EffectiveAlphabet, codes: &[(u32, u32)]) -> bool {
+fn have_codes(alphabet: &EffectiveAlphabet, codes: &[(u32, u32)]) -> bool {
     for (character, code) in codes {
         if !has_code(alphabet, *character, *code) {
             return false;
@@ -157,27 +153,33 @@ fn has_codes(alphabet: &EffectiveAlphabet, codes: &[(u32, u32)]) -> bool {
     true
 }
 
-/// Whether the codes of an alphabet are as wide as this, and these, and those without are without.
-fn is_as_said(alphabet: &EffectiveAlphabet, width: u32, (codes, character, code): Codes) -> bool {
-    alphabet.width() == width
-        && has_codes(alphabet, codes)
-        && has_no_code(alphabet, character)
-        && has_no_character(alphabet, code)
+/// Whether an alphabet is as its row says.
+fn is_as_said(alphabet: &EffectiveAlphabet, row: &Row) -> bool {
+    alphabet.width() == row.width
+        && have_codes(alphabet, row.codes)
+        && have_no_code(alphabet, row.characters)
+        && have_no_character(alphabet, row.unused)
 }
 
 /// Whether the alphabet of a row is so.
-fn is_right(
-    alloc: Global,
-    (alphabet_of, width, codes): (Alphabet, u32, Codes),
-) -> Result<bool, AllocError> {
-    let alphabet = alphabet(alloc, alphabet_of)?;
-    Ok(is_as_said(&alphabet, width, codes))
+fn is_right(alloc: Global, row: &Row) -> bool {
+    match alphabet(alloc, row) {
+        Ok(alphabet) => is_as_said(&alphabet, row),
+        Err(AllocError) => false,
+    }
+}
+
+/// The place of the first row that is wrong, if one is.
+fn wrong_row(alloc: Global, rows: &[Row]) -> Option<usize> {
+    for place in 0..rows.len() {
+        if !is_right(alloc, &rows[place]) {
+            return Some(place);
+        }
+    }
+    None
 }
 
 #[test]
-fn codes_of_characters(rt: HostRuntime) -> Result<(), Fail> {
-    for row in ROWS {
-        assert!(rt; is_right(rt.alloc(), row)?);
-    }
-    Ok(())
+fn codes_of_characters(rt: HostRuntime) {
+    assert_none(&rt, wrong_row(rt.alloc(), &ROWS));
 }

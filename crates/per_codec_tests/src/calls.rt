@@ -1,4 +1,5 @@
 //! What the calls leave in a buffer, what they lend, and which values they do not write.
+use crate::common::assert_none;
 use asn1_schema_constraints::{Bounded, Constraint, Constraints, Extensible, Size, Value};
 use asn1_schema_encode::Encode;
 use asn1_schema_faults::{DecodeError, EncodeError};
@@ -12,7 +13,6 @@ use per_codec_packing::Packing;
 use per_codec_reading::Variant;
 use per_codec_writing::push_identifier;
 use std::alloc::Global;
-use std::test::Fail;
 
 /// Writes a value in the place of what a buffer holds.
 fn put<T: Encode>(
@@ -43,14 +43,12 @@ fn is_replaced(alloc: Global, variant: Variant, buffer: &mut Vec<u8>) -> Result<
     )
 }
 
-#[test]
-fn a_buffer_is_replaced(rt: HostRuntime) -> Result<(), Fail> {
-    let alloc = rt.alloc();
-    for variant in [Variant::Unaligned, Variant::Aligned] {
-        let mut buffer = vec![in alloc; 0xAAu8; 3]?;
-        assert!(rt; is_replaced(alloc, variant, &mut buffer)?);
+/// Whether it is so in one variant.
+fn replaces(alloc: Global, variant: Variant) -> bool {
+    match Vec::from_array(alloc, [0xAA, 0xAA, 0xAA]) {
+        Ok(mut buffer) => is_replaced(alloc, variant, &mut buffer) == Ok(true),
+        Err(_) => false,
     }
-    Ok(())
 }
 
 /// Whether true, and in another message nothing, is read with these octets behind it.
@@ -65,13 +63,17 @@ fn lends(
     Ok(value && behind_truth == behind && behind_nothing == behind)
 }
 
+/// Whether a variant lends two octets behind each of two messages.
+fn lends_two(alloc: Global, variant: Variant) -> bool {
+    let messages: (&[u8], &[u8]) = (&[0x80, 0x07, 0x08], &[0x00, 0x07, 0x08]);
+    lends(alloc, variant, messages, &[0x07, 0x08]) == Ok(true)
+}
+
 #[test]
-fn what_stands_behind_a_message_is_lent(rt: HostRuntime) -> Result<(), Fail> {
-    for variant in [Variant::Unaligned, Variant::Aligned] {
-        let messages: (&[u8], &[u8]) = (&[0x80, 0x07, 0x08], &[0x00, 0x07, 0x08]);
-        assert!(rt; lends(rt.alloc(), variant, messages, &[0x07, 0x08])?);
-    }
-    Ok(())
+fn buffers_and_what_stands_behind(rt: HostRuntime) {
+    let alloc = rt.alloc();
+    assert!(rt; replaces(alloc, Variant::Unaligned) && replaces(alloc, Variant::Aligned));
+    assert!(rt; lends_two(alloc, Variant::Unaligned) && lends_two(alloc, Variant::Aligned));
 }
 
 /// Whether neither variant writes a value under constraints, for this reason.
@@ -97,47 +99,66 @@ const NUMBERS: [(i64, i128, i128); 4] = [
 /// Whether a number outside its bounds is not written.
 fn is_outside(alloc: Global, (number, low, high): (i64, i128, i128)) -> bool {
     let bounds = Constraint::Value(Extensible::new(Value::new(Bounded::const_new(low, high))));
-    is_unwritten(
-        alloc,
-        bounds,
-        &number,
-        EncodeError::ValueConstraintNotSatisfied,
-    )
+    is_unwritten(alloc, bounds, &number, OUTSIDE)
 }
 
-/// Whether 2 to 128 is not written behind a lower bound, with an extension marker behind it.
-fn is_past_128_bits(alloc: Global) -> Result<bool, Fail> {
-    let octets = [1, 0, 0, 0, 0, 0, 0, 0, 0, 0, 0, 0, 0, 0, 0, 0, 0];
-    let number = Integer::from_signed_octets(alloc, &octets)?;
+const OUTSIDE: EncodeError = EncodeError::ValueConstraintNotSatisfied;
+
+/// The place of the first number that is written, if there is one.
+fn wrong_number(alloc: Global, rows: &[(i64, i128, i128)]) -> Option<usize> {
+    for place in 0..rows.len() {
+        if !is_outside(alloc, rows[place]) {
+            return Some(place);
+        }
+    }
+    None
+}
+
+/// Whether a number is not written behind a lower bound, with an extension marker behind it.
+fn is_past_128_bits(alloc: Global, number: &Integer) -> bool {
     let bounds = Extensible::new(Value::new(Bounded::start_from(0))).set_extensible(true);
-    let error = EncodeError::ValueConstraintNotSatisfied;
-    Ok(is_unwritten(alloc, Constraint::Value(bounds), &number, error))
+    is_unwritten(alloc, Constraint::Value(bounds), number, OUTSIDE)
+}
+
+/// Whether 2 to 128 is not written so.
+fn is_2_to_128_past_128_bits(alloc: Global) -> bool {
+    let octets = [1, 0, 0, 0, 0, 0, 0, 0, 0, 0, 0, 0, 0, 0, 0, 0, 0];
+    match Integer::from_signed_octets(alloc, &octets) {
+        Ok(number) => is_past_128_bits(alloc, &number),
+        Err(_) => false,
+    }
+}
+
+/// Whether a value was made, and is not written where there are to be two of its parts.
+fn is_not_two<T: Encode + Drop, E: Drop>(alloc: Global, made: Result<T, E>) -> bool {
+    let two = Constraint::Size(Extensible::new(Size::new(Bounded::Single(2))));
+    match made {
+        Ok(value) => is_unwritten(alloc, two, &value, EncodeError::SizeConstraintNotSatisfied),
+        Err(_) => false,
+    }
 }
 
 /// Whether a text of three characters, and one octet, are not written where there are to be two.
-fn are_not_two(alloc: Global) -> Result<bool, Fail> {
-    let two = Constraint::Size(Extensible::new(Size::new(Bounded::Single(2))));
-    let error = EncodeError::SizeConstraintNotSatisfied;
-    let text = VisibleString::from_text(alloc, "abc")?;
-    let octets = OctetString::from_slice(alloc, &[1])?;
-    Ok(is_unwritten(alloc, two, &text, error) && is_unwritten(alloc, two, &octets, error))
+fn are_not_two(alloc: Global) -> bool {
+    is_not_two(alloc, VisibleString::from_text(alloc, "abc"))
+        && is_not_two(alloc, OctetString::from_slice(alloc, &[1]))
 }
 
 /// Whether an identifier of one arc is not written.
-fn is_no_identifier(alloc: Global, arcs: &[u32]) -> Result<bool, Fail> {
-    let lone = Oid::new(arcs).ok_or("no identifier")?;
-    let answer = push_identifier(&mut Packing::new(alloc), Variant::Aligned, alloc, &lone);
-    Ok(answer == Err(EncodeError::ValueConstraintNotSatisfied))
+fn is_no_identifier(alloc: Global, arcs: &[u32]) -> bool {
+    match Oid::new(arcs) {
+        Some(lone) => {
+            let output = &mut Packing::new(alloc);
+            push_identifier(output, Variant::Aligned, alloc, &lone) == Err(OUTSIDE)
+        }
+        None => false,
+    }
 }
 
 #[test]
-fn values_that_are_not_written(rt: HostRuntime) -> Result<(), Fail> {
+fn values_that_are_not_written(rt: HostRuntime) {
     let alloc = rt.alloc();
-    for row in NUMBERS {
-        assert!(rt; is_outside(alloc, row));
-    }
-    assert!(rt; is_past_128_bits(alloc)?);
-    assert!(rt; are_not_two(alloc)?);
-    assert!(rt; is_no_identifier(alloc, &[1])?);
-    Ok(())
+    assert_none(&rt, wrong_number(alloc, &NUMBERS));
+    assert!(rt; is_2_to_128_past_128_bits(alloc) && are_not_two(alloc));
+    assert!(rt; is_no_identifier(alloc, &[1]));
 }

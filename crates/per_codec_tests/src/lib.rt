@@ -10,6 +10,8 @@ mod alphabets;
 #[cfg(test)]
 mod calls;
 #[cfg(test)]
+mod common;
+#[cfg(test)]
 mod counted;
 #[cfg(test)]
 mod packing;

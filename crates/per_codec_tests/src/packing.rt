@@ -1,7 +1,7 @@
 //! Texts at known places, and texts that are placed later.
+use crate::common::assert_none;
 use per_codec_packing::{Packing, complete_in};
 use std::alloc::{AllocError, Global};
-use std::test::Fail;
 
 /// Adds a bit, padding, an octet, padding, and a bit.
 fn push_member(text: &mut Packing) -> Result<(), AllocError> {
@@ -47,41 +47,66 @@ fn stands_behind(
 }
 
 /// How many zero bits stand in front, whether there is a member around the member, and the octets.
-const ROWS: [(usize, bool, &[u8]); 4] = [
+type Row = (usize, bool, &'static [u8]);
+
+const ROWS: [Row; 4] = [
     (0, false, &[0x80, 0xAB, 0x80]),
     (3, false, &[0x10, 0xAB, 0x80]),
     (8, false, &[0x00, 0x80, 0xAB, 0x80]),
     (6, true, &[0x03, 0xAB, 0x80]),
 ];
 
-/// Whether a member stands in the octets of its row.
-fn is_right(alloc: Global, (zeros, is_nested, octets): (usize, bool, &[u8])) -> Result<bool, Fail> {
-    let text = if is_nested {
-        within_a_member(alloc)?
+/// A member, or one in another.
+fn text_of(alloc: Global, is_nested: bool) -> Result<Packing, AllocError> {
+    if is_nested {
+        within_a_member(alloc)
     } else {
-        member(alloc)?
-    };
-    Ok(stands_behind(alloc, zeros, &text, octets)?)
+        member(alloc)
+    }
 }
 
-/// Whether these octets are the complete encoding of a text.
-fn completes(alloc: Global, text: &Packing, octets: &[u8]) -> Result<bool, AllocError> {
-    let complete = complete_in(text.as_text(), Vec::new(alloc))?;
-    Ok(complete.as_slice() == octets)
+/// Whether a member stands in the octets of its row.
+fn is_right(alloc: Global, (zeros, is_nested, octets): Row) -> bool {
+    match text_of(alloc, is_nested) {
+        Ok(text) => stands_behind(alloc, zeros, &text, octets) == Ok(true),
+        Err(AllocError) => false,
+    }
 }
 
-/// Whether the complete encodings of a member and of nothing are these.
-fn are_complete(alloc: Global, of_member: &[u8], of_nothing: &[u8]) -> Result<bool, Fail> {
-    let text = member(alloc)?;
-    let empty = Packing::unplaced(alloc);
-    Ok(completes(alloc, &text, of_member)? && completes(alloc, &empty, of_nothing)?)
+/// The place of the first row that is wrong, if one is.
+fn wrong_row(alloc: Global, rows: &[Row]) -> Option<usize> {
+    for place in 0..rows.len() {
+        if !is_right(alloc, rows[place]) {
+            return Some(place);
+        }
+    }
+    None
 }
 
 #[test]
-fn padded_where_it_comes_to_stand(rt: HostRuntime) -> Result<(), Fail> {
-    for row in ROWS {
-        assert!(rt; is_right(rt.alloc(), row)?);
+fn padded_where_it_comes_to_stand(rt: HostRuntime) {
+    assert_none(&rt, wrong_row(rt.alloc(), &ROWS));
+}
+
+/// Whether these octets are the complete encoding of a text.
+fn completes(alloc: Global, text: &Packing, octets: &[u8]) -> bool {
+    match complete_in(text.as_text(), Vec::new(alloc)) {
+        Ok(complete) => complete.as_slice() == octets,
+        Err(AllocError) => false,
     }
-    assert!(rt; are_complete(rt.alloc(), &[0x80, 0xAB, 0x80], &[0x00])?);
-    Ok(())
+}
+
+/// Whether these octets are the complete encoding of a member.
+fn is_member(alloc: Global, octets: &[u8]) -> bool {
+    match member(alloc) {
+        Ok(text) => completes(alloc, &text, octets),
+        Err(AllocError) => false,
+    }
+}
+
+#[test]
+fn complete_encodings(rt: HostRuntime) {
+    let alloc = rt.alloc();
+    assert!(rt; is_member(alloc, &[0x80, 0xAB, 0x80]));
+    assert!(rt; completes(alloc, &Packing::unplaced(alloc), &[0x00]));
 }

@@ -1,22 +1,22 @@
 //! Parts of encodings as they are written behind so many bits: numbers, lengths, places, and what else stands in no
 //! message alone (X.691 11).
+use crate::common::assert_none;
 use crate::spelled::push_spelled;
 use asn1_schema_faults::EncodeError;
 use asn1_schema_variants::Chosen;
-use asn1_values_bits::BitBuffer;
+use asn1_values_bits::{BitBuffer, BitStr};
 use per_codec_additions::push_normally_few;
 use per_codec_packing::Packing;
 use per_codec_reading::Variant;
 use per_codec_writing::{
-    push_boolean, push_constrained, push_fragment_length, push_normally_small, push_open_type,
-    push_place, push_short_length,
+    push_boolean, push_constrained, push_counted_octets, push_fragment_length, push_normally_small,
+    push_open_type, push_place, push_short_length,
 };
 use std::alloc::{AllocError, Global};
-use std::test::Fail;
 
 /// A part of an encoding.
 #[derive(Clone, Copy)]
-enum Part {
+pub enum Part<'a> {
     Truth(bool),
     /// A number from 0 to a span: the span and the number.
     Number(u128, u128),
@@ -32,10 +32,12 @@ enum Part {
     OpenType,
     /// A bitmap of one addition, which is there.
     Bitmap,
+    /// Octets behind their number.
+    Octets(&'a [u8]),
 }
 
 /// A variant, how many set bits stand in front, parts, and the bits that there are then.
-type Row = (Variant, usize, &'static [Part], &'static str);
+type Row = (Variant, usize, &'static [Part<'static>], &'static str);
 
 const ROWS: [Row; 23] = [
     (UPER, 0, &TRUTHS, "b101"),
@@ -72,31 +74,14 @@ const UPER: Variant = Variant::Unaligned;
 
 const APER: Variant = Variant::Aligned;
 
-const TRUTHS: [Part; 3] = [Part::Truth(true), Part::Truth(false), Part::Truth(true)];
-
-/// A bitmap of one addition, which is there.
-fn bitmap_of_one(alloc: Global) -> Result<BitBuffer, AllocError> {
-    let mut bitmap = BitBuffer::new(alloc);
-    bitmap.push(true)?;
-    Ok(bitmap)
-}
-
-/// Writes a bitmap of one addition, which is there.
-fn push_bitmap_of_one(
-    alloc: Global,
-    output: &mut Packing,
-    variant: Variant,
-) -> Result<(), EncodeError> {
-    let bitmap = bitmap_of_one(alloc)?;
-    push_normally_few(output, variant, &bitmap.as_bitslice())
-}
+const TRUTHS: [Part<'static>; 3] = [Part::Truth(true), Part::Truth(false), Part::Truth(true)];
 
 /// Writes a part.
 fn push_part(
     alloc: Global,
     output: &mut Packing,
     variant: Variant,
-    part: Part,
+    part: Part<'_>,
 ) -> Result<(), EncodeError> {
     match part {
         Part::Truth(value) => push_boolean(output, variant, value),
@@ -108,7 +93,8 @@ fn push_part(
         Part::Root(place) => push_place(output, variant, 2, false, Chosen::root(place)),
         Part::Added(place) => push_place(output, variant, 2, true, Chosen::addition(place)),
         Part::OpenType => push_open_type(output, variant, &BitBuffer::new(alloc)),
-        Part::Bitmap => push_bitmap_of_one(alloc, output, variant),
+        Part::Bitmap => push_normally_few(output, variant, &BitStr::front_of(&[0x80], 1)),
+        Part::Octets(octets) => push_counted_octets(output, variant, octets),
     }
 }
 
@@ -117,7 +103,7 @@ fn push_parts(
     alloc: Global,
     output: &mut Packing,
     variant: Variant,
-    parts: &[Part],
+    parts: &[Part<'_>],
 ) -> Result<(), EncodeError> {
     for part in parts {
         push_part(alloc, output, variant, *part)?;
@@ -125,42 +111,96 @@ fn push_parts(
     Ok(())
 }
 
-/// So many set bits and parts behind them, whose place is known from the beginning or is not.
-fn written(
-    alloc: Global,
-    (variant, count, parts, _): Row,
-    is_placed: bool,
-) -> Result<Packing, EncodeError> {
+/// So many set bits.
+fn set_bits(alloc: Global, count: usize) -> Result<Packing, AllocError> {
     let mut output = Packing::new(alloc);
     output.resize(count, true)?;
-    if is_placed {
-        push_parts(alloc, &mut output, variant, parts)?;
-    } else {
-        let mut text = Packing::unplaced(alloc);
-        push_parts(alloc, &mut text, variant, parts)?;
-        output.append_text(text.as_text())?;
-    }
     Ok(output)
 }
 
+/// Writes parts behind what stands there: whether these bits are there then.
+fn are_placed(
+    alloc: Global,
+    output: &mut Packing,
+    variant: Variant,
+    parts: &[Part<'_>],
+    bits: &BitBuffer,
+) -> Result<bool, EncodeError> {
+    push_parts(alloc, output, variant, parts)?;
+    Ok(output.as_bits().as_bitslice() == bits.as_bitslice())
+}
+
+/// Writes parts at a place that is not known, and puts them behind what stands there: whether these bits are there
+/// then.
+fn are_placed_later(
+    alloc: Global,
+    output: &mut Packing,
+    variant: Variant,
+    parts: &[Part<'_>],
+    bits: &BitBuffer,
+) -> Result<bool, EncodeError> {
+    let mut text = Packing::unplaced(alloc);
+    push_parts(alloc, &mut text, variant, parts)?;
+    output.append_text(text.as_text())?;
+    Ok(output.as_bits().as_bitslice() == bits.as_bitslice())
+}
+
+/// Whether so many set bits and parts behind them, whose place is known from the beginning, are these bits.
+fn are_written_early(
+    alloc: Global,
+    (variant, count): (Variant, usize),
+    parts: &[Part<'_>],
+    bits: &BitBuffer,
+) -> bool {
+    match set_bits(alloc, count) {
+        Ok(mut output) => are_placed(alloc, &mut output, variant, parts, bits) == Ok(true),
+        Err(AllocError) => false,
+    }
+}
+
+/// Whether they are these bits where their place comes to be known later.
+fn are_written_late(
+    alloc: Global,
+    (variant, count): (Variant, usize),
+    parts: &[Part<'_>],
+    bits: &BitBuffer,
+) -> bool {
+    match set_bits(alloc, count) {
+        Ok(mut output) => are_placed_later(alloc, &mut output, variant, parts, bits) == Ok(true),
+        Err(AllocError) => false,
+    }
+}
+
+/// Whether they are these bits in both ways.
+pub fn are_written(
+    alloc: Global,
+    front: (Variant, usize),
+    parts: &[Part<'_>],
+    bits: &BitBuffer,
+) -> bool {
+    are_written_early(alloc, front, parts, bits) && are_written_late(alloc, front, parts, bits)
+}
+
 /// Whether parts stand as their row says.
-fn is_right(alloc: Global, row: Row, is_placed: bool) -> Result<bool, Fail> {
+fn is_right(alloc: Global, (variant, count, parts, spelled): Row) -> Result<bool, AllocError> {
     let mut wanted = BitBuffer::new(alloc);
-    push_spelled(&mut wanted, row.3, row.0)?;
-    let output = written(alloc, row, is_placed)?;
-    Ok(output.as_bits().as_bitslice() == wanted.as_bitslice())
+    push_spelled(&mut wanted, spelled, variant)?;
+    Ok(are_written(alloc, (variant, count), parts, &wanted))
+}
+
+/// The place of the first row that is wrong, if one is.
+fn wrong_row(alloc: Global, rows: &[Row]) -> Option<usize> {
+    for place in 0..rows.len() {
+        if is_right(alloc, rows[place]) != Ok(true) {
+            return Some(place);
+        }
+    }
+    None
 }
 
 #[test]
-fn parts_behind_bits(rt: HostRuntime) -> Result<(), Fail> {
-    for (place, row) in ROWS.iter().enumerate() {
-        assert!(rt; is_right(rt.alloc(), *row, true)?, "row {place}");
-        assert!(rt;
-            is_right(rt.alloc(), *row, false)?,
-            "row {place}, placed later"
-        );
-    }
-    Ok(())
+fn parts_behind_bits(rt: HostRuntime) {
+    assert_none(&rt, wrong_row(rt.alloc(), &ROWS));
 }
 
 /// Whether a number is refused in a span.
@@ -169,11 +209,26 @@ fn is_outside(alloc: Global, variant: Variant, span: u128, number: u128) -> bool
     answer == Err(EncodeError::ValueConstraintNotSatisfied)
 }
 
-#[test]
-fn numbers_outside(rt: HostRuntime) {
-    for variant in [UPER, APER] {
-        for span in [0, 1, 254, 255, 256, 65535, 65536, 1 << 64] {
-            assert!(rt; is_outside(rt.alloc(), variant, span, span + 1));
+/// Whether the number behind a span is refused in each variant.
+fn ends_there(alloc: Global, span: u128) -> bool {
+    let number = span.saturating_add(1);
+    is_outside(alloc, UPER, span, number) && is_outside(alloc, APER, span, number)
+}
+
+/// Spans of numbers from 0 on.
+const SPANS: [u128; 8] = [0, 1, 254, 255, 256, 65535, 65536, 1 << 64];
+
+/// The place of the first span behind which a number is not refused, if there is one.
+fn wrong_span(alloc: Global, spans: &[u128]) -> Option<usize> {
+    for place in 0..spans.len() {
+        if !ends_there(alloc, spans[place]) {
+            return Some(place);
         }
     }
+    None
+}
+
+#[test]
+fn numbers_outside(rt: HostRuntime) {
+    assert_none(&rt, wrong_span(rt.alloc(), &SPANS));
 }

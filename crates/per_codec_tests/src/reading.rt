@@ -1,6 +1,7 @@
 //! What readers and a decoder leave, lend and refuse.
 ghost use Rattle.std.specs.Prelude.{◌<◌, ◌≡◌, IfErr};
 
+use crate::common::assert_none;
 use asn1_schema_constraints::{Bounded, Constraints};
 use asn1_schema_decode::Decoder as _;
 use asn1_schema_faults::{CodecKind, DecodeError};
@@ -12,7 +13,6 @@ use per_codec_reading::units::{read_boolean, read_null};
 use per_codec_reading::{Cursor, Variant};
 use std::alloc::Global;
 use std::borrow::CowSlice;
-use std::test::Fail;
 
 /// Whether two truth values are read from two bits of an octet, which leaves six.
 fn leaves_six_bits(cursor: &mut Cursor<'_>) -> Result<bool, DecodeError> {
@@ -29,14 +29,17 @@ fn takes_no_bits(input: &[u8]) -> Result<bool, DecodeError> {
     Ok(number == 0 && cursor.len() == input.len().saturating_mul(8))
 }
 
-#[test]
-fn bits_that_are_left(rt: HostRuntime) -> Result<(), Fail> {
-    assert!(rt; leaves_six_bits(&mut Cursor::new(&[0x80]))?);
-    assert!(rt; takes_no_bits(&[0x01])?);
-    assert!(rt; takes_no_bits(&[])?);
-    let empty = read_boolean(&mut Cursor::new(&[]), Variant::Unaligned);
-    assert!(rt; empty == Err(DecodeError::Incomplete));
-    Ok(())
+/// Whether no bit is read where there is none.
+fn lacks_a_bit(cursor: &mut Cursor<'_>) -> bool {
+    read_boolean(cursor, Variant::Unaligned) == Err(DecodeError::Incomplete)
+}
+
+/// Whether bits are left so.
+fn leave_bits() -> bool {
+    leaves_six_bits(&mut Cursor::new(&[0x80])) == Ok(true)
+        && takes_no_bits(&[0x01]) == Ok(true)
+        && takes_no_bits(&[]) == Ok(true)
+        && lacks_a_bit(&mut Cursor::new(&[]))
 }
 
 /// Whether a length stands behind so many bits, right behind them in the unaligned variant, and at the next octet in
@@ -54,12 +57,20 @@ fn is_length_behind(used: u32) -> Result<bool, DecodeError>
     Ok(near == shifted && far == Length::Short(5) && aligned.position() == 16)
 }
 
-#[test]
-fn lengths_behind_bits(rt: HostRuntime) -> Result<(), Fail> {
+/// The number of bits behind which a length does not stand so, if there is one.
+fn wrong_length() -> Option<usize> {
     for used in 0..8u32 {
-        assert!(rt; is_length_behind(used)?);
+        if is_length_behind(used) != Ok(true) {
+            return Some(used as usize);
+        }
     }
-    Ok(())
+    None
+}
+
+#[test]
+fn bits_and_lengths(rt: HostRuntime) {
+    assert!(rt; leave_bits());
+    assert_none(&rt, wrong_length());
 }
 
 /// Reads a truth value in front by a decoder of its own, of which no call was refused before.
@@ -70,12 +81,10 @@ fn truth_in_front(alloc: Global, variant: Variant, octets: &[u8]) -> Result<bool
     decoder.decode_bool(Tag::BOOL)
 }
 
-#[test]
-fn decoders_that_have_not_failed(rt: HostRuntime) {
-    for variant in [Variant::Unaligned, Variant::Aligned] {
-        assert!(rt; truth_in_front(rt.alloc(), variant, &[0x80]) == Ok(true));
-        assert!(rt; truth_in_front(rt.alloc(), variant, &[]) == Err(DecodeError::Incomplete));
-    }
+/// Whether a truth value is read from an octet in front, and from no octet none.
+fn are_in_front(alloc: Global, variant: Variant) -> bool {
+    truth_in_front(alloc, variant, &[0x80]) == Ok(true)
+        && truth_in_front(alloc, variant, &[]) == Err(DecodeError::Incomplete)
 }
 
 /// Whether a decoder lacks a bit, and has failed from then on.
@@ -140,7 +149,7 @@ fn nests_128_levels(decoder: &mut Decoder<'_>) -> Result<bool, DecodeError> {
 }
 
 /// What a decoder is to do.
-#[derive(Clone, Copy, Debug)]
+#[derive(Clone, Copy)]
 enum Duty {
     /// Fail where a bit is lacking.
     Bit,
@@ -168,18 +177,32 @@ fn is_done(alloc: Global, variant: Variant, octets: &[u8], duty: Duty) -> bool {
     does(&mut decoder, duty)
 }
 
-#[test]
-fn decoders_that_have_failed(rt: HostRuntime) {
-    let alloc = rt.alloc();
-    let rows: [(Variant, &[u8], Duty); 4] = [
-        (Variant::Unaligned, &[], Duty::Bit),
-        (Variant::Unaligned, &[0xC0], Duty::Alternative),
-        (Variant::Aligned, &[0x00], Duty::Levels),
-        (Variant::Aligned, &[], Duty::Rules),
-    ];
-    for (variant, octets, duty) in rows {
-        assert!(rt; is_done(alloc, variant, octets, duty), "{duty:?}");
+/// A decoder of octets, and what it is to do.
+type Row = (Variant, &'static [u8], Duty);
+
+const ROWS: [Row; 4] = [
+    (Variant::Unaligned, &[], Duty::Bit),
+    (Variant::Unaligned, &[0xC0], Duty::Alternative),
+    (Variant::Aligned, &[0x00], Duty::Levels),
+    (Variant::Aligned, &[], Duty::Rules),
+];
+
+/// The place of the first row whose decoder does not do it, if there is one.
+fn wrong_row(alloc: Global, rows: &[Row]) -> Option<usize> {
+    for place in 0..rows.len() {
+        let (variant, octets, duty) = rows[place];
+        if !is_done(alloc, variant, octets, duty) {
+            return Some(place);
+        }
     }
+    None
+}
+
+#[test]
+fn decoders(rt: HostRuntime) {
+    let alloc = rt.alloc();
+    assert!(rt; are_in_front(alloc, Variant::Unaligned) && are_in_front(alloc, Variant::Aligned));
+    assert_none(&rt, wrong_row(alloc, &ROWS));
 }
 
 /// Whether a string is lent, and is these octets.
@@ -245,21 +268,18 @@ fn lends_in_an_open_type(
     lends_both(alloc, &mut decoder, strings)
 }
 
+/// The extension bit and the place of an added alternative take eight bits (X.691 11.6 and 23.8), so that its open type
+/// (11.2) begins at an octet in each variant.
+fn lends_two_strings(alloc: Global, variant: Variant) -> bool {
+    let input = [0x80, 0x04, 0x03, 0x01, 0x02, 0x03, 0x02, 0x04, 0x05];
+    lends_in_an_open_type(alloc, variant, &input, (&[1, 2, 3], &[4, 5])) == Ok(true)
+}
+
 #[test]
-fn an_aligned_message_lends_its_octets(rt: HostRuntime) -> Result<(), Fail> {
+fn octets_are_lent(rt: HostRuntime) {
     let alloc = rt.alloc();
     let lent = lends_behind_a_bit(alloc, &[0x80, 0x03, 0x01, 0x02, 0x03], &[1, 2, 3]);
     assert!(rt; lent == Ok(true));
-    Ok(())
-}
-
-/// The extension bit and the place of an added alternative take eight bits (X.691 11.6 and 23.8), so that its open type
-/// (11.2) begins at an octet in each variant.
-#[test]
-fn octets_in_open_types_are_lent(rt: HostRuntime) {
-    let input = [0x80, 0x04, 0x03, 0x01, 0x02, 0x03, 0x02, 0x04, 0x05];
-    for variant in [Variant::Unaligned, Variant::Aligned] {
-        let strings: (&[u8], &[u8]) = (&[1, 2, 3], &[4, 5]);
-        assert!(rt; lends_in_an_open_type(rt.alloc(), variant, &input, strings) == Ok(true));
-    }
+    assert!(rt; lends_two_strings(alloc, Variant::Unaligned));
+    assert!(rt; lends_two_strings(alloc, Variant::Aligned));
 }
