@@ -8,7 +8,8 @@ use Rattle.asn1_model.specs.Normal.{normal}
 use Rattle.asn1_model.specs.Numbers.{is_count_to, is_count_within}
 use Rattle.asn1_schema_faults.specs.declared.DecodeError.{DecodeError}
 use Rattle.asn1_schema_presented.specs.Records.{Record, list_begins, further, ends, asks_list, asks_further, asks_end}
-use Rattle.asn1_schema_presented.specs.Presents.{presents, member_records, member_count, Fits, AllFit}
+use Rattle.asn1_model.specs.Typed.{member_count}
+use Rattle.asn1_schema_presented.specs.Presents.{presents, member_records, Fits, AllFit}
 use Rattle.asn1_schema_presented.specs.Parts.{values_of}
 use Rattle.asn1_schema_presented.specs.Tables.{scope, list_type}
 use Rattle.asn1_schema_presented.specs.Chains.{Chain, OneRecord}

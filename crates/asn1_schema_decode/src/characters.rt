@@ -9,6 +9,7 @@ use asn1_values_strings::RestrictedString;
 use std::alloc::Global;
 
 impl<K: TaggedKind> Decode for RestrictedString<K> {
+    #[inline(always)]
     fn decode_with_tag_and_constraints<D: Decoder>(
         alloc: Global,
         decoder: &mut D,

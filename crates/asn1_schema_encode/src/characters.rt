@@ -7,6 +7,7 @@ use asn1_schema_types::TaggedKind;
 use asn1_values_strings::RestrictedString;
 
 impl<K: TaggedKind> Encode for RestrictedString<K> {
+    #[inline(always)]
     fn encode_with_tag_and_constraints<E: Encoder>(
         &self,
         encoder: &mut E,

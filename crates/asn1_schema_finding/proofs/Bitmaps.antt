@@ -4,7 +4,7 @@ use Rattle.std.proofs.lemmas.List.{append-nil}
 use Rattle.std.proofs.lemmas.Bool.{lt-ltb, ltb-true}
 use Rattle.asn1_model.specs.Form.{Form, Bitmap, is_present, is_any_present, present_ones, covered_by}
 use Rattle.asn1_laws_fronts.proofs.Additions as adding
-use Rattle.asn1_schema_finding.specs.PresenceBits.{first_bits, has_set}
+use Rattle.asn1_schema_finding.specs.PresenceBits.{first_bits, is_any_set}
 
 -- unknown additions, each absent or with its octets
 abbrev pub Octets : Type 0
@@ -16,7 +16,7 @@ flags xs = map (λ a. is_present a) xs
 
 -- ---- the bits of a bitmap
 
-pub any_set : {X : Type 0} (xs : List (Option X)) → has_set (flags xs) ≡ is_any_present xs
+pub any_set : {X : Type 0} (xs : List (Option X)) → is_any_set (flags xs) ≡ is_any_present xs
 any_set [] = refl
 any_set (x ∷ xs) = ap (λ t. is_present x || t) (any_set xs)
 

@@ -9,6 +9,7 @@ use Rattle.asn1_model.specs.Schema.{alternative}
 use Rattle.asn1_model.specs.Normal.{is_at_default, is_group_left_out}
 use Rattle.asn1_model.specs.Lawful.{are_no_components, alternative_tags}
 use Rattle.asn1_model.specs.Tables.{is_required}
+use Rattle.asn1_model.specs.Typed.{member_count}
 use Rattle.asn1_schema_presented.specs.Records.{Record, flag, nil, whole, one_of, bits, octets, characters}
 use Rattle.asn1_schema_presented.specs.Records.{identifier, list_begins, bag_begins, further, sequence_begins}
 use Rattle.asn1_schema_presented.specs.Records.{set_begins, group_begins, presence_bit, is_default, is_empty}
@@ -25,11 +26,6 @@ optional_count (component t o s cs) = cond (is_required o) (optional_count cs) (
 abbrev pub component_count : Components → ℕ
 component_count no_component = 0
 component_count (component t o s cs) = suc (component_count cs)
-
--- How many members there are.
-abbrev pub member_count : Values → ℕ
-member_count no_more = 0
-member_count (member v vs) = suc (member_count vs)
 
 -- ---- parts
 

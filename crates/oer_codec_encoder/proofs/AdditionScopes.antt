@@ -5,7 +5,8 @@ use Rattle.asn1_model.specs.Form.{written}
 use Rattle.asn1_model.specs.Numbers.{binary, missing}
 use Rattle.asn1_model.specs.Oer
 use Rattle.asn1_schema_presented.specs.Records.{additions_begin, addition, addition_ends}
-use Rattle.oer_codec_encoder.specs.Steps.{Scope, added, open_type, State, run, adds_text, is_any_set}
+use Rattle.asn1_schema_finding.specs.PresenceBits.{is_any_set}
+use Rattle.oer_codec_encoder.specs.Steps.{Scope, added, open_type, State, run, adds_text}
 use Rattle.oer_codec_encoder.specs.declared.frame.Additions.{Additions}
 use Rattle.oer_codec_encoder.specs.declared.frame.Frame.{Frame}
 use Rattle.oer_codec_encoder.specs.declared.frame.Preamble.{Preamble}

@@ -10,7 +10,8 @@ use Rattle.asn1_values_bits.proofs.Change.{kept_changed}
 use Rattle.asn1_schema_faults.specs.declared.EncodeError.{EncodeError}
 use Rattle.asn1_schema_faults.specs.declared.EncodeError.TheVariants.{OutOfMemory}
 use Rattle.asn1_schema_presented.specs.Records.{ends}
-use Rattle.oer_codec_encoder.specs.Steps.{State, run, adds_text, is_any_set, with_added}
+use Rattle.asn1_schema_finding.specs.PresenceBits.{is_any_set}
+use Rattle.oer_codec_encoder.specs.Steps.{State, run, adds_text, with_added}
 use Rattle.oer_codec_encoder.proofs.Still.{counted_bits_still}
 use Rattle.oer_codec_encoder.specs.declared.frame.Additions.{Additions}
 use Rattle.oer_codec_encoder.specs.declared.frame.Frame.{Frame}

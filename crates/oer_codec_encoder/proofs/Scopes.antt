@@ -18,27 +18,28 @@ use Rattle.oer_codec_encoder.specs.declared.frame.Frame.{Frame}
 use Rattle.oer_codec_encoder.specs.declared.frame.Frame.TheVariants.{Components, Added, OpenType, Members, Bag, Alternative}
 use Rattle.oer_codec_encoder.specs.declared.frame.Preamble.{Preamble}
 use Rattle.oer_codec_encoder.specs.Frames.{told}
-use Rattle.oer_codec_encoder.specs.Holding.{presence, given_bits, octets_filled, shown, HasBits, IsOpen, IsExtended, IsApart, Holds, AreSound, Does}
+use Rattle.asn1_schema_finding.specs.PresenceBits.{preamble}
+use Rattle.oer_codec_encoder.specs.Holding.{given_bits, octets_filled, shown, HasBits, IsOpen, IsExtended, IsApart, Holds, AreSound, Does}
 use Rattle.oer_codec_writing.specs.Writing.{Adds}
 
 -- ---- what is shown is what they stand for
 
-presence_bits_behind : (e : Bool) (ms rest : List Bool) (given : ℕ) → length ms ≡ given → take given (drop (length (presence e [])) (presence e ms ++ rest)) ≡ ms
+presence_bits_behind : (e : Bool) (ms rest : List Bool) (given : ℕ) → length ms ≡ given → take given (drop (length (preamble e [])) (preamble e ms ++ rest)) ≡ ms
 presence_bits_behind true ms rest given h = take_at ms rest given h
 presence_bits_behind false ms rest given h = take_at ms rest given h
 
-presence_behind : (e : Bool) (ms rest more : List Bool) → presence e (ms ++ rest) ++ more ≡ presence e ms ++ (rest ++ more)
-presence_behind true ms rest more = ap (λ l. false ∷ l) (append_assoc ms rest more)
-presence_behind false ms rest more = append_assoc ms rest more
+preamble_behind : (e : Bool) (ms rest more : List Bool) → preamble e (ms ++ rest) ++ more ≡ preamble e ms ++ (rest ++ more)
+preamble_behind true ms rest more = ap (λ l. false ∷ l) (append_assoc ms rest more)
+preamble_behind false ms rest more = append_assoc ms rest more
 
 same_open : (e : Bool) (due : ℕ) (i j : List ℕ) (m n : List Bool) (t u : State) → i ≡ j → m ≡ n → t ≡ u → (let l : State = (i, components e due m t.0 ∷ t.1) in l) ≡ (j, components e due n u.0 ∷ u.1)
 same_open e due i j m n t u a b c =
     ap (λ x. let l : State = (x, components e due m t.0 ∷ t.1) in l) a
     ∙ (ap (λ x. let l : State = (j, components e due x t.0 ∷ t.1) in l) b ∙ ap (λ (x : State). let l : State = (j, components e due n x.0 ∷ x.1) in l) c)
 
-length-presence : (e : Bool) (ms : List Bool) → length (presence e ms) ≡ length ms + cond e 1 0
-length-presence true ms = omega arith
-length-presence false ms = omega arith
+length-preamble : (e : Bool) (ms : List Bool) → length (preamble e ms) ≡ length ms + cond e 1 0
+length-preamble true ms = omega arith
+length-preamble false ms = omega arith
 
 octets_whole : (k n : ℕ) → k * 8 ≡ n + missing n → k ≡ (n + 7) / 8
 octets_whole k n h = omega arith
@@ -46,9 +47,9 @@ octets_whole k n h = omega arith
 length-bitmap : (e : Bool) (due given start : ℕ) (o : List ℕ) → (h : HasBits e due given start o) → length h.bitmap ≡ octets_filled e (given + due)
 length-bitmap e due given start o h =
     let zeros : List Bool = replicate due false in
-    let bs : List Bool = presence e (h.presence_bits ++ zeros) in
+    let bs : List Bool = preamble e (h.presence_bits ++ zeros) in
     let unused : List Bool = replicate (missing (length bs)) false in
-    let n : length bs ≡ given + due + cond e 1 0 = omega (arith, length-presence e (h.presence_bits ++ zeros), length-append h.presence_bits zeros, length-replicate due false, h.told) in
+    let n : length bs ≡ given + due + cond e 1 0 = omega (arith, length-preamble e (h.presence_bits ++ zeros), length-append h.presence_bits zeros, length-replicate due false, h.told) in
     let k : length h.bitmap * 8 ≡ length bs + missing (length bs) = sym (length-octet_bits h.bitmap) ∙ ap length h.bits ∙ length-append bs unused ∙ ap (λ j. length bs + j) (length-replicate (missing (length bs)) false) in
     octets_whole (length h.bitmap) (length bs) k ∙ ap (λ j. (j + 7) / 8) n
 
@@ -61,11 +62,11 @@ parts e due given start n o m h =
     let long : length (h.front ++ h.bitmap) ≡ start + octets_filled e n = length-append h.front h.bitmap ∙ ap (λ k. k + length h.bitmap) h.starts ∙ ap (λ k. start + k) (length-bitmap e due given start o h ∙ ap (octets_filled e) (sym m)) in
     let inner : drop (start + octets_filled e n) o ≡ h.inner = ap (drop (start + octets_filled e n)) whole ∙ drop_at (h.front ++ h.bitmap) h.inner (start + octets_filled e n) long in
     let zeros : List Bool = replicate due false in
-    let unused : List Bool = replicate (missing (length (presence e (h.presence_bits ++ zeros)))) false in
-    let all : octet_bits (drop start o) ≡ presence e h.presence_bits ++ ((zeros ++ unused) ++ octet_bits h.inner) =
-    ap octet_bits behind ∙ octet_bits-append h.bitmap h.inner ∙ ap (λ l. l ++ octet_bits h.inner) (h.bits ∙ presence_behind e h.presence_bits zeros unused)
-    ∙ append_assoc (presence e h.presence_bits) (zeros ++ unused) (octet_bits h.inner) in
-    let presence_bits = ap (λ l. take given (drop (length (presence e [])) l)) all ∙ presence_bits_behind e h.presence_bits ((zeros ++ unused) ++ octet_bits h.inner) given h.told in
+    let unused : List Bool = replicate (missing (length (preamble e (h.presence_bits ++ zeros)))) false in
+    let all : octet_bits (drop start o) ≡ preamble e h.presence_bits ++ ((zeros ++ unused) ++ octet_bits h.inner) =
+    ap octet_bits behind ∙ octet_bits-append h.bitmap h.inner ∙ ap (λ l. l ++ octet_bits h.inner) (h.bits ∙ preamble_behind e h.presence_bits zeros unused)
+    ∙ append_assoc (preamble e h.presence_bits) (zeros ++ unused) (octet_bits h.inner) in
+    let presence_bits = ap (λ l. take given (drop (length (preamble e [])) l)) all ∙ presence_bits_behind e h.presence_bits ((zeros ++ unused) ++ octet_bits h.inner) given h.told in
     (front, inner, presence_bits)
 
 -- the octets up to the end of a root, and those behind it
@@ -198,13 +199,13 @@ zeros_small zero k h = absurd (omega arith)
 zeros_small (suc n) zero h = omega arith
 zeros_small (suc n) (suc k) h = zeros_small n k (omega arith)
 
-pub unused_zeros : (e : Bool) (n k : ℕ) → k * 8 ≡ (n + cond e 1 0) + missing (n + cond e 1 0) → replicate (k * 8) false ≡ padded (presence e (replicate n false))
+pub unused_zeros : (e : Bool) (n k : ℕ) → k * 8 ≡ (n + cond e 1 0) + missing (n + cond e 1 0) → replicate (k * 8) false ≡ padded (preamble e (replicate n false))
 unused_zeros e n k h = go e refl h
   where
     zeros : (m : ℕ) → k * 8 ≡ m + missing m → replicate (k * 8) false ≡ replicate m false ++ replicate (missing (length (replicate m false))) false
     zeros m h = ap (λ j. replicate j false) h ∙ sym (ap (λ j. replicate m false ++ replicate (missing j) false) (length-replicate m false) ∙ replicate-append-replicate m (missing m) false)
 
-    go : (b : Bool) → e ≡ b → k * 8 ≡ (n + cond b 1 0) + missing (n + cond b 1 0) → replicate (k * 8) false ≡ padded (presence b (replicate n false))
+    go : (b : Bool) → e ≡ b → k * 8 ≡ (n + cond b 1 0) + missing (n + cond b 1 0) → replicate (k * 8) false ≡ padded (preamble b (replicate n false))
     go true d h = zeros (suc n) (let q : n + 1 ≡ suc n = omega arith in subst (λ j. k * 8 ≡ j + missing j) q h)
     go false d h = zeros n (let q : n + 0 ≡ n = omega arith in subst (λ j. k * 8 ≡ j + missing j) q h)
 
@@ -242,7 +243,7 @@ set_seam [] ys x y = refl
 set_seam (z ∷ xs) ys x y = ap (λ l. z ∷ l) (set_seam xs ys x y)
 
 -- the next bit set, among those that are due
-raised_bits : (e : Bool) (ms : List Bool) (d i : ℕ) → i ≡ length ms + cond e 1 0 → set (presence e (ms ++ replicate (suc d) false)) i true ≡ presence e ((ms ++ true ∷ []) ++ replicate d false)
+raised_bits : (e : Bool) (ms : List Bool) (d i : ℕ) → i ≡ length ms + cond e 1 0 → set (preamble e (ms ++ replicate (suc d) false)) i true ≡ preamble e ((ms ++ true ∷ []) ++ replicate d false)
 raised_bits true ms d i h =
     let n : i ≡ suc (length ms) = omega arith in
     ap (λ k. set (false ∷ (ms ++ replicate (suc d) false)) k true) n ∙ ap (λ l. false ∷ l) (set_seam ms (replicate d false) false true ∙ sym (append_assoc ms (true ∷ []) (replicate d false)))
@@ -250,8 +251,8 @@ raised_bits false ms d i h =
     let n : i ≡ length ms = omega arith in
     ap (λ k. set (ms ++ replicate (suc d) false) k true) n ∙ (set_seam ms (replicate d false) false true ∙ sym (append_assoc ms (true ∷ []) (replicate d false)))
 
-pub lowered_bits : (e : Bool) (ms : List Bool) (d : ℕ) → presence e (ms ++ replicate (suc d) false) ≡ presence e ((ms ++ false ∷ []) ++ replicate d false)
-lowered_bits e ms d = ap (presence e) (sym (append_assoc ms (false ∷ []) (replicate d false)))
+pub lowered_bits : (e : Bool) (ms : List Bool) (d : ℕ) → preamble e (ms ++ replicate (suc d) false) ≡ preamble e ((ms ++ false ∷ []) ++ replicate d false)
+lowered_bits e ms d = ap (preamble e) (sym (append_assoc ms (false ∷ []) (replicate d false)))
 
 pub one_longer : (ms : List Bool) (b : Bool) (given : ℕ) → length ms ≡ given → length (ms ++ b ∷ []) ≡ given + 1
 one_longer ms b given h = omega (arith, length-append ms (b ∷ []), h)
@@ -283,10 +284,10 @@ module _ (e : Bool) (d given start : ℕ) (o : List ℕ) (h : HasBits e (suc d) 
   }
 
   abbrev due_bits : List Bool
-  due_bits = presence e (h.presence_bits ++ replicate (suc d) false)
+  due_bits = preamble e (h.presence_bits ++ replicate (suc d) false)
 
   within_bits : (i : ℕ) → i ≡ given + cond e 1 0 → i < length due_bits
-  within_bits i n = omega (arith, length-presence e (h.presence_bits ++ replicate (suc d) false), length-append h.presence_bits (replicate (suc d) false), length-replicate (suc d) false, h.told)
+  within_bits i n = omega (arith, length-preamble e (h.presence_bits ++ replicate (suc d) false), length-append h.presence_bits (replicate (suc d) false), length-replicate (suc d) false, h.told)
 
   pub within_bitmap : (i : ℕ) → i ≡ given + cond e 1 0 → i / 8 < length h.bitmap
   within_bitmap i n = omega (arith, within_bits i n, ap length h.bits, length-octet_bits h.bitmap, length-append due_bits (replicate (missing (length due_bits)) false))
@@ -306,14 +307,14 @@ module _ (e : Bool) (d given start : ℕ) (o : List ℕ) (h : HasBits e (suc d) 
       changed ∙ ap (λ l. set l (start + i / 8) x) h.text ∙ set-append_right h.front (h.bitmap ++ h.inner) start (start + i / 8) x h.starts (omega arith)
       ∙ ap (λ j. h.front ++ set (h.bitmap ++ h.inner) j x) k ∙ ap (λ l. h.front ++ l) (set-append_left h.bitmap h.inner (i / 8) x (within_bitmap i n))
 
-  pub raised_map : (i x : ℕ) → i ≡ given + cond e 1 0 → binary 8 x ≡ set (binary 8 (get_or o (start + i / 8) 0)) (i % 8) true → octet_bits (set h.bitmap (i / 8) x) ≡ padded (presence e ((h.presence_bits ++ true ∷ []) ++ replicate d false))
+  pub raised_map : (i x : ℕ) → i ≡ given + cond e 1 0 → binary 8 x ≡ set (binary 8 (get_or o (start + i / 8) 0)) (i % 8) true → octet_bits (set h.bitmap (i / 8) x) ≡ padded (preamble e ((h.presence_bits ++ true ∷ []) ++ replicate d false))
   raised_map i x n bit =
       let y : ℕ = get_or o (start + i / 8) 0 in
       let place : i ≡ length h.presence_bits + cond e 1 0 = omega (arith, h.told) in
       let raised = raised_bits e h.presence_bits d i place in
-      let long : length due_bits ≡ length (presence e ((h.presence_bits ++ true ∷ []) ++ replicate d false)) = sym (length-set due_bits i true) ∙ ap length raised in
+      let long : length due_bits ≡ length (preamble e ((h.presence_bits ++ true ∷ []) ++ replicate d false)) = sym (length-set due_bits i true) ∙ ap length raised in
       kept_changed h.bitmap due_bits (length due_bits) i y x true h.bits refl (within_bits i n) (get_or_any o (start + i / 8) (within_octets i n) ∙ octet_at i y n) bit ∙ ap (λ l. l ++ replicate (missing (length due_bits)) false) raised
-      ∙ ap (λ m. presence e ((h.presence_bits ++ true ∷ []) ++ replicate d false) ++ replicate (missing m) false) long
+      ∙ ap (λ m. preamble e ((h.presence_bits ++ true ∷ []) ++ replicate d false) ++ replicate (missing m) false) long
 
   abbrev pub with_present : (p : List ℕ) (i : ℕ) → i ≡ given + cond e 1 0 → p ≡ set o (start + i / 8) (get_or p (start + i / 8) 0) → binary 8 (get_or p (start + i / 8) 0) ≡ set (binary 8 (get_or o (start + i / 8) 0)) (i % 8) true → get_or p (start + i / 8) 0 < 256 → HasBits e d (given + 1) start p
   with_present p i n changed bit small = record {

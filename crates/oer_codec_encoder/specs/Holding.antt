@@ -9,7 +9,8 @@ use Rattle.asn1_schema_faults.specs.declared.EncodeError.{EncodeError}
 use Rattle.asn1_schema_faults.specs.declared.EncodeError.TheVariants.{AlreadyFailed, OutOfMemory}
 use Rattle.asn1_schema_presented.specs.Records.{Record}
 use Rattle.oer_codec_encoder.specs.Steps.{components, added, open_type, members, bag_members, alternative, with_open}
-use Rattle.oer_codec_encoder.specs.Steps.{is_any_set, State, run}
+use Rattle.asn1_schema_finding.specs.PresenceBits.{is_any_set, preamble}
+use Rattle.oer_codec_encoder.specs.Steps.{State, run}
 use Rattle.oer_codec_encoder.specs.declared.frame.Additions.{Additions}
 use Rattle.oer_codec_encoder.specs.declared.frame.Bag.{Bag as BagFrame}
 use Rattle.oer_codec_encoder.specs.declared.frame.Frame.{Frame}
@@ -17,18 +18,13 @@ use Rattle.oer_codec_encoder.specs.declared.frame.Frame.TheVariants.{Components,
 use Rattle.oer_codec_encoder.specs.declared.frame.Frame.TheVariants.{Alternative}
 use Rattle.oer_codec_writing.specs.Writing.{Adds, bits_heading}
 
--- The bits of a preamble: the extension marker, which is not set, where there is one, and the presence bits.
-abbrev pub presence : Bool → List Bool → List Bool
-presence true ms = false ∷ ms
-presence false ms = ms
-
 -- How many octets an extension bit, where there is one, and so many presence bits fill.
 abbrev pub octets_filled : Bool → ℕ → ℕ
 octets_filled e n = (n + cond e 1 0 + 7) / 8
 
 -- The presence bits that were given, behind the extension marker, where there is one.
 abbrev pub given_bits : Bool → ℕ → ℕ → List ℕ → List Bool
-given_bits e given start o = take given (drop (length (presence e [])) (octet_bits (drop start o)))
+given_bits e given start o = take given (drop (length (preamble e [])) (octet_bits (drop start o)))
 
 -- What the octets and the frames show.
 abbrev pub shown : List Frame → List ℕ → State
@@ -70,7 +66,7 @@ pub record HasBits (e : Bool) (due given start : ℕ) (o : List ℕ) : Type 0 wh
   pub starts : length front ≡ start
   pub told : length presence_bits ≡ given
   pub counts : given + due < 2 ^ 64
-  pub bits : octet_bits bitmap ≡ padded (presence e (presence_bits ++ replicate due false))
+  pub bits : octet_bits bitmap ≡ padded (preamble e (presence_bits ++ replicate due false))
   pub small : (k : ℕ) → k < length bitmap → slice_index bitmap k < 256
 
 -- The octets are those in front of an open sequence, its preamble, and those behind it.

@@ -1,6 +1,6 @@
 -- What a writer of the octet encoding rules (X.696) holds: the octets of the innermost open scope, and the open
 -- scopes. Each record changes them.
-use Rattle.std.specs.Prelude.{◌≡◌, ℕ, zero, suc, Bool, true, false, cond, ◌||◌, List, [], ◌∷◌, ◌++◌, map, Option}
+use Rattle.std.specs.Prelude.{◌≡◌, ℕ, zero, suc, Bool, true, false, cond, List, [], ◌∷◌, ◌++◌, map, Option}
 use Rattle.std.specs.Prelude.{Some, None, option_map, option_and_then}
 use Rattle.asn1_model.specs.Value.{truth, item, bit_list, octet_list, text, arcs}
 use Rattle.asn1_model.specs.Schema.{Tag, boolean, enumerated, bit_string, octet_string, character_string}
@@ -8,6 +8,7 @@ use Rattle.asn1_model.specs.Schema.{object_identifier}
 use Rattle.asn1_model.specs.Numbers.{is_count_within}
 use Rattle.asn1_model.specs.Form.{exactly, written, both, joined, only_if}
 use Rattle.asn1_model.specs.Oer
+use Rattle.asn1_schema_finding.specs.PresenceBits.{is_any_set}
 use Rattle.asn1_schema_presented.specs.Records.{Record, flag, nil, whole, one_of, bits, octets, characters}
 use Rattle.asn1_schema_presented.specs.Records.{identifier, list_begins, bag_begins, further, sequence_begins}
 use Rattle.asn1_schema_presented.specs.Records.{set_begins, group_begins, presence_bit, additions_begin, addition}
@@ -74,11 +75,6 @@ goes_on b os k = None
 abbrev pub closed : Bool → ℕ → List Bool → List ℕ → List ℕ → List Scope → Option State
 closed false zero ms front os k = adds_text (written (Oer.sequence_form false ms (exactly os) []) 0) (front, k)
 closed e n ms front os k = None
-
--- Whether one of the bits is set.
-abbrev pub is_any_set : List Bool → Bool
-is_any_set [] = false
-is_any_set (b ∷ bs) = b || is_any_set bs
 
 -- The preamble and the root, and where an addition is there the extension bit is set, and the bitmap and the additions'
 -- octets stand behind (X.696 16).

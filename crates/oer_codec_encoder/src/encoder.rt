@@ -239,6 +239,7 @@ impl<'buffer> asn1_schema_encode::Encoder for Encoder<'buffer> {
         record!(self, push_utf8(self.output, constraints, value))
     }
 
+    #[inline(always)]
     fn encode_characters<S: StaticPermittedAlphabet>(
         &mut self,
         _tag: Tag,

@@ -14,7 +14,7 @@ use Rattle.asn1_schema_presented.specs.Records.{additions_begin}
 use Rattle.asn1_schema_presented.specs.Presents.{root_records, added_records, optional_count, component_count}
 use Rattle.asn1_schema_presented.specs.Chains.{Chain}
 use Rattle.oer_codec_fronts.specs.Takes.{State, Scope, components, added, Front, Found, Begins, unknown_forms, Skips}
-use Rattle.asn1_schema_finding.specs.PresenceBits.{preamble_bits, first_bits, has_set}
+use Rattle.asn1_schema_finding.specs.PresenceBits.{preamble_bits, first_bits, is_any_set}
 use Rattle.asn1_schema_finding.proofs.Alike.{LikeParts}
 use Rattle.asn1_schema_finding.proofs.Bitmaps.{Octets, flags, any_set, none_flags, flags_none, none_of, covers, counted_flags}
 use Rattle.asn1_schema_finding.proofs.Bitmaps as bitmaps
@@ -73,7 +73,7 @@ module _ (free : Oer.Freedom → Bool) where
   Without ms y xs os rest = (mid : List ℕ) × (is_any_present xs ≡ false) × Front free (Oer.preamble (false ∷ ms)) os mid × Front free y mid rest
 
   abbrev With : List Bool → Oer.OctetForm → Forms → List ℕ → List ℕ → Type 0
-  With ms y xs os rest = (us : Octets) × (bs : List Bool) × (o1 : List ℕ) × (o2 : List ℕ) × (o3 : List ℕ) × (o4 : List ℕ) × (flags xs ≡ first_bits (length xs) bs) × (flags (unknown_forms us) ≡ drop (length xs) bs) × ((has_set bs ≡ true) ⊎ IsTrue (free Oer.empty_bitmap)) × Front free (Oer.preamble (true ∷ ms)) os o1 × Front free y o1 o2 × Front free (Oer.counted_bits bs) o2 o3 × Front free (joined (present_ones xs)) o3 o4 × Front free (joined (present_ones (unknown_forms us))) o4 rest
+  With ms y xs os rest = (us : Octets) × (bs : List Bool) × (o1 : List ℕ) × (o2 : List ℕ) × (o3 : List ℕ) × (o4 : List ℕ) × (flags xs ≡ first_bits (length xs) bs) × (flags (unknown_forms us) ≡ drop (length xs) bs) × ((is_any_set bs ≡ true) ⊎ IsTrue (free Oer.empty_bitmap)) × Front free (Oer.preamble (true ∷ ms)) os o1 × Front free y o1 o2 × Front free (Oer.counted_bits bs) o2 o3 × Front free (joined (present_ones xs)) o3 o4 × Front free (joined (present_ones (unknown_forms us))) o4 rest
 
   -- ---- the whole
   module _ (ms : List Bool) (y : Oer.OctetForm) (moves : Moves free y) (other : IsTrue (free Oer.other_bitmap)) where
@@ -83,7 +83,7 @@ module _ (free : Oer.Freedom → Bool) where
     without_in xs e os mid rest f g = varied_in free {c = Oer.other_bitmap} (λ b. Oer.bitmapped ms y xs b) None other os rest (if_in free (not (is_any_present xs)) (both (Oer.preamble (false ∷ ms)) y) os rest (ap not e) (join free (Oer.preamble (false ∷ ms)) y moves os mid rest f g))
 
     -- with one
-    with_in : (xs : Forms) → EachMoves free xs → (us : Octets) (bs : List Bool) → flags xs ≡ first_bits (length xs) bs → flags (unknown_forms us) ≡ drop (length xs) bs → (has_set bs ≡ true) ⊎ IsTrue (free Oer.empty_bitmap) → (os o1 o2 o3 o4 rest : List ℕ) → Front free (Oer.preamble (true ∷ ms)) os o1 → Front free y o1 o2 → Front free (Oer.counted_bits bs) o2 o3 → Front free (joined (present_ones xs)) o3 o4 → Front free (joined (present_ones (unknown_forms us))) o4 rest → Front free (Oer.sequence_form true ms y xs) os rest
+    with_in : (xs : Forms) → EachMoves free xs → (us : Octets) (bs : List Bool) → flags xs ≡ first_bits (length xs) bs → flags (unknown_forms us) ≡ drop (length xs) bs → (is_any_set bs ≡ true) ⊎ IsTrue (free Oer.empty_bitmap) → (os o1 o2 o3 o4 rest : List ℕ) → Front free (Oer.preamble (true ∷ ms)) os o1 → Front free y o1 o2 → Front free (Oer.counted_bits bs) o2 o3 → Front free (joined (present_ones xs)) o3 o4 → Front free (joined (present_ones (unknown_forms us))) o4 rest → Front free (Oer.sequence_form true ms y xs) os rest
     unfolding Oer.sequence_form Oer.bitmapped Oer.with_additions Oer.additions
     with_in xs h us bs e e' t os o1 o2 o3 o4 rest f g i j k =
         let c = covers (λ os. Oer.counted os) xs us bs e e' in
@@ -97,7 +97,7 @@ module _ (free : Oer.Freedom → Bool) where
         let m2 = moves_both free (counted_bits_move free (flags all)) am in
         let a3 = join free y (both (Oer.counted_bits (flags all)) (joined (present_ones all))) m2 o1 o2 rest g a2 in
         let a4 = join free (Oer.preamble (true ∷ ms)) (both y (both (Oer.counted_bits (flags all)) (joined (present_ones all)))) (moves_both free moves m2) os o1 rest f a3 in
-        let set : (is_any_present all ≡ true) ⊎ IsTrue (free Oer.empty_bitmap) = as_any t (ap has_set (sym c.3) ∙ any_set all) in
+        let set : (is_any_present all ≡ true) ⊎ IsTrue (free Oer.empty_bitmap) = as_any t (ap is_any_set (sym c.3) ∙ any_set all) in
         varied_in free {c = Oer.other_bitmap} (λ b. Oer.bitmapped ms y xs b) (Some c.0) other os rest (given_in free (covered_by (λ os. Oer.counted os) c.0 xs) (λ l. cond (is_any_present l) (Oer.with_additions ms y l) (varied Oer.empty_bitmap false (λ e. only_if e (Oer.with_additions ms y l)))) all c.2 os rest (shown_in (is_any_present all) (Oer.with_additions ms y all) os rest set a4))
       where
         as_any : {all : Bool} {bs : Bool} → (bs ≡ true) ⊎ IsTrue (free Oer.empty_bitmap) → bs ≡ all → (all ≡ true) ⊎ IsTrue (free Oer.empty_bitmap)
@@ -117,7 +117,7 @@ module _ (free : Oer.Freedom → Bool) where
         let u = append_split xs ys h uk s.0 rest (subst (λ l. Front free (joined l) s.0 rest) t.3 s.2) in
         (t.0, flags all, q.0, r.0, s.0, u.0, t.1, t.2, as_set set, q.1, r.1, s.1, u.1, u.2)
       where
-        as_set : (is_any_present all ≡ true) ⊎ IsTrue (free Oer.empty_bitmap) → (has_set (flags all) ≡ true) ⊎ IsTrue (free Oer.empty_bitmap)
+        as_set : (is_any_present all ≡ true) ⊎ IsTrue (free Oer.empty_bitmap) → (is_any_set (flags all) ≡ true) ⊎ IsTrue (free Oer.empty_bitmap)
         as_set (inl e) = inl (any_set all ∙ e)
         as_set (inr e) = inr e
 

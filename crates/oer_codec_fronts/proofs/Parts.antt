@@ -9,7 +9,8 @@ use Rattle.asn1_model.specs.Form.{refused, both, given, joined, exactly, in_orde
 use Rattle.asn1_model.specs.Oer
 use Rattle.asn1_laws_values.proofs.Listed.{EachComponent}
 use Rattle.asn1_schema_presented.specs.Records.{Record, flag, nil, whole, one_of, bits, octets, characters, identifier, presence_bit, ends, mismatch}
-use Rattle.asn1_schema_presented.specs.Presents.{presents, member_records, member_count, root_records, with_presence_bit}
+use Rattle.asn1_model.specs.Typed.{member_count}
+use Rattle.asn1_schema_presented.specs.Presents.{presents, member_records, root_records, with_presence_bit}
 use Rattle.asn1_schema_presented.specs.Chains.{Chain}
 use Rattle.asn1_schema_presented.proofs.Chains.{chain_split, chain_append}
 use Rattle.oer_codec_fronts.specs.Takes.{State, Scope, components, members, Front, Found, Counted}

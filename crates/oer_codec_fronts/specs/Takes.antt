@@ -9,7 +9,7 @@ use Rattle.asn1_model.specs.Lawful.{tag_same}
 use Rattle.asn1_model.specs.Numbers.{is_count_within}
 use Rattle.asn1_model.specs.Form.{Reads, joined, is_present, present_ones}
 use Rattle.asn1_model.specs.Oer
-use Rattle.asn1_schema_finding.specs.PresenceBits.{preamble_bits, first_bits, has_set}
+use Rattle.asn1_schema_finding.specs.PresenceBits.{preamble_bits, first_bits, is_any_set}
 use Rattle.asn1_schema_presented.specs.Records.{Record, flag, nil, whole, one_of, bits, octets, characters, identifier}
 use Rattle.asn1_schema_presented.specs.Records.{list_begins, bag_begins, further, sequence_begins, set_begins}
 use Rattle.asn1_schema_presented.specs.Records.{group_begins, presence_bit, is_default, is_empty}
@@ -78,8 +78,8 @@ NextPresenceBit v os k b = ⊥
 abbrev pub AdditionsBegin : (Oer.Freedom → Bool) → ℕ → List ℕ → List Scope → State → Type 0
 AdditionsBegin free n os (components (Some false) [] ∷ k) b = b ≡ (os, added (first_bits n []) [] ∷ k)
 AdditionsBegin free n os (components (Some true) [] ∷ k) b =
-    (bs : List Bool) × ((has_set bs ≡ true) ⊎ IsTrue (free Oer.empty_bitmap)) × Front free (Oer.counted_bits bs) os b.0
-    × (b.1 ≡ added (first_bits n bs) (drop n bs) ∷ k)
+    (bs : List Bool) × ((is_any_set bs ≡ true) ⊎ IsTrue (free Oer.empty_bitmap))
+    × Front free (Oer.counted_bits bs) os b.0 × (b.1 ≡ added (first_bits n bs) (drop n bs) ∷ k)
 AdditionsBegin free n os k b = ⊥
 
 -- An open type begins: its octets stand behind their number (X.696 30).

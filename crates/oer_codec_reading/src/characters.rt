@@ -17,6 +17,7 @@ use asn1_values_alphabets::StaticPermittedAlphabet;
 use std::alloc::Global;
 
 /// How many octets each character has: two if characters past an octet are among them, else one.
+#[inline(always)]
 fn octets_each(wide: bool) -> usize
     ensures { result ≡ Characters.width wide }
 {
@@ -24,6 +25,7 @@ fn octets_each(wide: bool) -> usize
 }
 
 /// Reads the octets of so many characters, or behind their number if there is not one size alone, and lends them.
+#[inline(always)]
 fn read_spelled<'input>(
     cursor: &mut Cursor<'input>,
     rules: EncodingRules,
@@ -50,6 +52,7 @@ fn read_spelled<'input>(
 }
 
 /// The character at a place, counted from 0, among those that octets are.
+#[inline(always)]
 fn character_at(octets: &[u8], wide: bool, place: usize) -> u32
     requires { place < length octets.now / Characters.width wide }
     ensures { result ≡ slice_index (Characters.characters_in wide octets.now) place }
@@ -62,6 +65,7 @@ fn character_at(octets: &[u8], wide: bool, place: usize) -> u32
 }
 
 /// The string of the characters that octets are.
+#[inline(always)]
 fn string_of<S: StaticPermittedAlphabet>(
     alloc: Global,
     octets: &[u8],
@@ -99,6 +103,7 @@ fn string_of<S: StaticPermittedAlphabet>(
 /// characters, `PermittedAlphabet` if the type does not hold one of them, `Incomplete` if the octets end early, the
 /// errors of a length, and
 /// `OutOfMemory`.
+#[inline(always)]
 pub fn read_characters<S: StaticPermittedAlphabet>(
     alloc: Global,
     cursor: &mut Cursor<'_>,

@@ -44,6 +44,7 @@ pub fn push_utf8(
 }
 
 /// Adds the characters as octets, one for each: in one run where the string keeps them so.
+#[inline(always)]
 fn push_narrow<S: StaticPermittedAlphabet>(
     octets: &mut Vec<u8>,
     value: &S,
@@ -80,6 +81,7 @@ fn push_wide<S: StaticPermittedAlphabet>(octets: &mut Vec<u8>, value: &S) -> Res
 }
 
 /// Adds the octets of a string in which each character has one, behind their number unless there is one size.
+#[inline(always)]
 fn push_narrow_string<S: StaticPermittedAlphabet>(
     octets: &mut Vec<u8>,
     fixed: bool,
@@ -128,6 +130,7 @@ fn push_wide_string<S: StaticPermittedAlphabet>(
 /// # Errors
 ///
 /// `OutOfMemory`; any other only where the value has no encoding in this form.
+#[inline(always)]
 pub fn push_characters<S: StaticPermittedAlphabet>(
     octets: &mut Vec<u8>,
     constraints: Constraints,

@@ -62,6 +62,7 @@ impl EffectiveAlphabet {
     /// # Errors
     ///
     /// Want of memory.
+    #[inline(always)]
     pub fn new<S: StaticPermittedAlphabet>(
         alloc: Global,
         variant: Variant,
@@ -81,6 +82,7 @@ impl EffectiveAlphabet {
     }
 
     /// The bits that a code takes, at most 64.
+    #[inline(always)]
     pub fn width(&self) -> u32
         ensures bits { result ≡ self.now.code_bits }
         ensures narrow { result ≤ 64 }
@@ -89,6 +91,7 @@ impl EffectiveAlphabet {
     }
 
     /// Whether the code of each character is its own number (X.691 30.5.4).
+    #[inline(always)]
     pub fn is_by_number(&self) -> bool
         ensures { result ≡ ltb (largest self.now.runs) (2 ^ self.now.code_bits) }
     {
@@ -96,6 +99,7 @@ impl EffectiveAlphabet {
     }
 
     /// The code of a character, if it is one of them (X.691 30.5.4).
+    #[inline(always)]
     pub fn code(&self, character: u32) -> Option<u64>
         ensures { result ≡ code_of self.now character }
     {
@@ -108,6 +112,7 @@ impl EffectiveAlphabet {
     }
 
     /// The character that has this code, if there is one.
+    #[inline(always)]
     pub fn character(&self, code: u32) -> Option<u32>
         ensures found { IfSome result (λ character. code_of self.now character ≡ Some code) }
         ensures alone { (character : ℕ) → code_of self.now character ≡ Some code → result ≡ Some character }
@@ -121,6 +126,7 @@ impl EffectiveAlphabet {
     }
 
     /// The only character that may have this code.
+    #[inline(always)]
     fn candidate(&self, code: u32) -> Option<u32>
         ensures { (character : ℕ) → code_of self.now character ≡ Some code → result ≡ Some character }
     {
@@ -134,6 +140,7 @@ impl EffectiveAlphabet {
 
 impl Runs {
     /// The runs in order.
+    #[inline(always)]
     fn as_slice(&self) -> &[CharacterRun]
         ensures { runs_of result.now ≡ held_runs self.now }
     {
@@ -146,6 +153,7 @@ impl Runs {
 }
 
 /// The characters of the type `S` under a permitted alphabet.
+#[inline(always)]
 fn permitted_runs<S: StaticPermittedAlphabet>(
     alloc: Global,
     constraint: Option<Extensible<PermittedAlphabet>>,
@@ -170,6 +178,7 @@ fn permitted_runs<S: StaticPermittedAlphabet>(
 }
 
 /// The bits that hold a number, none for 0.
+#[inline(always)]
 fn bits_of(number: u64) -> u32
     ensures width { result ≡ bit_width number }
     ensures narrow { result ≤ 64 }
@@ -178,6 +187,7 @@ fn bits_of(number: u64) -> u32
 }
 
 /// The next of 0, 1, 2, 4, 8 and 16.
+#[inline(always)]
 fn raised_bits(bits: u32) -> u32
     ensures raised { result ≡ raised bits }
     ensures narrow { bits ≤ 64 → result ≤ 64 }
@@ -191,6 +201,7 @@ fn raised_bits(bits: u32) -> u32
 }
 
 /// The bits of a code among so many characters (X.691 30.5.2).
+#[inline(always)]
 fn bits_of_codes(runs: &[CharacterRun], variant: Variant) -> u32
     requires { how_many (runs_of runs.now) < 2 ^ 64 }
     ensures width { result ≡ character_bits (is_aligned variant) (runs_of runs.now) }
@@ -204,6 +215,7 @@ fn bits_of_codes(runs: &[CharacterRun], variant: Variant) -> u32
 }
 
 /// Whether the largest of the characters is below 2 to the width.
+#[inline(always)]
 fn is_below(runs: &[CharacterRun], width: u32) -> bool
     requires { width ≤ 64 }
     ensures { result ≡ ltb (largest (runs_of runs.now)) (2 ^ width) }

@@ -108,6 +108,7 @@ const OCTETS: [CharacterRun; 1] = [CharacterRun {
 }];
 
 /// The characters of a type of strings (X.680 41 and 43).
+#[inline(always)]
 pub fn own_runs<S: StaticPermittedAlphabet>() -> &'static [CharacterRun]
     ensures { runs_of result.now ≡ characters_of S.kind }
 {
@@ -137,6 +138,7 @@ pub fn is_of_octets<S: StaticPermittedAlphabet>() -> bool
 }
 
 /// How many characters there are.
+#[inline(always)]
 pub fn count(runs: &[CharacterRun]) -> u64
     requires { how_many (runs_of runs.now) < 2 ^ 64 }
     ensures { result ≡ how_many (runs_of runs.now) }
@@ -149,6 +151,7 @@ pub fn count(runs: &[CharacterRun]) -> u64
 }
 
 /// The largest of the characters, in the order given the last one.
+#[inline(always)]
 pub fn last_character(runs: &[CharacterRun]) -> u32
     ensures { result ≡ largest (runs_of runs.now) }
 {
@@ -159,6 +162,7 @@ pub fn last_character(runs: &[CharacterRun]) -> u32
 }
 
 /// The place of a character, counted from 0.
+#[inline(always)]
 pub fn place_among(runs: &[CharacterRun], character: u32) -> Option<u64>
     requires { how_many (runs_of runs.now) < 2 ^ 64 }
     ensures { result ≡ place_of character (runs_of runs.now) }
@@ -174,6 +178,7 @@ pub fn place_among(runs: &[CharacterRun], character: u32) -> Option<u64>
 }
 
 /// The character at a place, counted from 0.
+#[inline(always)]
 pub fn character_at(runs: &[CharacterRun], place: u64) -> Option<u32>
     ensures { result ≡ nth_character (runs_of runs.now) place }
 {

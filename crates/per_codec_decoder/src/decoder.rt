@@ -473,6 +473,7 @@ impl<'input> asn1_schema_decode::Decoder for Decoder<'input> {
         )
     }
 
+    #[inline(always)]
     fn decode_characters<S: StaticPermittedAlphabet>(
         &mut self,
         alloc: Global,

@@ -10,7 +10,8 @@ use Rattle.per_codec_encoder.specs.declared.frame.Frame.{Frame}
 use Rattle.per_codec_encoder.specs.declared.frame.Place.{Place}
 use Rattle.per_codec_encoder.specs.declared.frame.Frame.TheVariants.{Components, Added, OpenType, Members, Bag, Alternative}
 use Rattle.per_codec_encoder.specs.Frames.{Next, Keeps, CountsAddition, KeepsAddition}
-use Rattle.per_codec_encoder.specs.Holding.{at, preamble, IsOpen, IsAdded, Holds, Does}
+use Rattle.asn1_schema_finding.specs.PresenceBits.{preamble}
+use Rattle.per_codec_encoder.specs.Holding.{at, IsOpen, IsAdded, Holds, Does}
 use Rattle.per_codec_encoder.proofs.Scopes.{length-open, on_top, put_back}
 
 -- the additions of a sequence, by their parts

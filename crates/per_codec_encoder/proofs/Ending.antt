@@ -17,7 +17,8 @@ use Rattle.per_codec_encoder.specs.declared.frame.Frame.TheVariants.{Components,
 use Rattle.per_codec_encoder.specs.declared.frame.Place.{Place}
 use Rattle.per_codec_writing.specs.declared.lengths.Due.{Due}
 use Rattle.per_codec_writing.specs.Headings.{determinants_of}
-use Rattle.per_codec_encoder.specs.Holding.{at, instead, preamble, IsOpen, IsAdded, Holds, AreSound, Does}
+use Rattle.asn1_schema_finding.specs.PresenceBits.{preamble}
+use Rattle.per_codec_encoder.specs.Holding.{at, instead, IsOpen, IsAdded, Holds, AreSound, Does}
 use Rattle.per_codec_encoder.proofs.Scopes.{at_end, appended, on_top, head_shown, length-added}
 
 pub does_end_components : (fs rest : List Frame) (f : Frame) (e : Bool) (due given : ℕ) (start : Place) → fs ≡ rest ++ f ∷ [] → f ≡ Components e due given start → e ≡ false → due ≡ 0 → (al : Bool) (o : Packed) → Does al ends fs o rest o

@@ -7,7 +7,8 @@ use Rattle.asn1_model.specs.Numbers.{is_count_within}
 use Rattle.asn1_model.specs.Form.{both, joined}
 use Rattle.asn1_model.specs.Per
 use Rattle.asn1_schema_presented.specs.Records.{Record, further, ends}
-use Rattle.asn1_schema_presented.specs.Presents.{presents, member_records, member_count}
+use Rattle.asn1_model.specs.Typed.{member_count}
+use Rattle.asn1_schema_presented.specs.Presents.{presents, member_records}
 use Rattle.per_codec_packing.specs.Texts.{Text, on, text_at}
 use Rattle.per_codec_writing.specs.Headings.{general, sized_count, form_due}
 use Rattle.per_codec_writing.proofs.HeadingForms.{left, Ready, by_heading, next_text, AllSound, next_sound, Leads, general_leads, count_leads, if_leads, extensible_leads}

@@ -20,7 +20,8 @@ use Rattle.per_codec_encoder.specs.declared.frame.Place.{Place}
 use Rattle.per_codec_writing.specs.declared.lengths.Due.{Due}
 use Rattle.per_codec_writing.specs.Headings.{determinants_of, Heads, NoHeading}
 use Rattle.per_codec_encoder.specs.Headings.{GoesOn, GoesOnInList, NoMember}
-use Rattle.per_codec_encoder.specs.Holding.{at, preamble, IsOpen, Holds, AreSound, Does, Cannot}
+use Rattle.asn1_schema_finding.specs.PresenceBits.{preamble}
+use Rattle.per_codec_encoder.specs.Holding.{at, IsOpen, Holds, AreSound, Does, Cannot}
 use Rattle.per_codec_encoder.proofs.Scopes.{at_end, appended, on_top, put_back}
 
 -- ---- a sequence begins

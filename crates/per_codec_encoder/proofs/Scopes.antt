@@ -11,7 +11,8 @@ use Rattle.per_codec_encoder.specs.declared.frame.Frame.TheVariants.{Components,
 use Rattle.per_codec_encoder.specs.declared.frame.Place.{Place}
 use Rattle.per_codec_writing.specs.Headings.{determinants_of}
 use Rattle.per_codec_encoder.specs.Bags.{bag_of}
-use Rattle.per_codec_encoder.specs.Holding.{at, instead, preamble, shown, IsOpen, IsAdded, Holds}
+use Rattle.asn1_schema_finding.specs.PresenceBits.{preamble}
+use Rattle.per_codec_encoder.specs.Holding.{at, instead, shown, IsOpen, IsAdded, Holds}
 
 -- ---- preambles
 

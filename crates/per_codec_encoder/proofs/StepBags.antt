@@ -7,7 +7,8 @@ use Rattle.asn1_model.specs.Numbers.{binary}
 use Rattle.asn1_model.specs.Form.{exactly, both, only_if, joined, given, put_in_place, with_keys, ascending, stands_before, written}
 use Rattle.asn1_model.specs.Per
 use Rattle.asn1_schema_presented.specs.Records.{Record}
-use Rattle.asn1_schema_presented.specs.Presents.{presents, member_records, member_count}
+use Rattle.asn1_model.specs.Typed.{member_count}
+use Rattle.asn1_schema_presented.specs.Presents.{presents, member_records}
 use Rattle.per_codec_packing.specs.Texts.{Text, on, text_at, as_form}
 use Rattle.per_codec_encoder.specs.Steps.{LengthDeterminants, Scope, bag_members, position, Heading, list_heading, with_open, bag_opened, closed_bag, State, runs}
 use Rattle.per_codec_encoder.specs.Ties.{BridgesAt, Bridges}

@@ -15,16 +15,11 @@ use Rattle.per_codec_encoder.specs.declared.frame.Frame.TheVariants.{Alternative
 use Rattle.per_codec_encoder.specs.declared.frame.Place.{Place}
 use Rattle.per_codec_writing.specs.Headings.{determinants_of}
 use Rattle.per_codec_encoder.specs.Bags.{bag_of}
+use Rattle.asn1_schema_finding.specs.PresenceBits.{preamble}
 
 -- How long the text in front of a place is.
 abbrev pub at : Place → ℕ
 at p = p.bits + p.paddings
-
--- The bits of a preamble (X.691 19.1 to 19.3): the extension bit, which is not set, where there is one, and the
--- presence bits.
-abbrev pub preamble : Bool → List Bool → List Bool
-preamble true ms = false ∷ ms
-preamble false ms = ms
 
 -- A text at the place of another.
 abbrev pub instead : Text → Packed → Packed

@@ -14,7 +14,7 @@ use Rattle.asn1_schema_presented.specs.Presents.{root_records, added_records, op
 use Rattle.asn1_schema_presented.specs.Chains.{Chain}
 use Rattle.asn1_schema_finding.proofs.Bitmaps.{Octets, flags, any_set, none_flags, flags_none, none_of, covers, counted_flags}
 use Rattle.asn1_schema_finding.proofs.Bitmaps as bitmaps
-use Rattle.asn1_schema_finding.specs.PresenceBits.{preamble_bits, first_bits, has_set}
+use Rattle.asn1_schema_finding.specs.PresenceBits.{preamble_bits, first_bits, is_any_set}
 use Rattle.per_codec_fronts.specs.Takes.{Place, State, Scope, components, added, Front, Found, Begins, unknown_forms, Skips}
 use Rattle.asn1_schema_finding.proofs.Alike.{LikeParts}
 use Rattle.per_codec_fronts.proofs.Next.{flag_units}
@@ -74,7 +74,7 @@ module _ (free : Per.Freedom → Bool) (al : Bool) where
   Without ms y xs start rest = (mid : Place) × (is_any_present xs ≡ false) × Front free (exactly (false ∷ ms)) start mid × Front free y mid rest
 
   abbrev With : List Bool → Per.BitForm → Forms → Place → Place → Type 0
-  With ms y xs start rest = (us : Octets) × (bs : List Bool) × (o1 : Place) × (o2 : Place) × (o3 : Place) × (o4 : Place) × (flags xs ≡ first_bits (length xs) bs) × (flags (unknown_forms al us) ≡ drop (length xs) bs) × ((has_set bs ≡ true) ⊎ IsTrue (free Per.empty_bitmap)) × Front free (exactly (true ∷ ms)) start o1 × Front free y o1 o2 × Front free (bitmap bs) o2 o3 × Front free (joined (present_ones xs)) o3 o4 × Front free (joined (present_ones (unknown_forms al us))) o4 rest
+  With ms y xs start rest = (us : Octets) × (bs : List Bool) × (o1 : Place) × (o2 : Place) × (o3 : Place) × (o4 : Place) × (flags xs ≡ first_bits (length xs) bs) × (flags (unknown_forms al us) ≡ drop (length xs) bs) × ((is_any_set bs ≡ true) ⊎ IsTrue (free Per.empty_bitmap)) × Front free (exactly (true ∷ ms)) start o1 × Front free y o1 o2 × Front free (bitmap bs) o2 o3 × Front free (joined (present_ones xs)) o3 o4 × Front free (joined (present_ones (unknown_forms al us))) o4 rest
 
   -- ---- the whole
   module _ (ms : List Bool) (y : Per.BitForm) (other : IsTrue (free Per.other_bitmap)) where
@@ -84,7 +84,7 @@ module _ (free : Per.Freedom → Bool) (al : Bool) where
     without_in xs e start mid rest f g = varied_in free {c = Per.other_bitmap} (λ b. Per.bitmapped al ms y xs b) None (inr other) start rest (if_in free (not (is_any_present xs)) (both (exactly (false ∷ ms)) y) start rest (ap not e) (join free (exactly (false ∷ ms)) y start mid rest f g))
 
     -- with one
-    with_in : (xs : Forms) → (us : Octets) (bs : List Bool) → flags xs ≡ first_bits (length xs) bs → flags (unknown_forms al us) ≡ drop (length xs) bs → (has_set bs ≡ true) ⊎ IsTrue (free Per.empty_bitmap) → (start o1 o2 o3 o4 rest : Place) → Front free (exactly (true ∷ ms)) start o1 → Front free y o1 o2 → Front free (bitmap bs) o2 o3 → Front free (joined (present_ones xs)) o3 o4 → Front free (joined (present_ones (unknown_forms al us))) o4 rest → Front free (Per.sequence_form al true ms y xs) start rest
+    with_in : (xs : Forms) → (us : Octets) (bs : List Bool) → flags xs ≡ first_bits (length xs) bs → flags (unknown_forms al us) ≡ drop (length xs) bs → (is_any_set bs ≡ true) ⊎ IsTrue (free Per.empty_bitmap) → (start o1 o2 o3 o4 rest : Place) → Front free (exactly (true ∷ ms)) start o1 → Front free y o1 o2 → Front free (bitmap bs) o2 o3 → Front free (joined (present_ones xs)) o3 o4 → Front free (joined (present_ones (unknown_forms al us))) o4 rest → Front free (Per.sequence_form al true ms y xs) start rest
     unfolding Per.sequence_form Per.bitmapped Per.with_additions Per.additions
     with_in xs us bs e e' t start o1 o2 o3 o4 rest f g i j k =
         let c = covers (λ os. Per.counted_octets al os) xs us bs e e' in
@@ -95,7 +95,7 @@ module _ (free : Per.Freedom → Bool) (al : Bool) where
         let a2 = join free (shown all) (joined (present_ones all)) o2 o3 rest bits a1 in
         let a3 = join free y (both (shown all) (joined (present_ones all))) o1 o2 rest g a2 in
         let a4 = join free (exactly (true ∷ ms)) (both y (both (shown all) (joined (present_ones all)))) start o1 rest f a3 in
-        let set : (is_any_present all ≡ true) ⊎ IsTrue (free Per.empty_bitmap) = as_any t (ap has_set (sym c.3) ∙ any_set all) in
+        let set : (is_any_present all ≡ true) ⊎ IsTrue (free Per.empty_bitmap) = as_any t (ap is_any_set (sym c.3) ∙ any_set all) in
         varied_in free {c = Per.other_bitmap} (λ b. Per.bitmapped al ms y xs b) (Some c.0) (inr other) start rest (given_in free (covered_by (λ os. Per.counted_octets al os) c.0 xs) (λ l. cond (is_any_present l) (Per.with_additions al ms y l) (varied Per.empty_bitmap false (λ e. only_if e (Per.with_additions al ms y l)))) all c.2 start rest (shown_in (is_any_present all) (Per.with_additions al ms y all) start rest set a4))
       where
         as_any : {all : Bool} {bs : Bool} → (bs ≡ true) ⊎ IsTrue (free Per.empty_bitmap) → bs ≡ all → (all ≡ true) ⊎ IsTrue (free Per.empty_bitmap)
@@ -112,7 +112,7 @@ module _ (free : Per.Freedom → Bool) (al : Bool) where
         let u = append_split xs ys s.0 rest (subst (λ l. Front free (joined l) s.0 rest) t.3 s.2) in
         (t.0, flags all, q.0, r.0, s.0, u.0, t.1, t.2, as_set set, q.1, r.1, subst (λ us. Front free (Per.normally_few al us) r.0 s.0) (flag_units all) s.1, u.1, u.2)
       where
-        as_set : (is_any_present all ≡ true) ⊎ IsTrue (free Per.empty_bitmap) → (has_set (flags all) ≡ true) ⊎ IsTrue (free Per.empty_bitmap)
+        as_set : (is_any_present all ≡ true) ⊎ IsTrue (free Per.empty_bitmap) → (is_any_set (flags all) ≡ true) ⊎ IsTrue (free Per.empty_bitmap)
         as_set (inl e) = inl (any_set all ∙ e)
         as_set (inr e) = inr e
 

@@ -8,7 +8,8 @@ use Rattle.asn1_model.specs.Numbers.{binary, is_count_within}
 use Rattle.asn1_model.specs.Form.{exactly, both, only_if, joined, given, written, arranged, stands_before}
 use Rattle.asn1_model.specs.Per
 use Rattle.asn1_schema_presented.specs.Records.{Record, further, ends}
-use Rattle.asn1_schema_presented.specs.Presents.{presents, member_records, member_count}
+use Rattle.asn1_model.specs.Typed.{member_count}
+use Rattle.asn1_schema_presented.specs.Presents.{presents, member_records}
 use Rattle.asn1_schema_presented.specs.Chains.{Chain}
 use Rattle.asn1_schema_presented.proofs.Chains.{chain_split, chain_append}
 use Rattle.per_codec_fronts.specs.Sizes.{extension_bit, told_highest}

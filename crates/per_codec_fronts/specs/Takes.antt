@@ -14,7 +14,7 @@ use Rattle.asn1_schema_presented.specs.Records.{Record, flag, nil, whole, one_of
 use Rattle.asn1_schema_presented.specs.Records.{list_begins, bag_begins, further, sequence_begins, set_begins}
 use Rattle.asn1_schema_presented.specs.Records.{group_begins, presence_bit, is_default, is_empty}
 use Rattle.asn1_schema_presented.specs.Records.{additions_begin, addition, addition_ends, choice_begins, ends, mismatch}
-use Rattle.asn1_schema_finding.specs.PresenceBits.{preamble_bits, first_bits, has_set}
+use Rattle.asn1_schema_finding.specs.PresenceBits.{preamble_bits, first_bits, is_any_set}
 use Rattle.per_codec_fronts.specs.Sizes.{extension_bit, told_highest}
 
 -- How many bits stand in front since the beginning of the message or open type, and the bits that are left of it.
@@ -155,7 +155,7 @@ NextPresenceBit v a k b = ⊥
 abbrev pub AdditionsBegin : Bool → (Per.Freedom → Bool) → ℕ → Place → List Scope → State → Type 0
 AdditionsBegin al free n a (components (Some false) [] ∷ k) b = b ≡ (a, added (first_bits n []) [] ∷ k)
 AdditionsBegin al free n a (components (Some true) [] ∷ k) b =
-    (bs : List Bool) × ((has_set bs ≡ true) ⊎ IsTrue (free Per.empty_bitmap))
+    (bs : List Bool) × ((is_any_set bs ≡ true) ⊎ IsTrue (free Per.empty_bitmap))
     × Front free (Per.normally_few al (Per.bit_units bs)) a b.0 × (b.1 ≡ added (first_bits n bs) (drop n bs) ∷ k)
 AdditionsBegin al free n a k b = ⊥
 

@@ -33,6 +33,7 @@ fn permitted_character<S: StaticPermittedAlphabet>(
 }
 
 /// The string of the characters whose codes are these octets.
+#[inline(always)]
 fn string_of_octet_codes<S: StaticPermittedAlphabet>(
     alloc: Global,
     alphabet: &EffectiveAlphabet,
@@ -60,6 +61,7 @@ fn string_of_octet_codes<S: StaticPermittedAlphabet>(
 }
 
 /// The string of so many characters, whose codes stand one behind the other from any bit on.
+#[inline(always)]
 fn string_of_bits<S: StaticPermittedAlphabet>(
     alloc: Global,
     alphabet: &EffectiveAlphabet,
@@ -98,6 +100,7 @@ fn string_of_bits<S: StaticPermittedAlphabet>(
 /// # Errors
 ///
 /// `PermittedAlphabet` if one of the codes stands for no character, and `OutOfMemory`.
+#[inline(always)]
 pub fn string_of<S: StaticPermittedAlphabet>(
     alloc: Global,
     alphabet: &EffectiveAlphabet,

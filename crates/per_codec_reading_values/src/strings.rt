@@ -53,6 +53,7 @@ fn read_octets<S: StaticPermittedAlphabet>(
 }
 
 /// The string of the characters whose codes were read.
+#[inline(always)]
 fn string_of_run<S: StaticPermittedAlphabet>(
     alloc: Global,
     alphabet: &EffectiveAlphabet,
@@ -73,6 +74,7 @@ fn string_of_run<S: StaticPermittedAlphabet>(
 }
 
 /// Reads the characters of a string by their codes, behind their number (X.691 30.5).
+#[inline(always)]
 fn read_codes<S: StaticPermittedAlphabet>(
     alloc: Global,
     cursor: &mut Cursor<'_>,
@@ -107,6 +109,7 @@ fn read_codes<S: StaticPermittedAlphabet>(
 ///
 /// `PermittedAlphabet` if a code stands for no permitted character; `SizeConstraintNotSatisfied` if the size does not
 /// admit as many, `Incomplete` if the bits end early, the errors of a number and of a length, and `OutOfMemory`.
+#[inline(always)]
 pub fn read_characters<S: StaticPermittedAlphabet>(
     alloc: Global,
     cursor: &mut Cursor<'_>,

@@ -35,6 +35,7 @@ impl<S: StaticPermittedAlphabet> CharacterUnits<'_, S> {
     }
 
     /// The characters as octets, of which each is its code, if they are kept so and codes have at most eight bits.
+    #[inline(always)]
     pub(crate) fn octet_codes(&self) -> Option<&[u8]>
         ensures codes { IfSome result (λ octets.
             each_is (has_code self.now.alphabet.now) (S.characters self.now.string.now) ≡ true

@@ -49,6 +49,7 @@ fn push_octets<S: StaticPermittedAlphabet>(
 }
 
 /// Whether a permitted alphabet may leave out characters of a type: one with an extension marker counts for nothing.
+#[inline(always)]
 fn is_narrowed(alphabet: Option<Extensible<PermittedAlphabet>>) -> bool
     ensures { result ≡ false → (k : StringKind) → permitted k (alphabet_of alphabet.entry) ≡ characters_of k }
 {
@@ -59,6 +60,7 @@ fn is_narrowed(alphabet: Option<Extensible<PermittedAlphabet>>) -> bool
 }
 
 /// Whether each character is one of the effective alphabet. All that a string may hold are where none are left out.
+#[inline(always)]
 fn have_codes<S: StaticPermittedAlphabet>(
     alphabet: Option<Extensible<PermittedAlphabet>>,
     units: &CharacterUnits<S>,
@@ -75,6 +77,7 @@ fn have_codes<S: StaticPermittedAlphabet>(
 }
 
 /// Adds characters that have codes, under a size: where the codes are octets of the string, several at a time.
+#[inline(always)]
 fn push_coded<S: StaticPermittedAlphabet>(
     output: &mut Packing,
     variant: Variant,
@@ -100,6 +103,7 @@ fn push_coded<S: StaticPermittedAlphabet>(
 }
 
 /// Adds the characters of a string by their codes, behind their number (X.691 30.5).
+#[inline(always)]
 fn push_codes<S: StaticPermittedAlphabet>(
     output: &mut Packing,
     variant: Variant,
@@ -136,6 +140,7 @@ fn push_codes<S: StaticPermittedAlphabet>(
 ///
 /// `AlphabetConstraintNotSatisfied` if the constraint does not permit one of the characters,
 /// `SizeConstraintNotSatisfied` if the size does not admit as many, and `OutOfMemory`.
+#[inline(always)]
 pub fn push_characters<S: StaticPermittedAlphabet>(
     output: &mut Packing,
     variant: Variant,
