@@ -8,6 +8,9 @@ pub record Tag : Type 0 where
   pub class : ℕ
   pub number : ℕ
 
+abbrev pub context : ℕ → Tag
+context n = record { class = 2; number = n }
+
 -- The whole numbers from low to high, where these are there (X.680 51.4).
 pub record Range : Type 0 where
   pub low : Option ℤ

@@ -8,7 +8,7 @@ use Rattle.asn1_model.specs.Schema.{optional, by_default, Schema, cut, boolean, 
 use Rattle.asn1_model.specs.Schema.{octet_string, character_string, sequence_of, set_of, sequence, set, group, choice}
 use Rattle.asn1_model.specs.Schema.{Components, no_component, component, Alternatives, no_alternative, alternative}
 use Rattle.asn1_model.specs.Rules.{Rules, canonical}
-pub use Rattle.asn1_model.specs.Schema.{any_count, any_size, any_number, any_alphabet}
+pub use Rattle.asn1_model.specs.Schema.{any_count, any_size, any_number, any_alphabet, context}
 
 -- what a row says: the canonical octets, or that there are none
 abbrev pub Writes : Rules → Schema → Value → List ℕ → Type 0
@@ -63,9 +63,6 @@ list z s = sequence_of z any_count s
 
 abbrev pub bag_of : Schema → Schema
 bag_of s = set_of any_size any_count s
-
-abbrev pub context : ℕ → Tag
-context n = record { class = 2; number = n }
 
 -- components in a row, with context tags
 abbrev pub needs : ℕ → Schema → Components → Components

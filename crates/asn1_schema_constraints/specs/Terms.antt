@@ -28,10 +28,6 @@ abbrev pub bounds_of : Option (Extensible Value) → Bounds
 bounds_of None = record { range = record { low = None; high = None }; extensible = false }
 bounds_of (Some c) = record { range = range_of c.constraint.value; extensible = has_additions c }
 
--- The numbers of 128 bits of two's complement.
-abbrev pub wide_range : Range
-wide_range = whole_range (2 ^ 127 - 1)
-
 -- The numbers that a program's type holds: under a value constraint those of 128 bits of two's complement among them
 -- (the project's choice).
 abbrev pub held_where : Bool → Range → Range

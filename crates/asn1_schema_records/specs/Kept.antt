@@ -29,12 +29,6 @@ bounds_in l = record { range = record { low = l.low; high = l.high }; extensible
 abbrev pub sizes_in : Sizes → Size
 sizes_in z = record { counts = record { low = z.low; high = z.high }; extensible = z.extensible }
 
-abbrev pub any_number : Range
-any_number = record { low = None; high = None }
-
-abbrev pub any_alphabet : Alphabet
-any_alphabet = record { characters = None; extensible = false }
-
 -- UTF8String, or one that stands for all other kinds of character strings.
 abbrev pub kept_kind : StringKind → StringKind
 kept_kind utf8 = utf8
