@@ -55,6 +55,20 @@ pub trait StaticPermittedAlphabet: Drop {
     fn char_octets(&self) -> Option<&[u8]>
         ensures { IfSome result (λ octets. octets.now ≡ characters self.now) };
 
+    /// The string whose characters are these octets. A type that keeps each character in one octet copies them in one
+    /// run. Memory is taken once, and none where a character is refused.
+    fn from_octets(alloc: Global, octets: &[u8]) -> Result<Self, PermittedAlphabetError>
+        ensures characters { IfOk result (λ s. characters s ≡ octets.now) }
+        ensures permitted { OnOk result (IsTrue (permits_all kind octets.now)) }
+        ensures refused { IfErr result (IsRefusalOf kind refused octets.now) };
+
+    /// The string whose characters are these octets. A type that keeps each character in one octet does not copy them;
+    /// another takes memory where theirs comes from.
+    fn from_octet_vec(octets: Vec<u8>) -> Result<Self, PermittedAlphabetError>
+        ensures characters { IfOk result (λ s. characters s ≡ octets.items) }
+        ensures permitted { OnOk result (IsTrue (permits_all kind octets.items)) }
+        ensures refused { IfErr result (IsRefusalOf kind refused octets.items) };
+
     // what the type may hold is what its kind may hold
     ghost holds: { (cs : List ℕ) → may_hold kind cs ≡ permits_all kind cs };
 }

@@ -296,6 +296,27 @@ impl StaticPermittedAlphabet for BmpString {
     fn char_octets(&self) -> Option<&[u8]> {
         None
     }
+
+    fn from_octets(alloc: Global, octets: &[u8]) -> Result<Self, PermittedAlphabetError> {
+        let characters = units_of(alloc, octets).map_err(PermittedAlphabetError::Memory)?;
+        Ok(BmpString { characters })
+    }
+
+    fn from_octet_vec(octets: Vec<u8>) -> Result<Self, PermittedAlphabetError> {
+        BmpString::from_octets(*octets.allocator(), octets.as_slice())
+    }
+}
+
+/// Octets as characters.
+fn units_of(alloc: Global, octets: &[u8]) -> Result<Vec<u16>, AllocError>
+    ensures characters { IfOk result (λ v. v.items ≡ octets.now) }
+    ensures permitted { IsTrue (permits_all bmp octets.now) }
+{
+    let mut characters = Vec::with_capacity(alloc, octets.len())?;
+    for octet in octets {
+        characters.push(u16::from(*octet))?;
+    }
+    Ok(characters)
 }
 
 impl Clone for BmpString {

@@ -370,6 +370,14 @@ impl<K: CharacterKind> StaticPermittedAlphabet for RestrictedString<K> {
     fn char_octets(&self) -> Option<&[u8]> {
         Some(self.as_bytes())
     }
+
+    fn from_octets(alloc: Global, octets: &[u8]) -> Result<Self, PermittedAlphabetError> {
+        RestrictedString::from_bytes(alloc, octets)
+    }
+
+    fn from_octet_vec(octets: Vec<u8>) -> Result<Self, PermittedAlphabetError> {
+        RestrictedString::try_from(octets)
+    }
 }
 
 /// Refuses octets that a string of the kind may not hold, by the first such one.
