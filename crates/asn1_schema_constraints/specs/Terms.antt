@@ -1,10 +1,9 @@
 -- What constraints mean for a type, and the types of the model under some.
-use Rattle.std.specs.Prelude.{ℕ, ◌-◌, ◌^◌, ℤ, Bool, true, false, cond, ◌&&◌, ◌||◌, Option, Some, None, is_some}
-use Rattle.asn1_model.specs.Schema.{Range, Bounds, Counts, Size as SizeTerm, Alphabet, StringKind, Schema}
+use Rattle.std.specs.Prelude.{ℕ, ℤ, Bool, true, false, cond, ◌&&◌, ◌||◌, Option, Some, None, is_some}
+use Rattle.asn1_model.specs.Schema.{Range, Bounds, Counts, Size as SizeTerm, Alphabet, StringKind, Schema, wide_range}
 use Rattle.asn1_model.specs.Schema.{integer, bit_string, octet_string, character_string, sequence_of, set_of}
 use Rattle.asn1_model.specs.Numbers.{is_at_most, is_within}
 use Rattle.asn1_model.specs.Oer.{is_fixed}
-use Rattle.asn1_values_natives.specs.Ranges.{whole_range}
 use Rattle.asn1_schema_constraints.specs.Bounds.{later, earlier, range_of, counts_of}
 use Rattle.asn1_schema_constraints.specs.Sets.{has_additions}
 use Rattle.asn1_schema_constraints.specs.declared.parts.Value.{Value}

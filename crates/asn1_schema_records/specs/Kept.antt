@@ -2,7 +2,7 @@
 -- without their kind and alphabet, but for whether it is UTF8String, and of enumerations and choices without the
 -- tables of their items and alternatives.
 use Rattle.std.specs.Prelude.{◌≡◌, ◌++◌, Bool, true, false, List, [], ◌∷◌, None, string_bytes}
-use Rattle.asn1_model.specs.Schema.{Range, Bounds, Size, Alphabet, StringKind, any_count, utf8, visible}
+use Rattle.asn1_model.specs.Schema.{Bounds, Size, StringKind, any_count, any_number, any_alphabet, utf8, visible}
 use Rattle.asn1_schema_faults.specs.declared.CodecKind.{CodecKind}
 use Rattle.asn1_schema_faults.specs.declared.EncodeError.{EncodeError}
 use Rattle.asn1_schema_faults.specs.declared.EncodeError.TheVariants.{OutOfMemory}
