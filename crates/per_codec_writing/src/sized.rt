@@ -9,7 +9,7 @@ ghost use Rattle.per_codec_writing.specs.Writing.{Adds, Refuses, place};
 ghost use Rattle.per_codec_limits.specs.Variants.{is_aligned};
 
 use crate::counted::push_due;
-use crate::{Units, push_size};
+use crate::{Units, push_heading};
 use asn1_schema_constraints::{Bounded, Sizes};
 use asn1_schema_faults::EncodeError;
 use per_codec_limits::Variant;
@@ -21,7 +21,7 @@ use per_codec_packing::Packing;
 ///
 /// `SizeConstraintNotSatisfied` where a size without an extension marker does not admit as many; `OutOfMemory`.
 #[inline(always)]
-pub(crate) fn push_of_size<U: Units>(
+pub(crate) fn push_with_heading<U: Units>(
     output: &mut Packing,
     variant: Variant,
     sizes: Sizes,
@@ -34,7 +34,7 @@ pub(crate) fn push_of_size<U: Units>(
         (Refuses (text_at (of_size (is_aligned variant) (size_of sizes) has_padding (U.forms units.now))
         (place output.old))) }
 {
-    let due = push_size(output, variant, sizes, has_padding, units.count())?;
+    let due = push_heading(output, variant, sizes, has_padding, units.count())?;
     push_due(output, variant, due, units)?;
     Ok(())
 }
@@ -65,6 +65,6 @@ pub fn push_sized<U: Units>(
     if !held.contains(&units.count()) {
         return Err(EncodeError::SizeConstraintNotSatisfied);
     }
-    push_of_size(output, variant, sizes, has_padding, units)?;
+    push_with_heading(output, variant, sizes, has_padding, units)?;
     Ok(())
 }

@@ -22,14 +22,14 @@ returns-then-not-holds c =
     let number = length-members vs in
     same ∙ not_held (is_aligned c.args.variant) z h false (forms_of vs) p (ap (is_count_within h) number ∙ sym c.holds.ensures ∙ c.if-not-holds.true)
 
-pub returns-in_err-push_of_size : goal.returns-in_err-push_of_size
-returns-in_err-push_of_size c =
+pub returns-in_err-push_with_heading : goal.returns-in_err-push_with_heading
+returns-in_err-push_with_heading c =
     let vs = c.as_slice-units.result.now in
     let z = size_of c.args.sizes in
     let h = members_of c.args.held in
     let p = place c.args.output.now in
     let same = bag_text c.args.members.now vs (λ us. Per.sized (is_aligned c.args.variant) z h Per.never us) p (c.in_ok-ordered.ensures ∙ ap (λ ms. Some (forms_of ms)) (sym c.as_slice-units.ensures.value)) in
-    raised _ _ _ _ _ c.from_residual-in_err-push_of_size.ensures.1 (λ n. same ∙ held_none (is_aligned c.args.variant) z h false (forms_of vs) p n) c.in_err-push_of_size.ensures
+    raised _ _ _ _ _ c.from_residual-in_err-push_with_heading.ensures.1 (λ n. same ∙ held_none (is_aligned c.args.variant) z h false (forms_of vs) p n) c.in_err-push_with_heading.ensures
 
 pub returns : goal.returns
 returns c =
@@ -37,7 +37,7 @@ returns c =
     let z = size_of c.args.sizes in
     let h = members_of c.args.held in
     let old = c.args.output.now in
-    let new = c.push_of_size.new.output in
+    let new = c.push_with_heading.new.output in
     let same = bag_text c.args.members.now vs (λ us. Per.sized (is_aligned c.args.variant) z h Per.never us) (place old) (c.in_ok-ordered.ensures ∙ ap (λ ms. Some (forms_of ms)) (sym c.as_slice-units.ensures.value)) in
     let number = length-members vs in
-    adds_same _ _ old new same (held_added (is_aligned c.args.variant) z h false (forms_of vs) old new (ap (is_count_within h) number ∙ sym c.holds.ensures ∙ c.if-not-holds.false) c.in_ok-push_of_size.ensures)
+    adds_same _ _ old new same (held_added (is_aligned c.args.variant) z h false (forms_of vs) old new (ap (is_count_within h) number ∙ sym c.holds.ensures ∙ c.if-not-holds.false) c.in_ok-push_with_heading.ensures)
