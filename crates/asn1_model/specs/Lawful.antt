@@ -59,9 +59,9 @@ is_empty (x ∷ xs) = false
 abbrev pub are_tags : List Tag → Bool
 are_tags ts = not (is_empty ts) && each_is is_tag ts
 
--- Whether a type may begin with these tags: with one that it has or is given, a CHOICE with no tag of its own with those
--- of all its alternatives in their order, and a group of additions with those of its components (X.680 25, 29 and 31).
--- What stands below the cut of a recursive type is not judged.
+-- Whether a type may begin with these tags: with one that it has or is given, a CHOICE with no tag of its own with
+-- those of all its alternatives in their order, and a group of additions with those of its components (X.680 25, 29 and
+-- 31). What stands below the cut of a recursive type is not judged.
 abbrev pub begins_with : List Tag → Schema → Bool
 begins_with ts (group cs) = same_list tag_same ts (component_tags cs)
 begins_with (t ∷ []) s = true

@@ -3,7 +3,7 @@ use Rattle.std.specs.Prelude.{◌≡◌, ℕ, zero, suc, ◌+◌, ◌-◌, ◌^�
 use Rattle.std.specs.Prelude.{replicate, Option, Some, None}
 use Rattle.asn1_model.specs.Value.{Value, truth, nothing, number, bit_list, octet_list, text, members, bag, fields}
 use Rattle.asn1_model.specs.Value.{chosen, Values, no_more, member, values_of, Parts, end, absent, present}
-use Rattle.asn1_model.specs.Schema.{Tag, Range, Bounds, Size, Alphabet, StringKind, visible, utf8, required}
+use Rattle.asn1_model.specs.Schema.{Tag, Bounds, Size, Alphabet, StringKind, visible, utf8, required}
 use Rattle.asn1_model.specs.Schema.{optional, by_default, Schema, cut, boolean, null, integer, enumerated, bit_string}
 use Rattle.asn1_model.specs.Schema.{octet_string, character_string, sequence_of, set_of, sequence, set, group, choice}
 use Rattle.asn1_model.specs.Schema.{Components, no_component, component, Alternatives, no_alternative, alternative}

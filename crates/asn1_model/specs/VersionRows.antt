@@ -97,8 +97,8 @@ LawfulRows =
     × (is_lawful (set (needs 5 boolean (needs 3 boolean no_component)) false no_component) ≡ false)
     × (is_lawful (set (needs 3 boolean
     (component (context 1 ∷ context 7 ∷ []) required null_or_boolean no_component)) false no_component) ≡ false)
-    -- a choice with no tag of its own begins with those of all its alternatives, and with no other, or it has one tag; a
-    -- group begins with those of its components; no other type has several
+    -- a choice with no tag of its own begins with those of all its alternatives, and with no other, or it has one tag;
+    -- a group begins with those of its components; no other type has several
     × (is_lawful (closed (component (context 1 ∷ context 7 ∷ []) required null_or_boolean no_component)) ≡ true)
     × (is_lawful (closed (component (context 1 ∷ context 5 ∷ []) required null_or_boolean no_component)) ≡ false)
     × (is_lawful (closed (needs 5 null_or_boolean no_component)) ≡ true)

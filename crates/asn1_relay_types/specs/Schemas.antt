@@ -2,9 +2,9 @@
 -- nested levels.
 use Rattle.std.specs.Prelude.{ℕ, zero, suc, ◌-◌, ◌^◌, pos, negsuc, true, false, [], ◌∷◌, Some, None}
 use Rattle.asn1_model.specs.Schema.{Tag, Range, Counts, Size, Presence, required, optional, Schema, cut, boolean}
-use Rattle.asn1_model.specs.Schema.{null, integer, octet_string, set_of, sequence, set, group, choice, any_size, any_number}
+use Rattle.asn1_model.specs.Schema.{null, integer, octet_string, set_of, sequence, set, group, choice, any_size}
+use Rattle.asn1_model.specs.Schema.{Components, no_component, component, no_alternative, alternative, any_number}
 use Rattle.asn1_model.specs.Schema.{wide_range, context}
-use Rattle.asn1_model.specs.Schema.{Components, no_component, component, no_alternative, alternative}
 use Rattle.asn1_schema_types.specs.Counts.{any_number_held}
 
 -- ---- tags (X.680 8.1 and 8.4)
