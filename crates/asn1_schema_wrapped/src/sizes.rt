@@ -1,5 +1,5 @@
 //! Size constraints (X.680 51.5) as types.
-ghost use Rattle.std.specs.Prelude.{◌≡◌, true, false, refl};
+ghost use Rattle.std.specs.Prelude.{◌≡◌, refl};
 ghost use Rattle.asn1_schema_constraints.specs.Terms.{meant};
 ghost use Rattle.asn1_schema_presented.proofs.TypesByKind.{bit_string_type, octet_string_type, type_list};
 ghost use Rattle.asn1_schema_wrapped.specs.Sizes.{are_sizes, sizes_from_to};
@@ -10,19 +10,22 @@ use asn1_schema_types::Described;
 use asn1_values_bit_strings::BitString;
 use asn1_values_octets::OctetString;
 
-/// SIZE (LOW..HIGH), in bits, octets or members: `Constrained<SizeRange<3, 3>, OctetString>` is OCTET STRING (SIZE
-/// (3)). Where `HIGH` is less than `LOW`, it is SIZE (LOW).
+/// A size constraint to LOW..HIGH, in bits, octets or members, with an extension marker (X.680 52) behind it or without.
+/// Where `HIGH` is less than `LOW`, it is SIZE (LOW).
 #[derive(Debug, Drop)]
-pub struct SizeRange<const LOW: usize, const HIGH: usize>;
+pub struct SizeConstraint<const LOW: usize, const HIGH: usize, const EXTENSIBLE: bool>;
 
-/// SIZE (LOW..HIGH, ...), as [`SizeRange`] with an extension marker (X.680 52) behind it.
-#[derive(Debug, Drop)]
-pub struct ExtensibleSizeRange<const LOW: usize, const HIGH: usize>;
+/// SIZE (LOW..HIGH): `Constrained<SizeRange<3, 3>, OctetString>` is OCTET STRING (SIZE (3)).
+pub type SizeRange<const LOW: usize, const HIGH: usize> = SizeConstraint<LOW, HIGH, false>;
 
-impl<const LOW: usize, const HIGH: usize> ConstraintsOf<OctetString> for SizeRange<LOW, HIGH> {
+/// SIZE (LOW..HIGH, ...).
+pub type ExtensibleSizeRange<const LOW: usize, const HIGH: usize> = SizeConstraint<LOW, HIGH, true>;
+
+impl<const LOW: usize, const HIGH: usize, const EXTENSIBLE: bool> ConstraintsOf<OctetString>
+    for SizeConstraint<LOW, HIGH, EXTENSIBLE> {
     ghost tags = { ⟦<OctetString as Described>⟧.tags };
 
-    ghost terms = { sizes_from_to LOW HIGH false };
+    ghost terms = { sizes_from_to LOW HIGH EXTENSIBLE };
 
     ghost under = { ⟦<OctetString as Described>⟧.under };
 
@@ -33,7 +36,7 @@ impl<const LOW: usize, const HIGH: usize> ConstraintsOf<OctetString> for SizeRan
     ghost valued = { ⟦<OctetString as Described>⟧.valued_under };
 
     fn constraints() -> Constraints<'static> {
-        from_to(LOW, HIGH, false)
+        from_to(LOW, HIGH, EXTENSIBLE)
     }
 
     ghost same_tags = { refl };
@@ -43,35 +46,11 @@ impl<const LOW: usize, const HIGH: usize> ConstraintsOf<OctetString> for SizeRan
     ghost same_meaning = { λ _. refl };
 }
 
-impl<const LOW: usize, const HIGH: usize> ConstraintsOf<OctetString>
-    for ExtensibleSizeRange<LOW, HIGH> {
-    ghost tags = { ⟦<OctetString as Described>⟧.tags };
-
-    ghost terms = { sizes_from_to LOW HIGH true };
-
-    ghost under = { ⟦<OctetString as Described>⟧.under };
-
-    ghost meaning = { ⟦<OctetString as Described>⟧.meaning };
-
-    ghost lawful = { octet_string_type _ _ refl (are_sizes LOW HIGH) };
-
-    ghost valued = { ⟦<OctetString as Described>⟧.valued_under };
-
-    fn constraints() -> Constraints<'static> {
-        from_to(LOW, HIGH, true)
-    }
-
-    ghost same_tags = { refl };
-
-    ghost same_under = { λ _. refl };
-
-    ghost same_meaning = { λ _. refl };
-}
-
-impl<const LOW: usize, const HIGH: usize> ConstraintsOf<BitString> for SizeRange<LOW, HIGH> {
+impl<const LOW: usize, const HIGH: usize, const EXTENSIBLE: bool> ConstraintsOf<BitString>
+    for SizeConstraint<LOW, HIGH, EXTENSIBLE> {
     ghost tags = { ⟦<BitString as Described>⟧.tags };
 
-    ghost terms = { sizes_from_to LOW HIGH false };
+    ghost terms = { sizes_from_to LOW HIGH EXTENSIBLE };
 
     ghost under = { ⟦<BitString as Described>⟧.under };
 
@@ -82,7 +61,7 @@ impl<const LOW: usize, const HIGH: usize> ConstraintsOf<BitString> for SizeRange
     ghost valued = { ⟦<BitString as Described>⟧.valued_under };
 
     fn constraints() -> Constraints<'static> {
-        from_to(LOW, HIGH, false)
+        from_to(LOW, HIGH, EXTENSIBLE)
     }
 
     ghost same_tags = { refl };
@@ -92,36 +71,12 @@ impl<const LOW: usize, const HIGH: usize> ConstraintsOf<BitString> for SizeRange
     ghost same_meaning = { λ _. refl };
 }
 
-impl<const LOW: usize, const HIGH: usize> ConstraintsOf<BitString>
-    for ExtensibleSizeRange<LOW, HIGH> {
-    ghost tags = { ⟦<BitString as Described>⟧.tags };
-
-    ghost terms = { sizes_from_to LOW HIGH true };
-
-    ghost under = { ⟦<BitString as Described>⟧.under };
-
-    ghost meaning = { ⟦<BitString as Described>⟧.meaning };
-
-    ghost lawful = { bit_string_type _ _ refl (are_sizes LOW HIGH) };
-
-    ghost valued = { ⟦<BitString as Described>⟧.valued_under };
-
-    fn constraints() -> Constraints<'static> {
-        from_to(LOW, HIGH, true)
-    }
-
-    ghost same_tags = { refl };
-
-    ghost same_under = { λ _. refl };
-
-    ghost same_meaning = { λ _. refl };
-}
-
-impl<T: Described, const LOW: usize, const HIGH: usize> ConstraintsOf<Vec<T>>
-    for SizeRange<LOW, HIGH> {
+impl<T: Described, const LOW: usize, const HIGH: usize, const EXTENSIBLE: bool> ConstraintsOf<
+    Vec<T>,
+> for SizeConstraint<LOW, HIGH, EXTENSIBLE> {
     ghost tags = { ⟦<Vec<T> as Described>⟧.tags };
 
-    ghost terms = { sizes_from_to LOW HIGH false };
+    ghost terms = { sizes_from_to LOW HIGH EXTENSIBLE };
 
     ghost under = { ⟦<Vec<T> as Described>⟧.under };
 
@@ -132,32 +87,7 @@ impl<T: Described, const LOW: usize, const HIGH: usize> ConstraintsOf<Vec<T>>
     ghost valued = { ⟦<Vec<T> as Described>⟧.valued_under };
 
     fn constraints() -> Constraints<'static> {
-        from_to(LOW, HIGH, false)
-    }
-
-    ghost same_tags = { refl };
-
-    ghost same_under = { λ _. refl };
-
-    ghost same_meaning = { λ _. refl };
-}
-
-impl<T: Described, const LOW: usize, const HIGH: usize> ConstraintsOf<Vec<T>>
-    for ExtensibleSizeRange<LOW, HIGH> {
-    ghost tags = { ⟦<Vec<T> as Described>⟧.tags };
-
-    ghost terms = { sizes_from_to LOW HIGH true };
-
-    ghost under = { ⟦<Vec<T> as Described>⟧.under };
-
-    ghost meaning = { ⟦<Vec<T> as Described>⟧.meaning };
-
-    ghost lawful = { type_list _ _ refl (are_sizes LOW HIGH) T.typed };
-
-    ghost valued = { ⟦<Vec<T> as Described>⟧.valued_under };
-
-    fn constraints() -> Constraints<'static> {
-        from_to(LOW, HIGH, true)
+        from_to(LOW, HIGH, EXTENSIBLE)
     }
 
     ghost same_tags = { refl };
