@@ -59,10 +59,10 @@ normal_at n (variant t s vs) zero v = refl
 normal_at n (variant t s vs) (suc i) v = normal_at n vs i v
 
 -- ---- choices
-choice_begins : {ts : List Tag} (t : Choices) → are_choice_tags ts (all_tags t) ≡ true → (n : ℕ) → are_tags_of ts (choice_type t n) ≡ true
+choice_begins : (ts : List Tag) (t : Choices) → are_choice_tags ts (all_tags t) ≡ true → (n : ℕ) → are_tags_of ts (choice_type t n) ≡ true
 unfolding choice_type scope
-choice_begins {ts} t e zero = tags_of_cut ts (choice_tags ts (all_tags t) e)
-choice_begins {ts} t e (suc m) =
+choice_begins ts t e zero = tags_of_cut ts (choice_tags ts (all_tags t) e)
+choice_begins ts t e (suc m) =
     tags_of_choice ts (alternatives_at m t.root) t.extensible (alternatives_at m t.additions)
     (ap (λ us. are_choice_tags ts (us ++ alternative_tags (alternatives_at m t.additions))) (tags_at m t.root)
     ∙ ap (λ us. are_choice_tags ts (tags_of t.root ++ us)) (tags_at m t.additions) ∙ e)
@@ -70,7 +70,7 @@ choice_begins {ts} t e (suc m) =
 pub type_choice : {ts : List Tag} (t : Choices) → are_choice_tags ts (all_tags t) ≡ true → AreVariants t.root → AreVariants t.additions → are_choices t ≡ true → IsType ts (choice_type t)
 unfolding choice_type scope is_lawful is_tidy
 type_choice {ts} t e h k d = record {
-  tagged = choice_begins t e;
+  tagged = choice_begins ts t e;
   lawful = λ n. elim n as (λ n. is_lawful (scope n (λ m. choice (alternatives_at m t.root) t.extensible (alternatives_at m t.additions))) ≡ true) [ zero ↦ refl | suc m ↦ rw (none_at m t.root, none_at m t.additions, tags_at m t.root, tags_at m t.additions, d, h.lawful m) (k.lawful m) ];
   tidy = λ n. elim n as (λ n. is_tidy (scope n (λ m. choice (alternatives_at m t.root) t.extensible (alternatives_at m t.additions))) ≡ true) [ zero ↦ refl | suc m ↦ rw (h.tidy m) (k.tidy m) ];
   no_group = λ n. elim n as (λ n. is_group (scope n (λ m. choice (alternatives_at m t.root) t.extensible (alternatives_at m t.additions))) ≡ false) [ zero ↦ refl | suc m ↦ refl ];

@@ -10,7 +10,7 @@ use asn1_schema_types::Described;
 use asn1_values_bit_strings::BitString;
 use asn1_values_octets::OctetString;
 
-/// A size constraint to LOW..HIGH, in bits, octets or members, with an extension marker (X.680 52) behind it or without.
+/// A size constraint to LOW..HIGH, in bits, octets or members, with an extension marker (X.680 52) or without one.
 /// Where `HIGH` is less than `LOW`, it is SIZE (LOW).
 #[derive(Debug, Drop)]
 pub struct SizeConstraint<const LOW: usize, const HIGH: usize, const EXTENSIBLE: bool>;
