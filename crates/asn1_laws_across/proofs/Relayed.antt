@@ -7,7 +7,7 @@ use Rattle.asn1_model.specs.Schema.{Schema}
 use Rattle.asn1_model.specs.Lawful.{IsLawful}
 use Rattle.asn1_model.specs.Rules.{Rules, canonical}
 use Rattle.asn1_laws_across.proofs.Canonical.{same_written}
-use Rattle.asn1_laws_across.specs.Streams.{Message, HasNoMessage, IsMessage, Divides, AreSame}
+use Rattle.asn1_laws_across.specs.Streams.{Message, HasNoMessage, IsMessageWithin, Divides, AreSame}
 use Rattle.asn1_laws_across.specs.Relayed.{Stop, no_target, empty_message, none_within_limit, RelaysFront, BeginsWith, HasEmptyMessage, StopsAt, Relays, RelaysPieces, Translates, EndsBefore}
 use Rattle.asn1_laws_fronts.proofs.Every.{one_front}
 use Rattle.asn1_laws_across.proofs.Streams.{first_same}
@@ -192,7 +192,7 @@ module _ (source target : Rules) (s : Schema) (limit : ℕ) where
     -- ---- the messages into which octets divide
 
     -- what stops a relay in front of a message is that it has no translation
-    stopped_for : (m : Message) (ms : List Message) (x w rest unread : List ℕ) (why : Option Stop) → m.octets ++ x ≡ w → IsMessage source s limit m → StopsAt source target s limit w why → EndsBefore target s (m ∷ ms) rest unread why
+    stopped_for : (m : Message) (ms : List Message) (x w rest unread : List ℕ) (why : Option Stop) → m.octets ++ x ≡ w → IsMessageWithin source s limit m → StopsAt source target s limit w why → EndsBefore target s (m ∷ ms) rest unread why
     stopped_for m ms x w rest unread None e i h = absurd (h.0 m x e i)
     stopped_for m ms x w rest unread (Some no_target) e i h = inl (targets_agree (canonical target s m.value) None w (m, x, e, i, refl) h, refl)
     stopped_for m ms x w rest unread (Some empty_message) e i (inl h) = inr (targets_agree (canonical target s m.value) (Some []) w (m, x, e, i, refl) h, refl)

@@ -6,7 +6,7 @@ use Rattle.asn1_model.specs.Schema.{Schema}
 use Rattle.asn1_model.specs.Lawful.{IsLawful}
 use Rattle.asn1_model.specs.Rules.{Rules}
 use Rattle.asn1_laws_fronts.proofs.Every.{one_front}
-use Rattle.asn1_laws_across.specs.Streams.{Message, IsMessage, Divides, AreSame}
+use Rattle.asn1_laws_across.specs.Streams.{Message, IsMessageWithin, Divides, AreSame}
 
 module _ (r : Rules) (s : Schema) (limit : ℕ) where
   pub goes_on : (ms ns : List Message) (rest other w x : List ℕ) → Divides r s limit ms rest w → Divides r s limit ns other (rest ++ x) → Divides r s limit (ms ++ ns) other (w ++ x)
@@ -15,7 +15,7 @@ module _ (r : Rules) (s : Schema) (limit : ℕ) where
 
   module _ (lawful : IsLawful s) where
     -- the first messages of equal octets
-    pub first_same : (m n : Message) (x y : List ℕ) → IsMessage r s limit m → IsMessage r s limit n → m.octets ++ x ≡ n.octets ++ y → (m.octets ≡ n.octets) × (same m.value n.value ≡ true) × (x ≡ y)
+    pub first_same : (m n : Message) (x y : List ℕ) → IsMessageWithin r s limit m → IsMessageWithin r s limit n → m.octets ++ x ≡ n.octets ++ y → (m.octets ≡ n.octets) × (same m.value n.value ≡ true) × (x ≡ y)
     first_same m n x y h k e =
         let q = one_front r s m.value n.value m.octets n.octets x y lawful h.is_encoding k.is_encoding e in
         (q.0, q.1, append_cancel_left m.octets x y (e ∙ ap (λ l. l ++ y) (sym q.0)))

@@ -3,7 +3,7 @@ use Rattle.std.specs.Prelude.{◌≡◌, ◌≢◌, ◌⊎◌, ℕ, ◌+◌, ◌
 use Rattle.asn1_model.specs.Value.{Value, depth}
 use Rattle.asn1_model.specs.Schema.{Schema}
 use Rattle.asn1_model.specs.Rules.{Rules, IsEncoding, canonical}
-use Rattle.asn1_laws_across.specs.Streams.{Message, IsMessage, HasNoMessage, most_levels}
+use Rattle.asn1_laws_across.specs.Streams.{Message, IsMessageWithin, HasNoMessage, most_levels}
 
 -- Why a relay stops.
 pub data Stop : Type 0 where
@@ -19,7 +19,7 @@ pub data Stop : Type 0 where
 abbrev pub RelaysFront : Rules → Rules → Schema → ℕ → List Message → List ℕ → List ℕ → List ℕ → Type 0
 RelaysFront source target s limit [] out rest w = (out ≡ []) × (rest ≡ w)
 RelaysFront source target s limit (m ∷ ms) out rest w =
-    IsMessage source s limit m
+    IsMessageWithin source s limit m
     × (x : List ℕ) × (m.octets ++ x ≡ w)
     × (t : List ℕ) × (canonical target s m.value ≡ Some t) × (t ≢ [])
     × (others : List ℕ) × (t ++ others ≡ out)
@@ -28,7 +28,8 @@ RelaysFront source target s limit (m ∷ ms) out rest w =
 -- A message stands in front, and this is what its value has in the target rules.
 abbrev pub BeginsWith : Rules → Rules → Schema → ℕ → Option (List ℕ) → List ℕ → Type 0
 BeginsWith source target s limit t w =
-    (m : Message) × (x : List ℕ) × (m.octets ++ x ≡ w) × IsMessage source s limit m × (canonical target s m.value ≡ t)
+    (m : Message) × (x : List ℕ) × (m.octets ++ x ≡ w) × IsMessageWithin source s limit m
+    × (canonical target s m.value ≡ t)
 
 -- No octets are an encoding, so that an empty message stands in front of any octets, and no other one.
 abbrev pub HasEmptyMessage : Rules → Schema → Type 0

@@ -14,7 +14,7 @@ pub record Message : Type 0 where
   pub value : Value
 
 -- an encoding of 1 to limit octets, of a value that nests no deeper than a reader takes
-pub record IsMessage (r : Rules) (s : Schema) (limit : ℕ) (m : Message) : Type 0 where
+pub record IsMessageWithin (r : Rules) (s : Schema) (limit : ℕ) (m : Message) : Type 0 where
   pub is_encoding : IsEncoding r s m.value m.octets
   pub is_shallow : depth m.value ≤ most_levels
   pub is_some : 1 ≤ length m.octets
@@ -22,13 +22,13 @@ pub record IsMessage (r : Rules) (s : Schema) (limit : ℕ) (m : Message) : Type
 
 -- no beginning is a message
 abbrev pub HasNoMessage : Rules → Schema → ℕ → List ℕ → Type 0
-HasNoMessage r s limit w = (m : Message) (x : List ℕ) → m.octets ++ x ≡ w → IsMessage r s limit m → ⊥
+HasNoMessage r s limit w = (m : Message) (x : List ℕ) → m.octets ++ x ≡ w → IsMessageWithin r s limit m → ⊥
 
 -- octets divide into these messages, and a rest of which no beginning is one
 abbrev pub Divides : Rules → Schema → ℕ → List Message → List ℕ → List ℕ → Type 0
 Divides r s limit [] rest w = (rest ≡ w) × HasNoMessage r s limit rest
 Divides r s limit (m ∷ ms) rest w =
-    IsMessage r s limit m × (x : List ℕ) × (m.octets ++ x ≡ w) × Divides r s limit ms rest x
+    IsMessageWithin r s limit m × (x : List ℕ) × (m.octets ++ x ≡ w) × Divides r s limit ms rest x
 
 -- the same octets in each place, of values that are the same
 abbrev pub AreSame : List Message → List Message → Type 0

@@ -22,7 +22,7 @@ use Rattle.asn1_laws_versions.proofs.Levels.{same_depth, grown_depth}
 use Rattle.asn1_laws_versions.specs.ExactLaws.{is_strict, MayBeRead}
 use Rattle.asn1_laws_versions.proofs.Exactly.{older_refuses, newer_refuses, older_reads_exactly, newer_reads_exactly}
 use Rattle.asn1_laws_versions.specs.Answers.{IsMessage, Answer, not_an_encoding, no_target, IsAnswer}
-use Rattle.asn1_laws_versions.specs.Routes.{Version, older, newer, Hop, schema_of, HopAnswers, Passed, no_hop, newer_alone, an_older, Stage, at_first, and_one, Cause, unknown, too_deep, clash, missing, unwritable, answer_to, value_written, Holds, HasNoCause, HasCause, IsWritten, IsSeen}
+use Rattle.asn1_laws_versions.specs.Routes.{Version, older, newer, Hop, schema_of, HopAnswers, Passed, no_hop, newer_alone, an_older, Stage, at_first, and_one, Cause, unknown, too_deep, clash, missing, unwritable, answer_to, value_written, Holds, HasNoCause, HasCause, StandsWritten, IsSeen}
 use Rattle.asn1_laws_versions.specs.RouteLaws.{HandsOn}
 use Rattle.asn1_laws_versions.proofs.Answers.{whole}
 use Rattle.asn1_laws_versions.proofs.Growing.{normal_growth}
@@ -164,7 +164,7 @@ module _ (old new : Schema) (lo : IsLawful old) (ln : IsLawful new) (ext : Exten
   -- where it reads a value, its target decides
   writes : (p : Stage) (h : Hop) (v x y : Value) (w : List ℕ) → IsRead p h v → value_written old new p.passed h.version v ≡ Some y → IsMessage p.from (schema_of old new h.version) x w
       → ((t : Rules) → canonical t (schema_of old new h.version) x ≡ canonical t (schema_of old new h.version) y)
-      → ((t : List ℕ) → canonical h.to (schema_of old new h.version) y ≡ Some t → IsWritten old new (and_one p.passed h.version) h.to v t)
+      → ((t : List ℕ) → canonical h.to (schema_of old new h.version) y ≡ Some t → StandsWritten old new (and_one p.passed h.version) h.to v t)
       → Step p h v w
   writes p h v x y w reads value m alike next = by_target (canonical h.to (schema_of old new h.version) y) refl
     where
@@ -184,7 +184,7 @@ module _ (old new : Schema) (lo : IsLawful old) (ln : IsLawful new) (ext : Exten
 
   -- a hop of the newer version, with none of the older one in front
   own : (p : Passed) (from to : Rules) (v : Value) (w : List ℕ) → value_written old new p newer v ≡ Some v → and_one p newer ≡ newer_alone → p ≢ an_older → canonical from new v ≡ Some w → depth (normal new v) ≤ 128 → Step (record { passed = p; from = from }) (record { version = newer; to = to }) v w
-  own p from to v w value next first e d = writes _ _ v (normal new v) v w reads value (own_message from new v w e d) (λ t. normal_written t new v) (λ t f. subst (λ q. IsWritten old new q to v t) (sym next) (f, d))
+  own p from to v w value next first e d = writes _ _ v (normal new v) v w reads value (own_message from new v w e d) (λ t. normal_written t new v) (λ t f. subst (λ q. StandsWritten old new q to v t) (sym next) (f, d))
     where
       reads : IsRead (record { passed = p; from = from }) (record { version = newer; to = to }) v
       reads unknown a k = let f : newer ≡ older = k.0.0 in cc
@@ -199,7 +199,7 @@ module _ (old new : Schema) (lo : IsLawful old) (ln : IsLawful new) (ext : Exten
     Here = Step (record { passed = p; from = from }) (record { version = older; to = to }) v w
 
     left : (u : Value) → drop old new v ≡ Some u → depth u ≤ 128 → MayBeRead from old u → Here
-    left u f d n = writes _ _ v u u w reads f message (λ t. refl) (λ t g. subst (λ q. IsWritten old new q to v t) (sym next) (u, f, read_is_of from old u w message.0, d, inl g))
+    left u f d n = writes _ _ v u u w reads f message (λ t. refl) (λ t g. subst (λ q. StandsWritten old new q to v t) (sym next) (u, f, read_is_of from old u w message.0, d, inl g))
       where
         message : IsMessage from old u w
         message = left_message from v u w f n d e
@@ -271,7 +271,7 @@ module _ (old new : Schema) (lo : IsLawful old) (ln : IsLawful new) (ext : Exten
   by_levels from to v w e (inl d) = refuses _ _ v w too_deep refl (refl, d) (own_too_deep from to new v w ln e d)
   by_levels from to v w e (inr d) = own no_hop from to v w refl refl (λ f. cc) e d
 
-  steps : (p : Passed) (from : Rules) (n : Version) (to : Rules) (v : Value) (w : List ℕ) → IsWritten old new p from v w → Step (record { passed = p; from = from }) (record { version = n; to = to }) v w
+  steps : (p : Passed) (from : Rules) (n : Version) (to : Rules) (v : Value) (w : List ℕ) → StandsWritten old new p from v w → Step (record { passed = p; from = from }) (record { version = n; to = to }) v w
   steps no_hop from newer to v w e = by_levels from to v w e (cases_lt 128 (depth (normal new v)))
   steps no_hop from older to v w e = by_drop no_hop from to v w refl (λ f. cc) e (λ u f d. refl) (drop old new v) refl
   steps newer_alone from newer to v w e = own newer_alone from to v w refl refl (λ f. cc) e.0 e.1
@@ -285,7 +285,7 @@ module _ (old new : Schema) (lo : IsLawful old) (ln : IsLawful new) (ext : Exten
   steps an_older from older to v w e = again from to v e.0 w e.1 e.2 e.3 e.4
   steps an_older from newer to v w e = by_growth from to v e.0 w e.1 e.2 e.3 e.4 (grow old new e.0) refl
 
-  pub step : (p : Stage) (h : Hop) (v : Value) (w : List ℕ) → IsWritten old new p.passed p.from v w → Step p h v w
+  pub step : (p : Stage) (h : Hop) (v : Value) (w : List ℕ) → StandsWritten old new p.passed p.from v w → Step p h v w
   step p h v w e = steps p.passed p.from h.version h.to v w e
 
   -- what a hop answers where a cause holds is one thing alone
@@ -301,14 +301,14 @@ module _ (old new : Schema) (lo : IsLawful old) (ln : IsLawful new) (ext : Exten
   pub none_or_one : (p : Stage) (h : Hop) (v : Value) (a : Answer) → HasNoCause old new p h v → HasCause old new p h v a → ⊥
   none_or_one p h v a n c = n c.0 c.1
 
-  pub hands_on : (p : Stage) (h : Hop) (v : Value) (w : List ℕ) → IsWritten old new p.passed p.from v w → HasNoCause old new p h v → HandsOn old new p h v w
+  pub hands_on : (p : Stage) (h : Hop) (v : Value) (w : List ℕ) → StandsWritten old new p.passed p.from v w → HasNoCause old new p h v → HandsOn old new p h v w
   hands_on p h v w e n = free (step p h v w e)
     where
       free : Step p h v w → HandsOn old new p h v w
       free (inl s) = s.1
       free (inr s) = absurd (none_or_one p h v s.0 n s.1)
 
-  pub answers_by_cause : (p : Stage) (h : Hop) (v : Value) (w : List ℕ) (a : Answer) → IsWritten old new p.passed p.from v w → HasCause old new p h v a → HopAnswers old new p.from h w a
+  pub answers_by_cause : (p : Stage) (h : Hop) (v : Value) (w : List ℕ) (a : Answer) → StandsWritten old new p.passed p.from v w → HasCause old new p h v a → HopAnswers old new p.from h w a
   answers_by_cause p h v w a e c = by_cause (step p h v w e)
     where
       by_cause : Step p h v w → HopAnswers old new p.from h w a

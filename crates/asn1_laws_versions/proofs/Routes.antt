@@ -6,7 +6,7 @@ use Rattle.asn1_model.specs.Lawful.{IsLawful}
 use Rattle.asn1_model.specs.Rules.{Rules, canonical}
 use Rattle.asn1_model.specs.Versions.{Extends}
 use Rattle.asn1_laws_versions.specs.Answers.{Answer, answered}
-use Rattle.asn1_laws_versions.specs.Routes.{Version, older, newer, Hop, schema_of, IsRefusal, HopAnswers, Arrives, RefusesAt, Stage, at_first, behind, Cause, unknown, too_deep, clash, missing, unwritable, answer_to, Writes, HasCause, GoesThrough, FailsAt, IsLastWritten, IsWritten}
+use Rattle.asn1_laws_versions.specs.Routes.{Version, older, newer, Hop, schema_of, IsRefusal, HopAnswers, Arrives, RefusesAt, Stage, at_first, behind, Cause, unknown, too_deep, clash, missing, unwritable, answer_to, Writes, HasCause, GoesThrough, FailsAt, IsLastWritten, StandsWritten}
 use Rattle.asn1_laws_versions.proofs.Answers.{one_answer}
 use Rattle.asn1_laws_versions.proofs.Hops.{Step, step, hands_on, answers_by_cause}
 
@@ -71,7 +71,7 @@ module _ (old new : Schema) (lo : IsLawful old) (ln : IsLawful new) where
     last_of p h [] x out k a l = subst (λ x. Writes old new p.passed h v (Some x)) a k
     last_of p h (g ∷ hops) x out k a l = l (λ e. cc)
 
-    goes_on : (p : Stage) (h : Hop) (hops : List Hop) (w : List ℕ) → (k : Step old new lo ln ext p h v w) → ((x : List ℕ) → IsWritten old new (behind p h).passed (behind p h).from v x → Free (behind p h) hops x ⊎ Failed (behind p h) hops x) → Free p (h ∷ hops) w ⊎ Failed p (h ∷ hops) w
+    goes_on : (p : Stage) (h : Hop) (hops : List Hop) (w : List ℕ) → (k : Step old new lo ln ext p h v w) → ((x : List ℕ) → StandsWritten old new (behind p h).passed (behind p h).from v x → Free (behind p h) hops x ⊎ Failed (behind p h) hops x) → Free p (h ∷ hops) w ⊎ Failed p (h ∷ hops) w
     goes_on p h hops w (inr k) next = inr (zero, k.0, k.1, (refusal_of p h k.0 k.1, k.2))
     goes_on p h hops w (inl k) next = further (next k.1.0 k.1.3)
       where
@@ -80,7 +80,7 @@ module _ (old new : Schema) (lo : IsLawful old) (ln : IsLawful new) where
         further (inr f) = inr (suc f.0, f.1, (k.0, f.2), (k.1.0, k.1.1, f.3))
 
     -- it goes through, or fails at a hop
-    pub ends : (p : Stage) (hops : List Hop) (w : List ℕ) → IsWritten old new p.passed p.from v w → Free p hops w ⊎ Failed p hops w
+    pub ends : (p : Stage) (hops : List Hop) (w : List ℕ) → StandsWritten old new p.passed p.from v w → Free p hops w ⊎ Failed p hops w
     ends p [] w e = inl (tt, (w, refl, λ n. absurd (n refl)))
     ends p (h ∷ hops) w e = goes_on p h hops w (step old new lo ln ext p h v w e) (λ x k. ends (behind p h) hops x k)
 
@@ -89,7 +89,7 @@ module _ (old new : Schema) (lo : IsLawful old) (ln : IsLawful new) where
     fails_or_goes p (h ∷ hops) zero a g f = g.0 f.0 f.1
     fails_or_goes p (h ∷ hops) (suc i) a g f = fails_or_goes (behind p h) hops i a g.1 f.1
 
-    pub fails_refuses : (p : Stage) (hops : List Hop) (w : List ℕ) (i : ℕ) (a : Answer) → IsWritten old new p.passed p.from v w → FailsAt old new p hops v i a → RefusesAt old new p.from hops w i a
+    pub fails_refuses : (p : Stage) (hops : List Hop) (w : List ℕ) (i : ℕ) (a : Answer) → StandsWritten old new p.passed p.from v w → FailsAt old new p hops v i a → RefusesAt old new p.from hops w i a
     fails_refuses p [] w i a e f = f
     fails_refuses p (h ∷ hops) w zero a e f = (refusal_of p h a f, answers_by_cause old new lo ln ext p h v w a e f)
     fails_refuses p (h ∷ hops) w (suc i) a e f =

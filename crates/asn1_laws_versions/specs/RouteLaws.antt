@@ -9,7 +9,7 @@ use Rattle.asn1_model.specs.Typed.{is_of}
 use Rattle.asn1_model.specs.Versions.{Extends, drop, grow}
 use Rattle.asn1_laws_versions.specs.Answers.{Answer, answered, IsAnswer}
 use Rattle.asn1_laws_versions.specs.Routes.{Hop, HopAnswers, Arrives, RefusesAt, Stage, at_first, and_one, Writes}
-use Rattle.asn1_laws_versions.specs.Routes.{HasNoCause, HasCause, GoesThrough, FailsAt, IsLastWritten, IsWritten}
+use Rattle.asn1_laws_versions.specs.Routes.{HasNoCause, HasCause, GoesThrough, FailsAt, IsLastWritten, StandsWritten}
 use Rattle.asn1_laws_versions.specs.Relays.{AreJoined, Halt, RelaysOlder, IsEnd}
 use Rattle.asn1_laws_across.specs.Relayed.{Stop, Relays}
 
@@ -40,14 +40,14 @@ OneAnswerIsRight =
 abbrev pub HandsOn : Schema → Schema → Stage → Hop → Value → List ℕ → Type 0
 HandsOn old new p h v w =
     (x : List ℕ) × HopAnswers old new p.from h w (answered x) × Writes old new p.passed h v (Some x)
-    × IsWritten old new (and_one p.passed h.version) h.to v x
+    × StandsWritten old new (and_one p.passed h.version) h.to v x
 
 -- Of what stands written in front of a hop, it hands on what it writes, if no cause holds at it, and refuses it as the
 -- cause says, where one holds.
 abbrev pub EachHopAnswers : Type 0
 EachHopAnswers =
     (old new : Schema) (p : Stage) (h : Hop) (v : Value) (w : List ℕ)
-    → IsLawful old → IsLawful new → Extends old new → IsWritten old new p.passed p.from v w
+    → IsLawful old → IsLawful new → Extends old new → StandsWritten old new p.passed p.from v w
     → (HasNoCause old new p h v → HandsOn old new p h v w)
     × ((a : Answer) → HasCause old new p h v a → HopAnswers old new p.from h w a)
 

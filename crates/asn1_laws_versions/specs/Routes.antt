@@ -172,8 +172,8 @@ module _ (old new : Schema) where
       (canonical from old u ≡ Some w) ⊎ ((g : Value) × (grow old new u ≡ Some g) × (canonical from new g ≡ Some w))
 
   -- What stands written in front of a hop if all hops that were passed have answered.
-  abbrev pub IsWritten : Passed → Rules → Value → List ℕ → Type 0
-  IsWritten no_hop from v w = canonical from new v ≡ Some w
-  IsWritten newer_alone from v w = (canonical from new v ≡ Some w) × (depth (normal new v) ≤ 128)
-  IsWritten an_older from v w =
+  abbrev pub StandsWritten : Passed → Rules → Value → List ℕ → Type 0
+  StandsWritten no_hop from v w = canonical from new v ≡ Some w
+  StandsWritten newer_alone from v w = (canonical from new v ≡ Some w) × (depth (normal new v) ≤ 128)
+  StandsWritten an_older from v w =
       (u : Value) × (drop old new v ≡ Some u) × (is_of old u ≡ true) × (depth u ≤ 128) × IsSeen from u w

@@ -72,7 +72,7 @@ pub record IsAnswered (t : Translation) (old new : Known) (answer : Answer) : Ty
   pub answers : Becomes t message answer
 
 -- octets that are right were written
-pub record IsWritten (IsRight : List ℕ → Type 0) (held held' : Known) : Type 0 where
+pub record HasWritten (IsRight : List ℕ → Type 0) (held held' : Known) : Type 0 where
   pub octets : List ℕ
   pub right : IsRight octets
   pub wrote : Appends held held' octets
@@ -89,7 +89,7 @@ IsTranslated t unread unread' octets = IsAnswered t unread unread' (answered oct
 
 -- all was read and translated, and the answer was written
 abbrev pub DoesOnce : Translation → Known → Known → Known → Known → Type 0
-DoesOnce t unread unread' held held' = IsWritten (IsTranslated t unread unread') held held'
+DoesOnce t unread unread' held held' = HasWritten (IsTranslated t unread unread') held held'
 
 -- a fault before there is an answer leaves the writer as it was
 abbrev pub StopsOnceBy : Translation → Known → Known → Known → Known → Fault → Type 0
@@ -187,7 +187,7 @@ pub record IsSent (r : Route) (unread unread' : Known) (octets : List ℕ) : Typ
 
 -- all was read and sent, and what arrived was written
 abbrev pub DoesRoute : Route → Known → Known → Known → Known → Type 0
-DoesRoute r unread unread' held held' = IsWritten (IsSent r unread unread') held held'
+DoesRoute r unread unread' held held' = HasWritten (IsSent r unread unread') held held'
 
 -- all was read, and a hop turned it back
 pub record IsTurnedBack (r : Route) (unread unread' : Known) (f : Fault) : Type 0 where

@@ -7,7 +7,7 @@ use Rattle.asn1_model.specs.Normal.{IsTidy}
 use Rattle.asn1_model.specs.Rules.{Rules, canonical}
 use Rattle.asn1_laws_values.specs.Unfolding.{AgreesTo}
 use Rattle.asn1_laws_values.proofs.Unfolding.{means_the_same}
-use Rattle.asn1_laws_across.specs.Streams.{Message, IsMessage, HasNoMessage}
+use Rattle.asn1_laws_across.specs.Streams.{Message, IsMessageWithin, HasNoMessage}
 use Rattle.asn1_laws_across.specs.Relayed.{Stop, no_target, empty_message, none_within_limit, RelaysFront, BeginsWith, HasEmptyMessage, StopsAt, Relays}
 use Rattle.asn1_laws_versions.specs.Relays.{AreJoined, Halt, RelaysOlder, IsEnd}
 use Rattle.asn1_laws_versions.proofs.Relays.{goes, does}
@@ -16,7 +16,7 @@ use Rattle.asn1_schema_types.specs.Versions.{ExtendsFrom, Unfolds}
 -- ---- types that agree in what a relay reads
 
 module _ (s t : Schema) (k : IsTidy s) (l : IsTidy t) (h : AgreesTo 128 s t) (source target : Rules) (limit : ℕ) where
-  to_other : (m : Message) → IsMessage source s limit m → IsMessage source t limit m
+  to_other : (m : Message) → IsMessageWithin source s limit m → IsMessageWithin source t limit m
   to_other m i = record {
     is_encoding = (means_the_same source 128 s t m.value m.octets k l h i.is_shallow).2 i.is_encoding;
     is_shallow = i.is_shallow;
@@ -24,7 +24,7 @@ module _ (s t : Schema) (k : IsTidy s) (l : IsTidy t) (h : AgreesTo 128 s t) (so
     is_short = i.is_short;
   }
 
-  from_other : (m : Message) → IsMessage source t limit m → IsMessage source s limit m
+  from_other : (m : Message) → IsMessageWithin source t limit m → IsMessageWithin source s limit m
   from_other m i = record {
     is_encoding = (means_the_same source 128 s t m.value m.octets k l h i.is_shallow).3 i.is_encoding;
     is_shallow = i.is_shallow;
@@ -32,7 +32,7 @@ module _ (s t : Schema) (k : IsTidy s) (l : IsTidy t) (h : AgreesTo 128 s t) (so
     is_short = i.is_short;
   }
 
-  written_alike : (m : Message) (o : Option (List ℕ)) → IsMessage source s limit m → canonical target s m.value ≡ o → canonical target t m.value ≡ o
+  written_alike : (m : Message) (o : Option (List ℕ)) → IsMessageWithin source s limit m → canonical target s m.value ≡ o → canonical target t m.value ≡ o
   written_alike m o i e = sym (means_the_same target 128 s t m.value [] k l h i.is_shallow).1 ∙ e
 
   front_alike : (ms : List Message) (out rest w : List ℕ) → RelaysFront source target s limit ms out rest w → RelaysFront source target t limit ms out rest w

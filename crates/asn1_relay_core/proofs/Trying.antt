@@ -10,7 +10,7 @@ use Rattle.asn1_schema_presented.specs.Tables.{IsValue}
 use Rattle.asn1_schema_faults.specs.declared.DecodeError.{DecodeError}
 use Rattle.asn1_schema_faults.specs.declared.DecodeError.TheVariants as Decoding
 use Rattle.asn1_schema_decode.specs.Messages.{HasMessage, Tells, NoMessage}
-use Rattle.asn1_laws_across.specs.Streams.{Message, IsMessage, HasNoMessage}
+use Rattle.asn1_laws_across.specs.Streams.{Message, IsMessageWithin, HasNoMessage}
 use Rattle.asn1_laws_across.specs.Relayed.{Stop, no_target, empty_message, none_within_limit, HasEmptyMessage, BeginsWith, StopsAt}
 use Rattle.asn1_laws_across.proofs.Relayed.{begins_with}
 use Rattle.asn1_relay_core.specs.Coding.{IsWritten}
@@ -84,7 +84,7 @@ module _ (source target : Rules) (schema : ℕ → Schema) (limit : ℕ) (u : Li
     short : length told.octets ≤ limit
     short = let l = lengths in let w = wide in let a = min-le_left limit (length u) in omega arith
 
-    is_message : 1 ≤ length told.octets → IsMessage source (schema 128) limit told
+    is_message : 1 ≤ length told.octets → IsMessageWithin source (schema 128) limit told
     is_message l = record { is_encoding = t.message.encoding; is_shallow = t.message.levels; is_some = l; is_short = short }
 
     begins : (w : Option (List ℕ)) → 1 ≤ length told.octets → IsWritten target schema v w → BeginsWith source target (schema 128) limit w u

@@ -3,7 +3,7 @@ use Rattle.std.specs.Prelude.{◌≡◌, ◌≢◌, ◌⊎◌, ℕ, Bool, List, 
 use Rattle.asn1_model.specs.Schema.{Schema}
 use Rattle.asn1_model.specs.Value.{Value}
 use Rattle.asn1_model.specs.Rules.{Rules, canonical}
-use Rattle.asn1_laws_across.specs.Streams.{Message, IsMessage}
+use Rattle.asn1_laws_across.specs.Streams.{Message, IsMessageWithin}
 use Rattle.asn1_schema_faults.specs.declared.DecodeError.{DecodeError}
 use Rattle.asn1_schema_faults.specs.declared.DecodeError.TheVariants as Decoding
 use Rattle.asn1_laws_across.specs.Relayed.{Stop, StopsAt}
@@ -18,7 +18,7 @@ use Rattle.asn1_relay_core.specs.Relaying.{kind_of_stop}
 pub record RelaysOne (source target : Rules) (s : Schema) (limit : ℕ) (w before after : List ℕ) (count : ℕ) : Type 0
   where
     pub message : Message
-    pub is_message : IsMessage source s limit message
+    pub is_message : IsMessageWithin source s limit message
     pub rest : List ℕ
     pub in_front : message.octets ++ rest ≡ w
     pub written : List ℕ

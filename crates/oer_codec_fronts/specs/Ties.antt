@@ -7,8 +7,9 @@ use Rattle.asn1_model.specs.Numbers.{is_count_within}
 use Rattle.asn1_model.specs.Oer
 use Rattle.asn1_model.specs.Rules.{Rules, oer, coer, lenient, strict_oer, IsEncoding}
 use Rattle.asn1_schema_finding.specs.Bags.{has_no_bag}
+use Rattle.asn1_schema_finding.specs.Fitting
 use Rattle.asn1_schema_presented.specs.Records.{list_begins}
-use Rattle.asn1_schema_presented.specs.Presents.{presents, Fits}
+use Rattle.asn1_schema_presented.specs.Presents.{presents}
 use Rattle.asn1_schema_presented.specs.Chains.{Chain, OneRecord}
 use Rattle.oer_codec_fronts.specs.Takes.{State, Found, Takes}
 
@@ -49,9 +50,7 @@ EachBridges =
 
 -- The records that a reader finds are those of a value that has the form of its type.
 abbrev pub RecordsFit : Type 0
-RecordsFit =
-    (free : Oer.Freedom → Bool) (s : Schema) (v : Value) (a b : State) → Chain (Takes free) (presents s v) a b
-    → Fits s v
+RecordsFit = (free : Oer.Freedom → Bool) → Fitting.RecordsFit (Takes free)
 
 -- A reader that begins with some octets finds the records of a value and leaves nothing where they are an encoding of
 -- it, up to the order of bags, and nowhere else.

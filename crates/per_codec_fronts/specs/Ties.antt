@@ -7,8 +7,9 @@ use Rattle.asn1_model.specs.Numbers.{is_count_within, octet_bits}
 use Rattle.asn1_model.specs.Form.{Reads}
 use Rattle.asn1_model.specs.Per
 use Rattle.asn1_model.specs.Rules.{Rules, uper, aper, uper_strict, aper_strict, lenient, strict_per, IsEncoding}
+use Rattle.asn1_schema_finding.specs.Fitting
 use Rattle.asn1_schema_presented.specs.Records.{list_begins}
-use Rattle.asn1_schema_presented.specs.Presents.{presents, Fits}
+use Rattle.asn1_schema_presented.specs.Presents.{presents}
 use Rattle.asn1_schema_presented.specs.Chains.{Chain, OneRecord}
 use Rattle.asn1_schema_finding.specs.Bags.{has_no_bag}
 use Rattle.per_codec_fronts.specs.Takes.{Place, State, Front, Found, completion, Takes}
@@ -51,9 +52,7 @@ EachBridges =
 
 -- The records that a reader finds are those of a value that has the form of its type.
 abbrev pub RecordsFit : Type 0
-RecordsFit =
-    (al : Bool) (free : Per.Freedom → Bool) (s : Schema) (v : Value) (a b : State)
-    → Chain (Takes al free) (presents s v) a b → Fits s v
+RecordsFit = (al : Bool) (free : Per.Freedom → Bool) → Fitting.RecordsFit (Takes al free)
 
 -- The records of a value are found in the bits of octets from their beginning on, and the padding of a message behind
 -- them ends in front of the rest.
