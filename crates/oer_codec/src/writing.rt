@@ -18,8 +18,8 @@ const FIRST_CAPACITY: usize = 128;
 /// # Errors
 ///
 /// `TooLongValue` for an encoding of 2^60 octets or more and for nothing else, `OutOfMemory`, and those of the
-/// value's type, where the value has no encoding of any length; a `TooLongValue`, `LengthExceedsPlatformSize` or
-/// `CallOutOfPlace` of the type's own comes as `SizeConstraintNotSatisfied`.
+/// value's type, where the value has no encoding of any length; a `TooLongValue` or `LengthExceedsPlatformSize`
+/// of the type's own comes as `SizeConstraintNotSatisfied`, its `CallOutOfPlace` as `ValueConstraintNotSatisfied`.
 pub fn encode<T: Encode>(alloc: Global, value: &T) -> Result<Vec<u8>, EncodeError>
     ensures ok { IfOk result (λ octets. IsEncoded T.schema (T.meaning value.now) octets.items) }
     ensures only { IfErr result (NotEncoded T.schema (T.meaning value.now)) }

@@ -27,8 +27,8 @@ fn with_room(alloc: Global) -> Result<Vec<u8>, EncodeError>
 /// # Errors
 ///
 /// `TooLongValue` for an encoding of 2^60 octets or more and for nothing else, `OutOfMemory`, and those of the
-/// value's type, where the value has no encoding of any length; a `TooLongValue`, `LengthExceedsPlatformSize` or
-/// `CallOutOfPlace` of the type's own comes as `SizeConstraintNotSatisfied`.
+/// value's type, where the value has no encoding of any length; a `TooLongValue` or `LengthExceedsPlatformSize`
+/// of the type's own comes as `SizeConstraintNotSatisfied`, its `CallOutOfPlace` as `ValueConstraintNotSatisfied`.
 pub fn encode<T: Encode>(
     alloc: Global,
     options: EncoderOptions,
