@@ -215,7 +215,9 @@ impl Decoder for RecordDecoder {
         ensures kind { IfErr result (IsRefused self.old (IsOtherThan nil)) }
     {
         let item = self.take_next()?;
-        if item.is_null() {
+        let is_asked = item.is_null();
+        drop(item);
+        if is_asked {
             return Ok(());
         }
         Err(self.refuse(DecodeError::NotValidCanonicalEncoding))
@@ -485,7 +487,9 @@ impl Decoder for RecordDecoder {
         ensures kind { IfErr result (IsRefusedFirst self.old (IsOtherThan (sequence_begins extensible optional))) }
     {
         let item = self.take_first()?;
-        if item.is_sequence(extensible, optional) {
+        let is_asked = item.is_sequence(extensible, optional);
+        drop(item);
+        if is_asked {
             return Ok(());
         }
         Err(self.refuse(DecodeError::NotValidCanonicalEncoding))
@@ -501,7 +505,9 @@ impl Decoder for RecordDecoder {
         ensures kind { IfErr result (IsRefusedFirst self.old (IsOtherThan (set_begins extensible optional))) }
     {
         let item = self.take_first()?;
-        if item.is_set(extensible, optional) {
+        let is_asked = item.is_set(extensible, optional);
+        drop(item);
+        if is_asked {
             return Ok(());
         }
         Err(self.refuse(DecodeError::NotValidCanonicalEncoding))
@@ -517,7 +523,9 @@ impl Decoder for RecordDecoder {
         ensures kind { IfErr result (IsRefusedFirst self.old (IsOtherThan (group_begins optional))) }
     {
         let item = self.take_first()?;
-        if item.is_group(optional) {
+        let is_asked = item.is_group(optional);
+        drop(item);
+        if is_asked {
             return Ok(());
         }
         Err(self.refuse(DecodeError::NotValidCanonicalEncoding))
@@ -551,7 +559,9 @@ impl Decoder for RecordDecoder {
         ensures kind { IfErr result (IsRefused self.old (IsOtherThan is_default)) }
     {
         let item = self.take_next()?;
-        if item.is_default() {
+        let is_asked = item.is_default();
+        drop(item);
+        if is_asked {
             return Ok(());
         }
         Err(self.refuse(DecodeError::NotValidCanonicalEncoding))
@@ -568,7 +578,9 @@ impl Decoder for RecordDecoder {
         ensures kind { IfErr result (IsRefused self.old (IsOtherThan is_empty)) }
     {
         let item = self.take_next()?;
-        if item.is_empty() {
+        let is_asked = item.is_empty();
+        drop(item);
+        if is_asked {
             return Ok(());
         }
         Err(self.refuse(DecodeError::NotValidCanonicalEncoding))
@@ -584,7 +596,9 @@ impl Decoder for RecordDecoder {
         ensures kind { IfErr result (IsRefused self.old (IsOtherThan (additions_begin count))) }
     {
         let item = self.take_next()?;
-        if item.is_additions(count) {
+        let is_asked = item.is_additions(count);
+        drop(item);
+        if is_asked {
             return Ok(());
         }
         Err(self.refuse(DecodeError::NotValidCanonicalEncoding))
@@ -616,7 +630,9 @@ impl Decoder for RecordDecoder {
         ensures kind { IfErr result (IsRefused self.old (IsOtherThan addition_ends)) }
     {
         let item = self.take_next()?;
-        if item.is_addition_end() {
+        let is_asked = item.is_addition_end();
+        drop(item);
+        if is_asked {
             return Ok(());
         }
         Err(self.refuse(DecodeError::NotValidCanonicalEncoding))
@@ -656,7 +672,9 @@ impl Decoder for RecordDecoder {
         ensures kind { IfErr result (IsRefused self.old (IsOtherEnd self.old)) }
     {
         let item = self.take_next()?;
-        if !item.is_end() {
+        let is_end = item.is_end();
+        drop(item);
+        if !is_end {
             return Err(self.refuse(DecodeError::NotValidCanonicalEncoding));
         }
         if self.give_back() {
