@@ -43,7 +43,7 @@ module _ (source target : Rules) (old new : Schema) (limit : ℕ) (lo : IsLawful
         omega arith
 
     -- what stands in front stands there to its end
-    front_is : (m : Message) (y : List ℕ) → streams.IsMessage source old limit m → m.octets ++ y ≡ w → y ≡ others
+    front_is : (m : Message) (y : List ℕ) → streams.IsMessageWithin source old limit m → m.octets ++ y ≡ w → y ≡ others
     front_is m y i q =
         let f = ((older_reads_exactly source old new v m.value x lo ln ext e).1 m.octets y others i.is_encoding (q ∙ sym joined)).0 in
         append_cancel_left x y others (ap (λ l. l ++ y) (sym f) ∙ (q ∙ sym joined))
