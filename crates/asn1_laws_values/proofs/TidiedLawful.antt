@@ -1,13 +1,13 @@
 -- A lawful type is lawful with each default in its normal form, and has the same values.
-use Rattle.std.proofs.Common.{◌≡◌, ℕ, zero, suc, Bool, true, false, not, ◌&&◌, ◌||◌, [], ◌∷◌, ◌++◌, refl, ap, sym, ◌∙◌}
+use Rattle.std.proofs.Common.{◌≡◌, ℕ, zero, suc, Bool, true, false, not, ◌&&◌, ◌||◌, List, [], ◌∷◌, ◌++◌, refl, ap, sym, ◌∙◌}
 use Rattle.std.proofs.lemmas.Bool.{and_parts, and_from}
-use Rattle.asn1_model.specs.Value.{Value, members, bag, fields, chosen, Parts, end, absent, present}
-use Rattle.asn1_model.specs.Schema.{Presence, required, optional, by_default, Schema, sequence_of, set_of, sequence, set, group, choice, Components, no_component, component, Alternatives, no_alternative, alternative}
+use Rattle.asn1_model.specs.Value.{Value, same_list, members, bag, fields, chosen, Parts, end, absent, present}
+use Rattle.asn1_model.specs.Schema.{Tag, Presence, required, optional, by_default, Schema, sequence_of, set_of, sequence, set, group, choice, Components, no_component, component, Alternatives, no_alternative, alternative}
 use Rattle.asn1_model.specs.Normal.{normal, are_all}
 use Rattle.asn1_model.specs.Numbers.{is_count_within}
 use Rattle.asn1_model.specs.Tables.{is_required}
 use Rattle.asn1_model.specs.Typed.{member_count, is_of, are_of, is_of_alternative}
-use Rattle.asn1_model.specs.Lawful.{tag_less, tag_same, are_distinct, are_ascending, component_tags, component_places, smallest, alternative_tags, are_no_components, are_no_alternatives, is_group, is_optional, has_no_group, has_optional_groups, is_sequence_table, has_typed_default, is_lawful, are_lawful, are_lawful_alternatives}
+use Rattle.asn1_model.specs.Lawful.{tag_less, tag_same, are_distinct, are_ascending, component_tags, component_places, smallest, alternative_tags, are_no_components, are_no_alternatives, is_group, is_optional, has_no_group, has_optional_groups, is_sequence_table, begins_with, has_typed_default, is_lawful, are_lawful, are_lawful_alternatives}
 use Rattle.asn1_laws_values.proofs.Typed.{normal_is_of}
 use Rattle.asn1_laws_values.specs.Tidied.{changed_default, tidied, tidied_each, tidied_alternatives}
 use Rattle.asn1_laws_values.proofs.Carried.{tidied_normal}
@@ -94,6 +94,15 @@ unfolding tidied_each
 groups_still no_component = refl
 groups_still (component t o s cs) = λ i. (not (group_still s i) || optional_still (λ d. normal s d) o i) && groups_still cs i
 
+-- with which tags a type begins
+begins_still : (ts : List Tag) (s : Schema) → begins_with ts (tidied s) ≡ begins_with ts s
+unfolding tidied
+begins_still ts (group cs) = ap (same_list tag_same ts) (tags_still cs)
+begins_still (t ∷ []) s = refl
+begins_still [] (choice roots e adds) = λ i. same_list tag_same [] (alternative_tags_still roots i ++ alternative_tags_still adds i)
+begins_still (t ∷ u ∷ ts) (choice roots e adds) = λ i. same_list tag_same (t ∷ u ∷ ts) (alternative_tags_still roots i ++ alternative_tags_still adds i)
+begins_still ts s = refl
+
 table_still : (cs : Components) (e : Bool) (adds : Components) → is_sequence_table (tidied_each cs) e (tidied_each adds) ≡ is_sequence_table cs e adds
 table_still cs e adds = λ i. (e || none_still adds i) && are_distinct tag_same (tags_still cs i ++ tags_still adds i) && no_group_still cs i && groups_still adds i
 
@@ -141,7 +150,8 @@ mutual
       let q = and_parts _ _ p.0 in
       let r = and_parts _ _ q.0 in
       let k = tidied_is_lawful s q.1 in
-      and_from _ _ (and_from _ _ (and_from _ _ r.0 (typed_still s o k r.1)) k) (each_still cs p.1)
+      let g = and_parts _ _ r.0 in
+      and_from _ _ (and_from _ _ (and_from _ _ (and_from _ _ g.0 (begins_still t s ∙ g.1)) (typed_still s o k r.1)) k) (each_still cs p.1)
 
   alternatives_still : (os : Alternatives) → are_lawful_alternatives os ≡ true → are_lawful_alternatives (tidied_alternatives os) ≡ true
   alternatives_still no_alternative l = refl

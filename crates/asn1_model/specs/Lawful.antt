@@ -2,8 +2,8 @@
 -- extension marker, defaults are values of their types.
 use Rattle.std.specs.Prelude.{◌==◌, ltb, leb, ℤ, Bool, true, false, cond, not, ◌&&◌, ◌||◌, IsTrue, List, [], ◌∷◌, ◌++◌}
 use Rattle.std.specs.Prelude.{Option, Some}
-use Rattle.asn1_model.specs.Value.{same_number}
-use Rattle.asn1_model.specs.Schema.{Tag, Range, Counts, Size, Presence, optional, by_default, Schema, integer}
+use Rattle.asn1_model.specs.Value.{same_number, same_list}
+use Rattle.asn1_model.specs.Schema.{Tag, Range, Counts, Size, Presence, optional, by_default, Schema, cut, integer}
 use Rattle.asn1_model.specs.Schema.{enumerated, bit_string, octet_string, character_string, sequence_of, set_of}
 use Rattle.asn1_model.specs.Schema.{sequence, set, group, choice, Components, no_component, component, Alternatives}
 use Rattle.asn1_model.specs.Schema.{no_alternative, alternative}
@@ -51,6 +51,28 @@ abbrev pub alternative_tags : Alternatives → List Tag
 alternative_tags no_alternative = []
 alternative_tags (alternative t s others) = t ∷ alternative_tags others
 
+abbrev pub is_empty : {X : Type 0} → List X → Bool
+is_empty [] = true
+is_empty (x ∷ xs) = false
+
+-- There is a tag, and each has one of the four classes (X.680 8.1).
+abbrev pub are_tags : List Tag → Bool
+are_tags ts = not (is_empty ts) && each_is is_tag ts
+
+-- Whether a type may begin with these tags: with one that it has or is given, a CHOICE with no tag of its own with those
+-- of all its alternatives in their order, and a group of additions with those of its components (X.680 25, 29 and 31).
+-- What stands below the cut of a recursive type is not judged.
+abbrev pub begins_with : List Tag → Schema → Bool
+begins_with ts (group cs) = same_list tag_same ts (component_tags cs)
+begins_with (t ∷ []) s = true
+begins_with ts (choice roots e adds) = same_list tag_same ts (alternative_tags roots ++ alternative_tags adds)
+begins_with ts cut = true
+begins_with ts s = false
+
+-- The tags of a type are such tags.
+abbrev pub are_tags_of : List Tag → Schema → Bool
+are_tags_of ts s = are_tags ts && begins_with ts s
+
 abbrev pub are_no_components : Components → Bool
 are_no_components no_component = true
 are_no_components cs = false
@@ -58,10 +80,6 @@ are_no_components cs = false
 abbrev pub are_no_alternatives : Alternatives → Bool
 are_no_alternatives no_alternative = true
 are_no_alternatives others = false
-
-abbrev pub is_empty : {X : Type 0} → List X → Bool
-is_empty [] = true
-is_empty (x ∷ xs) = false
 
 -- The low one of two bounds is not above the high one, where both are there.
 abbrev pub are_ordered : Option ℤ → Option ℤ → Bool
@@ -131,11 +149,11 @@ unfoldable mutual
       && are_lawful_alternatives adds
   is_lawful s = true
 
-  -- Whether the types of all components are, and their defaults are values of them (X.680 25).
+  -- Whether the types of all components are, with their tags, and their defaults are values of them (X.680 25).
   pub are_lawful : Components → Bool
   are_lawful no_component = true
   are_lawful (component t o s cs) =
-      not (is_empty t) && each_is is_tag t && has_typed_default s o && is_lawful s && are_lawful cs
+      are_tags_of t s && has_typed_default s o && is_lawful s && are_lawful cs
 
   -- Whether the types of all alternatives are.
   pub are_lawful_alternatives : Alternatives → Bool

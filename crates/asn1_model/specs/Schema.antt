@@ -1,5 +1,5 @@
 -- ASN.1 types, apart from any encoding: kinds, bounds, sizes, alphabets, extension markers and tables (X.680).
-use Rattle.std.specs.Prelude.{ℕ, ℤ, Bool, false, List, Option, None}
+use Rattle.std.specs.Prelude.{ℕ, ◌-◌, ◌^◌, ℤ, pos, negsuc, Bool, false, List, Option, Some, None}
 use Rattle.asn1_model.specs.Value.{Value}
 
 -- A tag: its class, which is 0 for universal, 1 for application, 2 for context-specific and 3 for private, and its
@@ -7,6 +7,9 @@ use Rattle.asn1_model.specs.Value.{Value}
 pub record Tag : Type 0 where
   pub class : ℕ
   pub number : ℕ
+
+abbrev pub context : ℕ → Tag
+context n = record { class = 2; number = n }
 
 -- The whole numbers from low to high, where these are there (X.680 51.4).
 pub record Range : Type 0 where
@@ -37,11 +40,22 @@ any_count = record { low = 0; high = None }
 abbrev pub any_size : Size
 any_size = record { counts = any_count; extensible = false }
 
+-- Any number, and those of 128 bits of two's complement.
+abbrev pub any_number : Range
+any_number = record { low = None; high = None }
+
+abbrev pub wide_range : Range
+wide_range = record { low = Some (negsuc (2 ^ 127 - 1)); high = Some (pos (2 ^ 127 - 1)) }
+
 -- A permitted alphabet, where there is one: its characters, and whether an extension marker follows it (X.680 51.7 and
 -- 52).
 pub record Alphabet : Type 0 where
   pub characters : Option (List ℕ)
   pub extensible : Bool
+
+-- Any characters.
+abbrev pub any_alphabet : Alphabet
+any_alphabet = record { characters = None; extensible = false }
 
 -- The restricted character string types (X.680 41).
 pub data StringKind : Type 0 where

@@ -8,7 +8,7 @@ use Rattle.asn1_model.specs.Schema.{optional, by_default, Schema, cut, boolean, 
 use Rattle.asn1_model.specs.Schema.{octet_string, character_string, sequence_of, set_of, sequence, set, group, choice}
 use Rattle.asn1_model.specs.Schema.{Components, no_component, component, Alternatives, no_alternative, alternative}
 use Rattle.asn1_model.specs.Rules.{Rules, canonical}
-pub use Rattle.asn1_model.specs.Schema.{any_count, any_size}
+pub use Rattle.asn1_model.specs.Schema.{any_count, any_size, any_number, any_alphabet, context}
 
 -- what a row says: the canonical octets, or that there are none
 abbrev pub Writes : Rules → Schema → Value → List ℕ → Type 0
@@ -26,17 +26,11 @@ minus (suc n) = negsuc n
 abbrev pub from_to : Option ℤ → Option ℤ → Bool → Bounds
 from_to a b e = record { range = record { low = a; high = b }; extensible = e }
 
-abbrev pub any_number : Range
-any_number = record { low = None; high = None }
-
 abbrev pub sizes : ℕ → ℕ → Size
 sizes a b = record { counts = record { low = a; high = Some b }; extensible = false }
 
 abbrev pub sizes_or_more : ℕ → ℕ → Size
 sizes_or_more a b = record { counts = record { low = a; high = Some b }; extensible = true }
-
-abbrev pub any_alphabet : Alphabet
-any_alphabet = record { characters = None; extensible = false }
 
 abbrev pub letters : List ℕ → Alphabet
 letters cs = record { characters = Some cs; extensible = false }
@@ -69,9 +63,6 @@ list z s = sequence_of z any_count s
 
 abbrev pub bag_of : Schema → Schema
 bag_of s = set_of any_size any_count s
-
-abbrev pub context : ℕ → Tag
-context n = record { class = 2; number = n }
 
 -- components in a row, with context tags
 abbrev pub needs : ℕ → Schema → Components → Components
@@ -264,12 +255,14 @@ set_of_three =
     (may_have 5 whole (may_have 444 whole no_component))) false
     no_component
 
--- SET {x CHOICE {[7] BOOLEAN, [1] NULL}, y [3] INTEGER (0..255)}
+-- CHOICE {[7] BOOLEAN, [1] NULL}, and SET {x that choice, y [3] INTEGER (0..255)}
+abbrev pub null_or_boolean : Schema
+null_or_boolean = one_of (or_tagged 1 null (or_tagged 7 boolean no_alternative))
+
 abbrev pub set_with_choice : Schema
 set_with_choice =
-    set (component (context 1 ∷ context 7 ∷ []) required
-    (one_of (or_tagged 1 null (or_tagged 7 boolean no_alternative)))
-    (needs 3 octet_number no_component)) false no_component
+    set (component (context 1 ∷ context 7 ∷ []) required null_or_boolean (needs 3 octet_number no_component)) false
+    no_component
 
 -- SEQUENCE {a BOOLEAN, ..., b INTEGER (0..255) OPTIONAL}, and the same without b
 abbrev pub new_type : Schema
@@ -304,12 +297,12 @@ default_new = closed (has_default 0 new_type (fields (present yes end) (absent e
 -- SEQUENCE {a BOOLEAN, ..., [[x INTEGER (0..255) OPTIONAL]]}, and the same with x INTEGER DEFAULT 5
 abbrev pub grouped : Schema
 grouped =
-    open_behind (needs 0 boolean no_component) (may_have 1 (group (may_have 0 octet_number no_component)) no_component)
+    open_behind (needs 0 boolean no_component) (may_have 1 (group (may_have 1 octet_number no_component)) no_component)
 
 abbrev pub default_grouped : Schema
 default_grouped =
     open_behind (needs 0 boolean no_component)
-    (may_have 1 (group (has_default 0 whole (num 5) no_component)) no_component)
+    (may_have 1 (group (has_default 1 whole (num 5) no_component)) no_component)
 
 -- SEQUENCE {it INTEGER, is OCTET STRING OPTIONAL, late INTEGER OPTIONAL, ..., today OCTET STRING}
 abbrev pub dated : Schema

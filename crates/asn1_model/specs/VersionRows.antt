@@ -12,7 +12,7 @@ use Rattle.asn1_model.specs.Types.{colour_new, defaulted, extensible_choice, new
 use Rattle.asn1_model.specs.Types.{required_new, default_old}
 use Rattle.asn1_model.specs.Types.{default_new, grouped, nest, nest_added, nested, yes_with, yes_without, yes_alone}
 use Rattle.asn1_model.specs.Types.{null_alternatives, bag_of, bag_with, set_of_three, set_with_choice, whole}
-use Rattle.asn1_model.specs.Types.{has_default, only_tagged, yes}
+use Rattle.asn1_model.specs.Types.{has_default, only_tagged, null_or_boolean, yes}
 
 -- The levels that the older version reads.
 abbrev pub seen : Schema → Schema → Value → Option ℕ
@@ -96,7 +96,14 @@ LawfulRows =
     × (is_lawful set_with_choice ≡ true)
     × (is_lawful (set (needs 5 boolean (needs 3 boolean no_component)) false no_component) ≡ false)
     × (is_lawful (set (needs 3 boolean
-    (component (context 1 ∷ context 7 ∷ []) required boolean no_component)) false no_component) ≡ false)
+    (component (context 1 ∷ context 7 ∷ []) required null_or_boolean no_component)) false no_component) ≡ false)
+    -- a choice with no tag of its own begins with those of all its alternatives, and with no other, or it has one tag; a
+    -- group begins with those of its components; no other type has several
+    × (is_lawful (closed (component (context 1 ∷ context 7 ∷ []) required null_or_boolean no_component)) ≡ true)
+    × (is_lawful (closed (component (context 1 ∷ context 5 ∷ []) required null_or_boolean no_component)) ≡ false)
+    × (is_lawful (closed (needs 5 null_or_boolean no_component)) ≡ true)
+    × (is_lawful (closed (component (context 1 ∷ context 7 ∷ []) required boolean no_component)) ≡ false)
+    × (is_lawful (open_behind no_component (may_have 1 (group (needs 2 boolean no_component)) no_component)) ≡ false)
     × (is_lawful (open_behind (needs 0 boolean no_component) (needs 0 boolean no_component)) ≡ false)
     -- choices: an added alternative behind an extension marker alone, and no tag twice
     × (is_lawful (choice (null_alternatives 0 2) false (null_alternatives 2 1)) ≡ false)

@@ -27,7 +27,7 @@ nest_is (suc n) = refl
 
 -- The type is lawful.
 pub nest_typed : IsType (context 0 ∷ context 1 ∷ []) nest_schema
-nest_typed = recursive_choice_type nest_table refl
+nest_typed = recursive_choice_type nest_table (λ s. refl)
     (λ s t. more_variants _ refl (null_type {ts = context 0 ∷ []} refl) (more_variants _ refl t no_variants))
     (λ s t. no_variants) (λ s. refl)
 

@@ -2,8 +2,10 @@
 -- nested levels.
 use Rattle.std.specs.Prelude.{ℕ, zero, suc, ◌-◌, ◌^◌, pos, negsuc, true, false, [], ◌∷◌, Some, None}
 use Rattle.asn1_model.specs.Schema.{Tag, Range, Counts, Size, Presence, required, optional, Schema, cut, boolean}
-use Rattle.asn1_model.specs.Schema.{null, integer, octet_string, set_of, sequence, set, group, choice, any_size}
+use Rattle.asn1_model.specs.Schema.{null, integer, octet_string, set_of, sequence, set, group, choice, any_size, any_number}
+use Rattle.asn1_model.specs.Schema.{wide_range, context}
 use Rattle.asn1_model.specs.Schema.{Components, no_component, component, no_alternative, alternative}
+use Rattle.asn1_schema_types.specs.Counts.{any_number_held}
 
 -- ---- tags (X.680 8.1 and 8.4)
 
@@ -13,35 +15,20 @@ universal n = record { class = 0; number = n }
 abbrev pub application : ℕ → Tag
 application n = record { class = 1; number = n }
 
-abbrev pub context : ℕ → Tag
-context n = record { class = 2; number = n }
-
 -- A component of one tag, and those behind it.
 abbrev pub one_more : Tag → Presence → Schema → Components → Components
 one_more t o s cs = component (t ∷ []) o s cs
 
 -- ---- numbers and octets
 
--- Any number at all.
-abbrev pub any_range : Range
-any_range = record { low = None; high = None }
-
--- The numbers of 128 bits of two's complement, which is what bounded numbers are held in.
-abbrev pub wide : Range
-wide = record { low = Some (negsuc (2 ^ 127 - 1)); high = Some (pos (2 ^ 127 - 1)) }
-
--- A list or bag holds fewer than 2 to 64 members.
-abbrev pub any_number_held : Counts
-any_number_held = record { low = 0; high = Some (2 ^ 64 - 1) }
-
 -- INTEGER
 abbrev pub integer_schema : Schema
-integer_schema = integer (record { range = any_range; extensible = false }) any_range
+integer_schema = integer (record { range = any_number; extensible = false }) any_number
 
 -- INTEGER (-5..5)
 abbrev pub small_schema : Schema
 small_schema = integer (record { range = record { low = Some (negsuc 4); high = Some (pos 5) }; extensible = false })
-    wide
+    wide_range
 
 -- INTEGER (0..255), in a number of eight bits.
 abbrev pub octet_range : Range

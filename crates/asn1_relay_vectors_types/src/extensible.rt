@@ -14,13 +14,15 @@ pub struct OctetOrMore;
 pub type ExtensibleInteger = Constrained<OctetOrMore, Integer>;
 
 impl ConstraintsOf<Integer> for OctetOrMore {
+    ghost tags = { ⟦<Integer as Described>⟧.tags };
+
     ghost terms = { bounded_by (Some (pos 0)) (Some (pos 255)) true };
 
     ghost under = { ⟦<Integer as Described>⟧.under };
 
     ghost meaning = { ⟦<Integer as Described>⟧.meaning };
 
-    ghost lawful = { λ ts e. integer_type _ _ e refl refl };
+    ghost lawful = { integer_type _ _ refl refl refl };
 
     ghost valued = { ⟦<Integer as Described>⟧.valued_under };
 
@@ -31,6 +33,8 @@ impl ConstraintsOf<Integer> for OctetOrMore {
             ..Constraints::NONE
         }
     }
+
+    ghost same_tags = { refl };
 
     ghost same_under = { λ _. refl };
 

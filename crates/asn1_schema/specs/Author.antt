@@ -24,7 +24,7 @@ unfoldable pub use Rattle.asn1_schema_presented.specs.Recursive.{recursive_seque
 pub use Rattle.asn1_schema_presented.specs.Tables.{IsType, IsValue, Table, no_field, no_table, with_field}
 unfoldable pub use Rattle.asn1_schema_presented.specs.Tables.{components_at, list_type, scope, sequence_type}
 pub use Rattle.asn1_schema_presented.specs.Typed.{IsPart}
-pub use Rattle.asn1_schema_types.specs.Counts.{any_number, fixed_to}
+pub use Rattle.asn1_schema_types.specs.Counts.{any_number_held, fixed_to}
 unfoldable pub use Rattle.asn1_model.specs.Normal.{is_tidy}
 pub use Rattle.asn1_model.specs.Value.{chosen}
 pub use Rattle.asn1_model.specs.Schema.{null}

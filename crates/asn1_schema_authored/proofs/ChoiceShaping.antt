@@ -4,7 +4,9 @@ use Rattle.asn1_model.specs.Lawful.{is_tag}
 use Rattle.asn1_model.specs.Schema.{Tag, Schema}
 use Rattle.asn1_model.specs.Types.{context}
 use Rattle.asn1_model.specs.Value.{Value}
-use Rattle.asn1_schema_presented.specs.Tables.{are_tags, IsValue}
+use Rattle.asn1_model.specs.Lawful.{are_tags}
+use Rattle.asn1_schema_presented.specs.Tables.{IsValue}
+use Rattle.asn1_schema_presented.proofs.Beginnings.{all_tags_begin}
 use Rattle.asn1_schema_types.specs.declared.described.Described.{Ghosts}
 use Rattle.asn1_schema_variants.specs.declared.chosen.Chosen.{Chosen}
 use Rattle.asn1_schema_authored.specs.ChoiceShapes.{ChoiceShape}
@@ -53,6 +55,6 @@ choice_of r e a k d f = record {
   table = choices r e a;
   place = λ x. (f x).place;
   inner = λ x. (f x).inner;
-  typed = type_choice (choices r e a) k r.lawful a.lawful d;
+  typed = type_choice (choices r e a) (all_tags_begin (all_tags (choices r e a)) k) r.lawful a.lawful d;
   valued = λ x. value_choice (choices r e a) (f x).place.added (f x).place.place (f x).fits;
 }

@@ -1,4 +1,5 @@
 -- What the program's type holds under a value constraint: what it holds at all, within 128 bits.
+use Rattle.asn1_model.specs.Schema.{wide_range}
 use Rattle.std.proofs.Common.{◌≡◌, ◌∙◌, refl, sym, ◌-◌, ◌^◌, ◌<◌, ℤ, pos, negsuc, Bool, true, false, ◌&&◌, ◌||◌, Option, Some, None, arith}
 use Rattle.std.proofs.lemmas.Int.{ints}
 use Rattle.std.proofs.lemmas.Bool.{false≢true, le-leb, leb-true, and_parts}
@@ -8,7 +9,7 @@ use Rattle.asn1_values_natives.proofs.RangeLaws.{at_most}
 use Rattle.asn1_values_natives.proofs.TwosComplement.{plain-fits}
 use Rattle.asn1_values_natives.proofs.Widths.{signed_octets-le}
 use Rattle.asn1_schema_constraints.specs.Bounds.{later, earlier}
-use Rattle.asn1_schema_constraints.specs.Terms.{bounds_of, wide_range, held_of, admits_whole}
+use Rattle.asn1_schema_constraints.specs.Terms.{bounds_of, held_of, admits_whole}
 use Rattle.asn1_schema_constraints.specs.declared.extensions.Extensible.{Extensible}
 use Rattle.asn1_schema_constraints.specs.declared.parts.Value.{Value}
 use Rattle.asn1_schema_constraints.proofs.Common.{number_order, told_at_most, from_is, to_is, both_by}

@@ -1,10 +1,9 @@
 -- What constraints mean for a type, and the types of the model under some.
-use Rattle.std.specs.Prelude.{ℕ, ◌-◌, ◌^◌, ℤ, Bool, true, false, cond, ◌&&◌, ◌||◌, Option, Some, None, is_some}
-use Rattle.asn1_model.specs.Schema.{Range, Bounds, Counts, Size as SizeTerm, Alphabet, StringKind, Schema}
+use Rattle.std.specs.Prelude.{ℕ, ℤ, Bool, true, false, cond, ◌&&◌, ◌||◌, Option, Some, None, is_some}
+use Rattle.asn1_model.specs.Schema.{Range, Bounds, Counts, Size as SizeTerm, Alphabet, StringKind, Schema, wide_range}
 use Rattle.asn1_model.specs.Schema.{integer, bit_string, octet_string, character_string, sequence_of, set_of}
 use Rattle.asn1_model.specs.Numbers.{is_at_most, is_within}
 use Rattle.asn1_model.specs.Oer.{is_fixed}
-use Rattle.asn1_values_natives.specs.Ranges.{whole_range}
 use Rattle.asn1_schema_constraints.specs.Bounds.{later, earlier, range_of, counts_of}
 use Rattle.asn1_schema_constraints.specs.Sets.{has_additions}
 use Rattle.asn1_schema_constraints.specs.declared.parts.Value.{Value}
@@ -27,10 +26,6 @@ pub record Meant : Type 0 where
 abbrev pub bounds_of : Option (Extensible Value) → Bounds
 bounds_of None = record { range = record { low = None; high = None }; extensible = false }
 bounds_of (Some c) = record { range = range_of c.constraint.value; extensible = has_additions c }
-
--- The numbers of 128 bits of two's complement.
-abbrev pub wide_range : Range
-wide_range = whole_range (2 ^ 127 - 1)
 
 -- The numbers that a program's type holds: under a value constraint those of 128 bits of two's complement among them
 -- (the project's choice).

@@ -8,13 +8,19 @@ use Rattle.asn1_model.specs.Normal.{normal, is_tidy}
 use Rattle.asn1_model.specs.Lawful.{is_lawful, is_group, is_size}
 use Rattle.asn1_schema_presented.specs.Presents.{Fits, AllFit}
 use Rattle.asn1_schema_presented.specs.Parts.{values_of}
-use Rattle.asn1_schema_presented.specs.Tables.{scope, are_tags, IsType, IsValue}
+use Rattle.asn1_schema_presented.specs.Tables.{scope, is_one_tag, IsType, IsValue}
+use Rattle.asn1_schema_presented.proofs.Beginnings.{tags_of_one}
 use Rattle.asn1_schema_constructed.specs.Bags.{bag_type}
 
-pub type_bag : {ts us : List Tag} (z : Size) (h : Counts) {s : ℕ → Schema} → are_tags ts ≡ true → is_size z h ≡ true → IsType us s → IsType ts (bag_type z h s)
+bag_is_no_group : (z : Size) (h : Counts) (s : ℕ → Schema) (n : ℕ) → is_group (bag_type z h s n) ≡ false
+unfolding bag_type scope
+bag_is_no_group z h s zero = refl
+bag_is_no_group z h s (suc m) = refl
+
+pub type_bag : {ts us : List Tag} (z : Size) (h : Counts) {s : ℕ → Schema} → is_one_tag ts ≡ true → is_size z h ≡ true → IsType us s → IsType ts (bag_type z h s)
 unfolding bag_type scope is_lawful is_tidy
-type_bag z h {s} e k t = record {
-  tagged = e;
+type_bag {ts} z h {s} e k t = record {
+  tagged = λ n. tags_of_one ts (bag_type z h s n) (bag_is_no_group z h s n) e;
   lawful = λ n. elim n as (λ n. is_lawful (scope n (λ m. set_of z h (s m))) ≡ true) [ zero ↦ refl | suc m ↦ rw (k, t.no_group m) (t.lawful m) ];
   tidy = λ n. elim n as (λ n. is_tidy (scope n (λ m. set_of z h (s m))) ≡ true) [ zero ↦ refl | suc m ↦ t.tidy m ];
   no_group = λ n. elim n as (λ n. is_group (scope n (λ m. set_of z h (s m))) ≡ false) [ zero ↦ refl | suc m ↦ refl ];

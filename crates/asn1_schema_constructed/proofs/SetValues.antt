@@ -7,7 +7,8 @@ use Rattle.asn1_model.specs.Schema.{Tag, set}
 use Rattle.asn1_model.specs.Normal.{normal, normal_parts, is_tidy}
 use Rattle.asn1_model.specs.Lawful.{is_lawful, is_group, are_distinct, are_ascending, tag_same, tag_less, smallest, component_places}
 use Rattle.asn1_schema_presented.specs.Presents.{Fits}
-use Rattle.asn1_schema_presented.specs.Tables.{Fields, no_field, field, Table, components_at, field_tags, scope, are_tags, IsType, IsValue}
+use Rattle.asn1_schema_presented.specs.Tables.{Fields, no_field, field, Table, components_at, field_tags, scope, is_one_tag, IsType, IsValue}
+use Rattle.asn1_schema_presented.proofs.Beginnings.{tags_of_one}
 use Rattle.asn1_schema_presented.specs.Typed.{AreTypes, AreValues}
 use Rattle.asn1_schema_presented.proofs.Values.{tags_at}
 use Rattle.asn1_schema_constructed.specs.Sets.{set_type, field_places}
@@ -18,10 +19,15 @@ places_at n no_field = refl
 places_at n (field [] o s fs) = places_at n fs
 places_at n (field (t ∷ ts) o s fs) = ap (λ us. smallest t ts ∷ us) (places_at n fs)
 
-pub type_set : {ts : List Tag} (t : Table) → are_tags ts ≡ true → AreTypes t → are_distinct tag_same (field_tags t.root ++ field_tags t.additions) ≡ true → are_ascending tag_less (field_places t.root) ≡ true → IsType ts (set_type t)
+set_is_no_group : (t : Table) (n : ℕ) → is_group (set_type t n) ≡ false
+unfolding scope
+set_is_no_group t zero = refl
+set_is_no_group t (suc m) = refl
+
+pub type_set : {ts : List Tag} (t : Table) → is_one_tag ts ≡ true → AreTypes t → are_distinct tag_same (field_tags t.root ++ field_tags t.additions) ≡ true → are_ascending tag_less (field_places t.root) ≡ true → IsType ts (set_type t)
 unfolding scope is_lawful is_tidy
 type_set {ts} t e h d a = record {
-  tagged = e;
+  tagged = λ n. tags_of_one ts (set_type t n) (set_is_no_group t n) e;
   lawful = λ n. elim n as (λ n. is_lawful (scope n (λ m. set (components_at m t.root) t.extensible (components_at m t.additions))) ≡ true) [ zero ↦ refl | suc m ↦ rw (h.extensible m, tags_at m t.root, tags_at m t.additions, d, h.no_group m, h.optional_groups m, places_at m t.root, a, h.lawful m) (h.lawful_additions m) ];
   tidy = λ n. elim n as (λ n. is_tidy (scope n (λ m. set (components_at m t.root) t.extensible (components_at m t.additions))) ≡ true) [ zero ↦ refl | suc m ↦ rw (h.tidy m) (h.tidy_additions m) ];
   no_group = λ n. elim n as (λ n. is_group (scope n (λ m. set (components_at m t.root) t.extensible (components_at m t.additions))) ≡ false) [ zero ↦ refl | suc m ↦ refl ];

@@ -1,18 +1,19 @@
 -- Choices and enumerations as types, and their values.
-use Rattle.std.proofs.Common.{◌≡◌, ℕ, ℤ, ◌≤◌, ◌+◌, zero, suc, Bool, true, false, List, ◌∷◌, refl, ◌∙◌, ap, arith}
+use Rattle.std.proofs.Common.{◌≡◌, ℕ, ℤ, ◌≤◌, ◌+◌, zero, suc, Bool, true, false, List, ◌∷◌, ◌++◌, refl, ◌∙◌, ap, arith}
 use Rattle.asn1_model.specs.Value.{Value, item, chosen, depth}
 use Rattle.asn1_model.specs.Schema.{Tag, Schema, cut, enumerated, choice}
 use Rattle.asn1_model.specs.Normal.{normal, normal_alternative, is_tidy, are_tidy_alternatives}
-use Rattle.asn1_model.specs.Lawful.{is_lawful, are_lawful_alternatives, is_group, is_tag, is_empty, are_no_alternatives, alternative_tags}
+use Rattle.asn1_model.specs.Lawful.{is_lawful, are_lawful_alternatives, is_group, is_tag, is_empty, are_no_alternatives, alternative_tags, are_tags, are_tags_of}
 use Rattle.asn1_schema_presented.specs.Presents.{Fits, ChosenFits}
-use Rattle.asn1_schema_presented.specs.Tables.{scope, are_tags, IsType, IsValue}
-use Rattle.asn1_schema_constructed.specs.Tables.{Variants, no_variant, variant, alternatives_at, Choices, side, tags_of, type_at, choice_type, are_choices, AreVariants, are_items}
+use Rattle.asn1_schema_presented.specs.Tables.{scope, is_one_tag, are_choice_tags, IsType, IsValue}
+use Rattle.asn1_schema_presented.proofs.Beginnings.{tags_of_one, tags_of_cut, tags_of_choice, choice_tags}
+use Rattle.asn1_schema_constructed.specs.Tables.{Variants, no_variant, variant, alternatives_at, Choices, side, tags_of, all_tags, type_at, choice_type, are_choices, AreVariants, are_items}
 use Rattle.asn1_schema_constructed.specs.Recursive.{recursive_choice}
 
 -- ---- enumerations
-pub type_enumerated : {ts : List Tag} (roots : List ℤ) (e : Bool) (others : List ℤ) → are_tags ts ≡ true → are_items roots e others ≡ true → IsType ts (λ _. enumerated roots e others)
+pub type_enumerated : {ts : List Tag} (roots : List ℤ) (e : Bool) (others : List ℤ) → is_one_tag ts ≡ true → are_items roots e others ≡ true → IsType ts (λ _. enumerated roots e others)
 unfolding is_lawful is_tidy
-type_enumerated roots e others k h = record { tagged = k; lawful = λ n. h; tidy = λ n. refl; no_group = λ n. refl }
+type_enumerated {ts} roots e others k h = record { tagged = λ n. tags_of_one ts (enumerated roots e others) refl k; lawful = λ n. h; tidy = λ n. refl; no_group = λ n. refl }
 
 pub value_enumerated : (roots : List ℤ) (e : Bool) (others : List ℤ) (z : ℤ) → IsValue (λ _. enumerated roots e others) (item z)
 unfolding Fits normal
@@ -58,10 +59,18 @@ normal_at n (variant t s vs) zero v = refl
 normal_at n (variant t s vs) (suc i) v = normal_at n vs i v
 
 -- ---- choices
-pub type_choice : {ts : List Tag} (t : Choices) → are_tags ts ≡ true → AreVariants t.root → AreVariants t.additions → are_choices t ≡ true → IsType ts (choice_type t)
+choice_begins : {ts : List Tag} (t : Choices) → are_choice_tags ts (all_tags t) ≡ true → (n : ℕ) → are_tags_of ts (choice_type t n) ≡ true
+unfolding choice_type scope
+choice_begins {ts} t e zero = tags_of_cut ts (choice_tags ts (all_tags t) e)
+choice_begins {ts} t e (suc m) =
+    tags_of_choice ts (alternatives_at m t.root) t.extensible (alternatives_at m t.additions)
+    (ap (λ us. are_choice_tags ts (us ++ alternative_tags (alternatives_at m t.additions))) (tags_at m t.root)
+    ∙ ap (λ us. are_choice_tags ts (tags_of t.root ++ us)) (tags_at m t.additions) ∙ e)
+
+pub type_choice : {ts : List Tag} (t : Choices) → are_choice_tags ts (all_tags t) ≡ true → AreVariants t.root → AreVariants t.additions → are_choices t ≡ true → IsType ts (choice_type t)
 unfolding choice_type scope is_lawful is_tidy
 type_choice {ts} t e h k d = record {
-  tagged = e;
+  tagged = choice_begins t e;
   lawful = λ n. elim n as (λ n. is_lawful (scope n (λ m. choice (alternatives_at m t.root) t.extensible (alternatives_at m t.additions))) ≡ true) [ zero ↦ refl | suc m ↦ rw (none_at m t.root, none_at m t.additions, tags_at m t.root, tags_at m t.additions, d, h.lawful m) (k.lawful m) ];
   tidy = λ n. elim n as (λ n. is_tidy (scope n (λ m. choice (alternatives_at m t.root) t.extensible (alternatives_at m t.additions))) ≡ true) [ zero ↦ refl | suc m ↦ rw (h.tidy m) (k.tidy m) ];
   no_group = λ n. elim n as (λ n. is_group (scope n (λ m. choice (alternatives_at m t.root) t.extensible (alternatives_at m t.additions))) ≡ false) [ zero ↦ refl | suc m ↦ refl ];
@@ -91,16 +100,16 @@ value_choice t b i {v} h = record {
 -- ---- choices that lead back to themselves
 cut_type : {ts : List Tag} → are_tags ts ≡ true → IsType ts (λ _. cut)
 unfolding is_lawful is_tidy
-cut_type e = record { tagged = e; lawful = λ n. refl; tidy = λ n. refl; no_group = λ n. refl }
+cut_type {ts} e = record { tagged = λ n. tags_of_cut ts e; lawful = λ n. refl; tidy = λ n. refl; no_group = λ n. refl }
 
 type_below : {ts : List Tag} {s : ℕ → Schema} → IsType ts s → (n : ℕ) → IsType ts (λ _. s n)
-type_below h n = record { tagged = h.tagged; lawful = λ m. h.lawful n; tidy = λ m. h.tidy n; no_group = λ m. h.no_group n }
+type_below h n = record { tagged = λ m. h.tagged n; lawful = λ m. h.lawful n; tidy = λ m. h.tidy n; no_group = λ m. h.no_group n }
 
-module _ {ts : List Tag} (f : (ℕ → Schema) → Choices) (e : are_tags ts ≡ true) (h : (s : ℕ → Schema) → IsType ts s → AreVariants (f s).root) (k : (s : ℕ → Schema) → IsType ts s → AreVariants (f s).additions) (d : (s : ℕ → Schema) → are_choices (f s) ≡ true) where
+module _ {ts : List Tag} (f : (ℕ → Schema) → Choices) (e : (s : ℕ → Schema) → are_choice_tags ts (all_tags (f s)) ≡ true) (h : (s : ℕ → Schema) → IsType ts s → AreVariants (f s).root) (k : (s : ℕ → Schema) → IsType ts s → AreVariants (f s).additions) (d : (s : ℕ → Schema) → are_choices (f s) ≡ true) where
   each_level : (n : ℕ) → IsType ts (λ _. recursive_choice f n)
   unfolding recursive_choice
-  each_level zero = cut_type e
-  each_level (suc n) = let t = each_level n in type_below (type_choice (f (λ _. recursive_choice f n)) e (h (λ _. recursive_choice f n) t) (k (λ _. recursive_choice f n) t) (d (λ _. recursive_choice f n))) (suc n)
+  each_level zero = cut_type (choice_tags ts (all_tags (f (λ _. cut))) (e (λ _. cut)))
+  each_level (suc n) = let t = each_level n in type_below (type_choice (f (λ _. recursive_choice f n)) (e (λ _. recursive_choice f n)) (h (λ _. recursive_choice f n) t) (k (λ _. recursive_choice f n) t) (d (λ _. recursive_choice f n))) (suc n)
 
   pub recursive_choice_type : IsType ts (recursive_choice f)
-  recursive_choice_type = record { tagged = e; lawful = λ n. (each_level n).lawful n; tidy = λ n. (each_level n).tidy n; no_group = λ n. (each_level n).no_group n }
+  recursive_choice_type = record { tagged = λ n. (each_level n).tagged n; lawful = λ n. (each_level n).lawful n; tidy = λ n. (each_level n).tidy n; no_group = λ n. (each_level n).no_group n }

@@ -2,7 +2,7 @@
 use Rattle.std.proofs.Common.{◌≡◌, sym, subst, ℕ, ℤ, pos, negsuc, Bool, true, false, cond, ◌||◌, Option, Some, None, refl}
 use Rattle.std.proofs.lemmas.Bool.{and_parts}
 use Rattle.asn1_model.specs.Numbers.{is_at_most, is_from, is_to, is_within}
-use Rattle.asn1_model.specs.Schema.{Range}
+use Rattle.asn1_model.specs.Schema.{Range, any_number}
 use Rattle.asn1_model.specs.Value.{number}
 use Rattle.asn1_schema_constraints.specs.Bounds.{later, earlier}
 use Rattle.asn1_schema_constraints.proofs.Common.{number_order}
@@ -10,7 +10,7 @@ use Rattle.asn1_schema_constraints.specs.Terms.{Meant, meant, held_where, from_t
 use Rattle.asn1_schema_constraints.specs.declared.lists.Constraints.{Constraints}
 use Rattle.asn1_schema_faults.specs.declared.DecodeError.{DecodeError}
 use Rattle.asn1_schema_presented.specs.Records.{Record, whole, asks_whole}
-use Rattle.asn1_schema_types.specs.Constrained.{met_range, within_range, every_number, constrained_type}
+use Rattle.asn1_schema_types.specs.Constrained.{met_range, within_range, constrained_type}
 use Rattle.asn1_schema_types.specs.Told.{whole_under, asks_whole_under}
 use Rattle.asn1_schema_decode.specs.Answers.{is_admitted}
 use Rattle.asn1_schema_decode.specs.Reads.{NoRecord, Reads, Unread}
@@ -22,7 +22,7 @@ octet = record { low = Some (pos 0); high = Some (pos 255) }
 
 module _ {S : Type 0} {step : S → Record → S → Type 0} (low high : ℤ) (c : Meant) (n : ℕ) (r : Constraints) where
   -- in a type that holds all numbers of 128 bits
-  pub reads_ranged : (held : Range) → held_where true held ≡ held_where true every_number → is_at_most low high ≡ true
+  pub reads_ranged : (held : Range) → held_where true held ≡ held_where true any_number → is_at_most low high ≡ true
       → meant r ≡ within_range low high c → {y z : ℤ} {a b : S} → y ≡ z → step a (whole_under r held z) b
       → Reads step (λ _. constrained_type low high c) n (number y) a b
   reads_ranged held q e m {y} {z} {a} {b} same k =
@@ -30,7 +30,7 @@ module _ {S : Type 0} {step : S → Record → S → Type 0} (low high : ℤ) (c
       let m' = subst (λ (w : Meant). step a (whole w.bounds (held_where w.is_bounded held) y) b) m k' in
       rw e (reads_integer _ _ n (subst (λ (h : Range). step a (whole (within_range low high c).bounds h y) b) q m'))
 
-  pub unread_ranged : (held : Range) → held_where true held ≡ held_where true every_number → is_at_most low high ≡ true
+  pub unread_ranged : (held : Range) → held_where true held ≡ held_where true any_number → is_at_most low high ≡ true
       → meant r ≡ within_range low high c → {a : S} {x : DecodeError} → NoRecord step (asks_whole_under r held) a x
       → Unread step (λ _. constrained_type low high c) n a x
   unread_ranged held q e m {a} {x} k =

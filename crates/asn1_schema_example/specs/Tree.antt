@@ -1,7 +1,7 @@
 -- T ::= SEQUENCE {value INTEGER, branches SEQUENCE OF T}: the type and its values.
 use Rattle.std.specs.Prelude.{◌≡◌, ℕ, zero, suc, refl, List, [], ◌∷◌, map}
 use Rattle.std.proofs.Common.{ap, sym, subst, ◌∙◌}
-use Rattle.asn1_schema.specs.Author.{IsType, IsValue, Parts, Schema, Table, Value, Values, any_number, any_size}
+use Rattle.asn1_schema.specs.Author.{IsType, IsValue, Parts, Schema, Table, Value, Values, any_number_held, any_size}
 use Rattle.asn1_schema.specs.Author.{components_at, cut, end, fields, is_lawful, is_tidy, list_type, member}
 use Rattle.asn1_schema.specs.Author.{members, no_more, no_table, number, required, scope, sequence_type, there}
 use Rattle.asn1_schema.specs.Author.{values_of, with_field, with_part}
@@ -30,7 +30,7 @@ unfoldable mutual
   -- The list of the type.
   pub branches_schema : ℕ → Schema
   branches_schema zero = cut
-  branches_schema (suc n) = list_type any_size any_number (λ _. tree_schema n) (suc n)
+  branches_schema (suc n) = list_type any_size any_number_held (λ _. tree_schema n) (suc n)
 
 -- It is a sequence of these components, and the second is a list of it.
 pub tree_is : (n : ℕ) → tree_schema n ≡ sequence_type (tree_table branches_schema) n
@@ -38,7 +38,7 @@ unfolding tree_schema sequence_type scope components_at
 tree_is zero = refl
 tree_is (suc n) = refl
 
-pub branches_are : (n : ℕ) → branches_schema n ≡ list_type any_size any_number tree_schema n
+pub branches_are : (n : ℕ) → branches_schema n ≡ list_type any_size any_number_held tree_schema n
 unfolding branches_schema list_type scope
 branches_are zero = refl
 branches_are (suc n) = refl
@@ -51,16 +51,16 @@ sequence_typed : {s : ℕ → Schema} → IsSequence s → IsSequence (sequence_
 sequence_typed {s} t = type_sequence (tree_table s) refl
     (more_types _ required (λ _. refl) number_typed (more_types _ required (λ _. refl) t no_types)) refl
 
-list_typed : {s : ℕ → Schema} → IsSequence s → IsSequence (list_type any_size any_number s)
-list_typed t = type_list any_size any_number refl refl t
+list_typed : {s : ℕ → Schema} → IsSequence s → IsSequence (list_type any_size any_number_held s)
+list_typed t = type_list any_size any_number_held refl refl t
 
 mutual
   unfolding tree_schema branches_schema is_lawful is_tidy
 
   tree_at : (n : ℕ) → IsSequence (λ _. tree_schema n)
-  tree_at zero = record { tagged = refl; lawful = λ m. refl; tidy = λ m. refl; no_group = λ m. refl }
+  tree_at zero = record { tagged = λ m. refl; lawful = λ m. refl; tidy = λ m. refl; no_group = λ m. refl }
   tree_at (suc n) = record {
-    tagged = refl;
+    tagged = λ m. (sequence_typed (branches_at n)).tagged (suc n);
     lawful = λ m. (sequence_typed (branches_at n)).lawful (suc n);
     tidy = λ m.
         (sequence_typed (branches_at n)).tidy (suc n);
@@ -68,9 +68,9 @@ mutual
   }
 
   branches_at : (n : ℕ) → IsSequence (λ _. branches_schema n)
-  branches_at zero = record { tagged = refl; lawful = λ m. refl; tidy = λ m. refl; no_group = λ m. refl }
+  branches_at zero = record { tagged = λ m. refl; lawful = λ m. refl; tidy = λ m. refl; no_group = λ m. refl }
   branches_at (suc n) = record {
-    tagged = refl;
+    tagged = λ m. (list_typed (tree_at n)).tagged (suc n);
     lawful = λ m. (list_typed (tree_at n)).lawful (suc n);
     tidy = λ m.
         (list_typed (tree_at n)).tidy (suc n);
@@ -79,7 +79,7 @@ mutual
 
 pub tree_typed : IsType (record { class = 0; number = 16 } ∷ []) tree_schema
 tree_typed = record {
-  tagged = refl;
+  tagged = λ n. (tree_at n).tagged n;
   lawful = λ n. (tree_at n).lawful n;
   tidy = λ n. (tree_at n).tidy n;
   no_group =
@@ -88,7 +88,7 @@ tree_typed = record {
 
 pub branches_typed : IsType (record { class = 0; number = 16 } ∷ []) branches_schema
 branches_typed = record {
-  tagged = refl;
+  tagged = λ n. (branches_at n).tagged n;
   lawful = λ n. (branches_at n).lawful n;
   tidy = λ n. (branches_at n).tidy n;
   no_group = λ n. (branches_at n).no_group n;
@@ -144,8 +144,8 @@ values_each (x ∷ xs) = ap (member (tree_meaning x.0)) (values_each xs)
 branches_valued : (xs : List ((x : Tree) × IsTree x))
     → IsValue branches_schema (members (values_of tree_meaning (map (λ e. e.0) xs)))
 branches_valued xs = subst (λ vs. IsValue branches_schema (members vs)) (sym (values_each xs))
-    (value_as (list_type any_size any_number tree_schema) branches_schema branches_are
-    (value_list any_size any_number tree_schema (λ e. tree_meaning e.0) xs (λ e. e.1)))
+    (value_as (list_type any_size any_number_held tree_schema) branches_schema branches_are
+    (value_list any_size any_number_held tree_schema (λ e. tree_meaning e.0) xs (λ e. e.1)))
 
 parts_valued : (t : Tree-F Tree) → IsValue branches_schema (members (values_of tree_meaning t.branches.items))
     → IsTree (roll-Tree t)

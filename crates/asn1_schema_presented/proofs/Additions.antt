@@ -26,7 +26,7 @@ no_addition_types = record { lawful = λ n. refl; tidy = λ n. refl; optional_gr
 pub more_addition_types : (ts : List Tag) (o : Presence) {s : ℕ → Schema} {fs : Fields} → HasDefault o s → IsAddition ts o s → AreAdditionTypes fs → AreAdditionTypes (field ts o s fs)
 unfolding components_at are_lawful are_tidy
 more_addition_types ts o {s} {fs} d h k = record {
-  lawful = λ n. let p = and_parts (has_typed_default (s n) o) (has_normal_default (s n) o) (d n) in rw (h.tagged, p.0, h.lawful n) (k.lawful n);
+  lawful = λ n. let p = and_parts (has_typed_default (s n) o) (has_normal_default (s n) o) (d n) in rw (h.tagged n, p.0, h.lawful n) (k.lawful n);
   tidy = λ n. let p = and_parts (has_typed_default (s n) o) (has_normal_default (s n) o) (d n) in rw (p.1, h.tidy n) (k.tidy n);
   optional_groups = λ n. rw (h.optional_group n) (k.optional_groups n);
 }

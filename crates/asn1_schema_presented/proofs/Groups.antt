@@ -5,9 +5,11 @@ use Rattle.std.proofs.lemmas.Bool.{and_parts}
 use Rattle.asn1_model.specs.Value.{fields, Parts, end, absent, present, are_absent, depth, depth_of_parts}
 use Rattle.asn1_model.specs.Schema.{optional, sequence, group, Components}
 use Rattle.asn1_model.specs.Normal.{normal, normal_parts, is_tidy, are_tidy}
-use Rattle.asn1_model.specs.Lawful.{is_lawful, are_lawful, is_group, is_optional, has_optional_groups, are_no_components, are_distinct, tag_same, component_tags, has_no_group, is_sequence_table}
+use Rattle.asn1_model.specs.Lawful.{is_lawful, are_lawful, is_group, is_optional, has_optional_groups, are_no_components, are_distinct, tag_same, component_tags, has_no_group, is_sequence_table, are_tags, are_tags_of}
 use Rattle.asn1_schema_presented.specs.Presents.{left_out, there, Fits, PartsFit}
-use Rattle.asn1_schema_presented.specs.Tables.{Fields, no_field, field, Table, components_at, field_tags, are_tags, scope, sequence_type, IsValue}
+use Rattle.asn1_schema_presented.specs.Tables.{Fields, no_field, field, Table, components_at, field_tags, scope, sequence_type, IsValue}
+use Rattle.asn1_schema_presented.proofs.Beginnings.{tags_of_cut, tags_of_group}
+use Rattle.asn1_schema_presented.proofs.Values.{tags_at}
 use Rattle.asn1_schema_presented.specs.Parts.{part_unless, normal_part}
 use Rattle.asn1_schema_presented.specs.Typed.{IsPart}
 use Rattle.asn1_schema_presented.specs.Additions.{IsAddition, group_type, IsGroup, group_part}
@@ -50,7 +52,7 @@ module _ {t : Table} (g : IsGroup t) where
   pub group_addition : ((n : ℕ) → is_lawful (sequence_type t n) ≡ true) → ((n : ℕ) → is_tidy (sequence_type t n) ≡ true) → IsAddition (field_tags t.root) optional (group_type t)
   unfolding group_type sequence_type scope is_lawful is_tidy
   group_addition h k = record {
-    tagged = g.tagged;
+    tagged = λ n. elim n as (λ n. are_tags_of (field_tags t.root) (group_type t n) ≡ true) [ zero ↦ tags_of_cut (field_tags t.root) g.tagged | suc m ↦ tags_of_group (field_tags t.root) (components_at m t.root) (tags_at m t.root) g.tagged ];
     lawful = λ n. elim n as (λ n. is_lawful (group_type t n) ≡ true) [ zero ↦ refl | suc m ↦ lawful_group (components_at m t.root) t.extensible (components_at m t.additions) (some_component m t.root g.tagged) (ap (λ fs. component_tags (components_at m fs)) g.no_additions ∙ no_tags m) (h (suc m)) ];
     tidy = λ n. elim n as (λ n. is_tidy (group_type t n) ≡ true) [ zero ↦ refl | suc m ↦ (and_parts (are_tidy (components_at m t.root)) (are_tidy (components_at m t.additions)) (k (suc m))).0 ];
     optional_group = λ n. elim n as (λ n. (not (is_group (group_type t n)) || is_optional optional) ≡ true) [ zero ↦ refl | suc m ↦ refl ];

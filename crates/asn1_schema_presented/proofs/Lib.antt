@@ -1,5 +1,6 @@
 pub mod Chains
 pub mod OneValue
+pub mod Beginnings
 pub mod Values
 pub mod Same
 pub mod Defaults

@@ -8,7 +8,8 @@ use Rattle.asn1_model.specs.Schema.{Tag, Presence, required, optional, by_defaul
 use Rattle.asn1_model.specs.Normal.{normal, normal_parts, kept, is_empty_group, is_at_default, is_group_left_out, has_normal_default, is_tidy, are_tidy}
 use Rattle.asn1_model.specs.Lawful.{is_lawful, are_lawful, has_typed_default, is_group, are_distinct, tag_same, component_tags}
 use Rattle.asn1_schema_presented.specs.Presents.{Part, left_out, there, with_part, Fits, PartFits, PartsFit}
-use Rattle.asn1_schema_presented.specs.Tables.{Fields, no_field, field, Table, no_table, with_field, components_at, field_tags, scope, sequence_type, are_tags, IsType, IsValue}
+use Rattle.asn1_schema_presented.specs.Tables.{Fields, no_field, field, Table, no_table, with_field, components_at, field_tags, scope, sequence_type, is_one_tag, IsType, IsValue}
+use Rattle.asn1_schema_presented.proofs.Beginnings.{tags_of_one}
 use Rattle.asn1_schema_presented.specs.Parts.{part_of, part_unless, normal_part}
 use Rattle.asn1_schema_presented.specs.Typed.{AreTypes, HasDefault, part_depth, IsPart, AreValues}
 
@@ -23,7 +24,7 @@ no_types = record { lawful = λ n. refl; tidy = λ n. refl; no_group = λ n. ref
 pub more_types : (ts : List Tag) (o : Presence) {s : ℕ → Schema} {t : Table} → HasDefault o s → IsType ts s → AreTypes t → AreTypes (with_field ts o s t)
 unfolding components_at are_lawful are_tidy
 more_types ts o {s} {t} d h k = record {
-  lawful = λ n. let p = and_parts (has_typed_default (s n) o) (has_normal_default (s n) o) (d n) in rw (h.tagged, p.0, h.lawful n) (k.lawful n);
+  lawful = λ n. let p = and_parts (has_typed_default (s n) o) (has_normal_default (s n) o) (d n) in rw (h.tagged n, p.0, h.lawful n) (k.lawful n);
   tidy = λ n. let p = and_parts (has_typed_default (s n) o) (has_normal_default (s n) o) (d n) in rw (p.1, h.tidy n) (k.tidy n);
   no_group = λ n. rw (h.no_group n) (k.no_group n);
   lawful_additions = k.lawful_additions;
@@ -92,10 +93,15 @@ unfolding components_at
 tags_at n no_field = refl
 tags_at n (field t o s fs) = ap (λ us. t ++ us) (tags_at n fs)
 
-pub type_sequence : {ts : List Tag} (t : Table) → are_tags ts ≡ true → AreTypes t → are_distinct tag_same (field_tags t.root ++ field_tags t.additions) ≡ true → IsType ts (sequence_type t)
+sequence_is_no_group : (t : Table) (n : ℕ) → is_group (sequence_type t n) ≡ false
+unfolding sequence_type scope
+sequence_is_no_group t zero = refl
+sequence_is_no_group t (suc m) = refl
+
+pub type_sequence : {ts : List Tag} (t : Table) → is_one_tag ts ≡ true → AreTypes t → are_distinct tag_same (field_tags t.root ++ field_tags t.additions) ≡ true → IsType ts (sequence_type t)
 unfolding sequence_type scope is_lawful is_tidy
 type_sequence {ts} t e h d = record {
-  tagged = e;
+  tagged = λ n. tags_of_one ts (sequence_type t n) (sequence_is_no_group t n) e;
   lawful = λ n. elim n as (λ n. is_lawful (scope n (λ m. sequence (components_at m t.root) t.extensible (components_at m t.additions))) ≡ true) [ zero ↦ refl | suc m ↦ rw (h.extensible m, tags_at m t.root, tags_at m t.additions, d, h.no_group m, h.optional_groups m, h.lawful m) (h.lawful_additions m) ];
   tidy = λ n. elim n as (λ n. is_tidy (scope n (λ m. sequence (components_at m t.root) t.extensible (components_at m t.additions))) ≡ true) [ zero ↦ refl | suc m ↦ rw (h.tidy m) (h.tidy_additions m) ];
   no_group = λ n. elim n as (λ n. is_group (scope n (λ m. sequence (components_at m t.root) t.extensible (components_at m t.additions))) ≡ false) [ zero ↦ refl | suc m ↦ refl ];

@@ -3,10 +3,11 @@ use Rattle.std.specs.Prelude.{◌≡◌, ◌≤◌, ℕ, suc, true, false, not, 
 use Rattle.asn1_model.specs.Value.{Parts, fields, end, are_absent, depth_of_parts}
 use Rattle.asn1_model.specs.Schema.{Tag, Presence, Schema, group}
 use Rattle.asn1_model.specs.Normal.{normal_parts, is_tidy, are_tidy}
-use Rattle.asn1_model.specs.Lawful.{is_lawful, are_lawful, is_group, is_optional, has_optional_groups}
+use Rattle.asn1_model.specs.Lawful.{is_lawful, are_lawful, is_group, is_optional, has_optional_groups, are_tags}
+use Rattle.asn1_model.specs.Lawful.{are_tags_of}
 use Rattle.asn1_schema_presented.specs.Presents.{Part, left_out, PartsFit}
 use Rattle.asn1_schema_presented.specs.Parts.{part_unless}
-use Rattle.asn1_schema_presented.specs.Tables.{Fields, no_field, field, Table, components_at, field_tags, are_tags}
+use Rattle.asn1_schema_presented.specs.Tables.{Fields, no_field, field, Table, components_at, field_tags}
 use Rattle.asn1_schema_presented.specs.Tables.{scope}
 use Rattle.asn1_schema_presented.specs.Typed.{DefaultsThen}
 
@@ -25,7 +26,7 @@ HaveDefaults fs = DefaultsThen fs (Unit {0})
 
 -- A type may stand among additions: it is lawful, and a group stands there as optional.
 pub record IsAddition (tags : List Tag) (o : Presence) (schema : ℕ → Schema) : Type 0 where
-  pub tagged : are_tags tags ≡ true
+  pub tagged : (n : ℕ) → are_tags_of tags (schema n) ≡ true
   pub lawful : (n : ℕ) → is_lawful (schema n) ≡ true
   pub tidy : (n : ℕ) → is_tidy (schema n) ≡ true
   pub optional_group : (n : ℕ) → (not (is_group (schema n)) || is_optional o) ≡ true

@@ -1,11 +1,10 @@
 -- A type's schema, unfolded to any number of nested levels, is made of these.
-use Rattle.std.specs.Prelude.{◌≡◌, ◌≤◌, ℕ, zero, suc, Bool, true, false, cond, not, ◌&&◌, List, [], ◌++◌}
-use Rattle.asn1_model.specs.Value.{Value, depth}
+use Rattle.std.specs.Prelude.{◌≡◌, ◌≤◌, ℕ, zero, suc, Bool, true, false, cond, ◌&&◌, List, [], ◌∷◌, ◌++◌}
+use Rattle.asn1_model.specs.Value.{Value, depth, same_list}
 use Rattle.asn1_model.specs.Schema.{Tag, Size, Counts, Presence, Schema, cut, sequence_of, sequence, Components}
 use Rattle.asn1_model.specs.Schema.{no_component, component}
 use Rattle.asn1_model.specs.Normal.{normal, is_tidy}
-use Rattle.asn1_model.specs.Lawful.{is_lawful, is_group, is_empty, is_tag}
-use Rattle.asn1_model.specs.Strings.{each_is}
+use Rattle.asn1_model.specs.Lawful.{is_lawful, is_group, is_tag, tag_same, are_tags, are_tags_of}
 use Rattle.asn1_model.specs.Tables.{is_required}
 use Rattle.asn1_schema_presented.specs.Presents.{Fits}
 
@@ -61,14 +60,20 @@ sequence_type t n = scope n (λ m. sequence (components_at m t.root) t.extensibl
 unfoldable pub list_type : Size → Counts → (ℕ → Schema) → ℕ → Schema
 list_type z h s n = scope n (λ m. sequence_of z h (s m))
 
--- There is a tag, and each has one of the four classes (X.680 8.1).
-abbrev pub are_tags : List Tag → Bool
-are_tags ts = not (is_empty ts) && each_is is_tag ts
+-- One tag, of one of the four classes (X.680 8.1).
+abbrev pub is_one_tag : List Tag → Bool
+is_one_tag (t ∷ []) = is_tag t
+is_one_tag ts = false
 
--- A type has a tag, and what it is for each number of levels is lawful, with defaults in normal form, and no group of
--- additions.
+-- One tag, or those of all alternatives of a choice (X.680 29).
+abbrev pub are_choice_tags : List Tag → List Tag → Bool
+are_choice_tags (t ∷ []) all = is_tag t
+are_choice_tags ts all = are_tags ts && same_list tag_same ts all
+
+-- A type begins with these tags, and what it is for each number of levels is lawful, with defaults in normal form, and
+-- no group of additions.
 pub record IsType (tags : List Tag) (schema : ℕ → Schema) : Type 0 where
-  pub tagged : are_tags tags ≡ true
+  pub tagged : (n : ℕ) → are_tags_of tags (schema n) ≡ true
   pub lawful : (n : ℕ) → is_lawful (schema n) ≡ true
   pub tidy : (n : ℕ) → is_tidy (schema n) ≡ true
   pub no_group : (n : ℕ) → is_group (schema n) ≡ false

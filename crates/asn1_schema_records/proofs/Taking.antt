@@ -1,4 +1,6 @@
 -- How a record that is asked for is taken from the front, and why none is.
+use Rattle.asn1_model.specs.Schema.{any_number}
+use Rattle.asn1_model.specs.Schema.{any_alphabet}
 use Rattle.std.proofs.Common.{◌≡◌, ℕ, ℤ, true, false, ◌||◌, List, [], ◌∷◌, Option, sym, ◌∙◌, subst, ap}
 use Rattle.asn1_model.specs.Schema.{Range, Bounds, Counts, Size, Alphabet, StringKind, utf8, visible, any_count}
 use Rattle.asn1_model.specs.Numbers.{is_within}
@@ -11,7 +13,7 @@ use Rattle.asn1_schema_faults.specs.declared.DecodeError.{DecodeError}
 use Rattle.asn1_schema_faults.specs.declared.DecodeError.TheVariants.{IntegerOverflow, ValueConstraintNotSatisfied, PermittedAlphabet, OutOfMemory}
 use Rattle.asn1_schema_presented.specs.Records.{Record, Question, question, whole, characters, asks_whole, asks_characters}
 use Rattle.asn1_schema_records.proofs.Putting.{kind_kept}
-use Rattle.asn1_schema_records.specs.Kept.{kept_kind, any_number, any_alphabet}
+use Rattle.asn1_schema_records.specs.Kept.{kept_kind}
 use Rattle.asn1_schema_constraints.proofs.Held.{not_held, not_admitted}
 use Rattle.asn1_schema_records.specs.Taken.{Left, Takes, Leaves, Levels, IsKept, IsUntaken, IsUnspelled, MayHold}
 use Rattle.asn1_values_alphabets.specs.Permitted.{permits_all}

@@ -2,7 +2,7 @@
 -- without their kind and alphabet, but for whether it is UTF8String, and of enumerations and choices without the
 -- tables of their items and alternatives.
 use Rattle.std.specs.Prelude.{◌≡◌, ◌++◌, Bool, true, false, List, [], ◌∷◌, None, string_bytes}
-use Rattle.asn1_model.specs.Schema.{Range, Bounds, Size, Alphabet, StringKind, any_count, utf8, visible}
+use Rattle.asn1_model.specs.Schema.{Bounds, Size, StringKind, any_count, any_number, any_alphabet, utf8, visible}
 use Rattle.asn1_schema_faults.specs.declared.CodecKind.{CodecKind}
 use Rattle.asn1_schema_faults.specs.declared.EncodeError.{EncodeError}
 use Rattle.asn1_schema_faults.specs.declared.EncodeError.TheVariants.{OutOfMemory}
@@ -28,12 +28,6 @@ bounds_in l = record { range = record { low = l.low; high = l.high }; extensible
 -- Sizes, as the model has them.
 abbrev pub sizes_in : Sizes → Size
 sizes_in z = record { counts = record { low = z.low; high = z.high }; extensible = z.extensible }
-
-abbrev pub any_number : Range
-any_number = record { low = None; high = None }
-
-abbrev pub any_alphabet : Alphabet
-any_alphabet = record { characters = None; extensible = false }
 
 -- UTF8String, or one that stands for all other kinds of character strings.
 abbrev pub kept_kind : StringKind → StringKind

@@ -1,4 +1,6 @@
 -- How the decoder of kept records takes them: each exactly where it is next and the program's type holds it.
+use Rattle.asn1_model.specs.Schema.{any_number}
+use Rattle.asn1_model.specs.Schema.{any_alphabet}
 use Rattle.std.specs.Prelude.{◌≡◌, ◌+◌, ◌<◌, ◌≤◌, ◌^◌, ◌⊎◌, ◌||◌, ℕ, ℤ, Bool, true, false}
 use Rattle.std.specs.Prelude.{cond, List, [], ◌∷◌, Option, length}
 use Rattle.asn1_model.specs.Schema.{Tag, Range, Bounds, Counts, Size, StringKind, utf8, visible, any_count}
@@ -22,7 +24,7 @@ use Rattle.asn1_values_natives.specs.Octets.{plain}
 use Rattle.asn1_schema_presented.specs.Records.{Record, Question, question, whole, one_of, bits, octets, characters}
 use Rattle.asn1_schema_presented.specs.Records.{list_begins, bag_begins, choice_begins, asks_list, asks_bag}
 use Rattle.asn1_schema_presented.specs.Records.{asks_sequence, asks_set, asks_group, asks_choice, asks_end, ends}
-use Rattle.asn1_schema_records.specs.Kept.{any_number, any_alphabet, kept_kind}
+use Rattle.asn1_schema_records.specs.Kept.{kept_kind}
 use Rattle.asn1_schema_variants.specs.Items.{IsPlaced, IsNone}
 
 -- What a decoder holds: the records that are left, how many more levels may be nested, how many were so at the

@@ -1,4 +1,6 @@
 //! What is kept of each record.
+ghost use Rattle.asn1_model.specs.Schema.{any_number};
+ghost use Rattle.asn1_model.specs.Schema.{any_alphabet};
 ghost use Rattle.std.specs.Prelude.{◌≡◌, ◌↔◌, ℕ, ℤ, Bool, List, [], IsTrue, MatchOption, string_bytes};
 ghost use Rattle.asn1_model.specs.Schema.{Bounds, Size, utf8, visible, any_count};
 ghost use Rattle.asn1_schema_constraints.specs.Terms.{bounds_of, sizes_of};
@@ -6,7 +8,7 @@ ghost use Rattle.asn1_schema_presented.specs.Records.{flag, nil, whole, one_of, 
 ghost use Rattle.asn1_schema_presented.specs.Records.{list_begins, bag_begins, further, sequence_begins, set_begins};
 ghost use Rattle.asn1_schema_presented.specs.Records.{group_begins, presence_bit, is_default, is_empty};
 ghost use Rattle.asn1_schema_presented.specs.Records.{additions_begin, addition, addition_ends, choice_begins, ends};
-ghost use Rattle.asn1_schema_records.specs.Kept.{bounds_in, sizes_in, any_number, any_alphabet, record_of};
+ghost use Rattle.asn1_schema_records.specs.Kept.{bounds_in, sizes_in, record_of};
 
 use asn1_schema_constraints::Constraints;
 use asn1_schema_variants::{Chosen, Enumerated};

@@ -12,13 +12,15 @@ use asn1_schema_wrapped::ConstraintsOf;
 pub struct UpToTen;
 
 impl ConstraintsOf<u8> for UpToTen {
+    ghost tags = { ⟦<u8 as Described>⟧.tags };
+
     ghost terms = { from_to (pos 0) (pos 10) };
 
     ghost under = { ⟦<u8 as Described>⟧.under };
 
     ghost meaning = { ⟦<u8 as Described>⟧.meaning };
 
-    ghost lawful = { λ ts e. integer_type _ _ e refl refl };
+    ghost lawful = { integer_type _ _ refl refl refl };
 
     ghost valued = { ⟦<u8 as Described>⟧.valued_under };
 
@@ -28,6 +30,8 @@ impl ConstraintsOf<u8> for UpToTen {
             ..Constraints::NONE
         }
     }
+
+    ghost same_tags = { refl };
 
     ghost same_under = { λ _. refl };
 

@@ -1,7 +1,7 @@
 -- Whole numbers within a range, as types of the model (X.680 51.4).
 use Rattle.std.proofs.Common.{◌≡◌, ◌∙◌, refl, ap, ℤ, negsuc, Bool, true, false, cond, List, Option, Some, None}
 use Rattle.asn1_model.specs.Value.{number}
-use Rattle.asn1_model.specs.Schema.{Tag, Range, Schema}
+use Rattle.asn1_model.specs.Schema.{Tag, Range, Schema, any_number}
 use Rattle.asn1_model.specs.Numbers.{is_at_most}
 use Rattle.asn1_model.specs.Lawful.{is_range}
 use Rattle.asn1_schema_constraints.specs.Bounds.{later, earlier}
@@ -11,7 +11,7 @@ use Rattle.asn1_schema_constraints.specs.declared.bounds.Bounded.TheVariants.{Ra
 use Rattle.asn1_schema_constraints.specs.declared.parts.Value.{Value}
 use Rattle.asn1_schema_constraints.specs.declared.extensions.Extensible.{Extensible}
 use Rattle.asn1_schema_constraints.specs.declared.lists.Constraints.{Constraints}
-use Rattle.asn1_schema_presented.specs.Tables.{are_tags, IsType, IsValue}
+use Rattle.asn1_schema_presented.specs.Tables.{is_one_tag, IsType, IsValue}
 use Rattle.asn1_schema_presented.proofs.TypesByKind.{integer_type, integer_value}
 use Rattle.asn1_values_natives.specs.Ranges.{natural_range}
 
@@ -30,10 +30,6 @@ within_range low high c = record no_constraint {
   is_bounded = true;
 }
 
--- Every number: what a type of the program without a range of its own holds.
-abbrev pub every_number : Range
-every_number = record { low = None; high = None }
-
 -- INTEGER in which there is no number: from -1 to -1, in one octet without a sign.
 abbrev pub no_integer : Schema
 no_integer = integer_under (from_to (negsuc 0) (negsuc 0)) (natural_range 255)
@@ -41,7 +37,7 @@ no_integer = integer_under (from_to (negsuc 0) (negsuc 0)) (natural_range 255)
 -- INTEGER under constraints and within a range. One whose ends are the wrong way round has no number.
 abbrev pub constrained_type : ℤ → ℤ → Meant → Schema
 constrained_type low high c =
-    cond (is_at_most low high) (integer_under (within_range low high c) every_number) no_integer
+    cond (is_at_most low high) (integer_under (within_range low high c) any_number) no_integer
 
 -- The constraints of the program to a root, without an extension marker.
 abbrev pub to_root : Value → Constraints
@@ -69,17 +65,17 @@ met_ordered low high e =
     ∙ (ap (λ (z : ℤ). is_at_most low z) (either (is_at_most high high) high) ∙ e)
 
 -- The type under its own range is a lawful one.
-pub constrained_is_type : {ts : List Tag} (low high : ℤ) → are_tags ts ≡ true
+pub constrained_is_type : {ts : List Tag} (low high : ℤ) → is_one_tag ts ≡ true
     → IsType ts (λ _. constrained_type low high (from_to low high))
 constrained_is_type {ts} low high t = go (is_at_most low high) refl where
   go : (b : Bool) → is_at_most low high ≡ b
-      → IsType ts (λ _. cond b (integer_under (within_range low high (from_to low high)) every_number) no_integer)
+      → IsType ts (λ _. cond b (integer_under (within_range low high (from_to low high)) any_number) no_integer)
   go true e = integer_type _ _ t (met_ordered low high e) refl
   go false e = integer_type _ _ t refl refl
 
 -- A number within a range is a value of its type.
 pub constrained_is_value : (low high : ℤ) (c : Meant) (z : ℤ) → IsValue (λ _. constrained_type low high c) (number z)
 constrained_is_value low high c z = go (is_at_most low high) where
-  go : (b : Bool) → IsValue (λ _. cond b (integer_under (within_range low high c) every_number) no_integer) (number z)
+  go : (b : Bool) → IsValue (λ _. cond b (integer_under (within_range low high c) any_number) no_integer) (number z)
   go true = integer_value _ _ _
   go false = integer_value _ _ _

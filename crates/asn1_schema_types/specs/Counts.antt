@@ -6,8 +6,8 @@ use Rattle.asn1_model.specs.Lawful.{is_size}
 use Rattle.asn1_schema_constraints.specs.Terms.{Meant, sized}
 
 -- any number of them that 64 bits count
-abbrev pub any_number : Counts
-any_number = record { low = 0; high = Some (2 ^ 64 - 1) }
+abbrev pub any_number_held : Counts
+any_number_held = record { low = 0; high = Some (2 ^ 64 - 1) }
 
 -- so many, and no other number
 abbrev pub exactly : ℕ → Counts

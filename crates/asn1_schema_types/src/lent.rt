@@ -9,7 +9,7 @@ ghost use Rattle.asn1_schema_presented.specs.Tables.{list_type};
 ghost use Rattle.asn1_schema_presented.proofs.TypesByKind.{type_list, value_list, character_string_type};
 ghost use Rattle.asn1_schema_presented.proofs.TypesByKind.{character_string_value};
 ghost use Rattle.asn1_schema_tags.specs.Trees.{leaves};
-ghost use Rattle.asn1_schema_types.specs.Counts.{any_number};
+ghost use Rattle.asn1_schema_types.specs.Counts.{any_number_held};
 
 use crate::described::{AsnType, Described};
 use asn1_schema_constraints::Constraints;
@@ -132,9 +132,9 @@ impl<'a, T: Described> Described for CowSlice<'a, T, Global> {
 
     ghost own = { no_constraint };
 
-    ghost under = { λ c. list_type c.size any_number T.schema };
+    ghost under = { λ c. list_type c.size any_number_held T.schema };
 
-    ghost schema = { list_type no_constraint.size any_number T.schema };
+    ghost schema = { list_type no_constraint.size any_number_held T.schema };
 
     ghost is_own = { λ _. refl };
 

@@ -5,7 +5,7 @@ ghost use Rattle.asn1_schema_constraints.specs.Terms.{no_constraint};
 ghost use Rattle.asn1_schema_presented.specs.Parts.{values_of};
 ghost use Rattle.asn1_schema_presented.specs.Tables.{list_type};
 ghost use Rattle.asn1_schema_presented.proofs.TypesByKind.{type_list, value_list};
-ghost use Rattle.asn1_schema_types.specs.Counts.{any_number, exactly, fixed_to, exactly_is_size};
+ghost use Rattle.asn1_schema_types.specs.Counts.{any_number_held, exactly, fixed_to, exactly_is_size};
 
 use crate::described::{AsnType, Described};
 use asn1_schema_constraints::{Constraints, Extensible, Size};
@@ -16,9 +16,9 @@ impl<T: Described> Described for Vec<T> {
 
     ghost own = { no_constraint };
 
-    ghost under = { λ c. list_type c.size any_number T.schema };
+    ghost under = { λ c. list_type c.size any_number_held T.schema };
 
-    ghost schema = { list_type no_constraint.size any_number T.schema };
+    ghost schema = { list_type no_constraint.size any_number_held T.schema };
 
     ghost is_own = { λ _. refl };
 
@@ -89,9 +89,9 @@ impl<T: Described> Described for &[T] {
 
     ghost own = { no_constraint };
 
-    ghost under = { λ c. list_type c.size any_number T.schema };
+    ghost under = { λ c. list_type c.size any_number_held T.schema };
 
-    ghost schema = { list_type no_constraint.size any_number T.schema };
+    ghost schema = { list_type no_constraint.size any_number_held T.schema };
 
     ghost is_own = { λ _. refl };
 

@@ -5,7 +5,7 @@ ghost use Rattle.asn1_schema_constraints.specs.Terms.{no_constraint};
 ghost use Rattle.asn1_schema_presented.specs.Parts.{values_of};
 ghost use Rattle.asn1_schema_constructed.specs.Bags.{bag_type};
 ghost use Rattle.asn1_schema_constructed.proofs.Bags.{type_bag, value_bag};
-ghost use Rattle.asn1_schema_types.specs.Counts.{any_number};
+ghost use Rattle.asn1_schema_types.specs.Counts.{any_number_held};
 
 use crate::set_of::SetOf;
 use asn1_schema_constraints::{Bounded, Constraints};
@@ -22,9 +22,9 @@ impl<T: Described> Described for SetOf<T> {
 
     ghost own = { no_constraint };
 
-    ghost under = { λ c. bag_type c.size any_number T.schema };
+    ghost under = { λ c. bag_type c.size any_number_held T.schema };
 
-    ghost schema = { bag_type no_constraint.size any_number T.schema };
+    ghost schema = { bag_type no_constraint.size any_number_held T.schema };
 
     ghost is_own = { λ _. refl };
 

@@ -1,12 +1,12 @@
 //! Values under constraints of a component's own (X.680 49.1).
-ghost use Rattle.std.specs.Prelude.{◌≡◌, ℕ, List, true, refl};
+ghost use Rattle.std.specs.Prelude.{◌≡◌, ℕ, List, refl};
 ghost use Rattle.std.specs.Borrow.{Lends, sem};
 ghost use Rattle.std.proofs.Common.{ap, ◌∙◌};
 ghost use Rattle.std.proofs.Math.Bool.{and-true};
 ghost use Rattle.asn1_schema_constraints.specs.Terms.{Meant, meant};
 ghost use Rattle.asn1_model.specs.Schema.{Schema, Tag as ModelTag};
 ghost use Rattle.asn1_model.specs.Value.{Value, same};
-ghost use Rattle.asn1_schema_presented.specs.Tables.{are_tags, IsType, IsValue};
+ghost use Rattle.asn1_schema_presented.specs.Tables.{IsType, IsValue};
 
 use asn1_schema_constraints::Constraints;
 use asn1_schema_decode::{Decode, Decoder};
@@ -21,6 +21,9 @@ use std::ops::{Deref, DerefMut};
 /// Constraints that stand in place of those that the type `T` has of its own. What `T` is under constraints is said
 /// here once more, as it stands in its `Described`.
 pub trait ConstraintsOf<T: Described> {
+    /// The tags with which an encoding may begin.
+    ghost tags: { List ModelTag };
+
     /// What the constraints mean.
     ghost terms: { Meant };
 
@@ -30,8 +33,8 @@ pub trait ConstraintsOf<T: Described> {
     /// The value that a value of the program means.
     ghost meaning: { T → Value };
 
-    /// The type under the constraints is a lawful one, whatever its tags.
-    ghost lawful: { (ts : List ModelTag) → are_tags ts ≡ true → IsType ts (under terms) };
+    /// The type under the constraints is a lawful one.
+    ghost lawful: { IsType tags (under terms) };
 
     /// Each value is one of the type, whatever constraints it has.
     ghost valued: { (c : Meant) (x : T) → IsValue (under c) (meaning x) };
@@ -41,6 +44,8 @@ pub trait ConstraintsOf<T: Described> {
         ensures { meant result ≡ terms };
 
     /// This is what the type is.
+    ghost same_tags: { T.tags ≡ tags };
+
     ghost same_under: { (c : Meant) → T.under c ≡ under c };
 
     ghost same_meaning: { (x : T) → T.meaning x ≡ meaning x };
@@ -102,7 +107,7 @@ impl<C, V> DerefMut for Constrained<C, V> {
 }
 
 impl<C: ConstraintsOf<V>, V: Described> Described for Constrained<C, V> {
-    ghost tags = { V.tags };
+    ghost tags = { C.tags };
 
     ghost own = { C.terms };
 
@@ -114,7 +119,7 @@ impl<C: ConstraintsOf<V>, V: Described> Described for Constrained<C, V> {
 
     ghost meaning = { λ t. C.meaning t.value };
 
-    ghost typed = { C.lawful V.tags V.typed.tagged };
+    ghost typed = { C.lawful };
 
     ghost valued = { λ t. C.valued C.terms t.value };
 

@@ -20,19 +20,23 @@ pub struct SizeRange<const LOW: usize, const HIGH: usize>;
 pub struct ExtensibleSizeRange<const LOW: usize, const HIGH: usize>;
 
 impl<const LOW: usize, const HIGH: usize> ConstraintsOf<OctetString> for SizeRange<LOW, HIGH> {
+    ghost tags = { ⟦<OctetString as Described>⟧.tags };
+
     ghost terms = { sizes_from_to LOW HIGH false };
 
     ghost under = { ⟦<OctetString as Described>⟧.under };
 
     ghost meaning = { ⟦<OctetString as Described>⟧.meaning };
 
-    ghost lawful = { λ ts e. octet_string_type _ _ e (are_sizes LOW HIGH) };
+    ghost lawful = { octet_string_type _ _ refl (are_sizes LOW HIGH) };
 
     ghost valued = { ⟦<OctetString as Described>⟧.valued_under };
 
     fn constraints() -> Constraints<'static> {
         from_to(LOW, HIGH, false)
     }
+
+    ghost same_tags = { refl };
 
     ghost same_under = { λ _. refl };
 
@@ -41,13 +45,15 @@ impl<const LOW: usize, const HIGH: usize> ConstraintsOf<OctetString> for SizeRan
 
 impl<const LOW: usize, const HIGH: usize> ConstraintsOf<OctetString>
     for ExtensibleSizeRange<LOW, HIGH> {
+    ghost tags = { ⟦<OctetString as Described>⟧.tags };
+
     ghost terms = { sizes_from_to LOW HIGH true };
 
     ghost under = { ⟦<OctetString as Described>⟧.under };
 
     ghost meaning = { ⟦<OctetString as Described>⟧.meaning };
 
-    ghost lawful = { λ ts e. octet_string_type _ _ e (are_sizes LOW HIGH) };
+    ghost lawful = { octet_string_type _ _ refl (are_sizes LOW HIGH) };
 
     ghost valued = { ⟦<OctetString as Described>⟧.valued_under };
 
@@ -55,25 +61,31 @@ impl<const LOW: usize, const HIGH: usize> ConstraintsOf<OctetString>
         from_to(LOW, HIGH, true)
     }
 
+    ghost same_tags = { refl };
+
     ghost same_under = { λ _. refl };
 
     ghost same_meaning = { λ _. refl };
 }
 
 impl<const LOW: usize, const HIGH: usize> ConstraintsOf<BitString> for SizeRange<LOW, HIGH> {
+    ghost tags = { ⟦<BitString as Described>⟧.tags };
+
     ghost terms = { sizes_from_to LOW HIGH false };
 
     ghost under = { ⟦<BitString as Described>⟧.under };
 
     ghost meaning = { ⟦<BitString as Described>⟧.meaning };
 
-    ghost lawful = { λ ts e. bit_string_type _ _ e (are_sizes LOW HIGH) };
+    ghost lawful = { bit_string_type _ _ refl (are_sizes LOW HIGH) };
 
     ghost valued = { ⟦<BitString as Described>⟧.valued_under };
 
     fn constraints() -> Constraints<'static> {
         from_to(LOW, HIGH, false)
     }
+
+    ghost same_tags = { refl };
 
     ghost same_under = { λ _. refl };
 
@@ -82,19 +94,23 @@ impl<const LOW: usize, const HIGH: usize> ConstraintsOf<BitString> for SizeRange
 
 impl<const LOW: usize, const HIGH: usize> ConstraintsOf<BitString>
     for ExtensibleSizeRange<LOW, HIGH> {
+    ghost tags = { ⟦<BitString as Described>⟧.tags };
+
     ghost terms = { sizes_from_to LOW HIGH true };
 
     ghost under = { ⟦<BitString as Described>⟧.under };
 
     ghost meaning = { ⟦<BitString as Described>⟧.meaning };
 
-    ghost lawful = { λ ts e. bit_string_type _ _ e (are_sizes LOW HIGH) };
+    ghost lawful = { bit_string_type _ _ refl (are_sizes LOW HIGH) };
 
     ghost valued = { ⟦<BitString as Described>⟧.valued_under };
 
     fn constraints() -> Constraints<'static> {
         from_to(LOW, HIGH, true)
     }
+
+    ghost same_tags = { refl };
 
     ghost same_under = { λ _. refl };
 
@@ -103,19 +119,23 @@ impl<const LOW: usize, const HIGH: usize> ConstraintsOf<BitString>
 
 impl<T: Described, const LOW: usize, const HIGH: usize> ConstraintsOf<Vec<T>>
     for SizeRange<LOW, HIGH> {
+    ghost tags = { ⟦<Vec<T> as Described>⟧.tags };
+
     ghost terms = { sizes_from_to LOW HIGH false };
 
     ghost under = { ⟦<Vec<T> as Described>⟧.under };
 
     ghost meaning = { ⟦<Vec<T> as Described>⟧.meaning };
 
-    ghost lawful = { λ ts e. type_list _ _ e (are_sizes LOW HIGH) T.typed };
+    ghost lawful = { type_list _ _ refl (are_sizes LOW HIGH) T.typed };
 
     ghost valued = { ⟦<Vec<T> as Described>⟧.valued_under };
 
     fn constraints() -> Constraints<'static> {
         from_to(LOW, HIGH, false)
     }
+
+    ghost same_tags = { refl };
 
     ghost same_under = { λ _. refl };
 
@@ -124,19 +144,23 @@ impl<T: Described, const LOW: usize, const HIGH: usize> ConstraintsOf<Vec<T>>
 
 impl<T: Described, const LOW: usize, const HIGH: usize> ConstraintsOf<Vec<T>>
     for ExtensibleSizeRange<LOW, HIGH> {
+    ghost tags = { ⟦<Vec<T> as Described>⟧.tags };
+
     ghost terms = { sizes_from_to LOW HIGH true };
 
     ghost under = { ⟦<Vec<T> as Described>⟧.under };
 
     ghost meaning = { ⟦<Vec<T> as Described>⟧.meaning };
 
-    ghost lawful = { λ ts e. type_list _ _ e (are_sizes LOW HIGH) T.typed };
+    ghost lawful = { type_list _ _ refl (are_sizes LOW HIGH) T.typed };
 
     ghost valued = { ⟦<Vec<T> as Described>⟧.valued_under };
 
     fn constraints() -> Constraints<'static> {
         from_to(LOW, HIGH, true)
     }
+
+    ghost same_tags = { refl };
 
     ghost same_under = { λ _. refl };
 

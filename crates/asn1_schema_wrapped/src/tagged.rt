@@ -1,6 +1,8 @@
 //! Values under another tag (X.680 31).
-ghost use Rattle.asn1_schema_presented.proofs.TypesByKind.{retagged};
-ghost use Rattle.std.specs.Prelude.{◌≡◌};
+ghost use Rattle.asn1_model.specs.Lawful.{smallest};
+ghost use Rattle.asn1_schema_presented.proofs.TypesByKind.{under_smallest};
+ghost use Rattle.asn1_schema_tags.specs.Trees.{greatest_tag};
+ghost use Rattle.std.specs.Prelude.{◌≡◌, [], ◌∷◌, refl};
 ghost use Rattle.std.proofs.Common.{◌∙◌};
 ghost use Rattle.std.proofs.Math.Bool.{and-true};
 ghost use Rattle.std.specs.Borrow.{Lends, sem};
@@ -15,7 +17,7 @@ use std::alloc::Global;
 use std::marker::PhantomData;
 use std::ops::{Deref, DerefMut};
 
-/// A value whose own tag another one replaces (X.680 31.2.7), that of `T`.
+/// A value whose own tag another one replaces (X.680 31.2.7), that of `T`: of a choice the smallest.
 #[derive(Drop)]
 #[derive_where(Clone, Debug, PartialEq, Eq; V)]
 pub struct Implicit<T, V> {
@@ -70,7 +72,7 @@ impl<T, V> DerefMut for Implicit<T, V> {
 }
 
 impl<T: Described, V: Described> Described for Implicit<T, V> {
-    ghost tags = { T.tags };
+    ghost tags = { smallest greatest_tag T.tags ∷ [] };
 
     ghost own = { V.own };
 
@@ -82,7 +84,7 @@ impl<T: Described, V: Described> Described for Implicit<T, V> {
 
     ghost meaning = { λ t. V.meaning t.value };
 
-    ghost typed = { retagged T.typed.tagged V.typed };
+    ghost typed = { under_smallest greatest_tag refl T.typed V.typed };
 
     ghost valued = { λ t. V.valued t.value };
 
@@ -100,7 +102,7 @@ impl<T: AsnType, V: AsnType> AsnType for Implicit<T, V> {
     const IDENTIFIER: Identifier = V::IDENTIFIER;
 
     fn tag_tree() -> TagTree<'static> {
-        T::tag_tree()
+        TagTree::of(T::tag_tree().smallest_tag())
     }
 
     fn constraints() -> Constraints<'static> {
@@ -186,7 +188,7 @@ impl<T, V> DerefMut for Explicit<T, V> {
 }
 
 impl<T: Described, V: Described> Described for Explicit<T, V> {
-    ghost tags = { T.tags };
+    ghost tags = { smallest greatest_tag T.tags ∷ [] };
 
     ghost own = { V.own };
 
@@ -198,7 +200,7 @@ impl<T: Described, V: Described> Described for Explicit<T, V> {
 
     ghost meaning = { λ t. V.meaning t.value };
 
-    ghost typed = { retagged T.typed.tagged V.typed };
+    ghost typed = { under_smallest greatest_tag refl T.typed V.typed };
 
     ghost valued = { λ t. V.valued t.value };
 
@@ -216,7 +218,7 @@ impl<T: AsnType, V: AsnType> AsnType for Explicit<T, V> {
     const IDENTIFIER: Identifier = V::IDENTIFIER;
 
     fn tag_tree() -> TagTree<'static> {
-        T::tag_tree()
+        TagTree::of(T::tag_tree().smallest_tag())
     }
 
     fn constraints() -> Constraints<'static> {

@@ -25,26 +25,22 @@ use Rattle.oer_codec_encoder.proofs.Scopes.{on_top, put_back, appended}
 abbrev pub begun : ℕ → Vec ℕ Global → BagFrame
 begun n outer = record { due = n; outer = outer; members = None }
 
-pub does_begin_bag : (fs gs : List Frame) (o p q : List ℕ) (z : Size) (h : Counts) (n : ℕ) (outer : Vec ℕ Global) (boxed : Box BagFrame Global) → is_count_within h n ≡ true → Adds (written (Oer.unsigned n) 0) o p → outer.items ≡ p → q ≡ [] → boxed.value ≡ begun n outer → gs ≡ Bag boxed ∷ fs → Does (bag_begins z h n) fs o gs q
-does_begin_bag fs gs o p q z h n outer boxed k x r v held y = record { after = λ s d. go s d (written (Oer.unsigned n) 0) refl x }
+pub does_begin_bag : (fs gs : List Frame) (o p q : List ℕ) (z : Size) (h : Counts) (n : ℕ) (outer : Vec ℕ Global) (boxed : Box BagFrame Global) → Adds (written (only_if (is_count_within h n) (Oer.unsigned n)) 0) o p → outer.items ≡ p → q ≡ [] → boxed.value ≡ begun n outer → gs ≡ Bag boxed ∷ fs → Does (bag_begins z h n) fs o gs q
+does_begin_bag fs gs o p q z h n outer boxed x r v held y = record { after = λ s d. go s d (written (only_if (is_count_within h n) (Oer.unsigned n)) 0) refl x }
   where
-    told : written (only_if (is_count_within h n) (Oer.unsigned n)) 0 ≡ written (Oer.unsigned n) 0
-    told = ap (λ (b : Bool). written (only_if b (Oer.unsigned n)) 0) k
-
-    go : (s : State) → Holds fs o s → (t : Option (List ℕ)) → written (Oer.unsigned n) 0 ≡ t → Adds t o p → (u : State) × (run (bag_begins z h n) s ≡ Some u) × Holds gs q u
+    go : (s : State) → Holds fs o s → (t : Option (List ℕ)) → written (only_if (is_count_within h n) (Oer.unsigned n)) 0 ≡ t → Adds t o p → (u : State) × (run (bag_begins z h n) s ≡ Some u) × Holds gs q u
     go s d None e a = cc
     go s d (Some w) e a =
         let u : State = ([], bag_members n None (s.0 ++ w) ∷ s.1) in
         let b : o ++ w ≡ outer.items = (let same : o ++ w ≡ p = cc a in same) ∙ sym r in
         let inside : IsInBag (λ l t. Holds fs l t) (begun n outer) [] u = ((s.0 ++ w, s.1), refl, subst (λ l. Holds fs l (s.0 ++ w, s.1)) b (appended fs o s w d)) in (
           u,
-          ap (option_map (λ l. let v : State = ([], bag_members n None (s.0 ++ l) ∷ s.1) in v)) (told ∙ e),
+          ap (option_map (λ l. let v : State = ([], bag_members n None (s.0 ++ l) ∷ s.1) in v)) e,
           subst (λ l. Holds gs l u) (sym v) (put_back gs fs (Bag boxed) [] u y (subst (λ (f : BagFrame). IsInBag (λ l t. Holds fs l t) f [] u) (sym held) inside)),
         )
 
-pub no_begin_bag : (fs : List Frame) (o : List ℕ) (z : Size) (h : Counts) (n : ℕ) → is_count_within h n ≡ false → (s : State) → Holds fs o s → run (bag_begins z h n) s ≡ None
-unfolding written
-no_begin_bag fs o z h n k s d = ap (λ (b : Bool). option_map (λ w. let v : State = ([], bag_members n None (s.0 ++ w) ∷ s.1) in v) (written (only_if b (Oer.unsigned n)) 0)) k
+pub no_begin_bag : (z : Size) (h : Counts) (n : ℕ) → written (only_if (is_count_within h n) (Oer.unsigned n)) 0 ≡ None → (s : State) → run (bag_begins z h n) s ≡ None
+no_begin_bag z h n e s = ap (option_map (λ w. let v : State = ([], bag_members n None (s.0 ++ w) ∷ s.1) in v)) e
 
 -- ---- it goes on
 

@@ -1,5 +1,5 @@
 -- Why records are refused, by the octets and the frames of an encoder.
-use Rattle.std.proofs.Common.{◌≡◌, ℕ, zero, suc, not, ltb, Bool, true, false, List, [], ◌∷◌, None, Box, Global, Result, Ok, Err, MatchResult, refl, ap, subst, sym, ◌∙◌, arith}
+use Rattle.std.proofs.Common.{◌≡◌, ℕ, zero, suc, not, ltb, Bool, true, false, List, [], ◌∷◌, Option, None, Box, Global, Result, Ok, Err, MatchResult, refl, ap, subst, sym, ◌∙◌, arith}
 use Rattle.std.specs.Result.{IsErr, IsErrAnd}
 use Rattle.std.proofs.lemmas.Bool.{lt-ltb}
 use Rattle.asn1_schema_faults.specs.declared.EncodeError.{EncodeError}
@@ -12,12 +12,24 @@ use Rattle.oer_codec_encoder.specs.declared.frame.Frame.{Frame}
 use Rattle.oer_codec_encoder.specs.declared.frame.Frame.TheVariants.{Components, Added, OpenType, Members, Bag, Alternative}
 use Rattle.oer_codec_encoder.specs.declared.frame.Preamble.{Preamble}
 use Rattle.oer_codec_encoder.specs.Holding.{Holds, Cannot}
+use Rattle.oer_codec_writing.specs.Writing.{Refuses}
 use Rattle.oer_codec_encoder.proofs.Scopes.{on_top, behind_root}
 
 -- what a `?` passes on
 pub passed_on : {T E : Type 0} (P : T → Type 0) (Q : E → Type 0) (x : E) (r : Result T E) → IsErr r → IsErrAnd r (λ y. y ≡ x) → Q x → MatchResult r P Q
 passed_on P Q x (Ok v) n h p = let e : false ≡ true = n in cc
 passed_on P Q x (Err y) n h p = subst Q (sym h) p
+
+-- a writer refused a text without which there is no step
+pub no_text : (r : Record) (x : Option (List ℕ)) (fs : List Frame) (o : List ℕ) (e : EncodeError) → (x ≡ None → (s : State) → run r s ≡ None) → Refuses x e → Cannot r fs o e
+no_text r x fs o OutOfMemory q h = tt
+no_text r x fs o ValueConstraintNotSatisfied q h = λ s _. q h s
+no_text r x fs o SizeConstraintNotSatisfied q h = λ s _. q h s
+no_text r x fs o AlphabetConstraintNotSatisfied q h = λ s _. q h s
+no_text r x fs o TooLongValue q h = λ s _. q h s
+no_text r x fs o LengthExceedsPlatformSize q h = λ s _. q h s
+no_text r x fs o CallOutOfPlace q h = λ s _. q h s
+no_text r x fs o AlreadyFailed q h = absurd h
 
 apart : {b : Bool} → true ≡ b → b ≡ false → ⊥
 apart h k = let x : true ≡ false = h ∙ k in cc

@@ -405,18 +405,15 @@ does_end_members fs rest due o a n = record { after = λ s h. go s (subst (λ k.
     go : (s : State) → Holds (Members 0 ∷ rest) o s → (t : State) × (run ends s ≡ Some t) × Holds rest o t
     go s h = (h.0, ap (run ends) h.1, h.2)
 
-pub does_begin_members : (fs gs : List Frame) (o p : List ℕ) (z : Size) (h : Counts) (n : ℕ) → is_count_within h n ≡ true → Adds (written (Oer.unsigned n) 0) o p → gs ≡ Members n ∷ fs → Does (list_begins z h n) fs o gs p
-does_begin_members fs gs o p z h n k x y = record { after = λ s d. go s d (written (Oer.unsigned n) 0) refl x }
+pub does_begin_members : (fs gs : List Frame) (o p : List ℕ) (z : Size) (h : Counts) (n : ℕ) → Adds (written (only_if (is_count_within h n) (Oer.unsigned n)) 0) o p → gs ≡ Members n ∷ fs → Does (list_begins z h n) fs o gs p
+does_begin_members fs gs o p z h n x y = record { after = λ s d. go s d (written (only_if (is_count_within h n) (Oer.unsigned n)) 0) refl x }
   where
-    told_count : written (only_if (is_count_within h n) (Oer.unsigned n)) 0 ≡ written (Oer.unsigned n) 0
-    told_count = ap (λ (b : Bool). written (only_if b (Oer.unsigned n)) 0) k
-
-    go : (s : State) → Holds fs o s → (t : Option (List ℕ)) → written (Oer.unsigned n) 0 ≡ t → Adds t o p → (u : State) × (run (list_begins z h n) s ≡ Some u) × Holds gs p u
+    go : (s : State) → Holds fs o s → (t : Option (List ℕ)) → written (only_if (is_count_within h n) (Oer.unsigned n)) 0 ≡ t → Adds t o p → (u : State) × (run (list_begins z h n) s ≡ Some u) × Holds gs p u
     go s d None e a = cc
     go s d (Some w) e a =
         let u : State = (s.0 ++ w, members n ∷ s.1) in
         let b : o ++ w ≡ p = cc a in
-        (u, ap (option_map (λ l. let v : State = (s.0 ++ l, members n ∷ s.1) in v)) (told_count ∙ e), put_back gs fs (Members n) p u y ((s.0 ++ w, s.1), refl, subst (λ l. Holds fs l (s.0 ++ w, s.1)) b (appended fs o s w d)))
+        (u, ap (option_map (λ l. let v : State = (s.0 ++ l, members n ∷ s.1) in v)) e, put_back gs fs (Members n) p u y ((s.0 ++ w, s.1), refl, subst (λ l. Holds fs l (s.0 ++ w, s.1)) b (appended fs o s w d)))
 
 pub raised_at : (os : List ℕ) (i y x r : ℕ) → i < length os → y ≡ get_or os i y → binary 8 x ≡ set (binary 8 y) r true → binary 8 (get_or (set os i x) i 0) ≡ set (binary 8 (get_or os i 0)) r true
 raised_at os i y x r h a b =
@@ -441,9 +438,8 @@ does_whether_further fs rest gs due next o false a n d e =
     let y : next ≡ 0 = omega arith in
     does_no_further fs rest gs due o a z (e ∙ ap (λ (j : ℕ). Members j ∷ rest) y)
 
-pub no_begin_members : (fs : List Frame) (o : List ℕ) (z : Size) (h : Counts) (n : ℕ) → is_count_within h n ≡ false → (s : State) → Holds fs o s → run (list_begins z h n) s ≡ None
-unfolding written
-no_begin_members fs o z h n k s d = ap (λ (b : Bool). option_map (λ w. let v : State = (s.0 ++ w, members n ∷ s.1) in v) (written (only_if b (Oer.unsigned n)) 0)) k
+pub no_begin_members : (z : Size) (h : Counts) (n : ℕ) → written (only_if (is_count_within h n) (Oer.unsigned n)) 0 ≡ None → (s : State) → run (list_begins z h n) s ≡ None
+no_begin_members z h n e s = ap (option_map (λ w. let v : State = (s.0 ++ w, members n ∷ s.1) in v)) e
 
 pub nothing_open : (fs : List Frame) (o : List ℕ) (s : State) → Holds fs o s → s.1 ≡ [] → o ≡ s.0
 nothing_open [] o s h e = sym (ap (λ (t : State). t.0) h)

@@ -13,6 +13,7 @@ use Rattle.oer_codec_encoder.specs.Holding.{shown, Holds, AreSound, Does, Cannot
 use Rattle.oer_codec_encoder.specs.Stepping.{Written, Puts}
 use Rattle.oer_codec_writing.specs.Writing.{Adds, Refuses}
 use Rattle.oer_codec_encoder.proofs.Fronts.{front_behind, front_kept, keeps_behind, stands_behind}
+use Rattle.oer_codec_encoder.proofs.Refusals.{no_text}
 use Rattle.oer_codec_encoder.proofs.Scopes.{shown_is, appended}
 
 -- what the octets and the frames stand for
@@ -75,14 +76,7 @@ does_add r x fs o p e a = record { after = λ s h. go x s h (e s) a }
         ((s.0 ++ w, s.1), e, subst (λ l. Holds fs l (s.0 ++ w, s.1)) q (appended fs o s w h))
 
 pub refuses_none : (r : Record) (x : Option (List ℕ)) (fs : List Frame) (o : List ℕ) (e : EncodeError) → ((s : State) → run r s ≡ adds_text x s) → Refuses x e → Cannot r fs o e
-refuses_none r x fs o OutOfMemory q h = tt
-refuses_none r x fs o ValueConstraintNotSatisfied q h = λ s _. q s ∙ ap (λ y. adds_text y s) h
-refuses_none r x fs o SizeConstraintNotSatisfied q h = λ s _. q s ∙ ap (λ y. adds_text y s) h
-refuses_none r x fs o AlphabetConstraintNotSatisfied q h = λ s _. q s ∙ ap (λ y. adds_text y s) h
-refuses_none r x fs o TooLongValue q h = λ s _. q s ∙ ap (λ y. adds_text y s) h
-refuses_none r x fs o LengthExceedsPlatformSize q h = λ s _. q s ∙ ap (λ y. adds_text y s) h
-refuses_none r x fs o CallOutOfPlace q h = λ s _. q s ∙ ap (λ y. adds_text y s) h
-refuses_none r x fs o AlreadyFailed q h = absurd h
+refuses_none r x fs o e q h = no_text r x fs o e (λ n s. q s ∙ ap (λ y. adds_text y s) n) h
 
 pub adds_sound : {n : ℕ} (r : Record) (x : Option (List ℕ)) (fs : List Frame) (o p : List ℕ) → ((s : State) → run r s ≡ adds_text x s) → Stands fs o n → Adds x o p → Stands fs p n
 adds_sound r x fs o p e h a = stays_sound r fs fs o p h (does_add r x fs o p e a)

@@ -6,7 +6,7 @@ ghost use Rattle.oer_codec_encoder.specs.Holding.{AreSound, Does, Cannot};
 
 use crate::frame::{Additions, Frame};
 use crate::frames::Frames;
-use crate::open_types::{open_in_place, put_length};
+use crate::open_types::{insert_length, open_in_place};
 use crate::sequences::{push_zeros, raise_bit};
 use asn1_schema_faults::EncodeError;
 use oer_codec_writing::{preamble_len, push_bits_heading};
@@ -100,6 +100,6 @@ pub(crate) fn end_addition(
     let Some(_) = frames.additions() else {
         return Err(EncodeError::CallOutOfPlace);
     };
-    put_length(octets, alloc, start)?;
+    insert_length(octets, alloc, start)?;
     Ok(())
 }

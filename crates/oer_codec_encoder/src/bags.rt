@@ -42,10 +42,7 @@ pub(crate) fn begin_bag(
         (Cannot (bag_begins (sizes_of constraints.entry.size) (members_of held) count) frames.old octets.old.items) }
     ensures kept { OnErr result (Keeps frames.old octets.old.items frames.new octets.new.items) }
 {
-    if !held.holds(count) {
-        return Err(EncodeError::SizeConstraintNotSatisfied);
-    }
-    push_count(octets, count)?;
+    push_count(octets, held, count)?;
     let bag = Bag {
         due: count,
         outer: Vec::new(alloc),

@@ -10,7 +10,7 @@ ghost use Rattle.oer_codec_encoder.specs.Holding.{AreSound, BagEnds, Does, Canno
 use crate::bags::{exchange, push_members};
 use crate::frame::{Additions, Bag, Frame};
 use crate::frames::SmallFrame;
-use crate::open_types::put_length;
+use crate::open_types::insert_length;
 use crate::sequences::raise_bit;
 use asn1_schema_faults::EncodeError;
 use std::alloc::Global;
@@ -74,7 +74,7 @@ pub(crate) fn end_small(
     match small {
         SmallFrame::Members { due: 0 } | SmallFrame::Alternative => Ok(()),
         SmallFrame::Members { .. } => Err(EncodeError::CallOutOfPlace),
-        SmallFrame::OpenType { start } => put_length(octets, alloc, start),
+        SmallFrame::OpenType { start } => insert_length(octets, alloc, start),
     }
 }
 
@@ -104,7 +104,7 @@ pub(crate) fn end_frame(
             Ok(())
         }
         Frame::Added(additions) => end_added(octets, *additions),
-        Frame::OpenType { start } => put_length(octets, alloc, *start),
+        Frame::OpenType { start } => insert_length(octets, alloc, *start),
         Frame::Members { due: 0 } | Frame::Alternative => Ok(()),
         Frame::Members { .. } => Err(EncodeError::CallOutOfPlace),
         Frame::Bag(bag) => end_bag(octets, alloc, bag),

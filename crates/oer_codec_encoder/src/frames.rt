@@ -98,7 +98,7 @@ fn put(
 /// Opens a small frame as a frame inside all others. It is seldom called: where something begins in an open type, in an
 /// alternative or in the first member of a list.
 #[cold]
-fn put_small(
+fn settle_small(
     innermost: &mut Option<Frame>,
     outer: &mut Vec<Frame>,
     small: SmallFrame,
@@ -125,7 +125,7 @@ fn settle(
         ≡ frames_of small.old innermost.old outer.old.items) }
 {
     if let Some(around) = *small {
-        put_small(innermost, outer, around)?;
+        settle_small(innermost, outer, around)?;
         *small = None;
     }
     Ok(())

@@ -26,19 +26,19 @@ pub(crate) fn open_in_place(octets: &mut Vec<u8>, frames: &mut Frames) -> Result
     Ok(())
 }
 
-/// Puts an octet at a place.
+/// Sets the octet at a place.
 #[inline(always)]
-fn put_octet(octets: &mut Vec<u8>, at: usize, octet: u8)
+fn set_octet(octets: &mut Vec<u8>, at: usize, octet: u8)
     requires { at < vec_len octets.old }
     ensures { octets.new.items ≡ slice_set octets.old.items at octet }
 {
     octets[at] = octet;
 }
 
-/// Puts a length in front of the octets behind the room for it (X.696 8.6 and 30): the octets of a longer one are
+/// Inserts a length in front of the octets behind the room for it (X.696 8.6 and 30): the octets of a longer one are
 /// moved.
 #[inline(always)]
-pub(crate) fn put_length(
+pub(crate) fn insert_length(
     octets: &mut Vec<u8>,
     alloc: Global,
     start: usize,
@@ -50,15 +50,15 @@ pub(crate) fn put_length(
 {
     let length = octets.len() - start - 1;
     match short_length(length) {
-        Some(octet) => put_octet(octets, start, octet),
-        None => put_long_length(octets, alloc, start)?,
+        Some(octet) => set_octet(octets, start, octet),
+        None => insert_long_length(octets, alloc, start)?,
     }
     Ok(())
 }
 
-/// Puts a length of any size in front of the octets behind the room for it.
+/// Inserts a length of any size in front of the octets behind the room for it.
 #[inline(never)]
-fn put_long_length(octets: &mut Vec<u8>, alloc: Global, start: usize) -> Result<(), EncodeError>
+fn insert_long_length(octets: &mut Vec<u8>, alloc: Global, start: usize) -> Result<(), EncodeError>
     requires { start < vec_len octets.old }
     ensures text { MatchResult result (λ _. Adds (written (counted (drop (start + 1) octets.old.items)) 0)
         (take start octets.old.items) octets.new.items) (λ e. e ≡ EncodeError.OutOfMemory) }

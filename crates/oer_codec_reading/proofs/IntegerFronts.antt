@@ -1,4 +1,5 @@
 -- What stands in front where an INTEGER does.
+use Rattle.asn1_model.specs.Schema.{wide_range}
 use Rattle.std.specs.Prelude.{max}
 use Rattle.std.proofs.Common.{◌≡◌, ℕ, ◌≤◌, leb, not, ℤ, pos, negsuc, Bool, true, false, cond, ◌&&◌, ◌||◌, ◌⊎◌, inl, inr, Option, Some, None, List, Result, Ok, Err, IfOk, OnOk, IfErr, refl, sym, ap, ◌∙◌, subst, arith}
 use Rattle.std.proofs.lemmas.Int.{ints}
@@ -15,7 +16,7 @@ use Rattle.asn1_values_natives.proofs.RangeLaws.{not_at_most}
 use Rattle.asn1_values_natives.proofs.Widths.{width-bits, bits-least, signed_octets-plain}
 use Rattle.asn1_schema_constraints.specs.Widths.{has_sign, fixed_width}
 use Rattle.asn1_schema_constraints.proofs.WidthLaws.{form_told}
-use Rattle.asn1_schema_constraints.specs.Terms.{bounds_of, held_of, wide_range, admits_whole}
+use Rattle.asn1_schema_constraints.specs.Terms.{bounds_of, held_of, admits_whole}
 use Rattle.asn1_schema_constraints.proofs.Held as Held
 use Rattle.asn1_schema_constraints.specs.declared.extensions.Extensible.{Extensible}
 use Rattle.asn1_schema_constraints.specs.declared.parts.Value as Constraint

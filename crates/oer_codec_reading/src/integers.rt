@@ -1,10 +1,11 @@
 //! INTEGER (X.696 10).
+ghost use Rattle.asn1_model.specs.Schema.{wide_range};
 ghost use Rattle.std.specs.Prelude.{◌≡◌, ◌-◌, ◌^◌, ◌≤◌, ◌<◌, ◌⊎◌, ℕ, true, false, is_some, length, IfOk, OnOk, IfErr};
 ghost use Rattle.std.specs.Prelude.{IfSome};
 ghost use Rattle.asn1_model.specs.Numbers.{is_within};
 ghost use Rattle.asn1_model.specs.Schema as Asn1;
 ghost use Rattle.asn1_model.specs.Value as Asn1Value;
-ghost use Rattle.asn1_schema_constraints.specs.Terms.{admits_whole, bounds_of, held_of, wide_range};
+ghost use Rattle.asn1_schema_constraints.specs.Terms.{admits_whole, bounds_of, held_of};
 ghost use Rattle.asn1_values_natives.specs.Octets.{own_number};
 ghost use Rattle.oer_codec_reading_lengths.specs.Fronts.{freedoms, Front, NoFront};
 ghost use Rattle.oer_codec_reading.specs.Whole.{sign_under, width_under};

@@ -1,4 +1,5 @@
 -- The texts of whole numbers, and what their writers added.
+use Rattle.asn1_model.specs.Schema.{wide_range}
 use Rattle.std.proofs.Common.{◌≡◌, ℕ, zero, suc, ◌+◌, ◌-◌, ◌*◌, ◌^◌, ◌<◌, ◌≤◌, ℤ, pos, negsuc, ◌-ℤ◌, ◌≤ℤ◌, Bool, true, false, cond, not, leb, max, ◌&&◌, ◌||◌, List, ◌++◌, Option, Some, None, of_z, FitsSigned, refl, ap, subst, sym, ◌∙◌, arith, inl, inr, pow-suc}
 use Rattle.std.specs.Prelude.{IfSome}
 use Rattle.std.specs.Int.{w128}
@@ -11,7 +12,7 @@ use Rattle.asn1_model.specs.Oer
 use Rattle.asn1_model.specs.Tables.{is_bounded}
 use Rattle.asn1_schema_constraints.specs.Bounds.{lower, upper}
 use Rattle.asn1_schema_constraints.specs.Widths.{has_sign, fixed_width}
-use Rattle.asn1_schema_constraints.specs.Terms.{bounds_of, held_of, wide_range}
+use Rattle.asn1_schema_constraints.specs.Terms.{bounds_of, held_of}
 use Rattle.asn1_schema_constraints.proofs.Common.{both_by}
 use Rattle.asn1_schema_constraints.proofs.Held.{held_within, fits_wide, too_wide}
 use Rattle.asn1_schema_constraints.specs.declared.extensions.Extensible.{Extensible}

@@ -1,12 +1,14 @@
 //! Lengths, counts, and octets behind their number (X.696 8.6 and 17).
 ghost use Rattle.std.specs.Prelude.{◌≡◌, ◌<◌, IfSome, IfNone, ◌≤◌, MatchResult, OnErr};
-ghost use Rattle.asn1_model.specs.Form.{written};
-ghost use Rattle.asn1_model.specs.Numbers.{digits};
+ghost use Rattle.asn1_model.specs.Form.{only_if, written};
+ghost use Rattle.asn1_model.specs.Numbers.{digits, is_count_within};
 ghost use Rattle.asn1_model.specs.Oer.{length_form, counted, unsigned};
 ghost use Rattle.asn1_model.specs.Versions.{Begins};
-ghost use Rattle.oer_codec_writing.specs.Writing.{Adds};
+ghost use Rattle.asn1_schema_constraints.specs.Bounds.{members_of};
+ghost use Rattle.oer_codec_writing.specs.Writing.{Adds, Refuses};
 
 use crate::digits::{natural_len, push_digits};
+use asn1_schema_constraints::Bounded;
 use asn1_schema_faults::EncodeError;
 use asn1_values_natives::octets::octet_width;
 
@@ -77,17 +79,26 @@ pub fn push_counted(octets: &mut Vec<u8>, contents: &[u8]) -> Result<(), EncodeE
     Ok(())
 }
 
-/// Adds a count of members (X.696 17): its fewest octets, at least one, behind their number.
+/// Adds the count of members of a list or bag (X.696 17 and 19): its fewest octets, at least one, behind their number.
+/// `held` are the numbers of members that the program's type holds.
 ///
 /// # Errors
 ///
-/// `OutOfMemory`, and no other.
-pub fn push_count(octets: &mut Vec<u8>, count: usize) -> Result<(), EncodeError>
+/// `SizeConstraintNotSatisfied` if the type does not hold so many, and `OutOfMemory`.
+pub fn push_count(
+    octets: &mut Vec<u8>,
+    held: Bounded<usize>,
+    count: usize,
+) -> Result<(), EncodeError>
     ensures text { MatchResult result
-        (λ _. Adds (written (unsigned count) 0) octets.old.items octets.new.items)
-        (λ e. e ≡ EncodeError.OutOfMemory) }
+        (λ _. Adds (written (only_if (is_count_within (members_of held) count) (unsigned count)) 0)
+        octets.old.items octets.new.items)
+        (Refuses (written (only_if (is_count_within (members_of held) count) (unsigned count)) 0)) }
     ensures kept { OnErr result (Begins octets.old.items octets.new.items) }
 {
+    if !held.holds(count) {
+        return Err(EncodeError::SizeConstraintNotSatisfied);
+    }
     let number = count as u128;
     push_counted_digits(octets, number, natural_len(number))?;
     Ok(())

@@ -11,7 +11,7 @@ use Rattle.asn1_values_bits.specs.Octets.{padded}
 use Rattle.asn1_values_bits.proofs.Binary.{binary_join}
 use Rattle.per_codec_packing.specs.Texts.{text_at}
 use Rattle.per_codec_additions.specs.Additions.{as_open_types}
-use Rattle.per_codec_additions.specs.Slots.{complete_octets, first_bits, kept_bits, is_there, IsKept, Keeps, all_bits, EachIsKept, AreKept}
+use Rattle.per_codec_additions.specs.Slots.{complete_octets, first_bits_of_octets, kept_bits, is_there, IsKept, Keeps, all_bits, EachIsKept, AreKept}
 use Rattle.per_codec_writing.specs.Writing.{Packed, Adds, place}
 use Rattle.per_codec_additions.specs.declared.slots.Slot.{Slot}
 use Rattle.per_codec_additions.specs.declared.slots.Slot.TheVariants.{Absent, InPlace, Shared}
@@ -27,7 +27,7 @@ adds_complete al (b ∷ bs) os old new e a = adds_open_some al (b ∷ bs) os old
 -- ---- the octets of bits
 
 module _ (bytes : List ℕ) (n : ℕ) (w : List Bool) (octets : bytes ≡ packed (padded w)) (bits : octet_bits bytes ≡ padded w) (size : n ≡ length w) where
-  pub bits_are : first_bits n bytes ≡ w
+  pub bits_are : first_bits_of_octets n bytes ≡ w
   bits_are =
       ap (take n) bits ∙ ap (λ k. take k (padded w)) size
       ∙ take-append-le (length w) w (replicate (missing (length w)) false) (omega arith) ∙ take_all (length w) w (omega arith)
@@ -36,7 +36,7 @@ module _ (bytes : List ℕ) (n : ℕ) (w : List Bool) (octets : bytes ≡ packed
   some_complete [] h = absurd (h refl)
   some_complete (b ∷ bs) h = refl
 
-  are_complete : (w ≡ [] → ⊥) → bytes ≡ complete_octets (first_bits n bytes)
+  are_complete : (w ≡ [] → ⊥) → bytes ≡ complete_octets (first_bits_of_octets n bytes)
   are_complete h = octets ∙ some_complete w h ∙ ap complete_octets (sym bits_are)
 
   none : bytes ≡ [] → w ≡ []
@@ -62,9 +62,9 @@ module _ (bytes : List ℕ) (n : ℕ) (w : List Bool) (octets : bytes ≡ packed
       kept = record {
         ordered = omega (arith, first, past, ap length e, length-append was bytes);
         within = omega (arith, past);
-        octets = subst (λ l. l ≡ complete_octets (first_bits n l)) (sym last) (are_complete (some h));
+        octets = subst (λ l. l ≡ complete_octets (first_bits_of_octets n l)) (sym last) (are_complete (some h));
       };
-      is = ap (λ l. Some (first_bits n l)) last ∙ ap Some bits_are;
+      is = ap (λ l. Some (first_bits_of_octets n l)) last ∙ ap Some bits_are;
     }
 
   -- in place, in front of zero octets: at least one of these is kept
@@ -89,7 +89,7 @@ module _ (bytes : List ℕ) (n : ℕ) (w : List Bool) (octets : bytes ≡ packed
             let nothing : w ≡ [] = none q in
             let no_bits : n ≡ 0 = size ∙ ap length nothing in
             let octet : take count stored ≡ 0 ∷ [] = ap (λ k. take k stored) one ∙ alone q in
-            let empty : first_bits n (take count stored) ≡ [] = ap (λ k. first_bits k (take count stored)) no_bits in
+            let empty : first_bits_of_octets n (take count stored) ≡ [] = ap (λ k. first_bits_of_octets k (take count stored)) no_bits in
             record {
               kept = record { within = omega (arith, one); octets = octet ∙ ap complete_octets (sym empty) };
               is = ap Some (empty ∙ sym nothing);
@@ -99,8 +99,8 @@ module _ (bytes : List ℕ) (n : ℕ) (w : List Bool) (octets : bytes ≡ packed
             let all : count ≡ length bytes = omega (arith, m, there) in
             let octets_are : take count stored ≡ bytes = ap (λ k. take k stored) all ∙ first in
             record {
-              kept = record { within = omega (arith, all, h); octets = subst (λ l. l ≡ complete_octets (first_bits n l)) (sym octets_are) (are_complete (some there)) };
-              is = ap (λ l. Some (first_bits n l)) octets_are ∙ ap Some bits_are;
+              kept = record { within = omega (arith, all, h); octets = subst (λ l. l ≡ complete_octets (first_bits_of_octets n l)) (sym octets_are) (are_complete (some there)) };
+              is = ap (λ l. Some (first_bits_of_octets n l)) octets_are ∙ ap Some bits_are;
             }
 
 -- ---- more octets that are shared
@@ -114,7 +114,7 @@ module _ (shared more : List ℕ) where
   bits_kept : (s : Slot) → IsKept shared s → kept_bits (shared ++ more) s ≡ kept_bits shared s
   bits_kept Absent h = refl
   bits_kept (InPlace os count n) h = refl
-  bits_kept (Shared from to n) h = ap (λ l. Some (first_bits n l)) (range_kept from to h.ordered h.within)
+  bits_kept (Shared from to n) h = ap (λ l. Some (first_bits_of_octets n l)) (range_kept from to h.ordered h.within)
 
   still : (s : Slot) → IsKept shared s → IsKept (shared ++ more) s
   still Absent h = tt
@@ -122,7 +122,7 @@ module _ (shared more : List ℕ) where
   still (Shared from to n) h = record {
     ordered = h.ordered;
     within = omega (arith, h.within, length-append shared more);
-    octets = subst (λ l. l ≡ complete_octets (first_bits n l)) (sym (range_kept from to h.ordered h.within)) h.octets;
+    octets = subst (λ l. l ≡ complete_octets (first_bits_of_octets n l)) (sym (range_kept from to h.ordered h.within)) h.octets;
   }
 
   all_bits_kept : (ss : List Slot) → EachIsKept shared ss → all_bits (shared ++ more) ss ≡ all_bits shared ss

@@ -14,14 +14,14 @@ complete_octets [] = 0 ∷ []
 complete_octets (b ∷ bs) = packed (padded (b ∷ bs))
 
 -- So many bits of octets.
-abbrev pub first_bits : ℕ → List ℕ → List Bool
-first_bits n os = take n (octet_bits os)
+abbrev pub first_bits_of_octets : ℕ → List ℕ → List Bool
+first_bits_of_octets n os = take n (octet_bits os)
 
 -- The bits of an addition that is there; longer ones stand in these octets.
 abbrev pub kept_bits : List ℕ → Slot → Option (List Bool)
 kept_bits shared Absent = None
-kept_bits shared (InPlace os count n) = Some (first_bits n (take count os))
-kept_bits shared (Shared from to n) = Some (first_bits n (slice_range shared from to))
+kept_bits shared (InPlace os count n) = Some (first_bits_of_octets n (take count os))
+kept_bits shared (Shared from to n) = Some (first_bits_of_octets n (slice_range shared from to))
 
 -- Whether an addition is there.
 abbrev pub is_there : Slot → Bool
@@ -32,13 +32,13 @@ is_there (Shared from to n) = true
 -- The first octets are the complete encoding of the bits.
 pub record AreInPlace (os : List ℕ) (count n : ℕ) : Type 0 where
   pub within : count ≤ 16
-  pub octets : take count os ≡ complete_octets (first_bits n (take count os))
+  pub octets : take count os ≡ complete_octets (first_bits_of_octets n (take count os))
 
 -- The octets from one place up to another are.
 pub record AreShared (shared : List ℕ) (from to n : ℕ) : Type 0 where
   pub ordered : from ≤ to
   pub within : to ≤ length shared
-  pub octets : slice_range shared from to ≡ complete_octets (first_bits n (slice_range shared from to))
+  pub octets : slice_range shared from to ≡ complete_octets (first_bits_of_octets n (slice_range shared from to))
 
 -- An addition is kept so.
 abbrev pub IsKept : List ℕ → Slot → Type 0

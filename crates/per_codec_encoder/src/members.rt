@@ -15,7 +15,7 @@ use asn1_schema_constraints::{Bounded, Sizes};
 use asn1_schema_faults::EncodeError;
 use per_codec_limits::Variant;
 use per_codec_packing::Packing;
-use per_codec_writing::{Due, push_length_determinant, push_size};
+use per_codec_writing::{Due, push_heading, push_length_determinant};
 
 /// Begins a list with what stands in front of its members (X.691 20), if the size and the program's type allow so many.
 ///
@@ -38,7 +38,7 @@ pub(crate) fn begin_members(
     if !held.holds(count) {
         return Err(EncodeError::SizeConstraintNotSatisfied);
     }
-    let due = push_size(output, variant, sizes, false, count)?;
+    let due = push_heading(output, variant, sizes, false, count)?;
     frames.push(Frame::Members(due))?;
     Ok(())
 }

@@ -207,11 +207,11 @@ impl Packing {
         if self.is_placed && self.bits.len() % 8 == 0 {
             return Ok(());
         }
-        self.pad()
+        self.push_due_padding()
     }
 
     // Adds padding up to the next octet, as `push_padding` does.
-    fn pad(&mut self) -> Result<(), AllocError>
+    fn push_due_padding(&mut self) -> Result<(), AllocError>
         ensures ok { OnOk result (self.new ≡ plus self.old (padding_at (place self.old))) }
         ensures err { OnErr result (self.new ≡ self.old) }
     {

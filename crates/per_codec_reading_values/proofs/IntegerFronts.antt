@@ -1,4 +1,5 @@
 -- What stands in front where an INTEGER does.
+use Rattle.asn1_model.specs.Schema.{wide_range}
 use Rattle.std.proofs.Common.{◌≡◌, ℕ, ◌-◌, ◌^◌, not, ℤ, pos, negsuc, Bool, true, false, ◌&&◌, ◌||◌, ◌⊎◌, IsTrue, inl, inr, Option, Some, None, Result, Ok, Err, IfOk, OnOk, IfErr, List, refl, sym, ap, ◌∙◌, subst, arith}
 use Rattle.std.proofs.lemmas.Bool.{false≢true, le-leb, and_parts, and_from}
 use Rattle.std.proofs.Math.Bool.{or-true}
@@ -24,7 +25,7 @@ use Rattle.per_codec_fronts.proofs.Fronts.{if_in, if_out, of_refused}
 use Rattle.per_codec_fronts.proofs.Next.{same_fronts}
 use Rattle.per_codec_reading.specs.Fronts.{NoneStands, IsFresh, Misses}
 use Rattle.per_codec_reading.proofs.Fronts.{none_misses}
-use Rattle.per_codec_reading_values.specs.Whole.{number_octets, in_128_bits, under_constraint, wide_range}
+use Rattle.per_codec_reading_values.specs.Whole.{number_octets, in_128_bits, under_constraint}
 use Rattle.per_codec_reading_values.proofs.OctetFronts.{number_read, none_signed, signed_same}
 
 -- ---- the numbers that are held under a constraint

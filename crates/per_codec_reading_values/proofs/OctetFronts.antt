@@ -1,4 +1,5 @@
 -- What stands in front where a number in octets behind how many they are does.
+use Rattle.asn1_model.specs.Schema.{wide_range}
 use Rattle.std.proofs.Common.{◌≡◌, ℕ, zero, suc, ◌^◌, ◌≤◌, ◌<◌, leb, ltb, ℤ, Bool, true, false, IsTrue, inr, List, [], ◌∷◌, length, sym, ap, ◌∙◌, subst, arith}
 use Rattle.std.proofs.lemmas.Bool.{false≢true, leb-true, le-leb, ltb-true, lt-ltb, and_parts}
 use Rattle.std.proofs.Math.Nat.{pow-le-pow_right}
@@ -15,7 +16,7 @@ use Rattle.per_codec_fronts.specs.Takes.{Place, Front}
 use Rattle.per_codec_fronts.proofs.Fronts.{varied_in, varied_out, if_in, if_out}
 use Rattle.per_codec_fronts.proofs.Next.{same_fronts}
 use Rattle.per_codec_reading.specs.Fronts.{NoneStands}
-use Rattle.per_codec_reading_values.specs.Whole.{number_octets, offset_form, is_offset, in_128_bits, wide_range}
+use Rattle.per_codec_reading_values.specs.Whole.{number_octets, offset_form, is_offset, in_128_bits}
 
 -- ---- octets as numbers
 are_octets : (os : List ℕ) → each_is is_octet os ≡ true → AreOctets os

@@ -1,4 +1,5 @@
 -- What stands in front where a number under bounds does, or an INTEGER.
+use Rattle.asn1_model.specs.Schema.{wide_range}
 use Rattle.std.specs.Prelude.{FitsSigned, unsigned_abs, ◌+ℤ◌, ◌-ℤ◌, ◌<ℤ◌, ◌≤ℤ◌}
 use Rattle.std.specs.Int.{w128}
 use Rattle.std.proofs.Common.{◌≡◌, ℕ, ◌-◌, ◌^◌, ◌<◌, leb, not, ℤ, pos, negsuc, Bool, true, false, cond, ◌&&◌, IsTrue, inl, inr, Option, Some, None, Result, Ok, Err, IfOk, OnOk, IfErr, OnErr, [], ◌∷◌, refl, sym, ap, ◌∙◌, subst, arith}
@@ -22,7 +23,7 @@ use Rattle.per_codec_fronts.proofs.Next.{same_fronts}
 use Rattle.per_codec_reading.specs.Fronts.{NoneStands, IsFresh, Misses}
 use Rattle.per_codec_reading.specs.Lengths.{one_bit}
 use Rattle.per_codec_reading.proofs.Fronts.{none_misses}
-use Rattle.per_codec_reading_values.specs.Whole.{offset_form, is_offset, in_128_bits, behind_extension_bit, under_constraint, wide_range}
+use Rattle.per_codec_reading_values.specs.Whole.{offset_form, is_offset, in_128_bits, behind_extension_bit, under_constraint}
 
 -- ---- 128 bits
 pub fits_wide : (v : ℤ) → FitsSigned w128 v → is_within wide_range v ≡ true

@@ -1,6 +1,6 @@
 -- Whole numbers in octets behind how many these are, and under a value constraint.
 use Rattle.std.specs.Prelude.{ℕ, ◌-◌, ◌^◌, ltb, cond, ℤ, pos, negsuc, Bool, List, length, Some}
-use Rattle.asn1_model.specs.Schema.{Range}
+use Rattle.asn1_model.specs.Schema.{wide_range}
 use Rattle.asn1_model.specs.Numbers.{is_within}
 use Rattle.asn1_model.specs.Form.{only_if}
 use Rattle.asn1_model.specs.Per.{BitForm, counted_octets, semi_constrained, unconstrained, whole_number}
@@ -14,10 +14,6 @@ use Rattle.asn1_schema_constraints.specs.declared.parts.Value.{Value}
 -- Octets, at least one, behind how many they are (X.691 11.9).
 abbrev pub number_octets : Bool → List ℕ → BitForm
 number_octets al os = only_if (ltb 0 (length os)) (counted_octets al os)
-
--- The numbers of 128 bits of two's complement.
-abbrev pub wide_range : Range
-wide_range = record { low = Some (negsuc (2 ^ 127 - 1)); high = Some (pos (2 ^ 127 - 1)) }
 
 -- A number in a form, if 128 bits of two's complement hold it.
 abbrev pub in_128_bits : (ℤ → BitForm) → ℤ → BitForm

@@ -1,4 +1,5 @@
 //! Numbers under bounds (X.691 13.1 and 13.2).
+ghost use Rattle.asn1_model.specs.Schema.{wide_range};
 ghost use Rattle.std.specs.Prelude.{◌≡◌, ◌+ℤ◌, pos, true, false, Some, None, IfOk, OnOk, IfErr, OnErr};
 ghost use Rattle.asn1_model.specs.Numbers.{is_within};
 ghost use Rattle.asn1_model.specs.Per as Per;
@@ -6,7 +7,7 @@ ghost use Rattle.asn1_schema_constraints.specs.Bounds.{lower, upper};
 ghost use Rattle.per_codec_fronts.specs.Takes.{Front};
 ghost use Rattle.per_codec_reading.specs.Fronts as fronts;
 ghost use Rattle.per_codec_reading.specs.Fronts.{freedoms, IsFresh, Misses};
-ghost use Rattle.per_codec_reading_values.specs.Whole.{behind_extension_bit, in_128_bits, under_constraint, wide_range};
+ghost use Rattle.per_codec_reading_values.specs.Whole.{behind_extension_bit, in_128_bits, under_constraint};
 
 use crate::octets::{read_semi_constrained, read_unconstrained};
 use asn1_schema_constraints::{Bounded, Extensible, Value};

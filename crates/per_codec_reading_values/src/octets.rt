@@ -1,4 +1,5 @@
 //! Numbers in octets behind how many these are (X.691 11.7 and 11.8).
+ghost use Rattle.asn1_model.specs.Schema.{wide_range};
 ghost use Rattle.std.specs.Prelude.{◌<◌, ◌≡◌, is_some, length, IfOk, IfErr, IfSome, pos};
 ghost use Rattle.std.specs.Cow.{cow_slice_items};
 ghost use Rattle.asn1_model.specs.Numbers.{is_within};
@@ -7,7 +8,7 @@ ghost use Rattle.asn1_values_natives.specs.Octets.{signed_number, unsigned_numbe
 ghost use Rattle.per_codec_fronts.specs.Takes.{Front};
 ghost use Rattle.per_codec_reading.specs.Fronts as fronts;
 ghost use Rattle.per_codec_reading.specs.Fronts.{freedoms, Misses};
-ghost use Rattle.per_codec_reading_values.specs.Whole.{in_128_bits, number_octets, offset_form, wide_range, is_offset};
+ghost use Rattle.per_codec_reading_values.specs.Whole.{in_128_bits, number_octets, offset_form, is_offset};
 
 use asn1_schema_faults::DecodeError;
 use asn1_values_natives::Wide;

@@ -1,11 +1,13 @@
 -- Headings of units lead to the forms of these.
-use Rattle.std.proofs.Common.{◌≡◌, ℕ, zero, suc, ◌+◌, ◌-◌, ◌*◌, ◌≤◌, ltb, leb, Bool, true, false, cond, ◌&&◌, List, [], ◌∷◌, ◌++◌, length, take, drop, slice_range, Option, Some, None, option_map, option_and_then, refl, ap, subst, sym, ◌∙◌, arith}
-use Rattle.std.proofs.lemmas.Bool.{leb-true, and_parts}
+use Rattle.std.proofs.Common.{◌≡◌, ℕ, zero, suc, ◌+◌, ◌-◌, ◌*◌, ◌≤◌, ltb, leb, Bool, true, false, cond, ◌&&◌, List, [], ◌∷◌, ◌++◌, length, take, drop, slice_range, Option, Some, None, option_map, option_and_then, refl, ap, subst, sym, ◌∙◌, arith, ◌<◌, ◌^◌, unwrap_or}
+use Rattle.std.proofs.lemmas.Bool.{le-leb, leb-true, and_parts}
 use Rattle.std.proofs.lemmas.List.{length-drop, drop-drop, take_all}
 use Rattle.asn1_model.specs.Schema.{Counts, Size}
-use Rattle.asn1_model.specs.Numbers.{binary, is_count_within, missing}
+use Rattle.asn1_model.specs.Numbers.{binary, is_count_to, is_count_within, missing}
 use Rattle.asn1_model.specs.Form.{exactly, both, only_if, joined, placed}
 use Rattle.asn1_model.specs.Per
+use Rattle.asn1_schema_constraints.specs.Bounds.{counts_of, lower, members_of, upper}
+use Rattle.asn1_schema_constraints.specs.declared.bounds.Bounded.{Bounded}
 use Rattle.per_codec_packing.specs.Texts.{Text, bit, moved, on, text_at}
 use Rattle.per_codec_packing.specs.Packed.{Packed, Adds, place, plus}
 use Rattle.per_codec_packing.proofs.Formed.{behind, both_assoc}
@@ -213,3 +215,15 @@ held_none al z h has_padding us q e = go (is_count_within h (length us)) refl
 pub not_held : (al : Bool) (z : Size) (h : Counts) (has_padding : Bool) (us : List Per.BitForm) (q : Option ℕ) → is_count_within h (length us) ≡ false → text_at (Per.sized al z h (λ _. has_padding) us) q ≡ None
 unfolding Per.sized
 not_held al z h has_padding us q e = if_false (is_count_within h (length us)) (of_size al z has_padding us) q e
+
+-- no more members than 64 bits count are more than the program's type holds where no bound is given
+members_counted : (b : Bounded ℕ) (n : ℕ) → n < 2 ^ 64 → is_count_within (members_of b) n ≡ is_count_within (counts_of b) n
+members_counted b n h = ap (λ t. leb (unwrap_or (lower b) 0) n && t) (go (upper b))
+  where
+    go : (u : Option ℕ) → is_count_to (Some (unwrap_or u (2 ^ 64 - 1))) n ≡ is_count_to u n
+    go None = le-leb n (2 ^ 64 - 1) (omega (arith, h))
+    go (Some m) = refl
+
+pub members_sized : (al : Bool) (z : Size) (b : Bounded ℕ) (has_padding : Bool) (us : List Per.BitForm) (q : Option ℕ) → length us < 2 ^ 64 → text_at (Per.sized al z (members_of b) (λ _. has_padding) us) q ≡ text_at (Per.sized al z (counts_of b) (λ _. has_padding) us) q
+unfolding Per.sized
+members_sized al z b has_padding us q h = ap (λ t. text_at (only_if t (of_size al z has_padding us)) q) (members_counted b (length us) h)

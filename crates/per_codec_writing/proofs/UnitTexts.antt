@@ -1,6 +1,6 @@
 -- Octets, bits and other units of known texts, one behind the other.
 use Rattle.std.proofs.Common.{◌≡◌, ℕ, ◌-◌, ◌≤◌, Bool, List, [], ◌∷◌, ◌++◌, length, map, flat_map, take, drop, slice_range, refl, ap, subst, sym, ◌∙◌, arith}
-use Rattle.std.proofs.lemmas.List.{take-map, drop-map, map-append}
+use Rattle.std.proofs.lemmas.List.{take-map, drop-map}
 use Rattle.std.proofs.lemmas.List.Concat.{flat_map-append}
 use Rattle.asn1_model.specs.Form.{exactly, joined}
 use Rattle.asn1_model.specs.Numbers.{binary, octet_bits}

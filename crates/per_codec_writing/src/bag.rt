@@ -9,7 +9,7 @@ ghost use Rattle.per_codec_writing.specs.Members.{forms};
 ghost use Rattle.per_codec_limits.specs.Variants.{is_aligned};
 
 use crate::members::in_order;
-use crate::sized::push_of_size;
+use crate::push_sized;
 use asn1_schema_constraints::{Bounded, Sizes};
 use asn1_schema_faults::EncodeError;
 use per_codec_limits::Variant;
@@ -40,9 +40,6 @@ pub fn push_bag(
 {
     let ordered = in_order(alloc, members)?;
     let units = ordered.as_slice();
-    if !held.holds(units.len()) {
-        return Err(EncodeError::SizeConstraintNotSatisfied);
-    }
-    push_of_size(output, variant, sizes, false, &units)?;
+    push_sized(output, variant, sizes, held, false, &units)?;
     Ok(())
 }

@@ -40,7 +40,7 @@ pub use padding::push_padding;
 pub use per_codec_limits::{FRAGMENT, LONG_COUNT};
 pub use places::{push_enumerated, push_place};
 pub use sized::push_sized;
-pub use sizes::push_size;
+pub use sizes::push_heading;
 pub use small::push_normally_small;
 pub use texts::push_utf8;
 pub use units::Units;

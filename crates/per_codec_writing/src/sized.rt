@@ -1,45 +1,20 @@
-//! Units of a size (X.691 16, 17, 20, 22 and 30).
+//! Units of a size (X.691 16, 17, 22 and 30).
 ghost use Rattle.std.specs.Prelude.{MatchResult};
 ghost use Rattle.asn1_model.specs.Per.{sized};
 ghost use Rattle.asn1_schema_constraints.specs.Bounds.{counts_of};
 ghost use Rattle.asn1_schema_constraints.specs.Terms.{size_of};
 ghost use Rattle.per_codec_packing.specs.Texts.{text_at};
-ghost use Rattle.per_codec_writing.specs.Units.{of_size};
 ghost use Rattle.per_codec_writing.specs.Writing.{Adds, Refuses, place};
 ghost use Rattle.per_codec_limits.specs.Variants.{is_aligned};
 
 use crate::counted::push_due;
-use crate::{Units, push_size};
+use crate::{Units, push_heading};
 use asn1_schema_constraints::{Bounded, Sizes};
 use asn1_schema_faults::EncodeError;
 use per_codec_limits::Variant;
 use per_codec_packing::Packing;
 
-/// Adds units of a size, however many of them the program's type holds.
-///
-/// # Errors
-///
-/// `SizeConstraintNotSatisfied` where a size without an extension marker does not admit as many; `OutOfMemory`.
-#[inline(always)]
-pub(crate) fn push_of_size<U: Units>(
-    output: &mut Packing,
-    variant: Variant,
-    sizes: Sizes,
-    has_padding: bool,
-    units: &U,
-) -> Result<(), EncodeError>
-    ensures { MatchResult result (λ _. Adds
-        (text_at (of_size (is_aligned variant) (size_of sizes) has_padding (U.forms units.now)) (place output.old))
-        output.old output.new)
-        (Refuses (text_at (of_size (is_aligned variant) (size_of sizes) has_padding (U.forms units.now))
-        (place output.old))) }
-{
-    let due = push_size(output, variant, sizes, has_padding, units.count())?;
-    push_due(output, variant, due, units)?;
-    Ok(())
-}
-
-/// Adds units of a size (X.691 16, 17 and 30). `held` are the numbers of units that the program's type holds;
+/// Adds units of a size (X.691 16, 17, 22 and 30). `held` are the numbers of units that the program's type holds;
 /// `has_padding` tells whether padding stands in front of the units, in the aligned variant, where their number is one
 /// by the bounds of the root.
 ///
@@ -62,9 +37,11 @@ pub fn push_sized<U: Units>(
         (Refuses (text_at (sized (is_aligned variant) (size_of sizes) (counts_of held) (λ _. has_padding)
         (U.forms units.now)) (place output.old))) }
 {
-    if !held.contains(&units.count()) {
+    let count = units.count();
+    if !held.contains(&count) {
         return Err(EncodeError::SizeConstraintNotSatisfied);
     }
-    push_of_size(output, variant, sizes, has_padding, units)?;
+    let due = push_heading(output, variant, sizes, has_padding, count)?;
+    push_due(output, variant, due, units)?;
     Ok(())
 }

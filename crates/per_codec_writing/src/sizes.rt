@@ -76,7 +76,7 @@ fn push_root_count(
 ///
 /// `SizeConstraintNotSatisfied` where a size without an extension marker does not admit so many; `OutOfMemory`.
 #[inline(always)]
-pub fn push_size(
+pub fn push_heading(
     output: &mut Packing,
     variant: Variant,
     sizes: Sizes,

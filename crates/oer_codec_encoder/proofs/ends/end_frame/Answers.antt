@@ -28,14 +28,14 @@ end_added-requires c =
 pub returns-in-Added-clause-step : goal.returns-in-Added-clause-step
 returns-in-Added-clause-step c = added_frame_ends c.args.frame.now c.in-Added.additions c.args.octets.now.items c.end_added.new.octets.items c.end_added.result c.in-Added.is c.end_added.ensures.step
 
-pub put_length-requires : goal.put_length-requires
-put_length-requires c =
+pub insert_length-requires : goal.insert_length-requires
+insert_length-requires c =
     let f = c.in-OpenType in
     let l = open_frame_within c.args.frame.now f.start c.args.octets.now.items c.requires f.is in
     omega (arith, l, c.args.octets.now.ok.0)
 
 pub returns-in-OpenType-clause-step : goal.returns-in-OpenType-clause-step
-returns-in-OpenType-clause-step c = open_frame_ends c.args.frame.now c.in-OpenType.start c.args.octets.now.items c.put_length.new.octets.items c.put_length.result c.in-OpenType.is c.put_length.ensures.text
+returns-in-OpenType-clause-step c = open_frame_ends c.args.frame.now c.in-OpenType.start c.args.octets.now.items c.insert_length.new.octets.items c.insert_length.result c.in-OpenType.is c.insert_length.ensures.text
 
 pub returns-in-Bag-clause-step : goal.returns-in-Bag-clause-step
 returns-in-Bag-clause-step c =
@@ -66,11 +66,11 @@ returns-in-Added-clause-kept c =
 pub returns-in-OpenType-clause-kept : goal.returns-in-OpenType-clause-kept
 returns-in-OpenType-clause-kept c =
     let o = c.args.octets.now.items in
-    let p = c.put_length.new.octets.items in
+    let p = c.insert_length.new.octets.items in
     let f = c.args.frame.now in
     let i = c.in-OpenType in
     let left : Begins (take i.start o) p → (k : List Frame) → Keeps (f ∷ k) o (OpenType i.start ∷ k) p = λ b k. keeps_room (f ∷ k) k (OpenType i.start ∷ k) o p i.start (ap (λ g. g ∷ k) i.is) refl b in
-    on_err_weaker c.put_length.result left c.put_length.ensures.kept
+    on_err_weaker c.insert_length.result left c.insert_length.ensures.kept
 
 pub returns-in-Bag-clause-kept : goal.returns-in-Bag-clause-kept
 returns-in-Bag-clause-kept c =

@@ -23,5 +23,5 @@ pub returns : goal.returns
 returns c =
     let z = size_of c.args.sizes in
     let h = members_of c.args.held in
-    does_begin_members (is_aligned c.args.variant) c.args.frames.now c.push.new.self c.args.output.now c.push_size.new.output z h c.args.count c.in_ok-due.due
-    (held_heads (is_aligned c.args.variant) c.args.output.now c.push_size.new.output z h c.args.count c.in_ok-due.due (sym c.holds.ensures ∙ c.if-not-holds.false) c.in_ok-due.ensures.heads) c.in_ok-push.ensures.items
+    does_begin_members (is_aligned c.args.variant) c.args.frames.now c.push.new.self c.args.output.now c.push_heading.new.output z h c.args.count c.in_ok-due.due
+    (held_heads (is_aligned c.args.variant) c.args.output.now c.push_heading.new.output z h c.args.count c.in_ok-due.due (sym c.holds.ensures ∙ c.if-not-holds.false) c.in_ok-due.ensures.heads) c.in_ok-push.ensures.items

@@ -1,3 +1,4 @@
+use Rattle.asn1_model.specs.Schema.{wide_range}
 use Rattle.std.proofs.Common.{ap, sym, ◌∙◌, subst}
 use Rattle.std.specs.Int.{w128}
 use Rattle.std.proofs.lemmas.Int.{to_z-of_z}
@@ -9,7 +10,7 @@ use Rattle.asn1_values_natives.specs.Octets.{signed_number}
 use Rattle.per_codec_fronts.specs.Takes.{Front}
 use Rattle.per_codec_reading.specs.Fronts.{freedoms, is_aligned}
 use Rattle.per_codec_reading.proofs.Fronts.{misses_also, longer_number_is_free}
-use Rattle.per_codec_reading_values.specs.Whole.{number_octets, in_128_bits, wide_range}
+use Rattle.per_codec_reading_values.specs.Whole.{number_octets, in_128_bits}
 use Rattle.per_codec_reading_values.proofs.OctetFronts.{no_unconstrained, unconstrained_read, unconstrained_outside}
 use Rattle.per_codec_reading_values.proofs.WholeFronts.{wide_in_front}
 use Rattle.per_codec_reading_values.proofs.octets.read_unconstrained.Goals as goal

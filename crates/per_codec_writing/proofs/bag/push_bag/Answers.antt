@@ -1,5 +1,4 @@
-use Rattle.std.proofs.Common.{false, Some, ap, sym, ◌∙◌}
-use Rattle.asn1_model.specs.Numbers.{is_count_within}
+use Rattle.std.proofs.Common.{false, Some, ap, arith, sym, ◌<◌, ◌^◌, ◌∙◌, length}
 use Rattle.asn1_model.specs.Per
 use Rattle.asn1_schema_constraints.specs.Bounds.{members_of}
 use Rattle.asn1_schema_constraints.specs.Terms.{size_of}
@@ -7,37 +6,27 @@ use Rattle.per_codec_writing.specs.Writing.{place}
 use Rattle.per_codec_writing.specs.Members.{forms_of}
 use Rattle.per_codec_writing.proofs.PaddingTexts.{adds_same}
 use Rattle.per_codec_writing.proofs.Adding.{raised}
-use Rattle.per_codec_writing.proofs.HeadingForms.{held_added, held_none, not_held}
+use Rattle.per_codec_writing.proofs.HeadingForms.{members_sized}
 use Rattle.per_codec_writing.proofs.Ordered.{bag_text, length-members}
 use Rattle.per_codec_limits.specs.Variants.{is_aligned}
 use Rattle.per_codec_writing.proofs.bag.push_bag.Goals as goal
 
-pub returns-then-not-holds : goal.returns-then-not-holds
-returns-then-not-holds c =
+pub returns-in_err-push_sized : goal.returns-in_err-push_sized
+returns-in_err-push_sized c =
     let vs = c.as_slice-units.result.now in
+    let al = is_aligned c.args.variant in
     let z = size_of c.args.sizes in
-    let h = members_of c.args.held in
     let p = place c.args.output.now in
-    let same = bag_text c.args.members.now vs (λ us. Per.sized (is_aligned c.args.variant) z h Per.never us) p (c.in_ok-ordered.ensures ∙ ap (λ ms. Some (forms_of ms)) (sym c.as_slice-units.ensures.value)) in
-    let number = length-members vs in
-    same ∙ not_held (is_aligned c.args.variant) z h false (forms_of vs) p (ap (is_count_within h) number ∙ sym c.holds.ensures ∙ c.if-not-holds.true)
-
-pub returns-in_err-push_of_size : goal.returns-in_err-push_of_size
-returns-in_err-push_of_size c =
-    let vs = c.as_slice-units.result.now in
-    let z = size_of c.args.sizes in
-    let h = members_of c.args.held in
-    let p = place c.args.output.now in
-    let same = bag_text c.args.members.now vs (λ us. Per.sized (is_aligned c.args.variant) z h Per.never us) p (c.in_ok-ordered.ensures ∙ ap (λ ms. Some (forms_of ms)) (sym c.as_slice-units.ensures.value)) in
-    raised _ _ _ _ _ c.from_residual-in_err-push_of_size.ensures.1 (λ n. same ∙ held_none (is_aligned c.args.variant) z h false (forms_of vs) p n) c.in_err-push_of_size.ensures
+    let fits : length (forms_of vs) < 2 ^ 64 = omega (arith, length-members vs, c.as_slice-units.ensures.len, c.in_ok-ordered.ordered.small) in
+    let same = bag_text c.args.members.now vs (λ us. Per.sized al z (members_of c.args.held) Per.never us) p (c.in_ok-ordered.ensures ∙ ap (λ ms. Some (forms_of ms)) (sym c.as_slice-units.ensures.value)) ∙ members_sized al z c.args.held false (forms_of vs) p fits in
+    raised _ _ _ _ _ c.from_residual-in_err-push_sized.ensures.1 (λ n. same ∙ n) c.in_err-push_sized.ensures
 
 pub returns : goal.returns
 returns c =
     let vs = c.as_slice-units.result.now in
+    let al = is_aligned c.args.variant in
     let z = size_of c.args.sizes in
-    let h = members_of c.args.held in
     let old = c.args.output.now in
-    let new = c.push_of_size.new.output in
-    let same = bag_text c.args.members.now vs (λ us. Per.sized (is_aligned c.args.variant) z h Per.never us) (place old) (c.in_ok-ordered.ensures ∙ ap (λ ms. Some (forms_of ms)) (sym c.as_slice-units.ensures.value)) in
-    let number = length-members vs in
-    adds_same _ _ old new same (held_added (is_aligned c.args.variant) z h false (forms_of vs) old new (ap (is_count_within h) number ∙ sym c.holds.ensures ∙ c.if-not-holds.false) c.in_ok-push_of_size.ensures)
+    let fits : length (forms_of vs) < 2 ^ 64 = omega (arith, length-members vs, c.as_slice-units.ensures.len, c.in_ok-ordered.ordered.small) in
+    let same = bag_text c.args.members.now vs (λ us. Per.sized al z (members_of c.args.held) Per.never us) (place old) (c.in_ok-ordered.ensures ∙ ap (λ ms. Some (forms_of ms)) (sym c.as_slice-units.ensures.value)) ∙ members_sized al z c.args.held false (forms_of vs) (place old) fits in
+    adds_same _ _ old c.push_sized.new.output same c.in_ok-push_sized.ensures

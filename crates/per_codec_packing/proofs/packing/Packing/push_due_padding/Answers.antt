@@ -2,7 +2,7 @@ use Rattle.std.proofs.Common.{◌++◌, ◌∷◌, [], length, ap, ◌∙◌}
 use Rattle.asn1_model.specs.Numbers.{binary, missing}
 use Rattle.asn1_values_bits.proofs.Binary.{binary_zero}
 use Rattle.per_codec_packing.proofs.Kept.{with_padding, padding_added, left_open}
-use Rattle.per_codec_packing.proofs.packing.Packing.pad.Goals as goal
+use Rattle.per_codec_packing.proofs.packing.Packing.push_due_padding.Goals as goal
 
 pub returns-then-self-clause-ok : goal.returns-then-self-clause-ok
 returns-then-self-clause-ok c =

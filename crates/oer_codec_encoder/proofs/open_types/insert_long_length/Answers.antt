@@ -1,7 +1,7 @@
 use Rattle.std.proofs.Common.{sym}
 use Rattle.asn1_values_bits.proofs.Refused.{though_refused}
 use Rattle.oer_codec_encoder.proofs.Fronts.{begins_taken, rebased}
-use Rattle.oer_codec_encoder.proofs.open_types.put_long_length.Goals as goal
+use Rattle.oer_codec_encoder.proofs.open_types.insert_long_length.Goals as goal
 
 pub returns-in_err-contents-clause-kept : goal.returns-in_err-contents-clause-kept
 returns-in_err-contents-clause-kept c = though_refused _ (begins_taken c.args.start c.args.octets.now.items)
