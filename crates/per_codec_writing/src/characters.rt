@@ -76,8 +76,8 @@ fn have_codes<S: StaticPermittedAlphabet>(
     true
 }
 
-/// Adds characters whose codes are their numbers less `base`, under a size: where they are octets of the string, several
-/// at a time.
+/// Adds characters whose codes are their numbers less `base`, under a size: where they are octets of the string,
+/// several at a time.
 #[inline(always)]
 fn push_based<S: StaticPermittedAlphabet>(
     output: &mut Packing,
