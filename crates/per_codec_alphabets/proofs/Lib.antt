@@ -1,3 +1,4 @@
 pub mod Listed
+pub mod OneRun
 pub mod Places
 pub mod Sorting

@@ -17,7 +17,7 @@ use Rattle.per_codec_alphabets.specs.Listed.{each_of, all_of, begin_from, AreFew
 use Rattle.per_codec_alphabets.specs.declared.runs.CharacterRun.{CharacterRun}
 
 -- ---- numbers one behind the other
-counted_end : (a n : ℕ) → range_with_len a (suc n) ≡ range_with_len a n ++ (a + n) ∷ []
+pub counted_end : (a n : ℕ) → range_with_len a (suc n) ≡ range_with_len a n ++ (a + n) ∷ []
 counted_end a zero = ap (λ d. d ∷ []) (omega arith)
 counted_end a (suc n) =
     let e : a + 1 + n ≡ a + suc n = omega arith in

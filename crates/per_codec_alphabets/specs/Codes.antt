@@ -1,10 +1,11 @@
 -- Codes of the characters of strings in the packed encoding rules (X.691 30.5).
-use Rattle.std.specs.Prelude.{◌≡◌, ℕ, ◌+◌, ◌-◌, ◌^◌, Bool, ltb, cond, List, [], ◌∷◌, ◌++◌, filter, map, Option, Some}
-use Rattle.std.specs.Prelude.{None, is_some, option_map, unwrap_or}
+use Rattle.std.specs.Prelude.{◌≡◌, ℕ, ◌+◌, ◌-◌, ◌^◌, Bool, leb, ltb, ◌&&◌, cond, List, [], ◌∷◌, ◌++◌, filter, map}
+use Rattle.std.specs.Prelude.{Option, Some, None, is_some, option_map, unwrap_or}
 use Rattle.asn1_model.specs.Numbers.{binary}
 use Rattle.asn1_model.specs.Schema.{StringKind}
 use Rattle.asn1_model.specs.Strings.{Run, run, characters_of, is_among, how_many, largest, place_of, sorted}
 use Rattle.per_codec_alphabets.specs.declared.runs.CharacterRun.{CharacterRun}
+use Rattle.per_codec_alphabets.specs.declared.single.CodedRun.{CodedRun}
 
 -- A run of the program as one of the model.
 abbrev pub run_of : CharacterRun → Run
@@ -36,6 +37,10 @@ character_at (r ∷ rs) i =
 -- The code of a character: its own number if the largest fits in the bits, else its place (X.691 30.5.4).
 abbrev pub code_of : Coded → ℕ → Option ℕ
 code_of a c = option_map (λ i. cond (ltb (largest a.runs) (2 ^ a.code_bits)) c i) (place_of c a.runs)
+
+-- The code of a character of one run: its number less one and the same number.
+abbrev pub code_in : CodedRun → ℕ → Option ℕ
+code_in r c = cond (leb r.first c && leb c r.last) (Some (c - r.base)) None
 
 -- Whether a character has a code.
 abbrev pub has_code : Coded → ℕ → Bool

@@ -7,11 +7,12 @@ use Rattle.asn1_schema_constraints.specs.declared.extensions.Extensible.{Extensi
 use Rattle.asn1_schema_constraints.specs.declared.extensions.PermittedAlphabet.{PermittedAlphabet}
 use Rattle.per_codec_alphabets.specs.Codes.{runs_of}
 use Rattle.per_codec_alphabets.specs.declared.alphabet.Runs.{Runs}
-use Rattle.per_codec_alphabets.specs.declared.alphabet.Runs.TheVariants.{Own, InPlace, Apart}
+use Rattle.per_codec_alphabets.specs.declared.alphabet.Runs.TheVariants.{Own, Single, InPlace, Apart}
 
 -- The runs, of a type or left of these.
 abbrev pub held_runs : Runs → List Run
 held_runs (Own rs) = runs_of rs.now
+held_runs (Single rs) = runs_of rs
 held_runs (InPlace rs) = runs_of rs
 held_runs (Apart rs) = runs_of rs.items
 

@@ -3,7 +3,7 @@ ghost use Rattle.std.specs.Prelude.{◌≡◌, ◌≢◌, ◌^◌, ◌<◌, ◌�
 ghost use Rattle.asn1_model.specs.Numbers.{width as bit_width};
 ghost use Rattle.asn1_model.specs.Per.{character_bits, raised};
 ghost use Rattle.asn1_model.specs.Strings.{how_many, largest};
-ghost use Rattle.per_codec_alphabets.specs.Codes.{runs_of, code_of, SameCharacters};
+ghost use Rattle.per_codec_alphabets.specs.Codes.{runs_of, code_of, code_in, SameCharacters};
 ghost use Rattle.per_codec_alphabets.specs.Held.{held_runs, permitted_by};
 ghost use Rattle.per_codec_limits.specs.Variants.{is_aligned};
 
@@ -11,6 +11,7 @@ use crate::few::FewRuns;
 use crate::runs::{
     CharacterRun, character_at, count, kept_runs, last_character, own_runs, place_among,
 };
+use crate::single::{CodedRun, single_run};
 use asn1_schema_constraints::{Extensible, PermittedAlphabet};
 use asn1_values_alphabets::StaticPermittedAlphabet;
 use per_codec_limits::Variant;
@@ -22,6 +23,8 @@ use std::marker::Model;
 enum Runs {
     /// Those of a type.
     Own(&'static [CharacterRun]),
+    /// The one that a constraint leaves.
+    Single([CharacterRun; 1]),
     /// Those that a constraint leaves, if they are few.
     InPlace(FewRuns),
     /// Others that a constraint leaves.
@@ -98,6 +101,22 @@ impl EffectiveAlphabet {
         self.is_by_number
     }
 
+    /// The characters and their codes as one run, if they are kept as one.
+    #[inline(always)]
+    pub fn single_run(&self) -> Option<CodedRun>
+        ensures codes { IfSome result (λ run. (c : ℕ) → code_of self.now c ≡ code_in run c) }
+        ensures base { IfSome result (λ run. run.base ≤ run.first) }
+    {
+        let [run] = self.runs.as_slice() else {
+            return None;
+        };
+        Some(CodedRun {
+            first: run.first,
+            last: run.last,
+            base: if self.is_by_number { 0 } else { run.first },
+        })
+    }
+
     /// The code of a character, if it is one of them (X.691 30.5.4).
     #[inline(always)]
     pub fn code(&self, character: u32) -> Option<u64>
@@ -146,6 +165,7 @@ impl Runs {
     {
         match self {
             Runs::Own(runs) => runs,
+            Runs::Single(runs) => runs,
             Runs::InPlace(runs) => runs.as_slice(),
             Runs::Apart(runs) => runs,
         }
@@ -168,6 +188,9 @@ fn permitted_runs<S: StaticPermittedAlphabet>(
                 extensible: None,
             },
         ) => {
+            if let Some(run) = single_run::<S>(alphabet.characters) {
+                return Ok(Runs::Single([run]));
+            }
             if let Some(runs) = FewRuns::kept::<S>(alphabet.characters) {
                 return Ok(Runs::InPlace(runs));
             }

@@ -5,6 +5,8 @@
 mod alphabet;
 mod few;
 mod runs;
+mod single;
 
 pub use alphabet::EffectiveAlphabet;
 pub use runs::is_of_octets;
+pub use single::CodedRun;

@@ -10,3 +10,4 @@ pub mod Steps
 pub mod CharacterFronts
 pub mod CharacterOctetFronts
 pub mod Inside
+pub mod CodesAhead

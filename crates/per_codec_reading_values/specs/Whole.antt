@@ -1,5 +1,5 @@
 -- Whole numbers in octets behind how many these are, and under a value constraint.
-use Rattle.std.specs.Prelude.{ℕ, ◌-◌, ◌^◌, ltb, cond, ℤ, pos, negsuc, Bool, List, length, Some}
+use Rattle.std.specs.Prelude.{ℕ, ◌^◌, ltb, cond, ℤ, Bool, List, length}
 use Rattle.asn1_model.specs.Schema.{wide_range}
 use Rattle.asn1_model.specs.Numbers.{is_within}
 use Rattle.asn1_model.specs.Form.{only_if}

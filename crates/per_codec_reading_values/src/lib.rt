@@ -15,6 +15,7 @@ pub mod skipping;
 pub mod small;
 pub mod stretches;
 mod strings;
+mod unread;
 
 pub use codes::string_of;
 pub use fields::Field;

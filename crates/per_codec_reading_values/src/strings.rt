@@ -23,14 +23,9 @@ fn string_of_octets<S: StaticPermittedAlphabet>(
     ensures characters { IfOk result (λ s. S.characters s ≡ octets.now) }
     ensures refused { IfErr result (λ e. e ≡ DecodeError.OutOfMemory) }
 {
-    let Ok(mut string) = S::with_capacity(alloc, octets.len()) else {
+    let Ok(string) = S::from_octets(alloc, octets) else {
         return Err(DecodeError::OutOfMemory);
     };
-    for octet in octets {
-        let Ok(()) = string.push_char(u32::from(*octet)) else {
-            return Err(DecodeError::OutOfMemory);
-        };
-    }
     Ok(string)
 }
 

@@ -1,5 +1,5 @@
 -- The texts of characters, one behind the other.
-use Rattle.std.proofs.Common.{◌≡◌, ℕ, zero, suc, ◌+◌, ◌-◌, ◌^◌, ◌<◌, ◌≤◌, ltb, Bool, true, false, cond, ◌&&◌, ◌||◌, List, [], ◌∷◌, ◌++◌, length, map, take, drop, get_or, slice_range, Option, Some, None, option_map, refl, ap, sym, ◌∙◌, append_assoc, arith}
+use Rattle.std.proofs.Common.{◌≡◌, ℕ, zero, suc, ◌+◌, ◌-◌, ◌^◌, ◌<◌, ◌≤◌, leb, ltb, Bool, true, false, cond, ◌&&◌, ◌||◌, List, [], ◌∷◌, ◌++◌, length, map, take, drop, get_or, slice_range, Option, Some, None, option_map, refl, ap, sym, ◌∙◌, append_assoc, arith}
 use Rattle.std.specs.Prelude.{is_some, unwrap_or}
 use Rattle.std.proofs.lemmas.Bool.{and_parts}
 use Rattle.std.proofs.lemmas.List.{take_more, get_or-drop}
@@ -7,13 +7,14 @@ use Rattle.asn1_model.specs.Form.{exactly, given}
 use Rattle.asn1_model.specs.Numbers.{binary}
 use Rattle.asn1_model.specs.Per
 use Rattle.asn1_model.specs.Strings.{Run, largest, place_of, each_is, is_among, is_in_run}
-use Rattle.per_codec_alphabets.specs.Codes.{Coded, SameCharacters, has_code, text_of}
+use Rattle.per_codec_alphabets.specs.Codes.{Coded, SameCharacters, code_in, code_of, has_code, text_of}
+use Rattle.per_codec_alphabets.specs.declared.single.CodedRun.{CodedRun}
 use Rattle.per_codec_packing.specs.Texts.{as_text, text_at}
 use Rattle.per_codec_packing.proofs.Formed.{as_text-append}
 use Rattle.per_codec_packing.proofs.Adding.{plus_both}
 use Rattle.per_codec_writing.specs.Writing.{Packed, plus}
 use Rattle.per_codec_writing.specs.Units.{together, forms_of}
-use Rattle.per_codec_writing.specs.Characters.{texts_of}
+use Rattle.per_codec_writing.specs.Characters.{low_bits, texts_of}
 
 -- ---- one text more
 together_end : (ts : List (List Bool)) (t : List Bool) → together (ts ++ t ∷ []) ≡ together ts ++ t
@@ -98,12 +99,26 @@ number_text true b c (Some i) e h = refl
 number_text true b c None e h = cc
 number_text false b c o e h = cc
 
-pub number_forms : (a : Coded) (cs : List ℕ) → ltb (largest a.runs) (2 ^ a.code_bits) ≡ true → each_is (has_code a) cs ≡ true → forms_of (map (binary a.code_bits) cs) ≡ forms_of (texts_of a cs)
-number_forms a [] t h = refl
-number_forms a (c ∷ cs) t h =
+pub number_codes : (a : Coded) (c : ℕ) → ltb (largest a.runs) (2 ^ a.code_bits) ≡ true → has_code a c ≡ true → text_of a c ≡ low_bits 0 a.code_bits c
+number_codes a c t h = sym (number_text (ltb (largest a.runs) (2 ^ a.code_bits)) a.code_bits c (place_of c a.runs) t h) ∙ ap (binary a.code_bits) (whole c)
+  where
+    whole : (c : ℕ) → c ≡ c - 0
+    whole c = omega arith
+
+-- codes that are the numbers less one and the same number
+pub run_codes : (a : Coded) (r : CodedRun) (c : ℕ) → ((d : ℕ) → code_of a d ≡ code_in r d) → has_code a c ≡ true → text_of a c ≡ low_bits r.base a.code_bits c
+run_codes a r c e h = ap (λ o. binary a.code_bits (unwrap_or o 0)) (e c) ∙ ap (binary a.code_bits) (there (leb r.first c && leb c r.last) (c - r.base) (ap is_some (sym (e c)) ∙ h))
+  where
+    there : (t : Bool) (n : ℕ) → is_some (cond t (Some n) None) ≡ true → unwrap_or (cond t (Some n) None) 0 ≡ n
+    there true n e = refl
+    there false n e = cc
+
+pub based_forms : (a : Coded) (base : ℕ) (cs : List ℕ) → ((c : ℕ) → has_code a c ≡ true → text_of a c ≡ low_bits base a.code_bits c) → each_is (has_code a) cs ≡ true → forms_of (map (low_bits base a.code_bits) cs) ≡ forms_of (texts_of a cs)
+based_forms a base [] t h = refl
+based_forms a base (c ∷ cs) t h =
     let p = and_parts _ _ h in
-    ap (λ x. exactly x ∷ forms_of (map (binary a.code_bits) cs)) (number_text (ltb (largest a.runs) (2 ^ a.code_bits)) a.code_bits c (place_of c a.runs) t p.0)
-    ∙ ap (λ l. exactly (text_of a c) ∷ l) (number_forms a cs t p.1)
+    ap (λ x. exactly x ∷ forms_of (map (low_bits base a.code_bits) cs)) (sym (t c p.0))
+    ∙ ap (λ l. exactly (text_of a c) ∷ l) (based_forms a base cs t p.1)
 
 -- ---- other characters have no form
 no_place : (t : Bool) (c : ℕ) (o : Option ℕ) → is_some (option_map (λ i. cond t c i) o) ≡ false → o ≡ None

@@ -10,6 +10,7 @@ use Rattle.per_codec_packing.specs.Viewed.{text_of}
 use Rattle.per_codec_packing.proofs.Adding.{plus_both}
 use Rattle.per_codec_packing.proofs.Formed.{as_text-append}
 use Rattle.per_codec_packing.specs.declared.text_view.TextView.{TextView}
+use Rattle.per_codec_writing.specs.Characters.{low_bits}
 use Rattle.per_codec_writing.specs.Writing.{Packed, Adds, place, plus}
 use Rattle.per_codec_writing.specs.Units.{together, forms_of}
 use Rattle.per_codec_writing.specs.Members.{forms_of as forms_of_members}
@@ -23,9 +24,9 @@ octets_together : (os : List ℕ) → together (map (binary 8) os) ≡ octet_bit
 octets_together [] = refl
 octets_together (o ∷ os) = ap (λ l. binary 8 o ++ l) (octets_together os)
 
-numbers_together : (w : ℕ) (os : List ℕ) → together (map (binary w) os) ≡ flat_map (binary w) os
-numbers_together w [] = refl
-numbers_together w (o ∷ os) = ap (λ l. binary w o ++ l) (numbers_together w os)
+numbers_together : (f : ℕ → List Bool) (os : List ℕ) → together (map f os) ≡ flat_map f os
+numbers_together f [] = refl
+numbers_together f (o ∷ os) = ap (λ l. f o ++ l) (numbers_together f os)
 
 bits_together : (bs : List Bool) → together (map (λ b. b ∷ []) bs) ≡ bs
 bits_together [] = refl
@@ -44,9 +45,9 @@ forms_of_bits (b ∷ bs) = ap (λ us. exactly (b ∷ []) ∷ us) (forms_of_bits 
 pub range_added : (ts : List (List Bool)) (i j : ℕ) (old new : Packed) → new ≡ plus old (as_text (together (slice_range ts i j))) → Adds (text_at (joined (slice_range (forms_of ts) i j)) (place old)) old new
 range_added ts i j old new e = subst (λ us. Adds (text_at (joined us) (place old)) old new) (sym (range-map (λ t. exactly t) ts i j)) (adds_joined (slice_range ts i j) old new e)
 
-pub numbers_added : (w : ℕ) (os : List ℕ) (i j : ℕ) (old new : Packed) → new ≡ plus old (as_text (flat_map (binary w) (slice_range os i j))) → Adds (text_at (joined (slice_range (forms_of (map (binary w) os)) i j)) (place old)) old new
-numbers_added w os i j old new e =
-    range_added (map (binary w) os) i j old new (e ∙ ap (λ t. plus old (as_text t)) (sym (ap together (range-map (binary w) os i j) ∙ numbers_together w (slice_range os i j))))
+pub numbers_added : (f : ℕ → List Bool) (os : List ℕ) (i j : ℕ) (old new : Packed) → new ≡ plus old (as_text (flat_map f (slice_range os i j))) → Adds (text_at (joined (slice_range (forms_of (map f os)) i j)) (place old)) old new
+numbers_added f os i j old new e =
+    range_added (map f os) i j old new (e ∙ ap (λ t. plus old (as_text t)) (sym (ap together (range-map f os i j) ∙ numbers_together f (slice_range os i j))))
 
 pub octets_added : (os : List ℕ) (i j : ℕ) (old new : Packed) → new ≡ plus old (as_text (octet_bits (slice_range os i j))) → Adds (text_at (joined (slice_range (Per.octet_units os) i j)) (place old)) old new
 octets_added os i j old new e =
@@ -70,14 +71,21 @@ members_added vs i j old new a = subst (λ us. Adds (text_at (joined us) (place 
 
 -- ---- the low bits of octets, some after others
 
-pub low_bits_moved : (w : ℕ) (rest front behind : List ℕ) (bs : List Bool) (mid new all : Packed) → front ++ behind ≡ rest → plus mid (as_text (flat_map (binary w) rest)) ≡ all → bs ≡ flat_map (binary w) front → new ≡ plus mid (as_text bs) → plus new (as_text (flat_map (binary w) behind)) ≡ all
-low_bits_moved w rest front behind bs mid new all j h e n =
-    let left : List Bool = flat_map (binary w) behind in
-    let both : bs ++ left ≡ flat_map (binary w) rest = ap (λ l. l ++ left) e ∙ sym (flat_map-append (binary w) front behind) ∙ ap (flat_map (binary w)) j in
+pub low_bits_moved : (f : ℕ → List Bool) (rest front behind : List ℕ) (bs : List Bool) (mid new all : Packed) → front ++ behind ≡ rest → plus mid (as_text (flat_map f rest)) ≡ all → bs ≡ flat_map f front → new ≡ plus mid (as_text bs) → plus new (as_text (flat_map f behind)) ≡ all
+low_bits_moved f rest front behind bs mid new all j h e n =
+    let left : List Bool = flat_map f behind in
+    let both : bs ++ left ≡ flat_map f rest = ap (λ l. l ++ left) e ∙ sym (flat_map-append f front behind) ∙ ap (flat_map f) j in
     ap (λ p. plus p (as_text left)) n ∙ plus_both mid (as_text bs) (as_text left) ∙ ap (plus mid) (as_text-append bs left ∙ ap as_text both) ∙ h
 
-pub no_low_bits : (w : ℕ) (rest : List ℕ) (new all : Packed) → length rest ≤ 0 → plus new (as_text (flat_map (binary w) rest)) ≡ all → new ≡ all
-no_low_bits w [] new all h e = sym (plus_nothing new) ∙ e
-no_low_bits w (o ∷ os) new all h e = absurd (omega arith)
+pub no_low_bits : (f : ℕ → List Bool) (rest : List ℕ) (new all : Packed) → length rest ≤ 0 → plus new (as_text (flat_map f rest)) ≡ all → new ≡ all
+no_low_bits f [] new all h e = sym (plus_nothing new) ∙ e
+no_low_bits f (o ∷ os) new all h e = absurd (omega arith)
+
+pub low_octets : (os : List ℕ) → flat_map (binary 8) os ≡ flat_map (low_bits 0 8) os
+low_octets [] = refl
+low_octets (o ∷ os) = ap (λ n. binary 8 n ++ flat_map (binary 8) os) (whole o) ∙ ap (λ l. low_bits 0 8 o ++ l) (low_octets os)
+  where
+    whole : (n : ℕ) → n ≡ n - 0
+    whole n = omega arith
 
 -- ---- presence bits, some after others

@@ -1,15 +1,14 @@
 //! Characters as units.
-ghost use Rattle.std.specs.Prelude.{◌≡◌, ◌≤◌, true, map, IfSome};
-ghost use Rattle.asn1_model.specs.Numbers.{binary};
+ghost use Rattle.std.specs.Prelude.{◌≡◌, ◌≤◌, ℕ, true, IfSome};
 ghost use Rattle.asn1_model.specs.Strings.{each_is};
-ghost use Rattle.per_codec_alphabets.specs.Codes.{has_code};
-ghost use Rattle.per_codec_writing.specs.Characters.{texts_of};
+ghost use Rattle.per_codec_alphabets.specs.Codes.{code_in, code_of, has_code, text_of};
+ghost use Rattle.per_codec_writing.specs.Characters.{low_bits, texts_of};
 ghost use Rattle.per_codec_writing.specs.Units.{forms_of};
 
 use crate::Units;
 use asn1_schema_faults::EncodeError;
 use asn1_values_alphabets::StaticPermittedAlphabet;
-use per_codec_alphabets::EffectiveAlphabet;
+use per_codec_alphabets::{CodedRun, EffectiveAlphabet};
 use per_codec_packing::Packing;
 
 /// The characters of a string, each by its code among those of an alphabet (X.691 30.5).
@@ -26,6 +25,9 @@ impl<S: StaticPermittedAlphabet> CharacterUnits<'_, S> {
     pub fn has_codes(&self) -> bool
         ensures { result ≡ each_is (has_code self.now.alphabet.now) (S.characters self.now.string.now) }
     {
+        if let Some(run) = self.alphabet.single_run() {
+            return self.are_in_run(run);
+        }
         for place in 0..self.string.char_count() {
             if self.alphabet.code(self.string.char_at(place)).is_none() {
                 return false;
@@ -34,18 +36,43 @@ impl<S: StaticPermittedAlphabet> CharacterUnits<'_, S> {
         true
     }
 
-    /// The characters as octets, of which each is its code, if they are kept so and codes have at most eight bits.
+    /// Whether each character is one of the alphabet, which is one run.
     #[inline(always)]
-    pub(crate) fn octet_codes(&self) -> Option<&[u8]>
-        ensures codes { IfSome result (λ octets.
-            each_is (has_code self.now.alphabet.now) (S.characters self.now.string.now) ≡ true
-            → forms_of (map (binary self.now.alphabet.now.code_bits) octets.now)
-            ≡ forms_of (texts_of self.now.alphabet.now (S.characters self.now.string.now))) }
+    fn are_in_run(&self, run: CodedRun) -> bool
+        requires { (c : ℕ) → code_of self.now.alphabet.now c ≡ code_in run c }
+        ensures { result ≡ each_is (has_code self.now.alphabet.now) (S.characters self.now.string.now) }
+    {
+        for place in 0..self.string.char_count() {
+            if run.code(self.string.char_at(place)).is_none() {
+                return false;
+            }
+        }
+        true
+    }
+
+    /// What codes leave out of the numbers of their characters, if that is the same for all, and an octet.
+    #[inline(always)]
+    pub(crate) fn base(&self) -> Option<u8>
+        ensures { IfSome result (λ base. (c : ℕ) → has_code self.now.alphabet.now c ≡ true
+            → text_of self.now.alphabet.now c ≡ low_bits base self.now.alphabet.now.code_bits c) }
+    {
+        if self.alphabet.is_by_number() {
+            return Some(0);
+        }
+        let run = self.alphabet.single_run()?;
+        if run.base < 256 {
+            Some(run.base as u8)
+        } else {
+            None
+        }
+    }
+
+    /// The characters as octets, if they are kept so and codes have at most eight bits.
+    #[inline(always)]
+    pub(crate) fn octets(&self) -> Option<&[u8]>
+        ensures characters { IfSome result (λ octets. octets.now ≡ S.characters self.now.string.now) }
         ensures narrow { IfSome result (λ _. self.now.alphabet.now.code_bits ≤ 8) }
     {
-        if !self.alphabet.is_by_number() {
-            return None;
-        }
         if self.alphabet.width() > 8 {
             return None;
         }

@@ -1,5 +1,5 @@
 //! Character strings (X.691 30).
-ghost use Rattle.std.specs.Prelude.{◌≡◌, true, false, MatchResult};
+ghost use Rattle.std.specs.Prelude.{◌≡◌, ℕ, true, false, MatchResult};
 ghost use Rattle.asn1_model.specs.Per.{characters, counted_octets, form, sized};
 ghost use Rattle.asn1_model.specs.Schema.{character_string, StringKind};
 ghost use Rattle.asn1_model.specs.Strings.{characters_of, each_is, is_of_octets as holds_octets, permitted};
@@ -7,9 +7,9 @@ ghost use Rattle.asn1_model.specs.Schema.{any_count};
 ghost use Rattle.asn1_model.specs.Value.{text};
 ghost use Rattle.asn1_schema_constraints.specs.Terms.{sizes_of, size_of, alphabet_of};
 ghost use Rattle.asn1_values_alphabets.specs.Permitted.{permits_all};
-ghost use Rattle.per_codec_alphabets.specs.Codes.{SameCharacters, has_code};
+ghost use Rattle.per_codec_alphabets.specs.Codes.{SameCharacters, has_code, text_of};
 ghost use Rattle.per_codec_packing.specs.Texts.{text_at};
-ghost use Rattle.per_codec_writing.specs.Characters.{texts_of};
+ghost use Rattle.per_codec_writing.specs.Characters.{low_bits, texts_of};
 ghost use Rattle.per_codec_writing.specs.Units.{forms_of};
 ghost use Rattle.per_codec_writing.specs.Writing.{Adds, Refuses, place};
 ghost use Rattle.per_codec_limits.specs.Variants.{is_aligned};
@@ -76,6 +76,40 @@ fn have_codes<S: StaticPermittedAlphabet>(
     true
 }
 
+/// Adds characters whose codes are their numbers less `base`, under a size: where they are octets of the string,
+/// several at a time.
+#[inline(always)]
+fn push_based<S: StaticPermittedAlphabet>(
+    output: &mut Packing,
+    variant: Variant,
+    sizes: Sizes,
+    has_padding: bool,
+    units: &CharacterUnits<S>,
+    base: u8,
+) -> Result<(), EncodeError>
+    requires coded { each_is (has_code units.now.alphabet.now) (S.characters units.now.string.now) ≡ true }
+    requires codes { (c : ℕ) → has_code units.now.alphabet.now c ≡ true
+        → text_of units.now.alphabet.now c ≡ low_bits base units.now.alphabet.now.code_bits c }
+    ensures { MatchResult result (λ _. Adds
+        (text_at (sized (is_aligned variant) (size_of sizes) any_count (λ _. has_padding)
+        (forms_of (texts_of units.now.alphabet.now (S.characters units.now.string.now))))
+        (place output.old)) output.old output.new)
+        (Refuses (text_at (sized (is_aligned variant) (size_of sizes) any_count (λ _. has_padding)
+        (forms_of (texts_of units.now.alphabet.now (S.characters units.now.string.now))))
+        (place output.old))) }
+{
+    if let Some(octets) = units.octets() {
+        let width = units.alphabet.width();
+        let numbers = NumberUnits {
+            octets,
+            width,
+            base,
+        };
+        return push_sized(output, variant, sizes, Bounded::None, has_padding, &numbers);
+    }
+    push_sized(output, variant, sizes, Bounded::None, has_padding, units)
+}
+
 /// Adds characters that have codes, under a size: where the codes are octets of the string, several at a time.
 #[inline(always)]
 fn push_coded<S: StaticPermittedAlphabet>(
@@ -94,10 +128,8 @@ fn push_coded<S: StaticPermittedAlphabet>(
         (forms_of (texts_of units.now.alphabet.now (S.characters units.now.string.now))))
         (place output.old))) }
 {
-    if let Some(octets) = units.octet_codes() {
-        let width = units.alphabet.width();
-        let numbers = NumberUnits { octets, width };
-        return push_sized(output, variant, sizes, Bounded::None, has_padding, &numbers);
+    if let Some(base) = units.base() {
+        return push_based(output, variant, sizes, has_padding, units, base);
     }
     push_sized(output, variant, sizes, Bounded::None, has_padding, units)
 }

@@ -1,6 +1,7 @@
-//! The low bits of octets as units, at most eight of each.
+//! The low bits of octets less one and the same number as units, at most eight of each.
 ghost use Rattle.std.specs.Prelude.{◌≡◌, ◌≤◌, flat_map, length, map, MatchResult};
 ghost use Rattle.asn1_model.specs.Numbers.{binary};
+ghost use Rattle.per_codec_writing.specs.Characters.{low_bits};
 ghost use Rattle.per_codec_packing.specs.Texts.{as_text};
 ghost use Rattle.per_codec_writing.specs.Units.{forms_of};
 ghost use Rattle.per_codec_writing.specs.Writing.{plus};
@@ -9,46 +10,53 @@ use crate::Units;
 use asn1_schema_faults::EncodeError;
 use per_codec_packing::Packing;
 
-/// Octets of which each is a unit of its low `width` bits, at most eight.
+/// Octets of which each, less `base`, is a unit of its low `width` bits, at most eight.
 #[derive(Drop)]
 pub(crate) struct NumberUnits<'a> {
     pub(crate) octets: &'a [u8],
     pub(crate) width: u32,
+    pub(crate) base: u8,
     ghost narrow: { width ≤ 8 },
 }
 
-/// The low `width` bits of at most eight octets, one behind the other, as a number, and how many they are.
+/// The low `width` bits of at most eight octets less `base`, one behind the other, as a number, and how many they are.
 #[inline(always)]
-fn joined_bits(octets: &[u8], width: u32) -> (u64, u32)
+fn joined_bits(octets: &[u8], width: u32, base: u8) -> (u64, u32)
     requires narrow { width ≤ 8 }
     requires few { length octets.now ≤ 8 }
-    ensures digits { binary result.1 result.0 ≡ flat_map (binary width) octets.now }
+    ensures digits { binary result.1 result.0 ≡ flat_map (low_bits base width) octets.now }
     ensures narrow { result.1 ≤ 64 }
 {
     let mut number = 0;
     let mut count = 0;
     for octet in octets {
-        number = number << width | *octet as u64 & ((1 << width) - 1);
+        let code = octet.saturating_sub(base);
+        number = number << width | code as u64 & ((1 << width) - 1);
         count += width;
     }
     (number, count)
 }
 
-/// Adds the low `width` bits of octets, those of eight octets at a time. The only error is want of memory.
-fn push_low_bits(output: &mut Packing, octets: &[u8], width: u32) -> Result<(), EncodeError>
+/// Adds the low `width` bits of octets less `base`, those of eight octets at a time. The only error is want of memory.
+fn push_low_bits(
+    output: &mut Packing,
+    octets: &[u8],
+    width: u32,
+    base: u8,
+) -> Result<(), EncodeError>
     requires { width ≤ 8 }
     ensures { MatchResult result
-        (λ _. output.new ≡ plus output.old (as_text (flat_map (binary width) octets.now)))
+        (λ _. output.new ≡ plus output.old (as_text (flat_map (low_bits base width) octets.now)))
         (λ e. e ≡ EncodeError.OutOfMemory) }
 {
-    if width == 8 {
+    if width == 8 && base == 0 {
         output.extend_from_bytes(octets)?;
         return Ok(());
     }
     let mut rest = octets;
     while rest.len() > 0 {
         let few = rest.len().min(8);
-        let (number, count) = joined_bits(&rest[..few], width);
+        let (number, count) = joined_bits(&rest[..few], width, base);
         output.push_bits(number as u128, count)?;
         rest = &rest[few..];
     }
@@ -56,14 +64,14 @@ fn push_low_bits(output: &mut Packing, octets: &[u8], width: u32) -> Result<(), 
 }
 
 impl Units for NumberUnits<'_> {
-    ghost forms = { λ units. forms_of (map (binary units.width) units.octets.now) };
+    ghost forms = { λ units. forms_of (map (low_bits units.base units.width) units.octets.now) };
 
     fn count(&self) -> usize {
         self.octets.len()
     }
 
     fn push_range(&self, output: &mut Packing, from: usize, to: usize) -> Result<(), EncodeError> {
-        push_low_bits(output, &self.octets[from..to], self.width)?;
+        push_low_bits(output, &self.octets[from..to], self.width, self.base)?;
         Ok(())
     }
 }

@@ -4,6 +4,7 @@ use Rattle.std.proofs.lemmas.Nat.{pow_pos, mod_below}
 use Rattle.asn1_model.specs.Numbers.{binary}
 use Rattle.asn1_values_bits.proofs.Binary.{binary_join, binary_low}
 use Rattle.asn1_values_bits.proofs.Reading.{joined_digits, joined_small}
+use Rattle.per_codec_writing.specs.Characters.{low_bits}
 use Rattle.per_codec_writing.proofs.number_units.joined_bits.Goals as goal
 
 pub loop-octet-preserved : goal.loop-octet-preserved
@@ -13,12 +14,14 @@ loop-octet-preserved c =
     let n : ℕ = c.loop-octet.count in
     let w : ℕ = c.args.width in
     let os : List ℕ = c.args.octets.now in
-    let x : ℕ = get_or os i 0 in
+    let b : ℕ = c.args.base in
+    let x : ℕ = c.saturating_sub-code.result in
+    let less : x ≡ get_or os i 0 - b = omega (arith, c.saturating_sub-code.ensures) in
     let joined : bit_or (v * 2 ^ w % 2 ^ 64) (bit_and x (1 * 2 ^ w % 2 ^ 64 - 1)) ≡ v * 2 ^ w + x % 2 ^ w = joined_digits n w v x 64 c.loop-octet.invariant.small (omega (arith, c.loop-octet.invariant.few)) (omega arith) in
     record {
       digits = ap (binary (n + w)) joined ∙ sym (binary_join n w v (x % 2 ^ w) (mod_below x (2 ^ w) (pow_pos w)))
-          ∙ ap (λ l. binary n v ++ l) (binary_low w x) ∙ ap (λ l. l ++ binary w x) c.loop-octet.invariant.digits
-          ∙ flat_map_more (binary w) [] (take i os) x ∙ sym (ap (flat_map (binary w)) (take_more os i 0 (omega arith)));
+          ∙ ap (λ l. binary n v ++ l) (binary_low w x ∙ ap (binary w) less) ∙ ap (λ l. l ++ low_bits b w (get_or os i 0)) c.loop-octet.invariant.digits
+          ∙ flat_map_more (low_bits b w) [] (take i os) (get_or os i 0) ∙ sym (ap (flat_map (low_bits b w)) (take_more os i 0 (omega arith)));
       small = rw joined (joined_small n w v x c.loop-octet.invariant.small);
       few = omega (arith, c.loop-octet.invariant.few);
     }
