@@ -1,11 +1,12 @@
 -- The types of message, as types of the model.
-use Rattle.asn1_model.specs.Schema.{context}
 use Rattle.std.specs.Prelude.{pos, [], ◌∷◌, None, true, false}
 use Rattle.asn1_model.specs.Schema.{Schema, by_default, required, boolean, null, enumerated, bit_string}
 use Rattle.asn1_model.specs.Schema.{character_string, visible, sequence_of, sequence, no_component, any_size}
+use Rattle.asn1_model.specs.Schema.{context}
 use Rattle.asn1_model.specs.Value.{Value, absent, end}
+use Rattle.asn1_schema_types.specs.Counts.{any_number_held}
 use Rattle.asn1_relay_types.specs.Defaults.{true_and}
-use Rattle.asn1_relay_types.specs.Schemas.{behind_flag, one_more, universal, any_number_held}
+use Rattle.asn1_relay_types.specs.Schemas.{behind_flag, one_more, universal}
 use Rattle.asn1_relay_types.specs.Schemas.{integer_schema, small_schema, octets_schema, pair_schema, set_schema}
 use Rattle.asn1_relay_types.specs.Schemas.{bag_schema, nest_schema, new_schema, old_schema, group_schema}
 use Rattle.asn1_relay_command.specs.declared.order.Kind.{Kind}
