@@ -3,7 +3,9 @@ use Rattle.std.proofs.Common.{◌≡◌, ℕ, zero, suc, ◌≤◌, ◌==◌, ma
 use Rattle.std.proofs.lemmas.Bool.{and_parts, and_from, eqb-true, eq-eqb}
 use Rattle.asn1_model.specs.Value.{Value, members, bag, fields, chosen, Values, no_more, member, Parts, end, absent, present, map_members, values_of, are_absent, same, same_truth, same_members, same_bag, same_parts, depth, depth_of_members, depth_of_parts}
 use Rattle.asn1_model.specs.Schema.{Presence, required, optional, by_default, Schema, sequence_of, set_of, sequence, set, group, choice, Components, no_component, component, Alternatives, no_alternative, alternative}
-use Rattle.asn1_model.specs.Normal.{normal, normal_parts, normal_alternative, is_normal, are_normal, is_normal_alternative, are_all, kept, is_default_by, is_empty_group, is_at_default, is_group_left_out}
+use Rattle.asn1_model.specs.Normal.{normal, normal_parts, normal_alternative, kept, is_default_by, is_empty_group, is_at_default, is_group_left_out}
+use Rattle.asn1_model.specs.Value.{are_all}
+use Rattle.asn1_model.specs.Tidy.{is_normal, are_normal, is_normal_alternative}
 use Rattle.asn1_laws_values.proofs.Listed.{listed, listed_again, arranged_maps}
 use Rattle.asn1_laws_values.proofs.Counts.{both_true}
 use Rattle.asn1_laws_values.proofs.Same.{same_turned, same_chained}

@@ -1,9 +1,11 @@
 -- The normal form of a normal form is itself, and nothing in it is left to leave out.
 use Rattle.std.specs.Prelude.{List}
-use Rattle.std.proofs.Common.{◌≡◌, ℕ, zero, suc, Bool, true, false, not, ◌&&◌, ◌||◌, refl, ap, ◌∙◌}
+use Rattle.std.proofs.Common.{◌≡◌, ℕ, zero, suc, Bool, true, false, not, ◌&&◌, ◌||◌, refl, ap, sym, ◌∙◌, subst}
 use Rattle.asn1_model.specs.Value.{Value, members, bag, fields, chosen, Values, no_more, member, Parts, end, absent, present, map_members}
 use Rattle.asn1_model.specs.Schema.{Tag, Presence, Schema, sequence_of, set_of, sequence, set, group, choice, Components, no_component, component, Alternatives, no_alternative, alternative}
-use Rattle.asn1_model.specs.Normal.{normal, normal_parts, normal_alternative, is_normal, are_normal, is_normal_alternative, are_all, is_empty_group, is_at_default, is_group_left_out, is_default_by, kept}
+use Rattle.asn1_model.specs.Normal.{normal, normal_parts, normal_alternative, is_empty_group, is_at_default, is_group_left_out, is_default_by, kept}
+use Rattle.asn1_model.specs.Value.{are_all}
+use Rattle.asn1_model.specs.Tidy.{is_normal, are_normal, is_normal_alternative}
 
 map_again : (f : Value → Value) → ((v : Value) → f (f v) ≡ f v) → (vs : Values) → map_members f (map_members f vs) ≡ map_members f vs
 map_again f h no_more = refl
@@ -95,3 +97,10 @@ mutual
   alternative_normal (alternative t s others) zero v = normal_normal s v
   alternative_normal (alternative t s others) (suc i) v = alternative_normal others i v
   alternative_normal no_alternative i v = refl
+
+-- what is its own normal form passes the test, and what does not is not its own
+pub tells_normal : (s : Schema) (v : Value) → normal s v ≡ v → is_normal s v ≡ true
+tells_normal s v e = subst (λ w. is_normal s w ≡ true) e (normal_normal s v)
+
+pub not_normal : (s : Schema) (v : Value) → is_normal s v ≡ false → ¬ (normal s v ≡ v)
+not_normal s v f e = let q : false ≡ true = sym f ∙ tells_normal s v e in cc

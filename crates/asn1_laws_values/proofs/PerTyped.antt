@@ -5,7 +5,8 @@ use Rattle.std.proofs.lemmas.List.{length-map}
 use Rattle.std.specs.Prelude.{ℤ}
 use Rattle.asn1_model.specs.Value.{Value, truth, nothing, number, item, bit_list, octet_list, text, arcs, members, bag, fields, chosen, Values, no_more, member, Parts, end, absent, present, each}
 use Rattle.asn1_model.specs.Schema.{Range, Bounds, Counts, Size, Alphabet, StringKind, Presence, Schema, boolean, null, integer, enumerated, bit_string, octet_string, character_string, object_identifier, sequence_of, set_of, sequence, set, group, choice, Components, no_component, component, Alternatives, no_alternative, alternative}
-use Rattle.asn1_model.specs.Normal.{is_at_default, is_group_left_out, are_all}
+use Rattle.asn1_model.specs.Normal.{is_at_default, is_group_left_out}
+use Rattle.asn1_model.specs.Value.{are_all}
 use Rattle.asn1_model.specs.Numbers.{is_within, is_count_within, fits_128}
 use Rattle.asn1_model.specs.Strings.{each_is, is_octet, may_hold, is_of_octets, is_identifier, permitted}
 use Rattle.asn1_model.specs.Tables.{is_required, presence_bits, item_place, is_bounded}

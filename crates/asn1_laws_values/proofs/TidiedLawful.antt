@@ -3,7 +3,8 @@ use Rattle.std.proofs.Common.{◌≡◌, ℕ, zero, suc, Bool, true, false, not,
 use Rattle.std.proofs.lemmas.Bool.{and_parts, and_from}
 use Rattle.asn1_model.specs.Value.{Value, same_list, members, bag, fields, chosen, Parts, end, absent, present}
 use Rattle.asn1_model.specs.Schema.{Tag, Presence, required, optional, by_default, Schema, sequence_of, set_of, sequence, set, group, choice, Components, no_component, component, Alternatives, no_alternative, alternative}
-use Rattle.asn1_model.specs.Normal.{normal, are_all}
+use Rattle.asn1_model.specs.Normal.{normal}
+use Rattle.asn1_model.specs.Value.{are_all}
 use Rattle.asn1_model.specs.Numbers.{is_count_within}
 use Rattle.asn1_model.specs.Tables.{is_required}
 use Rattle.asn1_model.specs.Typed.{member_count, is_of, are_of, is_of_alternative}

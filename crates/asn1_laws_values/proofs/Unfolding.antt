@@ -4,7 +4,7 @@ use Rattle.std.proofs.lemmas.Bool.{and_parts}
 use Rattle.asn1_model.specs.Value.{Value, members, bag, fields, chosen, Values, no_more, member, Parts, end, absent, present, each, map_members, depth, depth_of_members, depth_of_parts}
 use Rattle.asn1_model.specs.Schema.{Tag, Size, Counts, Presence, required, optional, by_default, Schema, cut, sequence_of, set_of, sequence, set, group, choice, Components, no_component, component, Alternatives, no_alternative, alternative}
 use Rattle.asn1_model.specs.Normal.{normal, normal_parts, normal_alternative, is_empty_group, is_default_by, is_at_default, is_group_left_out}
-use Rattle.asn1_model.specs.Normal.{has_normal_default, is_tidy, are_tidy, are_tidy_alternatives}
+use Rattle.asn1_model.specs.Tidy.{has_normal_default, is_tidy, are_tidy, are_tidy_alternatives}
 use Rattle.asn1_model.specs.Form.{refused, both, given}
 use Rattle.asn1_model.specs.Tables.{presence_bits, is_required, alternative_count}
 use Rattle.asn1_model.specs.Rules.{Rules, uper, aper, uper_strict, aper_strict, oer, coer, canonical, encoding, per, octet_encoding, IsEncoding}

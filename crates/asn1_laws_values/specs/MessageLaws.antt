@@ -2,13 +2,14 @@
 use Rattle.std.specs.Prelude.{◌≡◌, ℕ, Bool, true, IsTrue, List, Some}
 use Rattle.asn1_model.specs.Value.{Value}
 use Rattle.asn1_model.specs.Schema.{Schema}
-use Rattle.asn1_model.specs.Normal.{normal, is_normal}
+use Rattle.asn1_model.specs.Normal.{normal}
+use Rattle.asn1_model.specs.Tidy.{is_normal}
 use Rattle.asn1_model.specs.Form.{written, Reads, canonically}
 use Rattle.asn1_model.specs.Rules.{Rules, uper, aper, uper_strict, aper_strict, oer, coer, canonical, IsEncoding}
 use Rattle.asn1_model.specs.Per
 use Rattle.asn1_model.specs.Oer
 
--- The normal form of a normal form is itself, and is normal.
+-- The normal form of a normal form is itself, and passes the test.
 abbrev pub NormalForms : Type 0
 NormalForms = (s : Schema) (v : Value) → (normal s (normal s v) ≡ normal s v) × (is_normal s (normal s v) ≡ true)
 
@@ -40,11 +41,11 @@ StrictIsLenient =
     (s : Schema) (v : Value) (w : List ℕ) → (IsEncoding uper_strict s v w → IsEncoding uper s v w)
     × (IsEncoding aper_strict s v w → IsEncoding aper s v w) × (IsEncoding coer s v w → IsEncoding oer s v w)
 
--- What a strict reader takes is normal: nothing at its default is spelled out, and no group is empty.
+-- What a strict reader takes is its own normal form: nothing at its default is spelled out, and no group is empty.
 abbrev pub StrictReadsNormal : Type 0
 StrictReadsNormal =
-    (s : Schema) (v : Value) (w : List ℕ) → (IsEncoding uper_strict s v w → is_normal s v ≡ true)
-    × (IsEncoding aper_strict s v w → is_normal s v ≡ true) × (IsEncoding coer s v w → is_normal s v ≡ true)
+    (s : Schema) (v : Value) (w : List ℕ) → (IsEncoding uper_strict s v w → normal s v ≡ v)
+    × (IsEncoding aper_strict s v w → normal s v ≡ v) × (IsEncoding coer s v w → normal s v ≡ v)
 
 -- What is written is read, in the same rules, as the normal form of the value.
 abbrev pub CanonicalIsRead : Type 0

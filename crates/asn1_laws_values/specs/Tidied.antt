@@ -3,7 +3,8 @@ use Rattle.std.specs.Prelude.{◌≡◌, true, false}
 use Rattle.asn1_model.specs.Schema.{Presence, by_default, Schema, sequence_of, set_of, sequence, set, group, choice}
 use Rattle.asn1_model.specs.Schema.{Components, no_component, component, Alternatives, no_alternative, alternative}
 use Rattle.asn1_model.specs.Value.{Value, absent, present, end}
-use Rattle.asn1_model.specs.Normal.{normal, is_tidy}
+use Rattle.asn1_model.specs.Normal.{normal}
+use Rattle.asn1_model.specs.Tidy.{is_tidy}
 use Rattle.asn1_model.specs.Types.{roots}
 use Rattle.asn1_model.specs.VersionRows.{spelled, sequence_default}
 

@@ -2,7 +2,8 @@
 use Rattle.std.specs.Prelude.{◌≡◌, ℕ, ◌≤◌, true, List}
 use Rattle.asn1_model.specs.Value.{Value, depth}
 use Rattle.asn1_model.specs.Schema.{Schema}
-use Rattle.asn1_model.specs.Normal.{normal, is_normal, IsTidy}
+use Rattle.asn1_model.specs.Normal.{normal}
+use Rattle.asn1_model.specs.Tidy.{is_normal, IsTidy}
 use Rattle.asn1_model.specs.Lawful.{IsLawful}
 use Rattle.asn1_model.specs.Rules.{Rules, canonical, IsEncoding}
 use Rattle.asn1_model.specs.Typed.{is_of}

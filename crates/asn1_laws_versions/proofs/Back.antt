@@ -3,7 +3,8 @@ use Rattle.std.proofs.Common.{◌≡◌, ℕ, zero, suc, Bool, true, false, cond
 use Rattle.std.proofs.lemmas.Bool.{and_parts}
 use Rattle.asn1_model.specs.Value.{Value, item, members, bag, fields, chosen, Values, no_more, member, Parts, end, absent, present}
 use Rattle.asn1_model.specs.Schema.{Schema, enumerated, sequence_of, set_of, sequence, set, group, choice, Components, no_component, component, Alternatives, alternative}
-use Rattle.asn1_model.specs.Normal.{is_normal, are_all}
+use Rattle.asn1_model.specs.Value.{are_all}
+use Rattle.asn1_model.specs.Tidy.{is_normal}
 use Rattle.asn1_model.specs.Form.{is_present}
 use Rattle.asn1_model.specs.Tables.{item_place}
 use Rattle.asn1_model.specs.Typed.{is_of, are_of, is_of_alternative}

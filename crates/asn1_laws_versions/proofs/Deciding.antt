@@ -3,10 +3,13 @@ use Rattle.std.proofs.Common.{◌≡◌, ◌≢◌, ◌⊎◌, inl, inr, ℕ, ze
 use Rattle.std.proofs.lemmas.Bool.{ltb-true, ltb-false}
 use Rattle.asn1_model.specs.Value.{Value, depth}
 use Rattle.asn1_model.specs.Schema.{Schema}
-use Rattle.asn1_model.specs.Normal.{normal, is_normal}
+use Rattle.asn1_model.specs.Normal.{normal}
+use Rattle.asn1_model.specs.Tidy.{is_normal}
 use Rattle.asn1_model.specs.Rules.{canonical}
 use Rattle.asn1_model.specs.Versions.{drop, grow}
 use Rattle.asn1_laws_values.proofs.Messages.{some_parts}
+use Rattle.asn1_laws_values.proofs.Normal.{normal_stays}
+use Rattle.asn1_laws_values.proofs.Normals.{not_normal}
 use Rattle.asn1_laws_versions.specs.ExactLaws.{is_strict}
 use Rattle.asn1_laws_versions.specs.Answers.{Answer, not_an_encoding, no_target}
 use Rattle.asn1_laws_versions.specs.Routes.{Version, older, newer, Hop, schema_of, Passed, no_hop, newer_alone, an_older, Stage, behind, Cause, unknown, too_deep, clash, missing, unwritable, answer_to, value_written, NestsTooDeep, Holds, HasNoCause, HasCause, GoesThrough, FailsAt}
@@ -18,9 +21,6 @@ Decided A = A ⊎ ¬ A
 -- constructors are apart
 pub apart : {A : Type 0} → false ≡ true → A
 apart e = cc
-
-pub truths_apart : true ≡ false → ⊥
-truths_apart e = cc
 
 pub options_apart : {X : Type 0} (x : X) → Some x ≡ None → ⊥
 options_apart x e = cc
@@ -49,9 +49,9 @@ abbrev is_true : (b : Bool) → Decided (b ≡ true)
 is_true true = inl refl
 is_true false = inr (λ e. apart e)
 
-abbrev is_false : (b : Bool) → Decided (b ≡ false)
-is_false false = inl refl
-is_false true = inr (λ e. truths_apart e)
+abbrev abnormal : (s : Schema) (v : Value) (b : Bool) → is_normal s v ≡ b → Decided (¬ (normal s v ≡ v))
+abnormal s v false e = inl (not_normal s v e)
+abnormal s v true e = inr (λ n. n (normal_stays s v e))
 
 abbrev lower_by : (a b : ℕ) (t : Bool) → ltb a b ≡ t → Decided (a < b)
 lower_by a b true e = inl (ltb-true a b e)
@@ -113,7 +113,7 @@ module _ (old new : Schema) where
   abbrev holds : (p : Stage) (h : Hop) (v : Value) (c : Cause) → Decided (Holds old new p h v c)
   holds p h v unknown = both (both (is_older h.version) (is_not_older p.passed)) (none (drop old new v))
   holds p h v too_deep = both (is_no_hop p.passed) (deep h.version v)
-  holds p h v clash = three (both (is_older h.version) (is_not_older p.passed)) (is_true (is_strict p.from)) (some (λ u. is_normal old u ≡ false) (drop old new v) (λ u. is_false (is_normal old u)))
+  holds p h v clash = three (both (is_older h.version) (is_not_older p.passed)) (is_true (is_strict p.from)) (some (λ u. ¬ (normal old u ≡ u)) (drop old new v) (λ u. abnormal old u (is_normal old u) refl))
   holds p h v missing = both (both (is_newer h.version) (is_an_older p.passed)) (some (λ u. grow old new u ≡ None) (drop old new v) (λ u. none (grow old new u)))
   holds p h v unwritable = some (λ x. canonical h.to (schema_of old new h.version) x ≡ None) (value_written old new p.passed h.version v) (λ x. none (canonical h.to (schema_of old new h.version) x))
 

@@ -3,7 +3,8 @@ use Rattle.std.proofs.Common.{◌≡◌, ℕ, Bool, true, false, List, ◌++◌,
 use Rattle.asn1_model.specs.Value.{Value, same}
 use Rattle.asn1_model.specs.Schema.{Schema}
 use Rattle.asn1_model.specs.Lawful.{is_lawful}
-use Rattle.asn1_model.specs.Normal.{normal, is_normal}
+use Rattle.asn1_model.specs.Normal.{normal}
+use Rattle.asn1_model.specs.Tidy.{is_normal}
 use Rattle.asn1_model.specs.Form.{Reads}
 use Rattle.asn1_model.specs.Rules.{Rules, uper, aper, uper_strict, aper_strict, oer, coer, canonical, encoding, per, octet_encoding, octet_bits, of_moderate_length, IsEncoding, lenient}
 use Rattle.asn1_model.specs.Per
@@ -11,7 +12,7 @@ use Rattle.asn1_model.specs.Oer
 use Rattle.asn1_model.specs.Versions.{Extends, drop, grow, lessen}
 use Rattle.asn1_laws_values.proofs.Covers.{Covers, covers_same, covers_within}
 use Rattle.asn1_laws_values.proofs.Messages.{per_text, octet_text}
-use Rattle.asn1_laws_values.proofs.Normals.{normal_normal}
+use Rattle.asn1_laws_values.proofs.Normals.{normal_normal, tells_normal}
 use Rattle.asn1_laws_values.proofs.IsNormal.{stays_normal}
 use Rattle.asn1_laws_values.proofs.Normal.{normal_stays}
 use Rattle.asn1_laws_values.proofs.Same.{same_turned}
@@ -134,25 +135,25 @@ taken_normal : (r : Rules) (s : Schema) (v : Value) (w : List ℕ) → IsEncodin
 taken_normal uper s v w h e = differs e
 taken_normal aper s v w h e = differs e
 taken_normal oer s v w h e = differs e
-taken_normal uper_strict s v w h e = strict_uper s v w h
-taken_normal aper_strict s v w h e = strict_aper s v w h
-taken_normal coer s v w h e = strict_octets s v w h
+taken_normal uper_strict s v w h e = normal_stays s v (strict_uper s v w h)
+taken_normal aper_strict s v w h e = normal_stays s v (strict_aper s v w h)
+taken_normal coer s v w h e = normal_stays s v (strict_octets s v w h)
 
 older_reads : (r : Rules) (old new : Schema) (v u : Value) (w : List ℕ) → Extends old new → drop old new v ≡ Some u → MayBeRead r old u → canonical r new v ≡ Some w → IsEncoding r old u w
 older_reads uper old new v u w h d n e = packed.older_reads_uper old new v u w h d e
 older_reads aper old new v u w h d n e = packed.older_reads_aper old new v u w h d e
 older_reads oer old new v u w h d n e = octets.older_reads_oer old new v u w h d e
-older_reads uper_strict old new v u w h d n e = packed.older_reads_uper_strict old new v u w h d (n refl) e
-older_reads aper_strict old new v u w h d n e = packed.older_reads_aper_strict old new v u w h d (n refl) e
-older_reads coer old new v u w h d n e = octets.older_reads_coer old new v u w h d (n refl) e
+older_reads uper_strict old new v u w h d n e = packed.older_reads_uper_strict old new v u w h d (tells_normal old u (n refl)) e
+older_reads aper_strict old new v u w h d n e = packed.older_reads_aper_strict old new v u w h d (tells_normal old u (n refl)) e
+older_reads coer old new v u w h d n e = octets.older_reads_coer old new v u w h d (tells_normal old u (n refl)) e
 
 newer_reads : (r : Rules) (old new : Schema) (u v : Value) (w : List ℕ) → Extends old new → grow old new (normal old u) ≡ Some v → MayBeRead r new v → canonical r old u ≡ Some w → IsEncoding r new v w
 newer_reads uper old new u v w h d n e = packed.newer_reads_uper old new u v w h d e
 newer_reads aper old new u v w h d n e = packed.newer_reads_aper old new u v w h d e
 newer_reads oer old new u v w h d n e = octets.newer_reads_oer old new u v w h d e
-newer_reads uper_strict old new u v w h d n e = packed.newer_reads_uper_strict old new u v w h d (n refl) e
-newer_reads aper_strict old new u v w h d n e = packed.newer_reads_aper_strict old new u v w h d (n refl) e
-newer_reads coer old new u v w h d n e = octets.newer_reads_coer old new u v w h d (n refl) e
+newer_reads uper_strict old new u v w h d n e = packed.newer_reads_uper_strict old new u v w h d (tells_normal new v (n refl)) e
+newer_reads aper_strict old new u v w h d n e = packed.newer_reads_aper_strict old new u v w h d (tells_normal new v (n refl)) e
+newer_reads coer old new u v w h d n e = octets.newer_reads_coer old new u v w h d (tells_normal new v (n refl)) e
 
 -- what is the same as what is left is left of something that is the same, and so is written alike
 left_is_read : (r : Rules) (old new : Schema) (v x : Value) (w : List ℕ) → is_lawful new ≡ true → Extends old new → canonical r new v ≡ Some w → IsLeft r old new v x → IsEncoding r old x w
@@ -168,7 +169,7 @@ grown_is_read r old new u x w k h e q =
     let i : is_normal old l.0 ≡ true = stays_normal old (normal old u) l.0 (same_turned l.0 (normal old u) l.2) (normal_normal old u) in
     let n : normal old l.0 ≡ l.0 = normal_stays old l.0 i in
     let c : canonical r old l.0 ≡ canonical r old u = canonical_same r old l.0 u k (subst (λ y. same y (normal old u) ≡ true) (sym n) l.2) in
-    newer_reads r old new l.0 x w h (ap (grow old new) n ∙ l.1) (λ t. grown_is_normal old new l.0 x h i l.1) (c ∙ e)
+    newer_reads r old new l.0 x w h (ap (grow old new) n ∙ l.1) (λ t. normal_stays new x (grown_is_normal old new l.0 x h i l.1)) (c ∙ e)
 
 pub older_reads_exactly : (r : Rules) (old new : Schema) (v x : Value) (w : List ℕ) → is_lawful old ≡ true → is_lawful new ≡ true → Extends old new → canonical r new v ≡ Some w → (IsLeft r old new v x → IsEncoding r old x w) × ((a y z : List ℕ) → IsEncoding r old x a → a ++ y ≡ w ++ z → (a ≡ w) × IsLeft r old new v x)
 older_reads_exactly r old new v x w l k h e = (

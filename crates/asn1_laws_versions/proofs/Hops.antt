@@ -4,14 +4,15 @@ use Rattle.std.proofs.lemmas.Bool.{cases_lt}
 use Rattle.asn1_model.specs.Value.{Value, same, depth}
 use Rattle.asn1_model.specs.Schema.{Schema}
 use Rattle.asn1_model.specs.Lawful.{IsLawful}
-use Rattle.asn1_model.specs.Normal.{normal, is_normal}
+use Rattle.asn1_model.specs.Normal.{normal}
+use Rattle.asn1_model.specs.Tidy.{is_normal}
 use Rattle.asn1_model.specs.Rules.{Rules, uper, aper, uper_strict, aper_strict, oer, coer, canonical, encoding, of_moderate_length, IsEncoding}
 use Rattle.asn1_model.specs.Typed.{is_of}
 use Rattle.asn1_model.specs.Versions.{Extends, drop, grow, lessen, IsClash}
 use Rattle.asn1_laws_values.proofs.Messages.{canonical_is_read, some_parts}
-use Rattle.asn1_laws_values.proofs.Normals.{normal_again, normal_normal}
+use Rattle.asn1_laws_values.proofs.Normals.{normal_again, normal_normal, tells_normal, not_normal}
 use Rattle.asn1_laws_values.proofs.IsNormal.{stays_normal}
-use Rattle.asn1_laws_values.proofs.Normal.{normal_depth}
+use Rattle.asn1_laws_values.proofs.Normal.{normal_depth, normal_stays}
 use Rattle.asn1_laws_values.proofs.Same.{same_self}
 use Rattle.asn1_laws_fronts.proofs.Every.{one_front}
 use Rattle.asn1_laws_values.proofs.PerTyped.{message_of}
@@ -83,9 +84,8 @@ module _ (old new : Schema) (lo : IsLawful old) (ln : IsLawful new) (ext : Exten
   clash_unread : (r : Rules) (v : Value) (w : List ℕ) → is_strict r ≡ true → IsClash old new v → canonical r new v ≡ Some w → Unread r old w
   clash_unread r v w s c e = λ front behind further x m q.
       let f = left_of r v x c.0 w front behind further e c.1 m q in
-      let n = stays_normal old x c.0 f.0 (f.1 s) in
-      let b : false ≡ true = sym c.2 ∙ n in
-      cc
+      let n = stays_normal old x c.0 f.0 (tells_normal old x (f.1 s)) in
+      c.2 (normal_stays old c.0 n)
 
   deep_unread : (r : Rules) (v u : Value) (w : List ℕ) → drop old new v ≡ Some u → 128 < depth u → canonical r new v ≡ Some w → Unread r old w
   deep_unread r v u w d k e = λ front behind further x m q.
@@ -212,15 +212,14 @@ module _ (old new : Schema) (lo : IsLawful old) (ln : IsLawful new) (ext : Exten
             absurd (omega arith)
         reads clash a k =
             let g : k.2.0 ≡ u = some_parts (sym k.2.1 ∙ f) in
-            let i : is_normal old u ≡ false = subst (λ u. is_normal old u ≡ false) g k.2.2 in
-            let j : false ≡ true = sym i ∙ n k.1 in
-            cc
+            let i : ¬ (normal old u ≡ u) = subst (λ u. ¬ (normal old u ≡ u)) g k.2.2 in
+            absurd (i (n k.1))
         reads missing a k = let g : older ≡ newer = k.0.0 in cc
         reads unwritable a k = cc
 
     by_clash : (u : Value) → drop old new v ≡ Some u → depth u ≤ 128 → (s n : Bool) → is_strict from ≡ s → is_normal old u ≡ n → Here
-    by_clash u f d true false g i = refuses _ _ v w clash refl ((refl, first), g, (u, f, i)) (unread_answer from to old w (clash_unread from v w g (u, f, i) e))
-    by_clash u f d true true g i = left u f d (λ t. i)
+    by_clash u f d true false g i = refuses _ _ v w clash refl ((refl, first), g, (u, f, not_normal old u i)) (unread_answer from to old w (clash_unread from v w g (u, f, not_normal old u i) e))
+    by_clash u f d true true g i = left u f d (λ t. normal_stays old u i)
     by_clash u f d false n g i = left u f d (λ t. let j : false ≡ true = sym g ∙ t in cc)
 
     by_depth : ((u : Value) → drop old new v ≡ Some u → 128 < depth u → p ≡ no_hop) → (u : Value) → drop old new v ≡ Some u → (128 < depth u) ⊎ (depth u ≤ 128) → Here

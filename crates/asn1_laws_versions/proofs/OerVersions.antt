@@ -5,7 +5,9 @@ use Rattle.std.proofs.lemmas.List.{append-nil}
 use Rattle.std.proofs.lemmas.Bool.{lt-ltb, and_parts}
 use Rattle.asn1_model.specs.Value.{Value, item, members, bag, fields, chosen, Values, no_more, member, same_number, Parts, end, absent, present, each}
 use Rattle.asn1_model.specs.Schema.{Tag, Counts, Presence, required, optional, by_default, Schema, cut, boolean, null, integer, enumerated, bit_string, octet_string, character_string, object_identifier, sequence_of, set_of, sequence, set, group, choice, Components, no_component, component, Alternatives, no_alternative, alternative}
-use Rattle.asn1_model.specs.Normal.{normal, is_at_default, is_group_left_out, is_normal, are_normal, is_normal_alternative, are_all}
+use Rattle.asn1_model.specs.Normal.{normal, is_at_default, is_group_left_out}
+use Rattle.asn1_model.specs.Value.{are_all}
+use Rattle.asn1_model.specs.Tidy.{is_normal, are_normal, is_normal_alternative}
 use Rattle.asn1_model.specs.Numbers.{is_count_within}
 use Rattle.asn1_model.specs.Tables.{presence_bits, presence_bit_unless, is_required, item_place}
 use Rattle.asn1_model.specs.Form.{refused, both, varied, written, Reads, only_if, given, joined, ascending, arranged, Bitmap, is_present, is_any_present, present_ones, covered_by, own_bitmap, stands_before}

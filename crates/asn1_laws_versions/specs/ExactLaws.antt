@@ -3,11 +3,11 @@ use Rattle.std.specs.Prelude.{◌≡◌, ℕ, Bool, true, false, List, ◌++◌,
 use Rattle.asn1_model.specs.Value.{Value, same}
 use Rattle.asn1_model.specs.Schema.{Schema}
 use Rattle.asn1_model.specs.Lawful.{IsLawful}
-use Rattle.asn1_model.specs.Normal.{normal, is_normal}
+use Rattle.asn1_model.specs.Normal.{normal}
 use Rattle.asn1_model.specs.Rules.{Rules, uper, aper, uper_strict, aper_strict, oer, coer, canonical, IsEncoding}
 use Rattle.asn1_model.specs.Versions.{Extends, drop, grow}
 
--- Whether the reader of these rules takes normal values alone.
+-- Whether the reader of these rules takes values in normal form alone.
 abbrev pub is_strict : Rules → Bool
 is_strict uper = false
 is_strict aper = false
@@ -16,9 +16,9 @@ is_strict uper_strict = true
 is_strict aper_strict = true
 is_strict coer = true
 
--- In the strict rules the value is normal.
+-- In the strict rules the value is its own normal form.
 abbrev pub MayBeRead : Rules → Schema → Value → Type 0
-MayBeRead r s v = is_strict r ≡ true → is_normal s v ≡ true
+MayBeRead r s v = is_strict r ≡ true → normal s v ≡ v
 
 -- A value is what the older version can see of one of the newer, up to the order of bags, and in the strict rules it is
 -- normal.

@@ -2,7 +2,8 @@
 use Rattle.std.specs.Prelude.{◌≡◌, true, IsTrue, Some}
 use Rattle.asn1_model.specs.Value.{Value, same, depth}
 use Rattle.asn1_model.specs.Schema.{Schema}
-use Rattle.asn1_model.specs.Normal.{normal, is_normal}
+use Rattle.asn1_model.specs.Normal.{normal}
+use Rattle.asn1_model.specs.Tidy.{is_normal}
 use Rattle.asn1_model.specs.Typed.{is_of}
 use Rattle.asn1_model.specs.Versions.{Extends, drop, grow}
 

@@ -2,7 +2,8 @@ use Rattle.std.specs.Prelude.{⊤}
 use Rattle.asn1_model.specs.Rules.{canonical, encoding, per, octet_encoding}
 use Rattle.asn1_model.specs.Form.{written}
 use Rattle.asn1_model.proofs.Forms.{written_by}
-use Rattle.asn1_model.specs.Normal.{normal, normal_parts, normal_alternative, is_normal, are_normal, is_normal_alternative}
+use Rattle.asn1_model.specs.Normal.{normal, normal_parts, normal_alternative}
+use Rattle.asn1_model.specs.Tidy.{is_normal, are_normal, is_normal_alternative}
 use Rattle.asn1_model.specs.Value.{same, same_members, same_bag, same_parts, depth, depth_of_members, depth_of_parts}
 use Rattle.asn1_model.specs.Numbers.{places_up_to}
 use Rattle.asn1_model.specs.Per

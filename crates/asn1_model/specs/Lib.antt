@@ -2,6 +2,7 @@ pub mod Value
 pub mod Schema
 pub mod Numbers
 pub mod Normal
+pub mod Tidy
 pub mod Form
 pub mod Strings
 pub mod Tables

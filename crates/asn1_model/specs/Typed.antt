@@ -7,7 +7,7 @@ use Rattle.asn1_model.specs.Schema.{Schema, cut, boolean, null, integer, enumera
 use Rattle.asn1_model.specs.Schema.{character_string, object_identifier, sequence_of, set_of, sequence, set, group}
 use Rattle.asn1_model.specs.Schema.{choice, Components, no_component, component, Alternatives, no_alternative}
 use Rattle.asn1_model.specs.Schema.{alternative}
-use Rattle.asn1_model.specs.Normal.{are_all}
+use Rattle.asn1_model.specs.Value.{are_all}
 use Rattle.asn1_model.specs.Numbers.{is_within, is_count_within}
 use Rattle.asn1_model.specs.Strings.{each_is, is_octet, may_hold, is_of_octets, is_identifier}
 use Rattle.asn1_model.specs.Form.{is_present}

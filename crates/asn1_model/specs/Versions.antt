@@ -8,7 +8,7 @@ use Rattle.asn1_model.specs.Schema.{Tag, Presence, required, optional, by_defaul
 use Rattle.asn1_model.specs.Schema.{enumerated, bit_string, octet_string, character_string, object_identifier}
 use Rattle.asn1_model.specs.Schema.{sequence_of, set_of, sequence, set, group, choice, Components, no_component}
 use Rattle.asn1_model.specs.Schema.{component, Alternatives, no_alternative, alternative}
-use Rattle.asn1_model.specs.Normal.{normal, is_normal}
+use Rattle.asn1_model.specs.Normal.{normal}
 use Rattle.asn1_model.specs.Form.{is_present}
 use Rattle.asn1_model.specs.Tables.{item_place}
 
@@ -92,9 +92,9 @@ abbrev pub drop : Schema → Schema → Value → Option Value
 drop old new v = lessen old new (normal new v)
 
 -- By the loss a part that the older version knows has become its default, or a group has become empty, so that what is
--- left is not normal.
+-- left is not in normal form.
 abbrev pub IsClash : Schema → Schema → Value → Type 0
-IsClash old new v = (w : Value) × (drop old new v ≡ Some w) × (is_normal old w ≡ false)
+IsClash old new v = (w : Value) × (drop old new v ≡ Some w) × ¬ (normal old w ≡ w)
 
 -- The elements of the first are the first of the second.
 abbrev pub Begins : {X : Type 0} → List X → List X → Type 0

@@ -3,7 +3,7 @@ use Rattle.std.proofs.Common.{◌≡◌, ◌⊎◌, inl, inr, ℕ, ◌≤◌, Li
 use Rattle.asn1_model.specs.Schema.{Schema}
 use Rattle.asn1_model.specs.Value.{Value}
 use Rattle.asn1_model.specs.Lawful.{IsLawful}
-use Rattle.asn1_model.specs.Normal.{IsTidy}
+use Rattle.asn1_model.specs.Tidy.{IsTidy}
 use Rattle.asn1_model.specs.Rules.{Rules, canonical}
 use Rattle.asn1_laws_values.specs.Unfolding.{AgreesTo}
 use Rattle.asn1_laws_values.proofs.Unfolding.{means_the_same}

@@ -25,7 +25,7 @@ pub use Rattle.asn1_schema_presented.specs.Tables.{IsType, IsValue, Table, no_fi
 unfoldable pub use Rattle.asn1_schema_presented.specs.Tables.{components_at, list_type, scope, sequence_type}
 pub use Rattle.asn1_schema_presented.specs.Typed.{IsPart}
 pub use Rattle.asn1_schema_types.specs.Counts.{any_number_held, fixed_to}
-unfoldable pub use Rattle.asn1_model.specs.Normal.{is_tidy}
+unfoldable pub use Rattle.asn1_model.specs.Tidy.{is_tidy}
 pub use Rattle.asn1_model.specs.Value.{chosen}
 pub use Rattle.asn1_model.specs.Schema.{null}
 pub use Rattle.asn1_schema_variants.specs.declared.chosen.Chosen.{Chosen}

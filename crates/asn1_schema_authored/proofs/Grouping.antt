@@ -1,7 +1,7 @@
 -- Groups of additions by the shapes of their components.
 use Rattle.std.proofs.Common.{◌≡◌, ℕ, true, subst}
 use Rattle.asn1_model.specs.Lawful.{is_lawful}
-use Rattle.asn1_model.specs.Normal.{is_tidy}
+use Rattle.asn1_model.specs.Tidy.{is_tidy}
 use Rattle.asn1_model.specs.Value.{Parts, end, fields}
 use Rattle.asn1_schema_presented.specs.Additions.{IsGroup}
 use Rattle.asn1_schema_presented.specs.Tables.{Table, IsType, IsValue, sequence_type}

@@ -1,7 +1,7 @@
 -- What the components of a group of additions are, and what a value has of them.
 use Rattle.std.specs.Prelude.{◌≡◌, ℕ, true}
 use Rattle.asn1_model.specs.Lawful.{is_lawful}
-use Rattle.asn1_model.specs.Normal.{is_tidy}
+use Rattle.asn1_model.specs.Tidy.{is_tidy}
 use Rattle.asn1_model.specs.Value.{end, fields}
 use Rattle.asn1_schema_presented.specs.Additions.{IsGroup}
 use Rattle.asn1_schema_presented.specs.Tables.{Table, IsValue, sequence_type}

@@ -4,7 +4,8 @@ use Rattle.std.specs.Prelude.{max}
 use Rattle.std.proofs.Math.Nat.{le-max_left, le-max_right}
 use Rattle.asn1_model.specs.Value.{Value, bag, member, depth, depth_of_members, map_members}
 use Rattle.asn1_model.specs.Schema.{Tag, Counts, Size, Schema, set_of}
-use Rattle.asn1_model.specs.Normal.{normal, is_tidy}
+use Rattle.asn1_model.specs.Normal.{normal}
+use Rattle.asn1_model.specs.Tidy.{is_tidy}
 use Rattle.asn1_model.specs.Lawful.{is_lawful, is_group, is_size}
 use Rattle.asn1_schema_presented.specs.Presents.{Fits, AllFit}
 use Rattle.asn1_schema_presented.specs.Parts.{values_of}

@@ -4,7 +4,8 @@ use Rattle.std.specs.Prelude.{max}
 use Rattle.std.proofs.Math.Nat.{le-max_left, le-max_right}
 use Rattle.asn1_model.specs.Value.{fields, Parts, depth, depth_of_parts}
 use Rattle.asn1_model.specs.Schema.{Tag, set}
-use Rattle.asn1_model.specs.Normal.{normal, normal_parts, is_tidy}
+use Rattle.asn1_model.specs.Normal.{normal, normal_parts}
+use Rattle.asn1_model.specs.Tidy.{is_tidy}
 use Rattle.asn1_model.specs.Lawful.{is_lawful, is_group, are_distinct, are_ascending, tag_same, tag_less, smallest, component_places}
 use Rattle.asn1_schema_presented.specs.Presents.{Fits}
 use Rattle.asn1_schema_presented.specs.Tables.{Fields, no_field, field, Table, components_at, field_tags, scope, is_one_tag, IsType, IsValue}

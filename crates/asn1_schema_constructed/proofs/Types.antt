@@ -2,7 +2,8 @@
 use Rattle.std.proofs.Common.{◌≡◌, ℕ, ℤ, ◌≤◌, ◌+◌, zero, suc, Bool, true, false, List, ◌∷◌, ◌++◌, refl, ◌∙◌, ap, arith}
 use Rattle.asn1_model.specs.Value.{Value, item, chosen, depth}
 use Rattle.asn1_model.specs.Schema.{Tag, Schema, cut, enumerated, choice}
-use Rattle.asn1_model.specs.Normal.{normal, normal_alternative, is_tidy, are_tidy_alternatives}
+use Rattle.asn1_model.specs.Normal.{normal, normal_alternative}
+use Rattle.asn1_model.specs.Tidy.{is_tidy, are_tidy_alternatives}
 use Rattle.asn1_model.specs.Lawful.{is_lawful, are_lawful_alternatives, is_group, is_tag, is_empty, are_no_alternatives, alternative_tags, are_tags, are_tags_of}
 use Rattle.asn1_schema_presented.specs.Presents.{Fits, ChosenFits}
 use Rattle.asn1_schema_presented.specs.Tables.{scope, is_one_tag, are_choice_tags, IsType, IsValue}

@@ -1,7 +1,7 @@
 -- A choice's schema, unfolded to any number of nested levels, is made of these.
 use Rattle.std.specs.Prelude.{◌≡◌, ℕ, ℤ, zero, suc, Bool, true, false, not, ◌&&◌, ◌||◌, List, [], ◌∷◌, ◌++◌}
 use Rattle.asn1_model.specs.Schema.{Tag, Schema, cut, choice, Alternatives, no_alternative, alternative}
-use Rattle.asn1_model.specs.Normal.{are_tidy_alternatives}
+use Rattle.asn1_model.specs.Tidy.{are_tidy_alternatives}
 use Rattle.asn1_model.specs.Lawful.{are_lawful_alternatives, are_distinct, are_ascending, int_less, tag_less}
 use Rattle.asn1_model.specs.Lawful.{tag_same, is_empty}
 use Rattle.asn1_model.specs.Value.{same_number}

@@ -5,7 +5,8 @@ use Rattle.std.proofs.lemmas.Bool.{and_parts}
 use Rattle.std.proofs.Math.Nat.{le-max_left, le-max_right}
 use Rattle.asn1_model.specs.Value.{Parts, end, depth, depth_of_parts}
 use Rattle.asn1_model.specs.Schema.{Tag, Presence, Schema}
-use Rattle.asn1_model.specs.Normal.{normal_parts, has_normal_default, are_tidy}
+use Rattle.asn1_model.specs.Normal.{normal_parts}
+use Rattle.asn1_model.specs.Tidy.{has_normal_default, are_tidy}
 use Rattle.asn1_model.specs.Lawful.{are_lawful, has_typed_default}
 use Rattle.asn1_schema_presented.specs.Presents.{Part, left_out, there, with_part, PartsFit}
 use Rattle.asn1_schema_presented.specs.Tables.{Fields, no_field, field, components_at, IsType}

@@ -4,7 +4,8 @@ use Rattle.std.specs.Prelude.{◌||◌, ◌&&◌, not, max}
 use Rattle.std.proofs.lemmas.Bool.{and_parts}
 use Rattle.asn1_model.specs.Value.{fields, Parts, end, absent, present, are_absent, depth, depth_of_parts}
 use Rattle.asn1_model.specs.Schema.{optional, sequence, group, Components}
-use Rattle.asn1_model.specs.Normal.{normal, normal_parts, is_tidy, are_tidy}
+use Rattle.asn1_model.specs.Normal.{normal, normal_parts}
+use Rattle.asn1_model.specs.Tidy.{is_tidy, are_tidy}
 use Rattle.asn1_model.specs.Lawful.{is_lawful, are_lawful, is_group, is_optional, has_optional_groups, are_no_components, are_distinct, tag_same, component_tags, has_no_group, is_sequence_table, are_tags, are_tags_of}
 use Rattle.asn1_schema_presented.specs.Presents.{left_out, there, Fits, PartsFit}
 use Rattle.asn1_schema_presented.specs.Tables.{Fields, no_field, field, Table, components_at, field_tags, scope, sequence_type, IsValue}

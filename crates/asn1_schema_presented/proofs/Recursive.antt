@@ -2,7 +2,7 @@
 use Rattle.std.proofs.Common.{◌≡◌, ℕ, zero, suc, true, List, ◌++◌, Some, refl}
 use Rattle.asn1_model.specs.Value.{Value}
 use Rattle.asn1_model.specs.Schema.{Tag, Schema, cut, optional}
-use Rattle.asn1_model.specs.Normal.{is_tidy}
+use Rattle.asn1_model.specs.Tidy.{is_tidy}
 use Rattle.asn1_model.specs.Lawful.{is_lawful, are_distinct, tag_same}
 use Rattle.asn1_schema_presented.specs.Presents.{left_out, there}
 use Rattle.asn1_schema_presented.specs.Tables.{Table, field_tags, is_one_tag, IsType, IsValue}

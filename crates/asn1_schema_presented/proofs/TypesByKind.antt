@@ -4,7 +4,8 @@ use Rattle.std.specs.Prelude.{max}
 use Rattle.std.proofs.Math.Nat.{le-max_left, le-max_right}
 use Rattle.asn1_model.specs.Value.{Value, truth, nothing, number, bit_list, octet_list, text, arcs, members, member, depth, depth_of_members, map_members}
 use Rattle.asn1_model.specs.Schema.{Tag, Range, Bounds, Counts, Size, Schema, boolean, null, integer, bit_string, octet_string, character_string, object_identifier, StringKind, Alphabet, sequence_of}
-use Rattle.asn1_model.specs.Normal.{normal, is_tidy}
+use Rattle.asn1_model.specs.Normal.{normal}
+use Rattle.asn1_model.specs.Tidy.{is_tidy}
 use Rattle.asn1_model.specs.Lawful.{is_lawful, is_group, is_range, is_size, is_tag, smallest}
 use Rattle.std.proofs.lemmas.Bool.{and_parts}
 use Rattle.asn1_schema_presented.specs.Presents.{Fits, AllFit}

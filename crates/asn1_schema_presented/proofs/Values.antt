@@ -5,7 +5,8 @@ use Rattle.std.proofs.lemmas.Bool.{and_parts}
 use Rattle.std.proofs.Math.Nat.{le-max_left, le-max_right}
 use Rattle.asn1_model.specs.Value.{Value, fields, Parts, end, depth, depth_of_parts, same}
 use Rattle.asn1_model.specs.Schema.{Tag, Presence, required, optional, by_default, Schema, sequence, group, Components, component}
-use Rattle.asn1_model.specs.Normal.{normal, normal_parts, kept, is_empty_group, is_at_default, is_group_left_out, has_normal_default, is_tidy, are_tidy}
+use Rattle.asn1_model.specs.Normal.{normal, normal_parts, kept, is_empty_group, is_at_default, is_group_left_out}
+use Rattle.asn1_model.specs.Tidy.{has_normal_default, is_tidy, are_tidy}
 use Rattle.asn1_model.specs.Lawful.{is_lawful, are_lawful, has_typed_default, is_group, are_distinct, tag_same, component_tags}
 use Rattle.asn1_schema_presented.specs.Presents.{Part, left_out, there, with_part, Fits, PartFits, PartsFit}
 use Rattle.asn1_schema_presented.specs.Tables.{Fields, no_field, field, Table, no_table, with_field, components_at, field_tags, scope, sequence_type, is_one_tag, IsType, IsValue}

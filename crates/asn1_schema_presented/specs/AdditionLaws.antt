@@ -3,7 +3,7 @@ use Rattle.std.specs.Prelude.{◌≡◌, ℕ, true, Some}
 use Rattle.asn1_model.specs.Value.{Parts, fields, end}
 use Rattle.asn1_model.specs.Schema.{optional}
 use Rattle.asn1_model.specs.Lawful.{is_lawful}
-use Rattle.asn1_model.specs.Normal.{is_tidy}
+use Rattle.asn1_model.specs.Tidy.{is_tidy}
 use Rattle.asn1_schema_presented.specs.Tables.{Fields, Table, field_tags, sequence_type, IsValue}
 use Rattle.asn1_schema_presented.specs.Typed.{AreTypes, AreValues, IsPart}
 use Rattle.asn1_schema_presented.specs.Additions.{extensible_table, AreAdditionTypes, AreAdditionValues, IsAddition}

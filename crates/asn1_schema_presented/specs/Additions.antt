@@ -2,7 +2,8 @@
 use Rattle.std.specs.Prelude.{◌≡◌, ◌≤◌, ℕ, suc, true, false, not, ◌||◌, List, Option, Some, None}
 use Rattle.asn1_model.specs.Value.{Parts, fields, end, are_absent, depth_of_parts}
 use Rattle.asn1_model.specs.Schema.{Tag, Presence, Schema, group}
-use Rattle.asn1_model.specs.Normal.{normal_parts, is_tidy, are_tidy}
+use Rattle.asn1_model.specs.Normal.{normal_parts}
+use Rattle.asn1_model.specs.Tidy.{is_tidy, are_tidy}
 use Rattle.asn1_model.specs.Lawful.{is_lawful, are_lawful, is_group, is_optional, has_optional_groups, are_tags}
 use Rattle.asn1_model.specs.Lawful.{are_tags_of}
 use Rattle.asn1_schema_presented.specs.Presents.{Part, left_out, PartsFit}

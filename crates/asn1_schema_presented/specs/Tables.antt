@@ -3,7 +3,8 @@ use Rattle.std.specs.Prelude.{◌≡◌, ◌≤◌, ℕ, zero, suc, Bool, true, 
 use Rattle.asn1_model.specs.Value.{Value, depth, same_list}
 use Rattle.asn1_model.specs.Schema.{Tag, Size, Counts, Presence, Schema, cut, sequence_of, sequence, Components}
 use Rattle.asn1_model.specs.Schema.{no_component, component}
-use Rattle.asn1_model.specs.Normal.{normal, is_tidy}
+use Rattle.asn1_model.specs.Normal.{normal}
+use Rattle.asn1_model.specs.Tidy.{is_tidy}
 use Rattle.asn1_model.specs.Lawful.{is_lawful, is_group, is_tag, tag_same, are_tags, are_tags_of}
 use Rattle.asn1_model.specs.Tables.{is_required}
 use Rattle.asn1_schema_presented.specs.Presents.{Fits}

@@ -2,7 +2,8 @@
 use Rattle.std.specs.Prelude.{◌≡◌, ◌≤◌, ℕ, true, ◌&&◌, ◌||◌}
 use Rattle.asn1_model.specs.Value.{Value, Parts, depth, depth_of_parts}
 use Rattle.asn1_model.specs.Schema.{Presence, by_default, Schema}
-use Rattle.asn1_model.specs.Normal.{normal_parts, is_normal, has_normal_default, are_tidy}
+use Rattle.asn1_model.specs.Normal.{normal_parts}
+use Rattle.asn1_model.specs.Tidy.{is_normal, has_normal_default, are_tidy}
 use Rattle.asn1_model.specs.Lawful.{are_lawful, has_typed_default, has_no_group, has_optional_groups, are_no_components}
 use Rattle.asn1_schema_presented.specs.Presents.{Part, left_out, there, Fits, PartFits, PartsFit}
 use Rattle.asn1_model.specs.Typed.{is_of}

@@ -1,8 +1,10 @@
-use Rattle.std.proofs.Common.{◌≡◌, ℕ, true, false, pos, List, [], ◌∷◌, Contains, Some, refl, ap, sym, subst, arith}
+use Rattle.std.proofs.Common.{◌≡◌, ℕ, true, false, pos, List, [], ◌∷◌, Contains, Some, refl, ap, sym, ◌∙◌, subst, arith}
 use Rattle.std.proofs.lemmas.List.Elements.{All-nil, All-cons, All-head, All-contains, All-contains_itself}
 use Rattle.asn1_model.specs.Value.{Value, same}
-use Rattle.asn1_model.specs.Schema.{Tag, Bounds}
-use Rattle.asn1_model.specs.Types.{context}
+use Rattle.asn1_model.specs.Schema.{Tag, Bounds, Schema}
+use Rattle.asn1_model.specs.Normal.{normal}
+use Rattle.asn1_model.specs.Types.{context, default_old}
+use Rattle.asn1_model.specs.VersionRows.{group_of}
 use Rattle.asn1_model.specs.Versions.{lessen, lessen_parts, lessen_alternative, grow, grow_parts, grow_alternative, Extends, ExtendsEach}
 use Rattle.asn1_model.specs.Versions.{ExtendsAlternatives, KeepsTags}
 use Rattle.asn1_model.proofs.OnValues.{on_values}
@@ -27,6 +29,9 @@ lone t u h = ap (λ (t : Tag). t.number) (All-contains (λ t. t ≡ u) (u ∷ []
 own : (n : ℕ) → KeepsTags (context n ∷ []) (context n ∷ [])
 own n = All-contains_itself (context n ∷ [])
 
+stays_apart : (s : Schema) (w : Value) → same (normal s w) w ≡ false → same w w ≡ true → normal s w ≡ w → ⊥
+stays_apart s w f t e = let q : false ≡ true = sym f ∙ ap (λ v. same v w) e ∙ t in cc
+
 pub returns : goal.returns
 unfolding on_values lessen lessen_parts lessen_alternative grow grow_parts grow_alternative Extends ExtendsEach ExtendsAlternatives
 returns c = (
@@ -36,7 +41,7 @@ returns c = (
   (refl, refl, (_, refl)),
   refl,
   refl,
-  (_, refl, refl),
+  (_, refl, λ e. stays_apart default_old _ refl refl e),
   refl,
   refl,
   refl,
@@ -49,7 +54,7 @@ returns c = (
   refl,
   refl,
   refl,
-  (_, refl, refl),
+  (_, refl, λ e. stays_apart (group_of default_old) _ refl refl e),
   refl,
   (λ e. absurd e.0),
   (λ e. absurd e.2),
