@@ -4,7 +4,7 @@ use Rattle.std.specs.Prelude.{ℕ, zero, suc, Bool, true, false, ◌||◌}
 use Rattle.asn1_model.specs.Value.{Value, members, bag, fields, chosen, Parts, absent, present, same, are_absent}
 use Rattle.asn1_model.specs.Value.{map_members}
 use Rattle.asn1_model.specs.Schema.{Presence, by_default, Schema, sequence_of, set_of, sequence, set, group, choice}
-use Rattle.asn1_model.specs.Schema.{Components, no_component, component, Alternatives, no_alternative, alternative}
+use Rattle.asn1_model.specs.Schema.{Components, component, Alternatives, no_alternative, alternative}
 
 -- A group none of whose components is there.
 abbrev pub is_empty_group : Schema → Value → Bool

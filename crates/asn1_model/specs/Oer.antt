@@ -4,64 +4,22 @@ use Rattle.std.specs.Prelude.{false, cond, ◌&&◌, ◌||◌, List, [], ◌∷�
 use Rattle.std.specs.Prelude.{Some, None, option_map}
 use Rattle.asn1_model.specs.Value.{Value, truth, nothing, number, item, bit_list, octet_list, text, arcs, members, bag}
 use Rattle.asn1_model.specs.Value.{fields, chosen, Parts, end, absent, present, each}
-use Rattle.asn1_model.specs.Schema.{Tag, Range, Bounds, Counts, Size, StringKind, bmp, Presence, Schema, boolean, null}
+use Rattle.asn1_model.specs.Schema.{Tag, Range, Bounds, Counts, Size, StringKind, bmp, Schema, boolean, null}
 use Rattle.asn1_model.specs.Schema.{integer, enumerated, bit_string, octet_string, character_string, object_identifier}
 use Rattle.asn1_model.specs.Schema.{sequence_of, set_of, sequence, set, group, choice, Components, no_component}
 use Rattle.asn1_model.specs.Schema.{component, Alternatives, no_alternative, alternative}
 pub use Rattle.asn1_model.specs.Numbers.{packed}
 use Rattle.asn1_model.specs.Numbers.{missing, digits, octet_width, least_octets, signed_octets, complement, is_within}
 use Rattle.asn1_model.specs.Numbers.{is_count_within, fits_128}
-use Rattle.asn1_model.specs.Normal.{is_at_default, is_group_left_out}
 use Rattle.asn1_model.specs.Form.{Form, exactly, refused, both, varied, within, written, nothing_more, only_if, given}
 use Rattle.asn1_model.specs.Form.{joined, stands_before, ascending, in_order, Bitmap, is_present, is_any_present}
 use Rattle.asn1_model.specs.Form.{present_ones, covered_by, own_bitmap}
+pub use Rattle.asn1_model.specs.Form.{Freedom, Detail, longer_length, longer_number, any_truth, longer_item}
+pub use Rattle.asn1_model.specs.Form.{empty_bit_string, any_unused_bits, long_tag, default_spelled_out, empty_group}
+pub use Rattle.asn1_model.specs.Form.{other_bitmap, empty_bitmap, octets_behind, other_order}
 use Rattle.asn1_model.specs.Strings.{may_hold, identifier_octets, is_identifier, is_octet, each_is, groups_of_seven}
 use Rattle.asn1_model.specs.Tables.{is_bounded, item_place, is_required, presence_bits}
-
--- What a reader may take besides the canonical form (the project's choice, mostly what basic OER leaves to a sender).
-pub data Freedom : Type 0 where
-  -- a length in more octets than it needs
-  longer_length : Freedom
-  -- a number, or a count of members, in more octets than it needs
-  longer_number : Freedom
-  -- any octet but zero for true
-  any_truth : Freedom
-  -- an item in more octets than it needs
-  longer_item : Freedom
-  -- an empty bit string as a length of zero
-  empty_bit_string : Freedom
-  -- unused bits of any value
-  any_unused_bits : Freedom
-  -- a tag whose number is below 63 in the form of the large ones
-  long_tag : Freedom
-  -- a component that is equal to its default, spelled out
-  default_spelled_out : Freedom
-  -- a group of additions that the bitmap tells as present, with none of them there
-  empty_group : Freedom
-  -- a presence bitmap with a bit set, of another width than the type's
-  other_bitmap : Freedom
-  -- a presence bitmap with no bit set, or of no width
-  empty_bitmap : Freedom
-  -- octets behind the value in an open type
-  octets_behind : Freedom
-  -- the members of a bag in any order
-  other_order : Freedom
-
--- What tells apart the forms that such a reader takes, the canonical one among them.
-abbrev pub Detail : Freedom → Type 0
-Detail longer_length = Option ℕ
-Detail longer_number = ℕ
-Detail any_truth = ℕ
-Detail longer_item = Option ℕ
-Detail empty_bit_string = Bool
-Detail any_unused_bits = List Bool
-Detail long_tag = Bool
-Detail default_spelled_out = Bool
-Detail empty_group = Bool
-Detail other_bitmap = Option Bitmap
-Detail empty_bitmap = Bool
-Detail octets_behind = List ℕ
-Detail other_order = Option (List ℕ)
+unfoldable pub use Rattle.asn1_model.specs.Tables.{spelled}
 
 abbrev pub OctetForm : Type 0
 OctetForm = Form Freedom Detail ℕ
@@ -189,13 +147,6 @@ tag_form t =
 -- An open type: the encoding of a value behind its number of octets (X.696 30).
 unfoldable pub open_type : OctetForm → OctetForm
 open_type x = within x (λ w. varied octets_behind [] (λ more. counted (w ++ more)))
-
--- A component that is there, if it may be: what the normal form leaves out is spelled out only to a reader with the
--- freedom (X.696 16).
-unfoldable pub spelled : Presence → Schema → Value → OctetForm → OctetForm
-spelled o s v x = cond (is_at_default o s v)
-    (varied default_spelled_out false (λ b. only_if b x))
-    (cond (is_group_left_out s v) (varied empty_group false (λ b. only_if b x)) x)
 
 -- Presence bits, and unused bits that are zero, in which no reader takes others (X.696 16.2).
 abbrev pub preamble : List Bool → OctetForm

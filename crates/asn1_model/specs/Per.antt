@@ -6,62 +6,23 @@ use Rattle.std.specs.Prelude.{◌&&◌, ◌||◌, List, [], ◌∷◌, ◌++◌,
 use Rattle.std.specs.Prelude.{Some, None, option_map, option_and_then}
 use Rattle.asn1_model.specs.Value.{Value, truth, nothing, number, item, bit_list, octet_list, text, arcs, members, bag}
 use Rattle.asn1_model.specs.Value.{fields, chosen, Parts, end, absent, present, each}
-use Rattle.asn1_model.specs.Schema.{Range, Bounds, Counts, Size, Alphabet, StringKind, Presence, Schema, boolean, null}
+use Rattle.asn1_model.specs.Schema.{Range, Bounds, Counts, Size, Alphabet, StringKind, Schema, boolean, null}
 use Rattle.asn1_model.specs.Schema.{integer, enumerated, bit_string, octet_string, character_string, object_identifier}
 use Rattle.asn1_model.specs.Schema.{sequence_of, set_of, sequence, set, group, choice, Components, no_component}
 use Rattle.asn1_model.specs.Schema.{component, Alternatives, no_alternative, alternative}
 pub use Rattle.asn1_model.specs.Numbers.{missing, by_eights}
 use Rattle.asn1_model.specs.Numbers.{digits, binary, width, octet_width, least_octets, signed_octets, complement, above}
 use Rattle.asn1_model.specs.Numbers.{is_at_most, is_within, is_count_within, fits_128}
-use Rattle.asn1_model.specs.Normal.{is_at_default, is_group_left_out}
 use Rattle.asn1_model.specs.Form.{Form, exactly, refused, both, placed, varied, within, written, nothing_more, only_if}
 use Rattle.asn1_model.specs.Form.{given, joined, stands_before, ascending, in_order, Bitmap, is_present, is_any_present}
 use Rattle.asn1_model.specs.Form.{present_ones, covered_by, own_bitmap}
+pub use Rattle.asn1_model.specs.Form.{Freedom, Detail, any_padding, two_octet_length, other_fragments, longer_number}
+pub use Rattle.asn1_model.specs.Form.{root_told_outside, long_small_number, default_spelled_out, empty_group}
+pub use Rattle.asn1_model.specs.Form.{other_bitmap, empty_bitmap, octets_behind, other_order}
 use Rattle.asn1_model.specs.Strings.{Run, permitted, how_many, largest, place_of, may_hold, is_of_octets}
 use Rattle.asn1_model.specs.Strings.{identifier_octets, is_identifier, is_octet, each_is}
 use Rattle.asn1_model.specs.Tables.{is_bounded, item_place, is_required, presence_bits, alternative_count}
-
--- What a reader may take besides the canonical form (the project's choice).
-pub data Freedom : Type 0 where
-  -- padding bits of any value
-  any_padding : Freedom
-  -- a length below 128 in two octets
-  longer_length : Freedom
-  -- a division into fragments that is not the one with the largest first
-  other_fragments : Freedom
-  -- a number in more octets than it needs
-  longer_number : Freedom
-  -- a number or a size of the root, told as outside it
-  root_told_outside : Freedom
-  -- a normally small number or length in the form of the large ones
-  long_small_number : Freedom
-  -- a component that is equal to its default, spelled out
-  default_spelled_out : Freedom
-  -- a group of additions that the bitmap tells as present, with none of them there
-  empty_group : Freedom
-  -- a presence bitmap with a bit set, of another width than the type's
-  other_bitmap : Freedom
-  -- a presence bitmap with no bit set, or of no width
-  empty_bitmap : Freedom
-  -- octets behind the value in an open type
-  octets_behind : Freedom
-  -- the members of a bag in any order
-  other_order : Freedom
-
--- What tells apart the forms that such a reader takes, the canonical one among them.
-abbrev pub Detail : Freedom → Type 0
-Detail any_padding = List Bool
-Detail longer_length = Bool
-Detail other_fragments = List ℕ
-Detail longer_number = ℕ
-Detail root_told_outside = Bool
-Detail long_small_number = Bool
-Detail default_spelled_out = Bool
-Detail empty_group = Bool
-Detail other_bitmap = Option Bitmap
-Detail empty_bitmap = Bool
-Detail octets_behind = List ℕ
-Detail other_order = Option (List ℕ)
+unfoldable pub use Rattle.asn1_model.specs.Tables.{spelled}
 
 abbrev pub BitForm : Type 0
 BitForm = Form Freedom Detail Bool
@@ -99,7 +60,7 @@ constrained al span d = constrained_in (suc span) al span d
 
 -- A length below 16384 (X.691 11.9.3.5 to 11.9.3.7).
 unfoldable pub short_length : Bool → ℕ → BitForm
-short_length al n = at_octet al (varied longer_length (leb 128 n) (λ long. cond long
+short_length al n = at_octet al (varied two_octet_length (leb 128 n) (λ long. cond long
     (only_if (ltb n 16384) (exactly (true ∷ false ∷ binary 14 n)))
     (only_if (ltb n 128) (exactly (false ∷ binary 7 n)))))
 
@@ -273,13 +234,6 @@ unfoldable pub open_type : Bool → BitForm → BitForm
 open_type al x = within (complete x) (λ w.
     varied octets_behind [] (λ more. only_if (each_is is_octet more)
     (counted_eights al (w ++ flat_map (binary 8) more))))
-
--- A component that is there, if it may be: what the normal form leaves out is spelled out only to a reader with the
--- freedom (X.691 19.5).
-unfoldable pub spelled : Presence → Schema → Value → BitForm → BitForm
-spelled o s v x = cond (is_at_default o s v)
-    (varied default_spelled_out false (λ b. only_if b x))
-    (cond (is_group_left_out s v) (varied empty_group false (λ b. only_if b x)) x)
 
 abbrev pub flag : Option BitForm → BitForm
 flag a = exactly (is_present a ∷ [])

@@ -6,7 +6,7 @@ use Rattle.asn1_model.specs.Schema.{Schema}
 pub use Rattle.asn1_model.specs.Numbers.{octet_bits}
 use Rattle.asn1_model.specs.Numbers.{packed}
 use Rattle.asn1_model.specs.Normal.{normal}
-use Rattle.asn1_model.specs.Form.{written, Reads}
+use Rattle.asn1_model.specs.Form.{Freedom, empty_bitmap, other_bitmap, other_order, written, Reads}
 use Rattle.asn1_model.specs.Per
 use Rattle.asn1_model.specs.Oer
 
@@ -25,17 +25,15 @@ abbrev pub lenient : {F : Type 0} → F → Bool
 lenient c = true
 
 -- The freedoms of the strict readers of PER: wider and narrower bitmaps, and bags in any order.
-abbrev pub strict_per : Per.Freedom → Bool
-strict_per Per.other_bitmap = true
-strict_per Per.other_order = true
+abbrev pub strict_per : Freedom → Bool
+strict_per other_bitmap = true
+strict_per other_order = true
 strict_per c = false
 
 -- The freedoms of the reader of COER: the same, and bitmaps with no bit set.
-abbrev pub strict_oer : Oer.Freedom → Bool
-strict_oer Oer.other_bitmap = true
-strict_oer Oer.empty_bitmap = true
-strict_oer Oer.other_order = true
-strict_oer c = false
+abbrev pub strict_oer : Freedom → Bool
+strict_oer empty_bitmap = true
+strict_oer c = strict_per c
 
 -- The canonical PER message of a value as it is, in octets, before any bound on its length (X.691 11.1).
 unfoldable pub per : Bool → Schema → Value → Option (List ℕ)

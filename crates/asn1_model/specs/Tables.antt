@@ -1,10 +1,11 @@
 -- What both rule sets use of a type's tables.
 use Rattle.std.specs.Prelude.{ℕ, zero, suc, ◌+◌, ℤ, Bool, true, false, cond, ◌||◌, List, [], ◌∷◌, Option, Some, None}
 use Rattle.std.specs.Prelude.{option_map}
-use Rattle.asn1_model.specs.Value.{Parts, end, absent, present, same_number}
-use Rattle.asn1_model.specs.Form.{is_present}
-use Rattle.asn1_model.specs.Schema.{Bounds, Presence, required, Components, no_component, component, Alternatives}
-use Rattle.asn1_model.specs.Schema.{no_alternative, alternative}
+use Rattle.asn1_model.specs.Value.{Value, Parts, end, absent, present, same_number}
+use Rattle.asn1_model.specs.Form.{Form, Freedom, Detail, varied, only_if, is_present, default_spelled_out, empty_group}
+use Rattle.asn1_model.specs.Normal.{is_at_default, is_group_left_out}
+use Rattle.asn1_model.specs.Schema.{Bounds, Presence, required, Schema, Components, no_component, component}
+use Rattle.asn1_model.specs.Schema.{Alternatives, no_alternative, alternative}
 
 -- The place of an item among the numbers of a table, from 0 on (X.691 14).
 abbrev pub item_place : ℤ → List ℤ → Option ℕ
@@ -34,3 +35,10 @@ presence_bits (component t o s cs) end = presence_bit_unless (is_required o) fal
 abbrev pub alternative_count : Alternatives → ℕ
 alternative_count no_alternative = 0
 alternative_count (alternative t s others) = alternative_count others + 1
+
+-- A component that is there, if it may be: what the normal form leaves out is spelled out only to a reader with the
+-- freedom (X.691 19.5, X.696 16).
+unfoldable pub spelled : {A : Type 0} → Presence → Schema → Value → Form Freedom Detail A → Form Freedom Detail A
+spelled o s v x = cond (is_at_default o s v)
+    (varied default_spelled_out false (λ b. only_if b x))
+    (cond (is_group_left_out s v) (varied empty_group false (λ b. only_if b x)) x)

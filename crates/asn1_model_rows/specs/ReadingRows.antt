@@ -162,7 +162,7 @@ FreedomRows =
     × (map strict_oer (Oer.any_unused_bits ∷ Oer.long_tag ∷ Oer.default_spelled_out ∷ Oer.empty_group
     ∷ Oer.octets_behind ∷ []) ≡ replicate 5 false)
     × (map strict_oer (Oer.other_bitmap ∷ Oer.empty_bitmap ∷ Oer.other_order ∷ []) ≡ replicate 3 true)
-    × (map strict_per (Per.any_padding ∷ Per.longer_length ∷ Per.other_fragments ∷ Per.longer_number
+    × (map strict_per (Per.any_padding ∷ Per.two_octet_length ∷ Per.other_fragments ∷ Per.longer_number
     ∷ Per.root_told_outside ∷ []) ≡ replicate 5 false)
     × (map strict_per (Per.long_small_number ∷ Per.default_spelled_out ∷ Per.empty_group ∷ Per.empty_bitmap
     ∷ Per.octets_behind ∷ []) ≡ replicate 5 false)

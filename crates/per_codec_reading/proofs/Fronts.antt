@@ -19,9 +19,9 @@ pub any_padding_is_free : (v : Variant) → IsTrue (freedoms v Per.any_padding)
 any_padding_is_free Unaligned = refl
 any_padding_is_free Aligned = refl
 
-pub longer_length_is_free : (v : Variant) → IsTrue (freedoms v Per.longer_length)
-longer_length_is_free Unaligned = refl
-longer_length_is_free Aligned = refl
+pub two_octet_length_is_free : (v : Variant) → IsTrue (freedoms v Per.two_octet_length)
+two_octet_length_is_free Unaligned = refl
+two_octet_length_is_free Aligned = refl
 
 pub longer_number_is_free : (v : Variant) → IsTrue (freedoms v Per.longer_number)
 longer_number_is_free Unaligned = refl

@@ -70,7 +70,7 @@ module _ (free : Per.Freedom → Bool) where
       not_at_least : (n : ℕ) → n < 128 → leb 128 n ≡ false
       not_at_least n l = false_from_ne_true (leb 128 n) (λ e. let g = leb-true 128 n e in omega arith)
 
-  pub long_read : (x m : ℕ) (a b c : Place) → IsTrue (free Per.longer_length) → 128 ≤ x → x < 192 → m < 256 → Leads (binary 8 x) a b → Leads (binary 8 m) b c → Front free (length_form false (Short ((x - 128) * 256 + m))) a c
+  pub long_read : (x m : ℕ) (a b c : Place) → IsTrue (free Per.two_octet_length) → 128 ≤ x → x < 192 → m < 256 → Leads (binary 8 x) a b → Leads (binary 8 m) b c → Front free (length_form false (Short ((x - 128) * 256 + m))) a c
   unfolding Per.short_length Per.at_octet
   long_read x m a b c t l u v h k =
       let n = (x - 128) * 256 + m in

@@ -56,7 +56,7 @@ choice_9 Per.root_told_outside p = Some true
 choice_9 c p = None
 
 abbrev choice_10 : PerChoice
-choice_10 Per.longer_length p = Some true
+choice_10 Per.two_octet_length p = Some true
 choice_10 c p = None
 
 abbrev choice_11 : PerChoice
@@ -287,7 +287,7 @@ choice_48 c p = None
 
 abbrev choice_49 : PerChoice
 choice_49 Per.long_small_number p = Some true
-choice_49 Per.longer_length p = cond (p == 3) (Some true) None
+choice_49 Per.two_octet_length p = cond (p == 3) (Some true) None
 choice_49 c p = None
 
 abbrev choice_50 : PerChoice
@@ -295,7 +295,7 @@ choice_50 Per.any_padding p = cond (p == 1) (Some (ones 7)) None
 choice_50 c p = None
 
 abbrev choice_51 : PerChoice
-choice_51 Per.longer_length p = Some true
+choice_51 Per.two_octet_length p = Some true
 choice_51 c p = None
 
 abbrev choice_52 : PerChoice

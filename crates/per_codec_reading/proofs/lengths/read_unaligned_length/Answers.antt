@@ -1,7 +1,7 @@
 use Rattle.std.proofs.Common.{arith, inl, inr}
 use Rattle.std.proofs.lemmas.Result.{err_from_is_err_and}
 use Rattle.per_codec_reading.specs.Fronts.{freedoms}
-use Rattle.per_codec_reading.proofs.Fronts.{longer_length_is_free}
+use Rattle.per_codec_reading.proofs.Fronts.{two_octet_length_is_free}
 use Rattle.per_codec_reading.proofs.LengthFronts.{no_first, no_second, no_fragment, short_read, long_read, fragment_read}
 use Rattle.per_codec_reading.proofs.lengths.read_unaligned_length.Goals.{then-multiple-lt1-via-then-multiple-lt1, then-multiple-lt1-via-else-multiple-lt1+then-multiple-gt4}
 use Rattle.per_codec_reading.proofs.lengths.read_unaligned_length.Goals as goal
@@ -25,7 +25,7 @@ returns-in_err-second-clause-only c =
 pub returns-then-first-lt192-clause-ok : goal.returns-then-first-lt192-clause-ok
 returns-then-first-lt192-clause-ok c =
     let n = c.if-first-lt128.false in
-    long_read (freedoms c.args.variant) c.in_ok-first.field-0 c.in_ok-second.field-0 c.args.cursor.now c.take_number.new.self c.take_number-then-first-lt192.new.self (longer_length_is_free c.args.variant) (omega arith) c.if-first-lt192.true c.in_ok-second.ensures.fits c.in_ok-first.ensures.digits c.in_ok-second.ensures.digits
+    long_read (freedoms c.args.variant) c.in_ok-first.field-0 c.in_ok-second.field-0 c.args.cursor.now c.take_number.new.self c.take_number-then-first-lt192.new.self (two_octet_length_is_free c.args.variant) (omega arith) c.if-first-lt192.true c.in_ok-second.ensures.fits c.in_ok-first.ensures.digits c.in_ok-second.ensures.digits
 
 pub returns-then-multiple-lt1-clause-only : goal.returns-then-multiple-lt1-clause-only
 returns-then-multiple-lt1-clause-only c =
