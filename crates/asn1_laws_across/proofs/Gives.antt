@@ -3,7 +3,8 @@ use Rattle.std.proofs.Common.{◌≡◌, ℕ, zero, suc, ◌+◌, ◌==◌, ltb,
 use Rattle.std.proofs.lemmas.Bool.{and_parts}
 use Rattle.asn1_model.specs.Value.{Value, Parts, end, absent, present, same, same_parts}
 use Rattle.asn1_model.specs.Schema.{Presence, Schema, Components, no_component, component}
-use Rattle.asn1_model.specs.Form.{Form, exactly, refused, both, placed, varied, within, written, only_if, given, joined, Bitmap, is_present, is_any_present, present_ones, covered_by, own_bitmap}
+use Rattle.asn1_model.specs.Form.{Form, exactly, refused, both, placed, varied, within, written, only_if, given, joined, Bitmap, is_any_present, present_ones, covered_by, own_bitmap}
+use Rattle.std.specs.Prelude.{is_some}
 use Rattle.asn1_model.specs.Tables.{presence_bits, is_required, presence_bit_unless}
 use Rattle.asn1_model.proofs.Forms.{chain_parts, map_parts}
 use Rattle.asn1_laws_values.proofs.Listed.{EachComponent}
@@ -111,7 +112,7 @@ module _ {F : Type 0} {D : F → Type 0} {A : Type 0} where
   EachSlot (Some x ∷ xs) (Some y ∷ ys) = Gives x y × EachSlot xs ys
   EachSlot xs ys = ⊥
 
-  pub slots_flags : (xs ys : List (Option (Form F D A))) → EachSlot xs ys → map (λ a. is_present a) xs ≡ map (λ a. is_present a) ys
+  pub slots_flags : (xs ys : List (Option (Form F D A))) → EachSlot xs ys → map (λ a. is_some a) xs ≡ map (λ a. is_some a) ys
   slots_flags [] [] h = refl
   slots_flags [] (y ∷ ys) h = absurd h
   slots_flags (None ∷ xs) [] h = absurd h

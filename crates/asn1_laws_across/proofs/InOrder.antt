@@ -9,7 +9,8 @@ use Rattle.asn1_model.specs.Types.{whole as integers}
 use Rattle.asn1_model.proofs.OnValues.{on_values}
 use Rattle.asn1_model.specs.Normal.{normal}
 use Rattle.asn1_model.specs.Form.{Form, exactly, refused, both, placed, varied, within, Reads, canonically}
-use Rattle.asn1_model.specs.Strings.{each_is, is_octet}
+use Rattle.asn1_model.specs.Strings.{is_octet}
+use Rattle.std.specs.List.{list_all}
 use Rattle.asn1_model.specs.Rules.{Rules, uper, aper, uper_strict, aper_strict, oer, coer, octet_bits, strict_per, strict_oer, canonical, encoding, per, octet_encoding, of_moderate_length}
 use Rattle.asn1_model.specs.Per
 use Rattle.asn1_model.specs.Oer
@@ -70,7 +71,7 @@ in_order_as_written aper_strict s v w h = (h.0, bits_as_written true (Per.messag
 in_order_as_written oer s v w h = (h.0, octets_as_written (Oer.form s v) 0 w h.1)
 in_order_as_written coer s v w h = (h.0, octets_as_written (Oer.form s v) 0 w h.1)
 
-pub in_order : (r : Rules) (s : Schema) (v : Value) (w : List ℕ) → each_is is_octet w ≡ true → IsEncodingInOrder r s v w → canonical r s v ≡ Some w
+pub in_order : (r : Rules) (s : Schema) (v : Value) (w : List ℕ) → list_all is_octet w ≡ true → IsEncodingInOrder r s v w → canonical r s v ≡ Some w
 in_order r s v w o h = strictly r s v w o (in_order_as_written r s v w h)
 
 -- what is canonical is in order

@@ -6,7 +6,8 @@ use Rattle.asn1_model.specs.Schema.{Counts, Presence, Schema, sequence_of, set_o
 use Rattle.asn1_model.specs.Lawful.{is_lawful, are_lawful, are_lawful_alternatives}
 use Rattle.asn1_model.specs.Normal.{normal, is_at_default, is_group_left_out}
 use Rattle.asn1_model.specs.Numbers.{is_count_within}
-use Rattle.asn1_model.specs.Form.{refused, both, varied, written, canonically, only_if, given, Bitmap, own_bitmap, is_present, stands_before}
+use Rattle.asn1_model.specs.Form.{refused, both, varied, written, canonically, only_if, given, Bitmap, own_bitmap, stands_before}
+use Rattle.std.specs.Prelude.{is_some}
 use Rattle.asn1_model.specs.Tables.{presence_bits, is_required}
 use Rattle.asn1_model.specs.Oer
 use Rattle.asn1_model.proofs.Forms.{reads_written}
@@ -152,7 +153,7 @@ preamble : List Bool → Oer.OctetForm
 preamble ms = Oer.preamble ms
 
 bits : List (Option Oer.OctetForm) → Oer.OctetForm
-bits xs = Oer.counted_bits (map (λ a. is_present a) xs)
+bits xs = Oer.counted_bits (map (λ a. is_some a) xs)
 
 bits_give : (xs ys : List (Option Oer.OctetForm)) → EachSlot xs ys → Same (bits xs) (bits ys)
 unfolding bits

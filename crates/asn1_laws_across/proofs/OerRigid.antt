@@ -6,8 +6,10 @@ use Rattle.asn1_model.specs.Value.{Value, Values, no_more, member, truth, nothin
 use Rattle.asn1_model.specs.Schema.{Tag, Range, Bounds, Counts, Presence, Schema, boolean, null, integer, enumerated, bit_string, octet_string, character_string, object_identifier, sequence_of, set_of, sequence, set, group, choice, Components, no_component, component, Alternatives, no_alternative, alternative}
 use Rattle.asn1_model.specs.Numbers.{digits, octet_width, least_octets, signed_octets, complement, is_within, is_count_within, fits_128}
 use Rattle.asn1_model.specs.Normal.{is_at_default, is_group_left_out}
-use Rattle.asn1_model.specs.Form.{exactly, refused, only_if, is_present}
-use Rattle.asn1_model.specs.Strings.{may_hold, is_identifier, is_octet, each_is}
+use Rattle.asn1_model.specs.Form.{exactly, refused, only_if}
+use Rattle.std.specs.Prelude.{is_some}
+use Rattle.asn1_model.specs.Strings.{may_hold, is_identifier, is_octet}
+use Rattle.std.specs.List.{list_all}
 use Rattle.asn1_model.specs.Tables.{is_bounded, item_place, is_required, presence_bits}
 use Rattle.asn1_model.specs.Rules.{strict_oer}
 use Rattle.asn1_model.specs.Oer
@@ -37,7 +39,7 @@ length_rigid n = rigid_if strict_oer (ltb n (2 ^ 64)) (rigid_varied strict_oer r
 
 counted_rigid : (os : List ℕ) → RigidOctets (Oer.counted os)
 unfolding Oer.counted
-counted_rigid os = rigid_if strict_oer (each_is is_octet os) (rigid_both strict_oer (length_rigid (length os)) (octets os))
+counted_rigid os = rigid_if strict_oer (list_all is_octet os) (rigid_both strict_oer (length_rigid (length os)) (octets os))
 
 unsigned_rigid : (n : ℕ) → RigidOctets (Oer.unsigned n)
 unfolding Oer.unsigned
@@ -95,7 +97,7 @@ bit_string_rigid false bs = rigid_varied strict_oer refl (counted_bits_rigid bs)
 
 octets_rigid : (fixed : Bool) (os : List ℕ) → RigidOctets (Oer.octets_form fixed os)
 unfolding Oer.octets_form
-octets_rigid true os = rigid_if strict_oer (each_is is_octet os) (octets os)
+octets_rigid true os = rigid_if strict_oer (list_all is_octet os) (octets os)
 octets_rigid false os = counted_rigid os
 
 tag_rigid : (t : Tag) → RigidOctets (Oer.tag_form t)
@@ -134,7 +136,7 @@ mutual
   form_rigid boolean (truth true) h = rigid_varied strict_oer refl (octets _)
   form_rigid null nothing h = octets _
   form_rigid (integer b held) (number v) h = integer_rigid b held v
-  form_rigid (enumerated roots e adds) (item v) h = rigid_if strict_oer (is_present (item_place v roots) || (e && is_present (item_place v adds))) (item_rigid v)
+  form_rigid (enumerated roots e adds) (item v) h = rigid_if strict_oer (is_some (item_place v roots) || (e && is_some (item_place v adds))) (item_rigid v)
   form_rigid (bit_string z held) (bit_list bs) h = rigid_if strict_oer (Oer.admits z held (length bs)) (bit_string_rigid (Oer.is_fixed z) bs)
   form_rigid (octet_string z held) (octet_list os) h = rigid_if strict_oer (Oer.admits z held (length os)) (octets_rigid (Oer.is_fixed z) os)
   form_rigid (character_string k z a held) (text cs) h = rigid_if strict_oer (Oer.admits z held (length cs) && may_hold k cs) (octets_rigid (Oer.is_fixed z) (Oer.string_octets k cs))

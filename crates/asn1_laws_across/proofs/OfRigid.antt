@@ -4,7 +4,8 @@ use Rattle.asn1_model.specs.Value.{Value}
 use Rattle.asn1_model.specs.Schema.{Schema}
 use Rattle.asn1_model.specs.Rules.{uper_strict, aper_strict, coer, octet_bits, strict_per, strict_oer, canonical, IsEncoding}
 use Rattle.asn1_model.specs.Form.{Reads}
-use Rattle.asn1_model.specs.Strings.{each_is, is_octet}
+use Rattle.asn1_model.specs.Strings.{is_octet}
+use Rattle.std.specs.List.{list_all}
 use Rattle.asn1_model.specs.Per
 use Rattle.asn1_model.specs.Oer
 use Rattle.asn1_model.proofs.Forms.{reads_written}
@@ -32,11 +33,11 @@ by_coer : (s : Schema) (v : Value) (w : List ℕ) → is_rigid s ≡ true → Is
 unfolding IsEncoding IsEncodingAsWritten
 by_coer s v w h r = (r.0, octet_text s v w h r.1)
 
-pub uper_canonical : (s : Schema) (v : Value) (w : List ℕ) → is_rigid s ≡ true → each_is is_octet w ≡ true → IsEncoding uper_strict s v w → canonical uper_strict s v ≡ Some w
+pub uper_canonical : (s : Schema) (v : Value) (w : List ℕ) → is_rigid s ≡ true → list_all is_octet w ≡ true → IsEncoding uper_strict s v w → canonical uper_strict s v ≡ Some w
 uper_canonical s v w h o r = strictly uper_strict s v w o (by_uper s v w h r)
 
-pub aper_canonical : (s : Schema) (v : Value) (w : List ℕ) → is_rigid s ≡ true → each_is is_octet w ≡ true → IsEncoding aper_strict s v w → canonical aper_strict s v ≡ Some w
+pub aper_canonical : (s : Schema) (v : Value) (w : List ℕ) → is_rigid s ≡ true → list_all is_octet w ≡ true → IsEncoding aper_strict s v w → canonical aper_strict s v ≡ Some w
 aper_canonical s v w h o r = strictly aper_strict s v w o (by_aper s v w h r)
 
-pub coer_canonical : (s : Schema) (v : Value) (w : List ℕ) → is_rigid s ≡ true → each_is is_octet w ≡ true → IsEncoding coer s v w → canonical coer s v ≡ Some w
+pub coer_canonical : (s : Schema) (v : Value) (w : List ℕ) → is_rigid s ≡ true → list_all is_octet w ≡ true → IsEncoding coer s v w → canonical coer s v ≡ Some w
 coer_canonical s v w h o r = strictly coer s v w o (by_coer s v w h r)

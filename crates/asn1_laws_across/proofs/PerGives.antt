@@ -6,7 +6,8 @@ use Rattle.asn1_model.specs.Schema.{Counts, Size, Presence, Schema, sequence_of,
 use Rattle.asn1_model.specs.Lawful.{is_lawful, are_lawful, are_lawful_alternatives}
 use Rattle.asn1_model.specs.Normal.{normal, is_at_default, is_group_left_out}
 use Rattle.asn1_model.specs.Numbers.{binary, is_count_within}
-use Rattle.asn1_model.specs.Form.{exactly, refused, both, varied, written, canonically, only_if, given, Bitmap, own_bitmap, is_present, stands_before}
+use Rattle.asn1_model.specs.Form.{exactly, refused, both, varied, written, canonically, only_if, given, Bitmap, own_bitmap, stands_before}
+use Rattle.std.specs.Prelude.{is_some}
 use Rattle.asn1_model.specs.Tables.{presence_bits, is_required, alternative_count}
 use Rattle.asn1_model.specs.Per
 use Rattle.asn1_model.proofs.Forms.{reads_written}
@@ -185,11 +186,11 @@ module _ (al : Bool) where
   bits : List (Option Per.BitForm) → Per.BitForm
   bits xs = Per.normally_few al (map Per.flag xs)
 
-  flags_map : (xs ys : List (Option Per.BitForm)) → map (λ a. is_present a) xs ≡ map (λ a. is_present a) ys → map Per.flag xs ≡ map Per.flag ys
+  flags_map : (xs ys : List (Option Per.BitForm)) → map (λ a. is_some a) xs ≡ map (λ a. is_some a) ys → map Per.flag xs ≡ map Per.flag ys
   flags_map [] [] e = refl
   flags_map [] (y ∷ ys) e = cc
   flags_map (x ∷ xs) [] e = cc
-  flags_map (x ∷ xs) (y ∷ ys) e = let a : is_present x ≡ is_present y = cc in let b : map (λ a. is_present a) xs ≡ map (λ a. is_present a) ys = cc in let c = flags_map xs ys b in cc
+  flags_map (x ∷ xs) (y ∷ ys) e = let a : is_some x ≡ is_some y = cc in let b : map (λ a. is_some a) xs ≡ map (λ a. is_some a) ys = cc in let c = flags_map xs ys b in cc
 
   bits_give : (xs ys : List (Option Per.BitForm)) → EachSlot xs ys → Same (bits xs) (bits ys)
   unfolding bits

@@ -7,7 +7,8 @@ use Rattle.asn1_model.specs.Schema.{Range, Bounds, Counts, Size, Alphabet, Strin
 use Rattle.asn1_model.specs.Numbers.{binary, octet_width, least_octets, signed_octets, above, is_at_most, is_within, is_count_within, fits_128}
 use Rattle.asn1_model.specs.Normal.{is_at_default, is_group_left_out}
 use Rattle.asn1_model.specs.Form.{exactly, refused}
-use Rattle.asn1_model.specs.Strings.{Run, permitted, place_of, may_hold, is_of_octets, is_identifier, is_octet, each_is}
+use Rattle.asn1_model.specs.Strings.{Run, permitted, place_of, may_hold, is_of_octets, is_identifier, is_octet}
+use Rattle.std.specs.List.{list_all}
 use Rattle.asn1_model.specs.Tables.{is_bounded, item_place, is_required, presence_bits, alternative_count}
 use Rattle.asn1_model.specs.Rules.{strict_per}
 use Rattle.asn1_model.specs.Per
@@ -71,7 +72,7 @@ octet_units_rigid os = rigid_map strict_per (λ o. exactly (binary 8 o)) (λ o. 
 
 counted_octets_rigid : (al : Bool) (os : List ℕ) → RigidBits (Per.counted_octets al os)
 unfolding Per.counted_octets
-counted_octets_rigid al os = rigid_if strict_per (each_is is_octet os) (counted_rigid al _ (octet_units_rigid os))
+counted_octets_rigid al os = rigid_if strict_per (list_all is_octet os) (counted_rigid al _ (octet_units_rigid os))
 
 semi_rigid : (al : Bool) (d : ℕ) → RigidBits (Per.semi_constrained al d)
 unfolding Per.semi_constrained
@@ -172,7 +173,7 @@ mutual
   form_rigid al (integer b held) (number v) h = integer_rigid al b held v
   form_rigid al (enumerated roots e adds) (item v) h = item_rigid al (length roots) e (item_place v roots) (item_place v adds)
   form_rigid al (bit_string z held) (bit_list bs) h = sized_rigid al z held _ _ (bit_units_rigid bs)
-  form_rigid al (octet_string z held) (octet_list os) h = rigid_if strict_per (each_is is_octet os) (sized_rigid al z held _ _ (octet_units_rigid os))
+  form_rigid al (octet_string z held) (octet_list os) h = rigid_if strict_per (list_all is_octet os) (sized_rigid al z held _ _ (octet_units_rigid os))
   form_rigid al (character_string k z a held) (text cs) h = string_rigid al k z a held cs
   form_rigid al object_identifier (arcs ns) h = rigid_if strict_per (is_identifier ns) (counted_octets_rigid al _)
   form_rigid al (sequence_of z held s) (members vs) h = sized_rigid al z held _ _ (each_rigid (λ v. Per.form al s v) (λ v. form_rigid al s v h) vs)

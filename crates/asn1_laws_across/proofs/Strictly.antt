@@ -7,7 +7,8 @@ use Rattle.asn1_model.specs.Normal.{normal}
 use Rattle.asn1_model.specs.Form.{Form, exactly, refused, both, placed, varied, within, Reads, canonically, written}
 use Rattle.asn1_model.specs.Numbers.{packed, binary}
 use Rattle.asn1_model.specs.Rules.{Rules, uper, aper, uper_strict, aper_strict, oer, coer, octet_bits, strict_per, strict_oer, canonical, encoding, per, octet_encoding, of_moderate_length, lenient, IsEncoding}
-use Rattle.asn1_model.specs.Strings.{each_is, is_octet}
+use Rattle.asn1_model.specs.Strings.{is_octet}
+use Rattle.std.specs.List.{list_all}
 use Rattle.asn1_model.specs.Per
 use Rattle.asn1_model.specs.Oer
 use Rattle.asn1_model.proofs.Forms.{widens}
@@ -64,7 +65,7 @@ written_as free (within x f) p w r = (r.0, written_as free x 0 r.0 r.1, written_
 front_bits : (o p : ℕ) (r s : List Bool) → o < 256 → p < 256 → binary 8 o ++ r ≡ binary 8 p ++ s → (o ≡ p) × (r ≡ s)
 front_bits o p r s h i e = (binary_equal 8 o p h i (ap (λ l. take 8 l) e), ap (λ l. drop 8 l) e)
 
-bits_equal : (os ps : List ℕ) → each_is is_octet os ≡ true → each_is is_octet ps ≡ true → octet_bits os ≡ octet_bits ps → os ≡ ps
+bits_equal : (os ps : List ℕ) → list_all is_octet os ≡ true → list_all is_octet ps ≡ true → octet_bits os ≡ octet_bits ps → os ≡ ps
 bits_equal [] [] h i e = refl
 bits_equal [] (p ∷ ps) h i e = cc
 bits_equal (o ∷ os) [] h i e = cc
@@ -76,7 +77,7 @@ bits_equal (o ∷ os) (p ∷ ps) h i e =
     let y = bits_equal os ps h'.1 i'.1 q.1 in
     cc
 
-packed_bits : (os : List ℕ) → each_is is_octet os ≡ true → packed (octet_bits os) ≡ os
+packed_bits : (os : List ℕ) → list_all is_octet os ≡ true → packed (octet_bits os) ≡ os
 packed_bits os h =
     let l = bits_length os in
     bits_equal (packed (octet_bits os)) os (packed_octets (length os) (octet_bits os) l) h (packed_back (length os) (octet_bits os) l)
@@ -84,7 +85,7 @@ packed_bits os h =
 moderate : (w : List ℕ) → length w < 2 ^ 60 → of_moderate_length w ≡ Some w
 moderate w h = let e = lt-ltb (length w) (2 ^ 60) h in rw e refl
 
-packed_strictly : (al : Bool) (s : Schema) (v : Value) (w : List ℕ) → each_is is_octet w ≡ true → length w < 2 ^ 60 → ReadsAsWritten strict_per (Per.message al s v) 0 (octet_bits w) → option_and_then of_moderate_length (per al s (normal s v)) ≡ Some w
+packed_strictly : (al : Bool) (s : Schema) (v : Value) (w : List ℕ) → list_all is_octet w ≡ true → length w < 2 ^ 60 → ReadsAsWritten strict_per (Per.message al s v) 0 (octet_bits w) → option_and_then of_moderate_length (per al s (normal s v)) ≡ Some w
 unfolding per
 packed_strictly al s v w o h r =
     let n = normal_stays s v (message_normal al s v (octet_bits w) (as_read strict_per (Per.message al s v) 0 (octet_bits w) r)) in
@@ -101,7 +102,7 @@ octets_strictly s v w h r =
     let m = moderate w h in
     rw e m
 
-pub strictly : (r : Rules) (s : Schema) (v : Value) (w : List ℕ) → each_is is_octet w ≡ true → IsEncodingAsWritten r s v w → canonical r s v ≡ Some w
+pub strictly : (r : Rules) (s : Schema) (v : Value) (w : List ℕ) → list_all is_octet w ≡ true → IsEncodingAsWritten r s v w → canonical r s v ≡ Some w
 unfolding canonical encoding IsEncodingAsWritten
 strictly uper s v w o h = packed_strictly false s v w o h.0 h.1
 strictly uper_strict s v w o h = packed_strictly false s v w o h.0 h.1

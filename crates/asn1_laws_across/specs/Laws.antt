@@ -5,7 +5,8 @@ use Rattle.asn1_model.specs.Schema.{Schema}
 use Rattle.asn1_model.specs.Lawful.{IsLawful}
 use Rattle.asn1_model.specs.Normal.{normal}
 use Rattle.asn1_model.specs.Rules.{Rules, uper_strict, aper_strict, coer, canonical, IsEncoding}
-use Rattle.asn1_model.specs.Strings.{each_is, is_octet}
+use Rattle.asn1_model.specs.Strings.{is_octet}
+use Rattle.std.specs.List.{list_all}
 use Rattle.asn1_laws_across.specs.InOrder.{IsEncodingInOrder}
 use Rattle.asn1_laws_across.specs.Rigid.{is_rigid}
 
@@ -36,13 +37,13 @@ DetoursChangeNothing =
 abbrev pub InOrderIsCanonical : Type 0
 InOrderIsCanonical =
     (r : Rules) (s : Schema) (v : Value) (w : List ℕ) → (IsEncodingInOrder r s v w → IsEncoding r s v w)
-    × (IsTrue (each_is is_octet w) → IsEncodingInOrder r s v w → canonical r s v ≡ Some w)
+    × (IsTrue (list_all is_octet w) → IsEncodingInOrder r s v w → canonical r s v ≡ Some w)
     × (canonical r s v ≡ Some w → IsEncodingInOrder r s (normal s v) w)
 
 -- What a strict reader takes of a rigid type is the canonical encoding of the value.
 abbrev pub RigidIsCanonicalIn : Rules → Type 0
 RigidIsCanonicalIn r =
-    (s : Schema) (v : Value) (w : List ℕ) → IsTrue (is_rigid s) → IsTrue (each_is is_octet w) → IsEncoding r s v w
+    (s : Schema) (v : Value) (w : List ℕ) → IsTrue (is_rigid s) → IsTrue (list_all is_octet w) → IsEncoding r s v w
     → canonical r s v ≡ Some w
 
 abbrev pub RigidIsCanonical : Type 0

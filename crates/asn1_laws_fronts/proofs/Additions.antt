@@ -4,7 +4,8 @@ use Rattle.std.proofs.Common.{◌≡◌, ℕ, zero, suc, ◌+◌, ◌≤◌, ◌
 use Rattle.std.proofs.lemmas.Bool.{and_parts, and_from, or_cases, ltb-true, eqb-true}
 use Rattle.asn1_model.specs.Value.{Value, Parts, end, absent, present, same, same_parts}
 use Rattle.asn1_model.specs.Schema.{Presence, Schema, Components, no_component, component}
-use Rattle.asn1_model.specs.Form.{Form, refused, both, nothing_more, only_if, given, joined, Bitmap, is_present, is_any_present, present_ones, covered_by}
+use Rattle.asn1_model.specs.Form.{Form, refused, both, nothing_more, only_if, given, joined, Bitmap, is_any_present, present_ones, covered_by}
+use Rattle.std.specs.Prelude.{is_some}
 use Rattle.asn1_model.specs.Tables.{presence_bits, is_required, presence_bit_unless}
 use Rattle.asn1_model.proofs.Forms.{map_parts}
 use Rattle.asn1_laws_fronts.proofs.Fronts.{Agree, agree_refused, agree_with_refused, agree_map, agree_both, agree_both_apart, agree_given, agree_if, agree_if_left, agree_if_right, agree_nothing}
@@ -108,7 +109,7 @@ module _ (F : Type 0) (D : F → Type 0) (A : Type 0) (free : F → Bool) where
         cases (inl h) = let k = ltb-true _ _ h in inl (omega arith)
         cases (inr h) = inr (none_of b.further h)
 
-    pub unknowns_alike : (more others : List (Option (List ℕ))) → map (λ a. is_present a) (map (option_map unknown) more) ≡ map (λ a. is_present a) (map (option_map unknown) others) → AlikeHere (joined (present_ones (map (option_map unknown) more))) (joined (present_ones (map (option_map unknown) others))) (Unit {0})
+    pub unknowns_alike : (more others : List (Option (List ℕ))) → map (λ a. is_some a) (map (option_map unknown) more) ≡ map (λ a. is_some a) (map (option_map unknown) others) → AlikeHere (joined (present_ones (map (option_map unknown) more))) (joined (present_ones (map (option_map unknown) others))) (Unit {0})
     unknowns_alike [] [] m = agree_nothing free
     unknowns_alike [] (b ∷ others) m = cc
     unknowns_alike (a ∷ more) [] m = cc
@@ -148,23 +149,23 @@ module _ (F : Type 0) (D : F → Type 0) (A : Type 0) (free : F → Bool) where
       none_same (component t o s cs) (present v ps) qs xs ys e f h i = let a = map_parts (additions_of cs ps) (λ zs. Some (added o s v) ∷ zs) xs e in let c : true ≡ false = subst (λ l. is_any_present l ≡ false) (sym a.2) h in cc
 
       -- one place in both
-      places_alike : (x y : Option Forms) (xs ys all others : List (Option Forms)) (P : Type 0) → Tells (x ∷ xs) all → Tells (y ∷ ys) others → map (λ a. is_present a) all ≡ map (λ a. is_present a) others → (is_any_present (x ∷ xs) ≡ false → is_any_present (y ∷ ys) ≡ false → P) → (is_present x ≡ is_present y → (us vs : List (Option Forms)) → Tells xs us → Tells ys vs → map (λ a. is_present a) us ≡ map (λ a. is_present a) vs → AlikeHere (joined (present_ones (x ∷ us))) (joined (present_ones (y ∷ vs))) P) → AlikeHere (joined (present_ones all)) (joined (present_ones others)) P
+      places_alike : (x y : Option Forms) (xs ys all others : List (Option Forms)) (P : Type 0) → Tells (x ∷ xs) all → Tells (y ∷ ys) others → map (λ a. is_some a) all ≡ map (λ a. is_some a) others → (is_any_present (x ∷ xs) ≡ false → is_any_present (y ∷ ys) ≡ false → P) → (is_some x ≡ is_some y → (us vs : List (Option Forms)) → Tells xs us → Tells ys vs → map (λ a. is_some a) us ≡ map (λ a. is_some a) vs → AlikeHere (joined (present_ones (x ∷ us))) (joined (present_ones (y ∷ vs))) P) → AlikeHere (joined (present_ones all)) (joined (present_ones others)) P
       places_alike x y xs ys [] [] P t u m k c = agree_map free (λ e. k t u) (agree_nothing free)
       places_alike x y xs ys [] (b ∷ others) P t u m k c = cc
       places_alike x y xs ys (a ∷ all) [] P t u m k c = cc
       places_alike x y xs ys (a ∷ all) (b ∷ others) P t u m k c =
-          let head : is_present a ≡ is_present b = cc in
-          let tail : map (λ a. is_present a) all ≡ map (λ a. is_present a) others = cc in
-          let flags : is_present x ≡ is_present y = ap (λ z. is_present z) t.0 ∙ head ∙ ap (λ z. is_present z) (sym u.0) in
+          let head : is_some a ≡ is_some b = cc in
+          let tail : map (λ a. is_some a) all ≡ map (λ a. is_some a) others = cc in
+          let flags : is_some x ≡ is_some y = ap (λ z. is_some z) t.0 ∙ head ∙ ap (λ z. is_some z) (sym u.0) in
           subst (λ z. AlikeHere (joined (present_ones (z ∷ all))) (joined (present_ones (b ∷ others))) P) t.0 (subst (λ z. AlikeHere (joined (present_ones (x ∷ all))) (joined (present_ones (z ∷ others))) P) u.0 (c flags all others t.1 u.1 tail))
 
-      present_alike : (cs : Components) (ps qs : Parts) (xs ys all others : List (Option Forms)) → EachComponent AlikeAdded cs → additions_of cs ps ≡ Some xs → additions_of cs qs ≡ Some ys → Tells xs all → Tells ys others → map (λ a. is_present a) all ≡ map (λ a. is_present a) others → AlikeHere (joined (present_ones all)) (joined (present_ones others)) (same_parts ps qs ≡ true)
+      present_alike : (cs : Components) (ps qs : Parts) (xs ys all others : List (Option Forms)) → EachComponent AlikeAdded cs → additions_of cs ps ≡ Some xs → additions_of cs qs ≡ Some ys → Tells xs all → Tells ys others → map (λ a. is_some a) all ≡ map (λ a. is_some a) others → AlikeHere (joined (present_ones all)) (joined (present_ones others)) (same_parts ps qs ≡ true)
       present_alike no_component end end xs ys all others h e f t u m =
           let a : [] ≡ xs = cc in
           let b : [] ≡ ys = cc in
           let t' : Tells [] all = subst (λ l. Tells l all) (sym a) t in
           let u' : Tells [] others = subst (λ l. Tells l others) (sym b) u in
-          subst (λ l. AlikeHere (joined (present_ones l)) (joined (present_ones others)) (same_parts end end ≡ true)) t'.1 (subst (λ l. AlikeHere (joined (present_ones (map (option_map unknown) t'.0))) (joined (present_ones l)) (same_parts end end ≡ true)) u'.1 (agree_map free (λ q. end_parts) (unknowns_alike t'.0 u'.0 (ap (λ l. map (λ a. is_present a) l) t'.1 ∙ m ∙ ap (λ l. map (λ a. is_present a) l) (sym u'.1)))))
+          subst (λ l. AlikeHere (joined (present_ones l)) (joined (present_ones others)) (same_parts end end ≡ true)) t'.1 (subst (λ l. AlikeHere (joined (present_ones (map (option_map unknown) t'.0))) (joined (present_ones l)) (same_parts end end ≡ true)) u'.1 (agree_map free (λ q. end_parts) (unknowns_alike t'.0 u'.0 (ap (λ l. map (λ a. is_some a) l) t'.1 ∙ m ∙ ap (λ l. map (λ a. is_some a) l) (sym u'.1)))))
       present_alike no_component end (absent qs) xs ys all others h e f t u m = cc
       present_alike no_component end (present w qs) xs ys all others h e f t u m = cc
       present_alike no_component (absent ps) qs xs ys all others h e f t u m = cc
@@ -190,7 +191,7 @@ module _ (F : Type 0) (D : F → Type 0) (A : Type 0) (free : F → Bool) where
           places_alike (Some (added o s v)) (Some (added o s w)) a.0 b.0 all others _ (subst (λ l. Tells l all) (sym a.2) t) (subst (λ l. Tells l others) (sym b.2) u) m (λ i j. cc) (λ i us vs t' u' m'. agree_map free (λ q. two_parts v w ps qs q.0 q.1) (agree_both free (h.0 v w) (λ r. present_alike cs ps qs a.0 b.0 us vs h.1 a.1 b.1 t' u' m')))
 
       -- ---- behind a bitmap or without one
-      module _ (preamble : List Bool → Form F D A) (preambles_alike : (ms ns : List Bool) → length ms ≡ length ns → AlikeHere (preamble ms) (preamble ns) (ms ≡ ns)) (bits : List (Option (Form F D A)) → Form F D A) (bits_alike : (xs ys : List (Option Forms)) → AlikeHere (bits xs) (bits ys) (map (λ a. is_present a) xs ≡ map (λ a. is_present a) ys)) (hidden : Form F D A → Form F D A) (hidden_left : (x y : Forms) (P : Type 0) → AlikeHere x y P → AlikeHere (hidden x) y P) (hidden_right : (x y : Forms) (P : Type 0) → AlikeHere x y P → AlikeHere x (hidden y) P) where
+      module _ (preamble : List Bool → Form F D A) (preambles_alike : (ms ns : List Bool) → length ms ≡ length ns → AlikeHere (preamble ms) (preamble ns) (ms ≡ ns)) (bits : List (Option (Form F D A)) → Form F D A) (bits_alike : (xs ys : List (Option Forms)) → AlikeHere (bits xs) (bits ys) (map (λ a. is_some a) xs ≡ map (λ a. is_some a) ys)) (hidden : Form F D A → Form F D A) (hidden_left : (x y : Forms) (P : Type 0) → AlikeHere x y P → AlikeHere (hidden x) y P) (hidden_right : (x y : Forms) (P : Type 0) → AlikeHere x y P → AlikeHere x (hidden y) P) where
         abbrev pub with_all : List Bool → Form F D A → List (Option Forms) → Form F D A
         with_all ms root all = both (preamble (true ∷ ms)) (both root (both (bits all) (joined (present_ones all))))
 

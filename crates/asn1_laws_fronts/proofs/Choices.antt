@@ -5,7 +5,7 @@ use Rattle.asn1_model.specs.Value.{Value, same}
 use Rattle.asn1_model.specs.Schema.{Tag, Schema, Alternatives, no_alternative, alternative}
 use Rattle.asn1_model.specs.Lawful.{tag_same, are_distinct, alternative_tags}
 use Rattle.asn1_model.specs.Form.{both}
-use Rattle.asn1_model.specs.Strings.{each_is}
+use Rattle.std.specs.List.{list_all}
 use Rattle.asn1_model.specs.Oer
 use Rattle.asn1_laws_fronts.proofs.Fronts.{agree_refused, agree_with_refused, agree_map, agree_both, agree_both_apart, agree_turned}
 use Rattle.asn1_laws_values.proofs.Listed.{EachAlternative}
@@ -13,11 +13,11 @@ use Rattle.asn1_laws_fronts.proofs.OerNumbers.{OctetsAlike}
 use Rattle.asn1_laws_fronts.proofs.OctetUnits.{open_alike}
 use Rattle.asn1_laws_fronts.proofs.Tags.{tags_alike}
 
-each_behind : {X : Type 0} (test : X → Bool) (xs ys : List X) → each_is test (xs ++ ys) ≡ true → each_is test ys ≡ true
+each_behind : {X : Type 0} (test : X → Bool) (xs ys : List X) → list_all test (xs ++ ys) ≡ true → list_all test ys ≡ true
 each_behind test [] ys h = h
 each_behind test (x ∷ xs) ys h = each_behind test xs ys ((and_parts _ _ h).1)
 
-pub each_before : {X : Type 0} (test : X → Bool) (xs ys : List X) → each_is test (xs ++ ys) ≡ true → each_is test xs ≡ true
+pub each_before : {X : Type 0} (test : X → Bool) (xs ys : List X) → list_all test (xs ++ ys) ≡ true → list_all test xs ≡ true
 each_before test [] ys h = refl
 each_before test (x ∷ xs) ys h = let p = and_parts _ _ h in and_from _ _ p.0 (each_before test xs ys p.1)
 
@@ -41,7 +41,7 @@ module _ (free : Oer.Freedom → Bool) where
   tags_apart t u x y P h = agree_both_apart free (agree_map free (λ e. not_both (tag_same t u) h e) (tags_alike free t u))
 
   -- an alternative whose tag is none of the others'
-  pub apart_from : (t : Tag) (x : Oer.OctetForm) (b : Bool) (others : Alternatives) (j : ℕ) (w : Value) (P : Type 0) → each_is (λ u. not (tag_same t u)) (alternative_tags others) ≡ true → OctetsAlike free (both (Oer.tag_form t) x) (Oer.alternative_form b others j w) P
+  pub apart_from : (t : Tag) (x : Oer.OctetForm) (b : Bool) (others : Alternatives) (j : ℕ) (w : Value) (P : Type 0) → list_all (λ u. not (tag_same t u)) (alternative_tags others) ≡ true → OctetsAlike free (both (Oer.tag_form t) x) (Oer.alternative_form b others j w) P
   unfolding Oer.alternative_form
   apart_from t x true no_alternative j w P h = agree_with_refused free _ _
   apart_from t x false no_alternative j w P h = agree_with_refused free _ _

@@ -4,10 +4,12 @@ use Rattle.std.proofs.lemmas.Bool.{and_parts, and_from, eq-eqb}
 use Rattle.asn1_model.specs.Value.{Value, truth, nothing, number, item, bit_list, octet_list, text, arcs, members, bag, fields, chosen, Values, Parts, end, absent, present, each, values_of, same, same_members, same_parts}
 use Rattle.asn1_model.specs.Schema.{Counts, Size, Presence, Schema, cut, boolean, null, integer, enumerated, bit_string, octet_string, character_string, object_identifier, sequence_of, set_of, sequence, set, group, choice, Components, no_component, component, Alternatives, no_alternative, alternative}
 use Rattle.asn1_model.specs.Lawful.{is_lawful, are_lawful, are_lawful_alternatives}
-use Rattle.asn1_model.specs.Form.{exactly, refused, both, varied, only_if, given, Bitmap, is_present, stands_before, written}
+use Rattle.asn1_model.specs.Form.{exactly, refused, both, varied, only_if, given, Bitmap, stands_before, written}
+use Rattle.std.specs.Prelude.{is_some}
 use Rattle.asn1_model.specs.Numbers.{binary}
 use Rattle.asn1_model.specs.Rules.{uper, aper, uper_strict, aper_strict, lenient, strict_per, IsEncoding}
-use Rattle.asn1_model.specs.Strings.{each_is, is_octet, is_identifier, identifier_octets}
+use Rattle.asn1_model.specs.Strings.{is_octet, is_identifier, identifier_octets}
+use Rattle.std.specs.List.{list_all}
 use Rattle.asn1_model.specs.Tables.{presence_bits, is_required, alternative_count}
 use Rattle.asn1_model.specs.Per
 use Rattle.asn1_laws_values.proofs.Same.{same_self}
@@ -41,7 +43,7 @@ module _ (free : Per.Freedom → Bool) (al : Bool) where
   bits_alike : (z : Size) (held : Counts) (bs cs : List Bool) → Alike free (Per.sized al z held (Per.string_has_padding 1 (length bs)) (Per.bit_units bs)) (Per.sized al z held (Per.string_has_padding 1 (length cs)) (Per.bit_units cs)) (bs ≡ cs)
   bits_alike z held bs cs = agree_map free (λ h. pairs_equal bs cs h) (sized_alike free Bool (λ a b. a ≡ b) (λ b. exactly (b ∷ [])) (λ a b. agree_first free (λ e. agree_map free (λ u. e) (agree_nothing free))) al z held (Per.string_has_padding 1 (length bs)) (Per.string_has_padding 1 (length cs)) bs cs (λ l. ap (λ n. Per.string_has_padding 1 n z.counts) l))
 
-  octets_alike : (z : Size) (held : Counts) (os ps : List ℕ) → each_is is_octet os ≡ true → each_is is_octet ps ≡ true → Alike free (Per.sized al z held (Per.string_has_padding 8 (length os)) (Per.octet_units os)) (Per.sized al z held (Per.string_has_padding 8 (length ps)) (Per.octet_units ps)) (os ≡ ps)
+  octets_alike : (z : Size) (held : Counts) (os ps : List ℕ) → list_all is_octet os ≡ true → list_all is_octet ps ≡ true → Alike free (Per.sized al z held (Per.string_has_padding 8 (length os)) (Per.octet_units os)) (Per.sized al z held (Per.string_has_padding 8 (length ps)) (Per.octet_units ps)) (os ≡ ps)
   octets_alike z held os ps h k = agree_map free (λ q. octets_again os ps h k q) (sized_alike free ℕ same_bits (λ o. exactly (binary 8 o)) (λ o p. agree_exactly free _ _ refl) al z held (Per.string_has_padding 8 (length os)) (Per.string_has_padding 8 (length ps)) os ps (λ l. ap (λ n. Per.string_has_padding 8 n z.counts) l))
 
   -- ---- lists and bags
@@ -121,7 +123,7 @@ module _ (free : Per.Freedom → Bool) (al : Bool) where
   unfoldable pub bits : List (Option Per.BitForm) → Per.BitForm
   bits xs = Per.normally_few al (map Per.flag xs)
 
-  pub flags_alike : (xs ys : List (Option Per.BitForm)) → Alike free (bits xs) (bits ys) (map (λ a. is_present a) xs ≡ map (λ a. is_present a) ys)
+  pub flags_alike : (xs ys : List (Option Per.BitForm)) → Alike free (bits xs) (bits ys) (map (λ a. is_some a) xs ≡ map (λ a. is_some a) ys)
   unfolding bits
   flags_alike xs ys = bitmap_alike free al xs ys
 
@@ -231,7 +233,7 @@ module _ (free : Per.Freedom → Bool) (al : Bool) where
     one_way (bit_string z held) h (bit_list v) (bit_list w) = leaf bit_list (bits_alike z held v w)
     one_way (bit_string z held) h (bit_list v) w = agree_with_refused free _ _
     one_way (bit_string z held) h v w = agree_refused free _ _
-    one_way (octet_string z held) h (octet_list v) (octet_list w) = leaf octet_list (agree_if free (each_is is_octet v) (each_is is_octet w) _ _ (λ i j. octets_alike z held v w i j))
+    one_way (octet_string z held) h (octet_list v) (octet_list w) = leaf octet_list (agree_if free (list_all is_octet v) (list_all is_octet w) _ _ (λ i j. octets_alike z held v w i j))
     one_way (octet_string z held) h (octet_list v) w = agree_with_refused free _ _
     one_way (octet_string z held) h v w = agree_refused free _ _
     one_way (character_string k z a held) h (text v) (text w) = leaf text (string_alike free al k z a held v w)

@@ -4,7 +4,8 @@ use Rattle.std.proofs.lemmas.Bool.{and_parts, and_from, eq-eqb}
 use Rattle.asn1_model.specs.Value.{Value, truth, nothing, number, item, bit_list, octet_list, text, arcs, members, bag, fields, chosen, Values, Parts, end, absent, present, each, values_of, same, same_members, same_parts}
 use Rattle.asn1_model.specs.Schema.{Counts, Size, StringKind, Presence, Schema, cut, boolean, null, integer, enumerated, bit_string, octet_string, character_string, object_identifier, sequence_of, set_of, sequence, set, group, choice, Components, no_component, component, Alternatives, no_alternative, alternative}
 use Rattle.asn1_model.specs.Lawful.{is_lawful, are_lawful, are_lawful_alternatives, are_distinct, tag_same, alternative_tags}
-use Rattle.asn1_model.specs.Form.{refused, both, varied, only_if, given, Bitmap, is_present, stands_before, written}
+use Rattle.asn1_model.specs.Form.{refused, both, varied, only_if, given, Bitmap, stands_before, written}
+use Rattle.std.specs.Prelude.{is_some}
 use Rattle.asn1_model.specs.Rules.{oer, coer, lenient, strict_oer, IsEncoding}
 use Rattle.asn1_model.specs.Strings.{is_identifier, identifier_octets, may_hold}
 use Rattle.asn1_model.specs.Tables.{presence_bits, is_required, item_place}
@@ -109,9 +110,9 @@ module _ (free : Oer.Freedom → Bool) where
   preambles_alike ms ns l = preamble_alike free ms ns l
 
   unfoldable pub bits : List (Option Oer.OctetForm) → Oer.OctetForm
-  bits xs = Oer.counted_bits (map (λ a. is_present a) xs)
+  bits xs = Oer.counted_bits (map (λ a. is_some a) xs)
 
-  pub flags_alike : (xs ys : List (Option Oer.OctetForm)) → OctetsAlike free (bits xs) (bits ys) (map (λ a. is_present a) xs ≡ map (λ a. is_present a) ys)
+  pub flags_alike : (xs ys : List (Option Oer.OctetForm)) → OctetsAlike free (bits xs) (bits ys) (map (λ a. is_some a) xs ≡ map (λ a. is_some a) ys)
   unfolding bits
   flags_alike xs ys = counted_bits_alike free _ _
 
@@ -207,7 +208,7 @@ module _ (free : Oer.Freedom → Bool) where
     one_way (integer b held) h (number v) (number w) = leaf number (integer_alike free b held v w)
     one_way (integer b held) h (number v) w = agree_with_refused free _ _
     one_way (integer b held) h v w = agree_refused free _ _
-    one_way (enumerated roots e adds) h (item v) (item w) = leaf item (agree_if free (is_present (item_place v roots) || (e && is_present (item_place v adds))) (is_present (item_place w roots) || (e && is_present (item_place w adds))) _ _ (λ i j. items_alike free v w))
+    one_way (enumerated roots e adds) h (item v) (item w) = leaf item (agree_if free (is_some (item_place v roots) || (e && is_some (item_place v adds))) (is_some (item_place w roots) || (e && is_some (item_place w adds))) _ _ (λ i j. items_alike free v w))
     one_way (enumerated roots e adds) h (item v) w = agree_with_refused free _ _
     one_way (enumerated roots e adds) h v w = agree_refused free _ _
     one_way (bit_string z held) h (bit_list v) (bit_list w) = leaf bit_list (agree_if free (Oer.admits z held (length v)) (Oer.admits z held (length w)) _ _ (λ i j. bit_strings_alike free (Oer.is_fixed z) v w (λ f. one_length z held (length v) (length w) f i j)))

@@ -5,7 +5,8 @@ use Rattle.std.proofs.lemmas.Bool.{ltb-true, leb-true, eqb-true, and_parts, or_c
 use Rattle.asn1_model.specs.Schema.{Counts, Size, StringKind, numeric, printable, visible, ia5, bmp, general, graphic, teletex, utf8}
 use Rattle.asn1_model.specs.Numbers.{digits, signed_octets, complement, is_count_to, is_count_within}
 use Rattle.asn1_model.specs.Form.{both, only_if, joined, Reads}
-use Rattle.asn1_model.specs.Strings.{each_is, is_octet, may_hold, characters_of, is_among}
+use Rattle.asn1_model.specs.Strings.{is_octet, may_hold, characters_of, is_among}
+use Rattle.std.specs.List.{list_all}
 use Rattle.asn1_model.specs.Oer
 use Rattle.asn1_laws_values.proofs.Numbers.{length-complement, digits_equal}
 use Rattle.asn1_laws_fronts.proofs.Fronts.{Pairwise, fronts_equal, agree_exactly, agree_refused, agree_with_refused, agree_map, agree_both, agree_apart, agree_varied, agree_if, agree_if_left, agree_if_right, agree_first, agree_nothing}
@@ -89,7 +90,7 @@ module _ (free : Oer.Freedom → Bool) where
   -- ---- strings of octets
   pub octets_alike : (fixed : Bool) (os ps : List ℕ) → (fixed ≡ true → length os ≡ length ps) → OctetsAlike free (Oer.octets_form fixed os) (Oer.octets_form fixed ps) (os ≡ ps)
   unfolding Oer.octets_form
-  octets_alike true os ps h = agree_if free (each_is is_octet os) (each_is is_octet ps) _ _ (λ i j. agree_exactly free os ps (h refl))
+  octets_alike true os ps h = agree_if free (list_all is_octet os) (list_all is_octet ps) _ _ (λ i j. agree_exactly free os ps (h refl))
   octets_alike false os ps h = counted_alike free os ps
 
 -- what has one size has one length
@@ -118,7 +119,7 @@ two_octets c d r s h i e =
     let q : digits 256 2 c ≡ digits 256 2 d = fronts_equal (digits 256 2 c) (digits 256 2 d) r s refl e in
     (digits_equal 256 2 c d (lit< tt) h i q, ap (drop 2) e)
 
-wide_equal : (cs ds : List ℕ) → each_is (is_among (characters_of bmp)) cs ≡ true → each_is (is_among (characters_of bmp)) ds ≡ true → flat_map (digits 256 2) cs ≡ flat_map (digits 256 2) ds → cs ≡ ds
+wide_equal : (cs ds : List ℕ) → list_all (is_among (characters_of bmp)) cs ≡ true → list_all (is_among (characters_of bmp)) ds ≡ true → flat_map (digits 256 2) cs ≡ flat_map (digits 256 2) ds → cs ≡ ds
 wide_equal [] [] h i e = refl
 wide_equal [] (d ∷ ds) h i e = cc
 wide_equal (c ∷ cs) [] h i e = cc

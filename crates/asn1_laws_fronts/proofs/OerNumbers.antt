@@ -6,7 +6,8 @@ use Rattle.asn1_model.specs.Schema.{Range, Bounds}
 use Rattle.asn1_model.specs.Numbers.{digits, octet_width, least_octets, signed_octets, complement, is_at_most, is_from, is_to, is_within, fits_128}
 use Rattle.asn1_model.specs.Form.{exactly, only_if}
 use Rattle.asn1_model.specs.Tables.{is_bounded}
-use Rattle.asn1_model.specs.Strings.{each_is, is_octet}
+use Rattle.asn1_model.specs.Strings.{is_octet}
+use Rattle.std.specs.List.{list_all}
 use Rattle.asn1_model.specs.Oer
 use Rattle.asn1_laws_values.proofs.Numbers.{FitsIn, length-digits, length-complement, digits_equal, complement_equal, octets_hold, signed_hold, at_most_pos, at_most_negsuc, not_below}
 use Rattle.asn1_laws_fronts.proofs.Fronts.{Agree, agree_exactly, agree_refused, agree_with_refused, agree_map, agree_both, agree_varied, agree_if, agree_if_left, agree_if_right, agree_first, agree_nothing}
@@ -74,7 +75,7 @@ module _ (free : Oer.Freedom → Bool) where
 
   pub counted_alike : (os ps : List ℕ) → OctetsAlike free (Oer.counted os) (Oer.counted ps) (os ≡ ps)
   unfolding Oer.counted
-  counted_alike os ps = agree_if free (each_is is_octet os) (each_is is_octet ps) _ _ (λ h i. agree_map free (λ q. q.1) (agree_both free (length_alike (length os) (length ps)) (λ e. agree_exactly free os ps e)))
+  counted_alike os ps = agree_if free (list_all is_octet os) (list_all is_octet ps) _ _ (λ h i. agree_map free (λ q. q.1) (agree_both free (length_alike (length os) (length ps)) (λ e. agree_exactly free os ps e)))
 
   -- ---- numbers
   pub signed_alike : (v w : ℤ) → OctetsAlike free (Oer.signed v) (Oer.signed w) (v ≡ w)

@@ -9,7 +9,8 @@ use Rattle.asn1_model.specs.Schema.{Range, Bounds}
 use Rattle.asn1_model.specs.Numbers.{digits, binary, width, octet_width, least_octets, signed_octets, complement, above, is_at_most, is_within, fits_128}
 use Rattle.asn1_model.specs.Form.{exactly, both, varied, only_if, joined}
 use Rattle.asn1_model.specs.Tables.{is_bounded}
-use Rattle.asn1_model.specs.Strings.{each_is, is_octet}
+use Rattle.asn1_model.specs.Strings.{is_octet}
+use Rattle.std.specs.List.{list_all}
 use Rattle.asn1_model.specs.Per
 use Rattle.asn1_laws_values.proofs.Places.{places_hold}
 use Rattle.asn1_laws_values.proofs.Numbers.{length-digits, length-complement, digits_equal, complement_equal, least_hold, signed_hold, above_equal}
@@ -210,7 +211,7 @@ module _ (free : Per.Freedom → Bool) (X : Type 0) (R : X → X → Type 0) (f 
 abbrev pub same_bits : ℕ → ℕ → Type 0
 same_bits o p = binary 8 o ≡ binary 8 p
 
-pub octets_again : (os ps : List ℕ) → each_is is_octet os ≡ true → each_is is_octet ps ≡ true → Pairwise same_bits os ps → os ≡ ps
+pub octets_again : (os ps : List ℕ) → list_all is_octet os ≡ true → list_all is_octet ps ≡ true → Pairwise same_bits os ps → os ≡ ps
 octets_again [] [] h k e = refl
 octets_again [] (p ∷ ps) h k e = absurd e
 octets_again (o ∷ os) [] h k e = absurd e
@@ -232,7 +233,7 @@ module _ (free : Per.Freedom → Bool) where
 
   pub counted_octets_alike : (al : Bool) (os ps : List ℕ) → Alike free (Per.counted_octets al os) (Per.counted_octets al ps) (os ≡ ps)
   unfolding Per.counted_octets
-  counted_octets_alike al os ps = agree_if free (each_is is_octet os) (each_is is_octet ps) _ _ (λ h k. agree_map free (λ e. octets_again os ps h k e) (octet_units_alike al os ps))
+  counted_octets_alike al os ps = agree_if free (list_all is_octet os) (list_all is_octet ps) _ _ (λ h k. agree_map free (λ e. octets_again os ps h k e) (octet_units_alike al os ps))
 
   -- ---- whole numbers
   digits_same : (k j n m : ℕ) → least_octets n ≤ k → least_octets m ≤ j → digits 256 k n ≡ digits 256 j m → n ≡ m

@@ -6,7 +6,8 @@ use Rattle.asn1_model.specs.Schema.{Alphabet, Counts, Size, StringKind, numeric,
 use Rattle.asn1_model.specs.Lawful.{are_ascending}
 use Rattle.asn1_model.specs.Numbers.{binary, width, is_count_within}
 use Rattle.asn1_model.specs.Form.{exactly, only_if}
-use Rattle.asn1_model.specs.Strings.{Run, run, is_in_run, characters_of, how_many, largest, place_of, is_among, put_in, sorted, permitted_in, permitted, is_of_octets, may_hold, each_is}
+use Rattle.asn1_model.specs.Strings.{Run, run, is_in_run, characters_of, how_many, largest, place_of, is_among, put_in, sorted, permitted_in, permitted, is_of_octets, may_hold}
+use Rattle.std.specs.List.{list_all}
 use Rattle.asn1_model.specs.Per
 use Rattle.asn1_model.proofs.Forms.{map_parts}
 use Rattle.asn1_model.proofs.Ascending.{order_ascends}
@@ -120,7 +121,7 @@ singles_room : (c : ℕ) (cs : List ℕ) → are_ascending ltb (c ∷ cs) ≡ tr
 singles_room c [] h = omega arith
 singles_room c (d ∷ cs) h = let p = and_parts _ _ h in let a = ltb-true c d p.0 in let i = singles_room d cs p.1 in omega arith
 
-singles_largest : (top : ℕ) (rs : List Run) (cs : List ℕ) → tops rs ≡ true → largest rs ≤ top → each_is (is_among rs) cs ≡ true → largest (singles cs) ≤ top
+singles_largest : (top : ℕ) (rs : List Run) (cs : List ℕ) → tops rs ≡ true → largest rs ≤ top → list_all (is_among rs) cs ≡ true → largest (singles cs) ≤ top
 singles_largest top rs [] h i e = omega arith
 singles_largest top rs (c ∷ []) h i e = let a = among_top c rs h ((and_parts _ _ e).0) in omega arith
 singles_largest top rs (c ∷ d ∷ cs) h i e = singles_largest top rs (d ∷ cs) h i ((and_parts _ _ e).1)
@@ -128,7 +129,7 @@ singles_largest top rs (c ∷ d ∷ cs) h i e = singles_largest top rs (d ∷ cs
 abbrev pub Orderly : List Run → Type 0
 Orderly rs = (tops rs ≡ true) × (how_many rs ≤ 65536)
 
-singles_few : (rs : List Run) (cs : List ℕ) → tops rs ≡ true → largest rs ≤ 65535 → are_ascending ltb cs ≡ true → each_is (is_among rs) cs ≡ true → Orderly (singles cs)
+singles_few : (rs : List Run) (cs : List ℕ) → tops rs ≡ true → largest rs ≤ 65535 → are_ascending ltb cs ≡ true → list_all (is_among rs) cs ≡ true → Orderly (singles cs)
 singles_few rs [] h i a e = (refl, omega arith)
 singles_few rs (c ∷ cs) h i a e =
     let m = singles_many (c ∷ cs) in
@@ -148,24 +149,24 @@ own_orderly teletex h = cc
 own_orderly utf8 h = cc
 
 -- ---- what a test leaves of numbers, and in ascending order
-left_passes : (test : ℕ → Bool) (cs : List ℕ) → each_is test (filter test cs) ≡ true
+left_passes : (test : ℕ → Bool) (cs : List ℕ) → list_all test (filter test cs) ≡ true
 left_passes test [] = refl
 left_passes test (c ∷ cs) = step (test c) refl (left_passes test cs)
   where
-    step : (b : Bool) → test c ≡ b → each_is test (filter test cs) ≡ true → each_is test (cond b (c ∷ filter test cs) (filter test cs)) ≡ true
+    step : (b : Bool) → test c ≡ b → list_all test (filter test cs) ≡ true → list_all test (cond b (c ∷ filter test cs) (filter test cs)) ≡ true
     step true e k = and_from _ _ e k
     step false e k = k
 
-put_passes : (test : ℕ → Bool) (c : ℕ) (ds : List ℕ) → test c ≡ true → each_is test ds ≡ true → each_is test (put_in c ds) ≡ true
+put_passes : (test : ℕ → Bool) (c : ℕ) (ds : List ℕ) → test c ≡ true → list_all test ds ≡ true → list_all test (put_in c ds) ≡ true
 put_passes test c [] h k = and_from _ _ h k
 put_passes test c (d ∷ ds) h k = step (ltb c d) (c == d) (put_passes test c ds h ((and_parts _ _ k).1))
   where
-    step : (t u : Bool) → each_is test (put_in c ds) ≡ true → each_is test (cond t (c ∷ d ∷ ds) (cond u (d ∷ ds) (d ∷ put_in c ds))) ≡ true
+    step : (t u : Bool) → list_all test (put_in c ds) ≡ true → list_all test (cond t (c ∷ d ∷ ds) (cond u (d ∷ ds) (d ∷ put_in c ds))) ≡ true
     step true u i = and_from _ _ h k
     step false true i = k
     step false false i = and_from _ _ ((and_parts _ _ k).0) i
 
-sorted_passes : (test : ℕ → Bool) (cs : List ℕ) → each_is test cs ≡ true → each_is test (sorted cs) ≡ true
+sorted_passes : (test : ℕ → Bool) (cs : List ℕ) → list_all test cs ≡ true → list_all test (sorted cs) ≡ true
 sorted_passes test [] h = refl
 sorted_passes test (c ∷ cs) h = let p = and_parts _ _ h in put_passes test c (sorted cs) p.0 (sorted_passes test cs p.1)
 

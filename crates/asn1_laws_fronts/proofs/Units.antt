@@ -5,9 +5,11 @@ use Rattle.std.proofs.lemmas.Bool.{ltb-true, leb-true, eqb-true, and_parts}
 use Rattle.asn1_model.specs.Value.{same_number}
 use Rattle.asn1_model.specs.Schema.{Counts, Size}
 use Rattle.asn1_model.specs.Numbers.{binary, missing, by_eights, is_count_within}
-use Rattle.asn1_model.specs.Form.{exactly, both, only_if, joined, Reads, is_present}
+use Rattle.asn1_model.specs.Form.{exactly, both, only_if, joined, Reads}
+use Rattle.std.specs.Prelude.{is_some}
 use Rattle.asn1_model.specs.Rules.{octet_bits}
-use Rattle.asn1_model.specs.Strings.{each_is, is_octet}
+use Rattle.asn1_model.specs.Strings.{is_octet}
+use Rattle.std.specs.List.{list_all}
 use Rattle.asn1_model.specs.Tables.{item_place}
 use Rattle.asn1_model.specs.Oer.{packed}
 use Rattle.asn1_model.specs.Per
@@ -91,12 +93,12 @@ module _ (free : Per.Freedom → Bool) where
   Flagged = Option Per.BitForm
 
   abbrev same_flag : Option Per.BitForm → Option Per.BitForm → Type 0
-  same_flag a b = is_present a ≡ is_present b
+  same_flag a b = is_some a ≡ is_some b
 
   flag_alike : (a b : Option Per.BitForm) → Alike free (Per.flag a) (Per.flag b) (same_flag a b)
   flag_alike a b = agree_first free (λ e. agree_map free (λ u. e) (agree_nothing free))
 
-  flags_equal : (xs ys : List (Option Per.BitForm)) → Pairwise same_flag xs ys → map (λ a. is_present a) xs ≡ map (λ a. is_present a) ys
+  flags_equal : (xs ys : List (Option Per.BitForm)) → Pairwise same_flag xs ys → map (λ a. is_some a) xs ≡ map (λ a. is_some a) ys
   flags_equal [] [] h = refl
   flags_equal [] (y ∷ ys) h = absurd h
   flags_equal (x ∷ xs) [] h = absurd h
@@ -132,7 +134,7 @@ module _ (free : Per.Freedom → Bool) where
       bit_differs e = cc
   few_cases al xs ys false false = shorts_alike xs ys
 
-  pub bitmap_alike : (al : Bool) (xs ys : List (Option Per.BitForm)) → Alike free (Per.normally_few al (map Per.flag xs)) (Per.normally_few al (map Per.flag ys)) (map (λ a. is_present a) xs ≡ map (λ a. is_present a) ys)
+  pub bitmap_alike : (al : Bool) (xs ys : List (Option Per.BitForm)) → Alike free (Per.normally_few al (map Per.flag xs)) (Per.normally_few al (map Per.flag ys)) (map (λ a. is_some a) xs ≡ map (λ a. is_some a) ys)
   unfolding Per.normally_few
   bitmap_alike al xs ys = agree_map free (λ h. flags_equal xs ys h) (agree_varied free (λ s t. few_cases al xs ys s t))
 
@@ -224,8 +226,8 @@ module _ (free : Per.Freedom → Bool) where
         let d = complete_whole y g.0 0 g.1 in
         let m : List ℕ = f.2.0 in
         let n : List ℕ = g.2.0 in
-        let i = when_read (each_is is_octet m) _ p a f.2.2 in
-        let j = when_read (each_is is_octet n) _ p b g.2.2 in
+        let i = when_read (list_all is_octet m) _ p a f.2.2 in
+        let j = when_read (list_all is_octet n) _ p b g.2.2 in
         let q = (eights_alike al (f.0 ++ flat_map (binary 8) m) (g.0 ++ flat_map (binary 8) n) _ _ (joined_long f.0 m c.0 c.1) (joined_long g.0 n d.0 d.1)).fronts p a b r s i j e in
         let u = (complete_alike free x y P h).fronts 0 f.0 g.0 (flat_map (binary 8) m) (flat_map (binary 8) n) f.1 g.1 q.1 in
         (q.0, u.1);

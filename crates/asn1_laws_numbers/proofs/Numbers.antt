@@ -5,18 +5,19 @@ use Rattle.std.proofs.lemmas.Bool.{ltb-true, lt-ltb, and_parts, and_from}
 use Rattle.std.proofs.lemmas.Nat.{mod_below}
 use Rattle.std.proofs.Math.Nat.{mod-eq_of_lt, pow-suc}
 use Rattle.asn1_model.specs.Numbers.{digits, number_after, places, width, octet_width, least_octets, signed_octets, complement, binary, packed, octet_bits}
-use Rattle.asn1_model.specs.Strings.{each_is, is_octet}
+use Rattle.asn1_model.specs.Strings.{is_octet}
+use Rattle.std.specs.List.{list_all}
 use Rattle.asn1_laws_values.proofs.Places.{places_hold, places_fewest}
 use Rattle.asn1_laws_values.proofs.Numbers.{number_of_digits, length-digits, length-complement, least_hold, signed_hold, octets_are_bits}
 use Rattle.asn1_laws_values.proofs.Octets.{packed_back, packed_octets}
 use Rattle.asn1_laws_fronts.proofs.PerNumbers.{binary_equal}
 use Rattle.asn1_laws_fronts.proofs.Complete.{bits_length}
 
-digits_small : (base w n : ℕ) → 0 < base → each_is (λ d. ltb d base) (digits base w n) ≡ true
+digits_small : (base w n : ℕ) → 0 < base → list_all (λ d. ltb d base) (digits base w n) ≡ true
 digits_small base zero n h = refl
 digits_small base (suc w) n h = and_from _ _ (lt-ltb _ _ (mod_below (n / base ^ w) base h)) (digits_small base w n h)
 
-pub digits_sum : (base w n : ℕ) → 0 < base → n < base ^ w → (number_after base 0 (digits base w n) ≡ n) × (length (digits base w n) ≡ w) × (each_is (λ d. ltb d base) (digits base w n) ≡ true)
+pub digits_sum : (base w n : ℕ) → 0 < base → n < base ^ w → (number_after base 0 (digits base w n) ≡ n) × (length (digits base w n) ≡ w) × (list_all (λ d. ltb d base) (digits base w n) ≡ true)
 digits_sum base w n h k =
     let a = number_of_digits base w 0 n h in
     let b : n % base ^ w ≡ n = mod-eq_of_lt k in
@@ -52,7 +53,7 @@ bits_are_digits zero n = refl
 bits_are_digits (suc w) n = ap (λ l. (n / 2 ^ w % 2 == 1) ∷ l) (bits_are_digits w n)
 
 -- ---- octets and bits
-bits_equal : (os ps : List ℕ) → each_is is_octet os ≡ true → each_is is_octet ps ≡ true → octet_bits os ≡ octet_bits ps → os ≡ ps
+bits_equal : (os ps : List ℕ) → list_all is_octet os ≡ true → list_all is_octet ps ≡ true → octet_bits os ≡ octet_bits ps → os ≡ ps
 bits_equal [] [] h i e = refl
 bits_equal [] (p ∷ ps) h i e = cc
 bits_equal (o ∷ os) [] h i e = cc
@@ -63,17 +64,17 @@ bits_equal (o ∷ os) (p ∷ ps) h i e =
     let y = bits_equal os ps h'.1 i'.1 (ap (drop 8) e) in
     cc
 
-packed_bits : (os : List ℕ) → each_is is_octet os ≡ true → packed (octet_bits os) ≡ os
+packed_bits : (os : List ℕ) → list_all is_octet os ≡ true → packed (octet_bits os) ≡ os
 packed_bits os h =
     let l = bits_length os in
     bits_equal (packed (octet_bits os)) os (packed_octets (length os) (octet_bits os) l) h (packed_back (length os) (octet_bits os) l)
 
-packed_whole : (k : ℕ) (bs : List Bool) → length bs ≡ 8 * k → (octet_bits (packed bs) ≡ bs) × (length (packed bs) ≡ k) × (each_is is_octet (packed bs) ≡ true)
+packed_whole : (k : ℕ) (bs : List Bool) → length bs ≡ 8 * k → (octet_bits (packed bs) ≡ bs) × (length (packed bs) ≡ k) × (list_all is_octet (packed bs) ≡ true)
 packed_whole k bs h =
     let b = packed_back k bs h in
     let l = bits_length (packed bs) in
     let m : length (octet_bits (packed bs)) ≡ length bs = ap length b in
     (b, omega arith, packed_octets k bs h)
 
-pub octets_and_bits : ((os : List ℕ) → each_is is_octet os ≡ true → packed (octet_bits os) ≡ os) × ((k : ℕ) (bs : List Bool) → length bs ≡ 8 * k → (octet_bits (packed bs) ≡ bs) × (length (packed bs) ≡ k) × (each_is is_octet (packed bs) ≡ true))
+pub octets_and_bits : ((os : List ℕ) → list_all is_octet os ≡ true → packed (octet_bits os) ≡ os) × ((k : ℕ) (bs : List Bool) → length bs ≡ 8 * k → (octet_bits (packed bs) ≡ bs) × (length (packed bs) ≡ k) × (list_all is_octet (packed bs) ≡ true))
 octets_and_bits = (packed_bits, packed_whole)

@@ -8,9 +8,11 @@ use Rattle.asn1_model.specs.Value.{Value, truth, nothing, number, item, bit_list
 use Rattle.asn1_model.specs.Schema.{Tag, Range, Bounds, Counts, Presence, Schema, boolean, null, integer, enumerated, bit_string, octet_string, character_string, object_identifier, sequence_of, set_of, sequence, set, group, choice, Components, no_component, component, Alternatives, no_alternative, alternative}
 use Rattle.asn1_model.specs.Normal.{is_at_default, is_group_left_out}
 use Rattle.asn1_model.specs.Numbers.{missing, digits, octet_width, least_octets, signed_octets, complement, packed, is_within, is_count_within, fits_128, places}
-use Rattle.asn1_model.specs.Strings.{each_is, is_octet, may_hold, is_identifier, identifier_octets, groups_of_seven, with_top_bits}
+use Rattle.asn1_model.specs.Strings.{is_octet, may_hold, is_identifier, identifier_octets, groups_of_seven, with_top_bits}
+use Rattle.std.specs.List.{list_all}
 use Rattle.asn1_model.specs.Tables.{is_required, presence_bits, item_place, is_bounded}
-use Rattle.asn1_model.specs.Form.{Form, exactly, refused, both, varied, within, Reads, only_if, given, joined, written, stands_before, pick, arranged, in_order, ascending, Bitmap, is_present, is_any_present, present_ones, covered_by}
+use Rattle.asn1_model.specs.Form.{Form, exactly, refused, both, varied, within, Reads, only_if, given, joined, written, stands_before, pick, arranged, in_order, ascending, Bitmap, is_any_present, present_ones, covered_by}
+use Rattle.std.specs.Prelude.{is_some}
 use Rattle.asn1_model.specs.Lawful.{is_tag, is_lawful, are_lawful, are_lawful_alternatives}
 use Rattle.asn1_model.specs.Oer
 use Rattle.asn1_model.proofs.Forms.{map_parts}
@@ -22,7 +24,7 @@ OerForm = Form Oer.Freedom Oer.Detail ℕ
 
 -- ---- octets
 abbrev AreOctets : List ℕ → Type 0
-AreOctets os = each_is is_octet os ≡ true
+AreOctets os = list_all is_octet os ≡ true
 
 joined_octets : (os ps : List ℕ) → AreOctets os → AreOctets ps → AreOctets (os ++ ps)
 joined_octets [] ps h k = k
@@ -42,14 +44,14 @@ complement_octets : (k : ℕ) (v : ℤ) → AreOctets (complement k v)
 complement_octets k (pos n) = digits_octets k n
 complement_octets k (negsuc n) = digits_octets k (256 ^ k - 1 - n)
 
-sevens_small : (k n : ℕ) → each_is (λ d. ltb d 128) (digits 128 k n) ≡ true
+sevens_small : (k n : ℕ) → list_all (λ d. ltb d 128) (digits 128 k n) ≡ true
 sevens_small zero n = refl
 sevens_small (suc k) n = and_from _ _ (lt-ltb _ _ (mod_below (n / 128 ^ k) 128 (lit< tt))) (sevens_small k n)
 
-top_octets : (os : List ℕ) → each_is (λ d. ltb d 128) os ≡ true → AreOctets (with_top_bits os)
+top_octets : (os : List ℕ) → list_all (λ d. ltb d 128) os ≡ true → AreOctets (with_top_bits os)
 top_octets [] h = refl
 top_octets (o ∷ []) h = let p = and_parts (ltb o 128) true h in let a : o < 128 = ltb-true o 128 p.0 in and_from _ _ (lt-ltb o 256 (omega arith)) refl
-top_octets (o ∷ p ∷ os) h = let q = and_parts (ltb o 128) (each_is (λ d. ltb d 128) (p ∷ os)) h in let a : o < 128 = ltb-true o 128 q.0 in and_from _ _ (lt-ltb (o + 128) 256 (omega arith)) (top_octets (p ∷ os) q.1)
+top_octets (o ∷ p ∷ os) h = let q = and_parts (ltb o 128) (list_all (λ d. ltb d 128) (p ∷ os)) h in let a : o < 128 = ltb-true o 128 q.0 in and_from _ _ (lt-ltb (o + 128) 256 (omega arith)) (top_octets (p ∷ os) q.1)
 
 groups_octets : (n : ℕ) → AreOctets (groups_of_seven n)
 groups_octets n = top_octets (digits 128 (max 1 (places 128 n)) n) (sevens_small (max 1 (places 128 n)) n)
@@ -115,7 +117,7 @@ module _ (free : Oer.Freedom → Bool) where
 
   o_counted : (os : List ℕ) → Octal free (Oer.counted os)
   unfolding Oer.counted
-  o_counted os = o_if (each_is is_octet os) (λ h. o_both (o_length (length os)) (o_exactly os h))
+  o_counted os = o_if (list_all is_octet os) (λ h. o_both (o_length (length os)) (o_exactly os h))
 
   o_signed : (v : ℤ) → Octal free (Oer.signed v)
   unfolding Oer.signed
@@ -180,7 +182,7 @@ module _ (free : Oer.Freedom → Bool) where
 
   o_octets : (b : Bool) (os : List ℕ) → Octal free (Oer.octets_form b os)
   unfolding Oer.octets_form
-  o_octets true os = o_if (each_is is_octet os) (λ h. o_exactly os h)
+  o_octets true os = o_if (list_all is_octet os) (λ h. o_exactly os h)
   o_octets false os = o_counted os
 
   -- ---- tags and open types
@@ -300,7 +302,7 @@ module _ (free : Oer.Freedom → Bool) where
     o_form boolean (truth true) l = o_varied (λ o. o_if (leb 1 o && is_octet o) (λ h. o_exactly (o ∷ []) (one_octet o (ltb-true o 256 ((and_parts _ _ h).1)))))
     o_form null nothing l = o_exactly [] refl
     o_form (integer b held) (number v) l = o_integer b held v
-    o_form (enumerated roots e adds) (item v) l = o_if (is_present (item_place v roots) || (e && is_present (item_place v adds))) (λ h. o_item v)
+    o_form (enumerated roots e adds) (item v) l = o_if (is_some (item_place v roots) || (e && is_some (item_place v adds))) (λ h. o_item v)
     o_form (bit_string z held) (bit_list bs) l = o_if (Oer.admits z held (length bs)) (λ h. o_bit_string (Oer.is_fixed z) bs)
     o_form (octet_string z held) (octet_list os) l = o_if (Oer.admits z held (length os)) (λ h. o_octets (Oer.is_fixed z) os)
     o_form (character_string k z a held) (text cs) l = o_if (Oer.admits z held (length cs) && may_hold k cs) (λ h. o_octets (Oer.is_fixed z) (Oer.string_octets k cs))
@@ -336,5 +338,5 @@ module _ (free : Oer.Freedom → Bool) where
     o_alternative added (alternative t s others) (suc i) v l = o_alternative added others i v ((and_parts _ _ l).1)
     o_alternative added no_alternative i v l = o_refused
 
-pub oer_octets : (free : Oer.Freedom → Bool) (s : Schema) (v : Value) (p : ℕ) (w : List ℕ) → is_lawful s ≡ true → Reads free (Oer.form s v) p w → each_is is_octet w ≡ true
+pub oer_octets : (free : Oer.Freedom → Bool) (s : Schema) (v : Value) (p : ℕ) (w : List ℕ) → is_lawful s ≡ true → Reads free (Oer.form s v) p w → list_all is_octet w ≡ true
 oer_octets free s v p w l r = (o_form free s v l).octets p w r

@@ -6,7 +6,8 @@ use Rattle.std.proofs.lemmas.Nat.{mod_below}
 use Rattle.std.proofs.Math.Nat.{mod-eq_of_lt, pow-succ', one-le-pow}
 use Rattle.std.proofs.Math.Arith.{mod-mul}
 use Rattle.asn1_model.specs.Numbers.{binary, octet_bits}
-use Rattle.asn1_model.specs.Strings.{each_is, is_octet}
+use Rattle.asn1_model.specs.Strings.{is_octet}
+use Rattle.std.specs.List.{list_all}
 use Rattle.asn1_model.specs.Form.{stands_before}
 use Rattle.asn1_model.specs.Per.{bit_less}
 
@@ -96,14 +97,14 @@ numbers_before (suc w) m n xs ys =
         let t' : n % 2 ^ suc w ≡ 1 * 2 ^ w + n % 2 ^ w = t ∙ ap (λ x. x * 2 ^ w + n % 2 ^ w) b in
         omega arith
 
-pub ordered_as_bits : (os ps : List ℕ) → each_is is_octet os ≡ true → each_is is_octet ps ≡ true → stands_before bit_less (octet_bits os) (octet_bits ps) ≡ stands_before ltb os ps
+pub ordered_as_bits : (os ps : List ℕ) → list_all is_octet os ≡ true → list_all is_octet ps ≡ true → stands_before bit_less (octet_bits os) (octet_bits ps) ≡ stands_before ltb os ps
 unfolding three
 ordered_as_bits [] [] h k = refl
 ordered_as_bits [] (p ∷ ps) h k = refl
 ordered_as_bits (o ∷ os) [] h k = refl
 ordered_as_bits (o ∷ os) (p ∷ ps) h k =
-    let h' = and_parts (is_octet o) (each_is is_octet os) h in
-    let k' = and_parts (is_octet p) (each_is is_octet ps) k in
+    let h' = and_parts (is_octet o) (list_all is_octet os) h in
+    let k' = and_parts (is_octet p) (list_all is_octet ps) k in
     let a : o % 2 ^ 8 ≡ o = mod-eq_of_lt (ltb-true o 256 h'.0) in
     let b : p % 2 ^ 8 ≡ p = mod-eq_of_lt (ltb-true p 256 k'.0) in
     numbers_before 8 o p (octet_bits os) (octet_bits ps) ∙ (λ i. three (a i) (b i) (ordered_as_bits os ps h'.1 k'.1 i))

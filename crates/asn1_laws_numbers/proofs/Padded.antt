@@ -4,7 +4,8 @@ use Rattle.std.proofs.Common.{◌≡◌, ℕ, suc, ◌+◌, ◌-◌, ◌*◌, �
 use Rattle.std.proofs.lemmas.Bool.{false≢true, ltb-true, le-leb, leb-true, and_parts}
 use Rattle.std.proofs.Math.Nat.{pow-succ', mul-le-mul_right}
 use Rattle.asn1_model.specs.Numbers.{digits, number_after, least_octets, signed_octets, complement}
-use Rattle.asn1_model.specs.Strings.{each_is, is_octet}
+use Rattle.asn1_model.specs.Strings.{is_octet}
+use Rattle.std.specs.List.{list_all}
 use Rattle.asn1_model.specs.Form.{Form, Reads, only_if}
 use Rattle.asn1_model.specs.Per
 use Rattle.asn1_model.specs.Oer
@@ -13,23 +14,23 @@ use Rattle.asn1_laws_numbers.specs.Padded.{StandsFor, IsReadAsAny}
 use Rattle.asn1_laws_numbers.proofs.Numbers.{digits_sum, complement_sum, fewest_octets}
 
 -- ---- octets are the digits of their sum
-number_below : (m : ℕ) (os : List ℕ) → each_is is_octet os ≡ true → number_after 256 m os < (m + 1) * 256 ^ length os
+number_below : (m : ℕ) (os : List ℕ) → list_all is_octet os ≡ true → number_after 256 m os < (m + 1) * 256 ^ length os
 number_below m [] h = omega arith
 number_below m (o ∷ os) h =
-    let p = and_parts (is_octet o) (each_is is_octet os) h in
+    let p = and_parts (is_octet o) (list_all is_octet os) h in
     let a : o < 256 = ltb-true o 256 p.0 in
     let i = number_below (m * 256 + o) os p.1 in
     let b : (o + 1) * 256 ^ length os ≤ 256 * 256 ^ length os = mul-le-mul_right (256 ^ length os) (omega arith) in
     let e : 256 ^ suc (length os) ≡ 256 * 256 ^ length os = pow-succ' 256 (length os) in
     rw e (omega arith)
 
-same_octets : (m n : ℕ) (os ps : List ℕ) → each_is is_octet os ≡ true → each_is is_octet ps ≡ true → length os ≡ length ps → number_after 256 m os ≡ number_after 256 n ps → (m ≡ n) × (os ≡ ps)
+same_octets : (m n : ℕ) (os ps : List ℕ) → list_all is_octet os ≡ true → list_all is_octet ps ≡ true → length os ≡ length ps → number_after 256 m os ≡ number_after 256 n ps → (m ≡ n) × (os ≡ ps)
 same_octets m n [] [] h i l e = (e, refl)
 same_octets m n [] (p ∷ ps) h i l e = absurd (omega arith)
 same_octets m n (o ∷ os) [] h i l e = absurd (omega arith)
 same_octets m n (o ∷ os) (p ∷ ps) h i l e =
-    let h' = and_parts (is_octet o) (each_is is_octet os) h in
-    let i' = and_parts (is_octet p) (each_is is_octet ps) i in
+    let h' = and_parts (is_octet o) (list_all is_octet os) h in
+    let i' = and_parts (is_octet p) (list_all is_octet ps) i in
     let a : o < 256 = ltb-true o 256 h'.0 in
     let b : p < 256 = ltb-true p 256 i'.0 in
     let q = same_octets (m * 256 + o) (n * 256 + p) os ps h'.1 i'.1 (omega arith) e in
@@ -37,7 +38,7 @@ same_octets m n (o ∷ os) (p ∷ ps) h i l e =
     let c : o ≡ p = omega arith in
     (omega arith, ap (λ y. y ∷ os) c ∙ ap (λ y. p ∷ y) q.1)
 
-pub digits_back : (n : ℕ) (os : List ℕ) → each_is is_octet os ≡ true → number_after 256 0 os ≡ n → (n < 256 ^ length os) × (digits 256 (length os) n ≡ os)
+pub digits_back : (n : ℕ) (os : List ℕ) → list_all is_octet os ≡ true → number_after 256 0 os ≡ n → (n < 256 ^ length os) × (digits 256 (length os) n ≡ os)
 digits_back n os h e =
     let a = number_below 0 os h in
     let b : n < 256 ^ length os = omega arith in
@@ -45,7 +46,7 @@ digits_back n os h e =
     (b, (same_octets 0 0 (digits 256 (length os) n) os d.2 h d.1 (d.0 ∙ sym e)).1)
 
 -- ---- two's complement
-complement_back : (v : ℤ) (os : List ℕ) → each_is is_octet os ≡ true → 0 < length os → StandsFor os v → (signed_octets v ≤ length os) × (complement (length os) v ≡ os)
+complement_back : (v : ℤ) (os : List ℕ) → list_all is_octet os ≡ true → 0 < length os → StandsFor os v → (signed_octets v ≤ length os) × (complement (length os) v ≡ os)
 complement_back (pos n) os h k s = ((fewest_octets n (length os) k).1.1 s.1, (digits_back n os h s.0).1)
 complement_back (negsuc n) os h k s =
     let e = s.0 in
@@ -75,7 +76,7 @@ module _ {F : Type 0} {D : F → Type 0} {A : Type 0} (free : F → Bool) (p : �
   if_read false x e r = absurd (false≢true e)
 
 module _ (free : Oer.Freedom → Bool) (longer : free Oer.longer_number ≡ true) (p : ℕ) (w : List ℕ) where
-  octets_counted : (os : List ℕ) → Reads free (Oer.counted os) p w → each_is is_octet os ≡ true
+  octets_counted : (os : List ℕ) → Reads free (Oer.counted os) p w → list_all is_octet os ≡ true
   unfolding Oer.counted
   octets_counted os r = (read_if free p w _ _ r).0
 
@@ -116,7 +117,7 @@ pub oer_numbers : (free : Oer.Freedom → Bool) → free Oer.longer_number ≡ t
 oer_numbers free h = (λ n p w. (unsigned_sum free h p w n, sum_unsigned free h p w n), λ v p w. (signed_sum free h p w v, sum_signed free h p w v))
 
 module _ (free : Per.Freedom → Bool) (al : Bool) (longer : free Per.longer_number ≡ true) (p : ℕ) (w : List Bool) where
-  bits_counted : (os : List ℕ) → Reads free (Per.counted_octets al os) p w → each_is is_octet os ≡ true
+  bits_counted : (os : List ℕ) → Reads free (Per.counted_octets al os) p w → list_all is_octet os ≡ true
   unfolding Per.counted_octets
   bits_counted os r = (read_if free p w _ _ r).0
 

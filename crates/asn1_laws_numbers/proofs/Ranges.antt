@@ -3,7 +3,8 @@ use Rattle.std.specs.Prelude.{leb, ltb, not}
 use Rattle.std.proofs.Common.{◌≡◌, ℕ, zero, suc, ◌-◌, ◌*◌, ◌^◌, ◌<◌, ◌≤◌, ◌==◌, inr, lit<, Bool, true, false, cond, ◌&&◌, ◌||◌, List, length, flat_map, refl, ap, sym, ◌∙◌, subst, arith}
 use Rattle.std.proofs.lemmas.Bool.{ltb-true, ltb-false, le-leb, leb-true, eqb-true, and_parts}
 use Rattle.asn1_model.specs.Numbers.{digits, binary, width, number_after, octet_width, least_octets}
-use Rattle.asn1_model.specs.Strings.{each_is, is_octet}
+use Rattle.asn1_model.specs.Strings.{is_octet}
+use Rattle.std.specs.List.{list_all}
 use Rattle.asn1_model.specs.Form.{Reads, exactly, both, varied, only_if}
 use Rattle.asn1_model.specs.Per
 use Rattle.asn1_laws_values.proofs.Places.{places_fewest}
@@ -89,7 +90,7 @@ module _ (free : Per.Freedom → Bool) (longer : free Per.longer_number ≡ true
       let s = digits_sum 256 k d (lit< tt) (least_hold k d l) in
       let e = s.1 in
       let b : leb (length (digits 256 k d)) (octet_width span) ≡ true = subst (λ x. leb x (octet_width span) ≡ true) (sym e) c.1 in
-      let both_hold : (each_is is_octet (digits 256 k d) && leb (length (digits 256 k d)) (octet_width span)) ≡ true = two _ _ s.2 b in
+      let both_hold : (list_all is_octet (digits 256 k d) && leb (length (digits 256 k d)) (octet_width span)) ≡ true = two _ _ s.2 b in
       (digits 256 k d, omega arith, s.0, if_read free p w _ (told_and_octets span (length (digits 256 k d)) (digits 256 k d)) both_hold (subst (λ x. Reads free (told_and_octets span x (digits 256 k d)) p w) (sym e) t.1))
     where
       two : (a b : Bool) → a ≡ true → b ≡ true → (a && b) ≡ true
@@ -100,8 +101,8 @@ module _ (free : Per.Freedom → Bool) (longer : free Per.longer_number ≡ true
   sum_range : (span d : ℕ) → 65536 ≤ span → d ≤ span → (os : List ℕ) → 0 < length os → number_after 256 0 os ≡ d → Reads free (behind_their_number span os) p w → Reads free (Per.constrained true span d) p w
   unfolding Per.in_octets_of Reads
   sum_range span d h i os j e r =
-      let q = read_if free p w (each_is is_octet os && leb (length os) (octet_width span)) (told_and_octets span (length os) os) r in
-      let c = and_parts (each_is is_octet os) (leb (length os) (octet_width span)) q.0 in
+      let q = read_if free p w (list_all is_octet os && leb (length os) (octet_width span)) (told_and_octets span (length os) os) r in
+      let c = and_parts (list_all is_octet os) (leb (length os) (octet_width span)) q.0 in
       let b = digits_back d os c.0 e in
       let l = (fewest_octets d (length os) j).0.1 b.0 in
       let m = le-leb _ _ l in

@@ -5,7 +5,8 @@ use Rattle.asn1_model.specs.Value.{Value}
 use Rattle.asn1_model.specs.Schema.{Schema}
 use Rattle.asn1_model.specs.Normal.{normal}
 use Rattle.asn1_model.specs.Numbers.{packed}
-use Rattle.asn1_model.specs.Strings.{each_is, is_octet}
+use Rattle.asn1_model.specs.Strings.{is_octet}
+use Rattle.std.specs.List.{list_all}
 use Rattle.asn1_model.specs.Form.{Reads, canonically, written}
 use Rattle.asn1_model.specs.Lawful.{is_lawful}
 use Rattle.asn1_model.specs.Rules.{Rules, uper, aper, uper_strict, aper_strict, oer, coer, octet_bits, per, octet_encoding, of_moderate_length, encoding, canonical, IsEncoding}
@@ -26,19 +27,19 @@ same_if_moderate true w u e = cc
 same_if_moderate false w u e = cc
 
 -- ---- octets
-packed_are_octets : (al : Bool) (s : Schema) (v : Value) (w : List ℕ) → option_and_then of_moderate_length (per al s v) ≡ Some w → each_is is_octet w ≡ true
+packed_are_octets : (al : Bool) (s : Schema) (v : Value) (w : List ℕ) → option_and_then of_moderate_length (per al s v) ≡ Some w → list_all is_octet w ≡ true
 unfolding per Per.message
 packed_are_octets al s v w e =
     let q = chain_parts (per al s v) of_moderate_length w e in
     let m : q.0 ≡ w = same_if_moderate (ltb (length q.0) (2 ^ 60)) q.0 w q.2 in
     let r = map_parts (written (Per.message al s v) 0) packed q.0 q.1 in
     let k = complete_whole (Per.form al s v) r.0 r.1 in
-    subst (λ x. each_is is_octet x ≡ true) (r.2 ∙ m) (packed_octets k.0 r.0 k.1)
+    subst (λ x. list_all is_octet x ≡ true) (r.2 ∙ m) (packed_octets k.0 r.0 k.1)
 
-written_in_octets : (s : Schema) (v : Value) (w : List ℕ) → is_lawful s ≡ true → option_and_then of_moderate_length (octet_encoding s v) ≡ Some w → each_is is_octet w ≡ true
+written_in_octets : (s : Schema) (v : Value) (w : List ℕ) → is_lawful s ≡ true → option_and_then of_moderate_length (octet_encoding s v) ≡ Some w → list_all is_octet w ≡ true
 written_in_octets s v w l e = let t = octet_text s v w e in oer_octets canonically s v 0 w l (reads_written (Oer.form s v) 0 w t.1)
 
-pub written_are_octets : (r : Rules) (s : Schema) (v : Value) (w : List ℕ) → is_lawful s ≡ true → canonical r s v ≡ Some w → each_is is_octet w ≡ true
+pub written_are_octets : (r : Rules) (s : Schema) (v : Value) (w : List ℕ) → is_lawful s ≡ true → canonical r s v ≡ Some w → list_all is_octet w ≡ true
 unfolding canonical encoding
 written_are_octets uper s v w l e = packed_are_octets false s (normal s v) w e
 written_are_octets uper_strict s v w l e = packed_are_octets false s (normal s v) w e
@@ -47,7 +48,7 @@ written_are_octets aper_strict s v w l e = packed_are_octets true s (normal s v)
 written_are_octets oer s v w l e = written_in_octets s (normal s v) w l e
 written_are_octets coer s v w l e = written_in_octets s (normal s v) w l e
 
-pub read_are_octets : (s : Schema) (v : Value) (w : List ℕ) → is_lawful s ≡ true → (IsEncoding oer s v w → each_is is_octet w ≡ true) × (IsEncoding coer s v w → each_is is_octet w ≡ true)
+pub read_are_octets : (s : Schema) (v : Value) (w : List ℕ) → is_lawful s ≡ true → (IsEncoding oer s v w → list_all is_octet w ≡ true) × (IsEncoding coer s v w → list_all is_octet w ≡ true)
 unfolding IsEncoding
 read_are_octets s v w l = (λ e. oer_octets _ s v 0 w l e.1, λ e. oer_octets _ s v 0 w l e.1)
 
@@ -67,7 +68,7 @@ written_is_free aper_strict s v w e = packed_free true s (normal s v) w e
 written_is_free oer s v w e = octets_free s (normal s v) w e
 written_is_free coer s v w e = octets_free s (normal s v) w e
 
-free_packed : (al : Bool) (s : Schema) (v : Value) (w : List ℕ) → each_is is_octet w ≡ true → length w < 2 ^ 60 → Reads canonically (Per.message al s v) 0 (octet_bits w) → option_and_then of_moderate_length (per al s v) ≡ Some w
+free_packed : (al : Bool) (s : Schema) (v : Value) (w : List ℕ) → list_all is_octet w ≡ true → length w < 2 ^ 60 → Reads canonically (Per.message al s v) 0 (octet_bits w) → option_and_then of_moderate_length (per al s v) ≡ Some w
 unfolding per
 free_packed al s v w o h r =
     let e = writes_read (Per.message al s v) 0 (octet_bits w) r in
@@ -82,7 +83,7 @@ free_octets s v w h r =
     let m = moderate w h in
     rw e m
 
-pub free_is_written : (r : Rules) (s : Schema) (v : Value) (w : List ℕ) → each_is is_octet w ≡ true → IsEncodingWithNoFreedom r s (normal s v) w → canonical r s v ≡ Some w
+pub free_is_written : (r : Rules) (s : Schema) (v : Value) (w : List ℕ) → list_all is_octet w ≡ true → IsEncodingWithNoFreedom r s (normal s v) w → canonical r s v ≡ Some w
 unfolding canonical encoding IsEncodingWithNoFreedom
 free_is_written uper s v w o h = free_packed false s (normal s v) w o h.0 h.1
 free_is_written uper_strict s v w o h = free_packed false s (normal s v) w o h.0 h.1

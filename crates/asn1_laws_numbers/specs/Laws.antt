@@ -5,7 +5,8 @@ use Rattle.asn1_model.specs.Numbers.{digits, number_after, places, least_octets,
 use Rattle.asn1_model.specs.Numbers.{packed, octet_bits}
 use Rattle.std.specs.Str.{IsUtf8}
 use Rattle.asn1_model.specs.Schema.{utf8}
-use Rattle.asn1_model.specs.Strings.{may_hold, each_is, is_octet, identifier_octets, is_identifier}
+use Rattle.asn1_model.specs.Strings.{may_hold, is_octet, identifier_octets, is_identifier}
+use Rattle.std.specs.List.{list_all}
 use Rattle.asn1_model.specs.Form.{stands_before}
 use Rattle.asn1_model.specs.Per.{bit_less}
 
@@ -13,7 +14,7 @@ use Rattle.asn1_model.specs.Per.{bit_less}
 abbrev pub DigitsAreASum : Type 0
 DigitsAreASum =
     (base w n : ℕ) → 0 < base → n < base ^ w → (number_after base 0 (digits base w n) ≡ n)
-    × (length (digits base w n) ≡ w) × IsTrue (each_is (λ d. ltb d base) (digits base w n))
+    × (length (digits base w n) ≡ w) × IsTrue (list_all (λ d. ltb d base) (digits base w n))
 
 -- The number of its digits holds a number, and no lower one does.
 abbrev pub FewestDigits : Type 0
@@ -41,9 +42,9 @@ BitsAreDigits = (w n : ℕ) → binary w n ≡ map (λ d. d == 1) (digits 2 w n)
 -- Octets are told by their bits, and whole octets of bits by their octets.
 abbrev pub OctetsAndBits : Type 0
 OctetsAndBits =
-    ((os : List ℕ) → IsTrue (each_is is_octet os) → packed (octet_bits os) ≡ os)
+    ((os : List ℕ) → IsTrue (list_all is_octet os) → packed (octet_bits os) ≡ os)
     × ((k : ℕ) (bs : List Bool) → length bs ≡ 8 * k → (octet_bits (packed bs) ≡ bs) × (length (packed bs) ≡ k)
-    × IsTrue (each_is is_octet (packed bs)))
+    × IsTrue (list_all is_octet (packed bs)))
 
 -- An object identifier is told by its octets.
 abbrev pub IdentifiersAreTold : Type 0
@@ -58,5 +59,5 @@ Utf8IsText = (os : List ℕ) → (IsTrue (may_hold utf8 os) → IsUtf8 os) × (I
 -- Octets stand in the order of their bits.
 abbrev pub OctetsStandAsBits : Type 0
 OctetsStandAsBits =
-    (os ps : List ℕ) → IsTrue (each_is is_octet os) → IsTrue (each_is is_octet ps)
+    (os ps : List ℕ) → IsTrue (list_all is_octet os) → IsTrue (list_all is_octet ps)
     → stands_before bit_less (octet_bits os) (octet_bits ps) ≡ stands_before ltb os ps

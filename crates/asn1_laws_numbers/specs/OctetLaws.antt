@@ -3,7 +3,8 @@ use Rattle.std.specs.Prelude.{◌≡◌, ℕ, ◌^◌, ◌<◌, true, false, IsT
 use Rattle.asn1_model.specs.Value.{Value}
 use Rattle.asn1_model.specs.Schema.{Schema}
 use Rattle.asn1_model.specs.Normal.{normal}
-use Rattle.asn1_model.specs.Strings.{each_is, is_octet}
+use Rattle.asn1_model.specs.Strings.{is_octet}
+use Rattle.std.specs.List.{list_all}
 use Rattle.asn1_model.specs.Form.{Reads, canonically}
 use Rattle.asn1_model.specs.Lawful.{IsLawful}
 use Rattle.asn1_model.specs.Rules.{Rules, uper, aper, uper_strict, aper_strict, oer, coer, octet_bits, canonical}
@@ -15,13 +16,13 @@ use Rattle.asn1_model.specs.Oer
 abbrev pub WrittenAreOctets : Type 0
 WrittenAreOctets =
     (r : Rules) (s : Schema) (v : Value) (w : List ℕ) → IsLawful s → canonical r s v ≡ Some w
-    → IsTrue (each_is is_octet w)
+    → IsTrue (list_all is_octet w)
 
 -- All that a reader of OER or COER takes are octets.
 abbrev pub ReadAreOctets : Type 0
 ReadAreOctets =
-    (s : Schema) (v : Value) (w : List ℕ) → IsLawful s → (IsEncoding oer s v w → IsTrue (each_is is_octet w))
-    × (IsEncoding coer s v w → IsTrue (each_is is_octet w))
+    (s : Schema) (v : Value) (w : List ℕ) → IsLawful s → (IsEncoding oer s v w → IsTrue (list_all is_octet w))
+    × (IsEncoding coer s v w → IsTrue (list_all is_octet w))
 
 -- Fewer than 2 ^ 60 octets that a reader with no freedom at all takes as the value.
 unfoldable pub IsEncodingWithNoFreedom : Rules → Schema → Value → List ℕ → Type 0
@@ -38,4 +39,4 @@ abbrev pub WrittenIsReadWithNoFreedom : Type 0
 WrittenIsReadWithNoFreedom =
     (r : Rules) (s : Schema) (v : Value) (w : List ℕ)
     → (canonical r s v ≡ Some w → IsEncodingWithNoFreedom r s (normal s v) w)
-    × (IsTrue (each_is is_octet w) → IsEncodingWithNoFreedom r s (normal s v) w → canonical r s v ≡ Some w)
+    × (IsTrue (list_all is_octet w) → IsEncodingWithNoFreedom r s (normal s v) w → canonical r s v ≡ Some w)

@@ -3,7 +3,8 @@ use Rattle.std.specs.Prelude.{◌≡◌, ℕ, ◌+◌, ◌-◌, ◌*◌, ◌^◌
 use Rattle.std.specs.Prelude.{length, flat_map}
 use Rattle.asn1_model.specs.Numbers.{binary, number_after, octet_width}
 use Rattle.asn1_model.specs.Form.{Form, exactly, both, only_if, Reads}
-use Rattle.asn1_model.specs.Strings.{each_is, is_octet}
+use Rattle.asn1_model.specs.Strings.{is_octet}
+use Rattle.std.specs.List.{list_all}
 use Rattle.asn1_model.specs.Per
 use Rattle.asn1_model.specs.Oer
 
@@ -38,7 +39,7 @@ PerNumbersAreSums =
 -- Octets of a number of 0 to span, aligned, behind their number: a constrained whole number of 1 to the octets of span
 -- (X.691 11.5.7.4 and 13.2.6).
 abbrev pub behind_their_number : ℕ → List ℕ → Per.BitForm
-behind_their_number span os = only_if (each_is is_octet os && leb (length os) (octet_width span))
+behind_their_number span os = only_if (list_all is_octet os && leb (length os) (octet_width span))
     (both (Per.constrained true (octet_width span - 1) (length os - 1))
     (Per.at_octet true (exactly (flat_map (binary 8) os))))
 

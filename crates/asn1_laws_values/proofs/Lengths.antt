@@ -1,7 +1,8 @@
 -- Forms in any order are as many, and members as many as their forms.
 use Rattle.std.proofs.Common.{◌≡◌, ℕ, zero, suc, Bool, true, false, not, cond, ◌&&◌, ◌||◌, List, [], ◌∷◌, length, Option, Some, None, refl, ap, sym, ◌∙◌}
 use Rattle.asn1_model.specs.Value.{Value, Values, no_more, member, each}
-use Rattle.asn1_model.specs.Form.{pick, arranged, in_order, ascending, is_present}
+use Rattle.asn1_model.specs.Form.{pick, arranged, in_order, ascending}
+use Rattle.std.specs.Prelude.{is_some}
 use Rattle.asn1_model.proofs.Forms.{map_parts}
 use Rattle.asn1_laws_values.proofs.Arranged.{arranged_parts, ascending_code, some_parts}
 use Rattle.asn1_model.specs.Typed.{member_count}
@@ -51,5 +52,5 @@ pub not_any : (t : Bool) → not t ≡ true → t ≡ false
 not_any true e = sym e
 not_any false e = refl
 
-pub some_present : {X : Type 0} (o : Option X) (x : X) → o ≡ Some x → is_present o ≡ true
-some_present o x e = ap is_present e
+pub some_present : {X : Type 0} (o : Option X) (x : X) → o ≡ Some x → is_some o ≡ true
+some_present o x e = ap is_some e

@@ -5,7 +5,8 @@ use Rattle.asn1_model.specs.Value.{same_truth, same_list}
 use Rattle.asn1_model.specs.Numbers.{binary, number_after}
 use Rattle.asn1_model.specs.Form.{exactly}
 use Rattle.asn1_model.specs.Per
-use Rattle.asn1_model.specs.Strings.{is_octet, each_is}
+use Rattle.asn1_model.specs.Strings.{is_octet}
+use Rattle.std.specs.List.{list_all}
 use Rattle.asn1_model.specs.Oer.{packed}
 use Rattle.asn1_model.specs.Rules.{octet_bits}
 
@@ -64,10 +65,10 @@ eights_units (suc k) (a ∷ b ∷ c ∷ d ∷ e ∷ f ∷ g ∷ i ∷ w) h =
     ap (λ (l : List Bool). exactly l ∷ map (λ o. exactly o) (Per.by_eights w)) (sym o) ∙ ap (λ (l : List Per.BitForm). exactly (binary 8 (octet (a ∷ b ∷ c ∷ d ∷ e ∷ f ∷ g ∷ i ∷ []))) ∷ l) t
 eights_units (suc k) w h = absurd (omega arith)
 
-pub packed_octets : (k : ℕ) (w : List Bool) → length w ≡ 8 * k → each_is is_octet (packed w) ≡ true
+pub packed_octets : (k : ℕ) (w : List Bool) → length w ≡ 8 * k → list_all is_octet (packed w) ≡ true
 packed_octets zero [] h = refl
 packed_octets zero (a ∷ w) h = absurd (omega arith)
 packed_octets (suc k) (a ∷ b ∷ c ∷ d ∷ e ∷ f ∷ g ∷ i ∷ w) h =
     let o : is_octet (octet (a ∷ b ∷ c ∷ d ∷ e ∷ f ∷ g ∷ i ∷ [])) ≡ true = every_one 8 (λ l. is_octet (octet l)) octets_small (a ∷ b ∷ c ∷ d ∷ e ∷ f ∷ g ∷ i ∷ []) refl in
-    ap (λ (t : Bool). t && each_is is_octet (packed w)) o ∙ packed_octets k w (omega arith)
+    ap (λ (t : Bool). t && list_all is_octet (packed w)) o ∙ packed_octets k w (omega arith)
 packed_octets (suc k) w h = absurd (omega arith)

@@ -7,9 +7,11 @@ use Rattle.asn1_model.specs.Schema.{Range, Bounds, Counts, Size, StringKind, Pre
 use Rattle.asn1_model.specs.Normal.{is_at_default, is_group_left_out}
 use Rattle.asn1_model.specs.Value.{are_all}
 use Rattle.asn1_model.specs.Numbers.{is_within, is_count_within, fits_128}
-use Rattle.asn1_model.specs.Strings.{each_is, is_octet, may_hold, is_of_octets, is_identifier}
+use Rattle.asn1_model.specs.Strings.{is_octet, may_hold, is_of_octets, is_identifier}
+use Rattle.std.specs.List.{list_all}
 use Rattle.asn1_model.specs.Tables.{is_required, presence_bits, item_place, is_bounded}
-use Rattle.asn1_model.specs.Form.{Form, refused, varied, Reads, only_if, written, stands_before, in_order, ascending, is_present, present_ones}
+use Rattle.asn1_model.specs.Form.{Form, refused, varied, Reads, only_if, written, stands_before, in_order, ascending, present_ones}
+use Rattle.std.specs.Prelude.{is_some}
 use Rattle.asn1_model.specs.Oer
 use Rattle.asn1_model.specs.Oer.{admits}
 use Rattle.asn1_model.proofs.Forms.{map_parts}
@@ -68,10 +70,10 @@ module _ (free : Oer.Freedom → Bool) where
       let q = read_if free (is_within held v && (not (is_bounded b) || fits_128 v)) r in
       two_true _ _ ((and_parts (is_within held v) (not (is_bounded b) || fits_128 v) q.0).0) (by_extension_marker b.extensible (is_within b.range v) _ _ q.1)
 
-  octets_of : (b : Bool) (os : List ℕ) → Read (Oer.octets_form b os) → each_is is_octet os ≡ true
+  octets_of : (b : Bool) (os : List ℕ) → Read (Oer.octets_form b os) → list_all is_octet os ≡ true
   unfolding Oer.octets_form Oer.counted
-  octets_of true os r = (read_if free (each_is is_octet os) r).0
-  octets_of false os r = (read_if free (each_is is_octet os) r).0
+  octets_of true os r = (read_if free (list_all is_octet os) r).0
+  octets_of false os r = (read_if free (list_all is_octet os) r).0
 
   string_of : (k : StringKind) (z : Size) (held : Counts) (cs : List ℕ) → (admits z held (length cs) && may_hold k cs) ≡ true → (may_hold k cs && is_count_within held (length cs) && (is_of_octets k || admits z held (length cs))) ≡ true
   string_of k z held cs h =
@@ -86,7 +88,7 @@ module _ (free : Oer.Freedom → Bool) where
     read_of boolean (truth b) r = refl
     read_of null nothing r = refl
     read_of (integer b held) (number v) r = integer_of b held v r
-    read_of (enumerated roots e adds) (item v) r = (read_if free (is_present (item_place v roots) || (e && is_present (item_place v adds))) r).0
+    read_of (enumerated roots e adds) (item v) r = (read_if free (is_some (item_place v roots) || (e && is_some (item_place v adds))) r).0
     read_of (bit_string z held) (bit_list bs) r = (read_if free (admits z held (length bs)) r).0
     read_of (octet_string z held) (octet_list os) r = let q = read_if free (admits z held (length os)) r in two_true _ _ (octets_of (Oer.is_fixed z) os q.1) q.0
     read_of (character_string k z a held) (text cs) r = string_of k z held cs ((read_if free (admits z held (length cs) && may_hold k cs) r).0)

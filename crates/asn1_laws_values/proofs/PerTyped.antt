@@ -8,9 +8,11 @@ use Rattle.asn1_model.specs.Schema.{Range, Bounds, Counts, Size, Alphabet, Strin
 use Rattle.asn1_model.specs.Normal.{is_at_default, is_group_left_out}
 use Rattle.asn1_model.specs.Value.{are_all}
 use Rattle.asn1_model.specs.Numbers.{is_within, is_count_within, fits_128}
-use Rattle.asn1_model.specs.Strings.{each_is, is_octet, may_hold, is_of_octets, is_identifier, permitted}
+use Rattle.asn1_model.specs.Strings.{is_octet, may_hold, is_of_octets, is_identifier, permitted}
+use Rattle.std.specs.List.{list_all}
 use Rattle.asn1_model.specs.Tables.{is_required, presence_bits, item_place, is_bounded}
-use Rattle.asn1_model.specs.Form.{Form, refused, varied, Reads, only_if, written, stands_before, in_order, ascending, is_present, present_ones}
+use Rattle.asn1_model.specs.Form.{Form, refused, varied, Reads, only_if, written, stands_before, in_order, ascending, present_ones}
+use Rattle.std.specs.Prelude.{is_some}
 use Rattle.asn1_model.specs.Per
 use Rattle.asn1_model.specs.Oer.{admits}
 use Rattle.asn1_model.proofs.Forms.{map_parts}
@@ -77,14 +79,14 @@ module _ (free : Per.Freedom → Bool) where
       let q = read_if free (is_within held v && (not (is_bounded b) || fits_128 v)) r in
       two_true _ _ ((and_parts (is_within held v) (not (is_bounded b) || fits_128 v) q.0).0) (with_extension_bit_in b.extensible (is_within b.range v) _ _ q.1)
 
-  added_of : (al : Bool) (e : Bool) (j : Option ℕ) → Read (Per.added_item al e j) → (e && is_present j) ≡ true
+  added_of : (al : Bool) (e : Bool) (j : Option ℕ) → Read (Per.added_item al e j) → (e && is_some j) ≡ true
   unfolding Per.added_item
   added_of al true (Some j) r = refl
   added_of al true None r = absurd (read_refused free r)
   added_of al false (Some j) r = absurd (read_refused free r)
   added_of al false None r = absurd (read_refused free r)
 
-  item_of : (al : Bool) (n : ℕ) (e : Bool) (i j : Option ℕ) → Read (Per.item_form al n e i j) → (is_present i || (e && is_present j)) ≡ true
+  item_of : (al : Bool) (n : ℕ) (e : Bool) (i j : Option ℕ) → Read (Per.item_form al n e i j) → (is_some i || (e && is_some j)) ≡ true
   unfolding Per.item_form
   item_of al n e (Some i) j r = refl
   item_of al n e None j r = added_of al e j r
@@ -119,7 +121,7 @@ module _ (free : Per.Freedom → Bool) where
     read_of al (integer b held) (number v) r = integer_of al b held v r
     read_of al (enumerated roots e adds) (item v) r = item_of al (length roots) e (item_place v roots) (item_place v adds) r
     read_of al (bit_string z held) (bit_list bs) r = bits_of al z held bs r
-    read_of al (octet_string z held) (octet_list os) r = let q = read_if free (each_is is_octet os) r in two_true _ _ q.0 (octets_of al z held os q.1)
+    read_of al (octet_string z held) (octet_list os) r = let q = read_if free (list_all is_octet os) r in two_true _ _ q.0 (octets_of al z held os q.1)
     read_of al (character_string k z a held) (text cs) r = string_of al k z a held cs r
     read_of al object_identifier (arcs ns) r = (read_if free (is_identifier ns) r).0
     read_of al (sequence_of z held s) (members vs) r =

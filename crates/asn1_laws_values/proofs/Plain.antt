@@ -8,9 +8,11 @@ use Rattle.asn1_model.specs.Value.{Value, truth, number, fields, Parts, end, pre
 use Rattle.asn1_model.specs.Schema.{required, Schema, boolean, integer, group, sequence, Components, no_component, component}
 use Rattle.asn1_model.specs.Normal.{normal, is_empty_group}
 use Rattle.asn1_model.specs.Numbers.{digits, binary, width, octet_width, least_octets, signed_octets, complement, above, natural, is_at_most, is_from, is_to, is_within, fits_128, packed}
-use Rattle.asn1_model.specs.Form.{exactly, varied, only_if, is_present}
+use Rattle.asn1_model.specs.Form.{exactly, varied, only_if}
+use Rattle.std.specs.Prelude.{is_some}
 use Rattle.asn1_model.specs.Rules.{Rules, uper, aper, uper_strict, aper_strict, oer, coer, encoding, per, octet_encoding}
-use Rattle.asn1_model.specs.Strings.{each_is, is_octet}
+use Rattle.asn1_model.specs.Strings.{is_octet}
+use Rattle.std.specs.List.{list_all}
 use Rattle.asn1_model.specs.Per
 use Rattle.asn1_model.specs.Oer
 use Rattle.asn1_laws_values.specs.Plain.{is_plain, are_plain, fits, each_fits}
@@ -22,11 +24,11 @@ use Rattle.asn1_laws_values.proofs.Written.{Written, written_exactly, written_re
 octet_width_least : (n k : ℕ) → n < 256 ^ k → octet_width n ≤ k
 octet_width_least n k h = places_fewest n 256 n k (lit< tt) h
 
-digits_are_octets : (k n : ℕ) → each_is is_octet (digits 256 k n) ≡ true
+digits_are_octets : (k n : ℕ) → list_all is_octet (digits 256 k n) ≡ true
 digits_are_octets zero n = refl
 digits_are_octets (suc k) n = let d = n / 256 ^ k % 256 in let h : ltb (n / 256 ^ k % 256) 256 ≡ true = lt-ltb _ _ (omega arith) in rw h (digits_are_octets k n)
 
-complement_is_octets : (k : ℕ) (v : ℤ) → each_is is_octet (complement k v) ≡ true
+complement_is_octets : (k : ℕ) (v : ℤ) → list_all is_octet (complement k v) ≡ true
 complement_is_octets k (pos m) = digits_are_octets k m
 complement_is_octets k (negsuc m) = digits_are_octets k _
 
@@ -119,7 +121,7 @@ three true true false = refl
 three true false w = refl
 three false f w = refl
 
-packed_number : (al : Bool) (low high : Option ℤ) (e t : Bool) (v : ℤ) → (is_present low && is_present high && not e) ≡ true → Bits (only_if (t && (not (is_present low || is_present high || e) || fits_128 v)) (Per.with_extension_bit e (is_from low v && is_to high v) (Per.whole_number al low high v) (Per.unconstrained al v))) (t && fits_128 v && (is_from low v && is_to high v))
+packed_number : (al : Bool) (low high : Option ℤ) (e t : Bool) (v : ℤ) → (is_some low && is_some high && not e) ≡ true → Bits (only_if (t && (not (is_some low || is_some high || e) || fits_128 v)) (Per.with_extension_bit e (is_from low v && is_to high v) (Per.whole_number al low high v) (Per.unconstrained al v))) (t && fits_128 v && (is_from low v && is_to high v))
 unfolding Per.with_extension_bit
 packed_number al (Some low) (Some high) false t v h = written_as (three t (fits_128 v) (is_at_most low v && is_at_most v high)) (written_if (t && fits_128 v) _ ((is_at_most low v && is_at_most v high) && true) (λ e. written_if (is_at_most low v && is_at_most v high) _ true (λ k. let k' = and_parts _ _ k in whole_written al low high v k'.0 k'.1)))
 packed_number al (Some low) (Some high) true t v h = cc
@@ -181,9 +183,9 @@ length_written n h = written_when (ltb n (2 ^ 64)) _ true (lt-ltb _ _ (small n h
     small : (n : ℕ) → n ≤ 16 → n < 2 ^ 64
     small n h = omega arith
 
-counted_written : (os : List ℕ) → length os ≤ 16 → each_is is_octet os ≡ true → Octets (Oer.counted os) true
+counted_written : (os : List ℕ) → length os ≤ 16 → list_all is_octet os ≡ true → Octets (Oer.counted os) true
 unfolding Oer.counted
-counted_written os h e = written_when (each_is is_octet os) _ true e (written_both (length_written (length os) h) (written_exactly _))
+counted_written os h e = written_when (list_all is_octet os) _ true e (written_both (length_written (length os) h) (written_exactly _))
 
 signed_written : (v : ℤ) → fits_128 v ≡ true → Octets (Oer.signed v) true
 unfolding Oer.signed
@@ -222,7 +224,7 @@ bounded_written (pos low) (negsuc high) (pos n) f h i = absurd (not_below n high
 bounded_written (pos low) high (negsuc n) f h i = absurd (not_below low n h)
 bounded_written (negsuc low) high v f h i = signed_form_written (Oer.fixed_octets (max (signed_octets (negsuc low)) (signed_octets high))) v f
 
-octets_number : (low high : Option ℤ) (e t : Bool) (v : ℤ) → (is_present low && is_present high && not e) ≡ true → Octets (only_if (t && (not (is_present low || is_present high || e) || fits_128 v)) (cond e (Oer.signed v) (only_if (is_from low v && is_to high v) (Oer.bounded low high v)))) (t && fits_128 v && (is_from low v && is_to high v))
+octets_number : (low high : Option ℤ) (e t : Bool) (v : ℤ) → (is_some low && is_some high && not e) ≡ true → Octets (only_if (t && (not (is_some low || is_some high || e) || fits_128 v)) (cond e (Oer.signed v) (only_if (is_from low v && is_to high v) (Oer.bounded low high v)))) (t && fits_128 v && (is_from low v && is_to high v))
 octets_number (Some low) (Some high) false t v h = written_as (three t (fits_128 v) (is_at_most low v && is_at_most v high)) (written_if (t && fits_128 v) _ ((is_at_most low v && is_at_most v high) && true) (λ e. written_if (is_at_most low v && is_at_most v high) _ true (λ k. let k' = and_parts _ _ k in bounded_written low high v ((and_parts t _ e).1) k'.0 k'.1)))
 octets_number (Some low) (Some high) true t v h = cc
 octets_number (Some low) None e t v h = cc
@@ -253,11 +255,11 @@ mutual
   octets_parts cs ps h = cc
 
 -- ---- all rules
-mapped_there : {X Y : Type 0} (k : X → Y) (o : Option X) (b : Bool) → is_present o ≡ b → is_present (option_map k o) ≡ b
+mapped_there : {X Y : Type 0} (k : X → Y) (o : Option X) (b : Bool) → is_some o ≡ b → is_some (option_map k o) ≡ b
 mapped_there k None b e = e
 mapped_there k (Some x) b e = e
 
-pub plain_encoded : (r : Rules) (s : Schema) (v : Value) → is_plain s ≡ true → is_present (encoding r s v) ≡ fits s v
+pub plain_encoded : (r : Rules) (s : Schema) (v : Value) → is_plain s ≡ true → is_some (encoding r s v) ≡ fits s v
 unfolding encoding per octet_encoding
 plain_encoded uper s v h = mapped_there packed _ _ ((message_written false s v h).there 0)
 plain_encoded uper_strict s v h = mapped_there packed _ _ ((message_written false s v h).there 0)

@@ -1,20 +1,21 @@
 -- Which forms have a canonical text: the rules by which such facts are put together.
 use Rattle.std.proofs.Common.{◌≡◌, ℕ, ◌+◌, Bool, true, false, ◌&&◌, List, ◌++◌, length, Option, Some, None, option_map, option_and_then, refl, ap, ◌∙◌}
-use Rattle.asn1_model.specs.Form.{Form, exactly, refused, both, placed, varied, within, written, only_if, is_present}
+use Rattle.asn1_model.specs.Form.{Form, exactly, refused, both, placed, varied, within, written, only_if}
+use Rattle.std.specs.Prelude.{is_some}
 
 -- from each position on it has one, or from none
 pub record Written {F : Type 0} {D : F → Type 0} {A : Type 0} (x : Form F D A) (b : Bool) : Type 0 where
-  pub there : (p : ℕ) → is_present (written x p) ≡ b
+  pub there : (p : ℕ) → is_some (written x p) ≡ b
 
 pub and_true : (b : Bool) → (b && true) ≡ b
 and_true true = refl
 and_true false = refl
 
-mapped : {X Y : Type 0} (k : X → Y) (o : Option X) → is_present (option_map k o) ≡ is_present o
+mapped : {X Y : Type 0} (k : X → Y) (o : Option X) → is_some (option_map k o) ≡ is_some o
 mapped k None = refl
 mapped k (Some x) = refl
 
-chained : {X Y : Type 0} (k : X → Option Y) (o : Option X) (b c : Bool) → is_present o ≡ b → ((x : X) → is_present (k x) ≡ c) → is_present (option_and_then k o) ≡ (b && c)
+chained : {X Y : Type 0} (k : X → Option Y) (o : Option X) (b c : Bool) → is_some o ≡ b → ((x : X) → is_some (k x) ≡ c) → is_some (option_and_then k o) ≡ (b && c)
 chained k None b c e f = ap (λ t. t && c) e
 chained k (Some x) b c e f = f x ∙ ap (λ t. t && c) e
 

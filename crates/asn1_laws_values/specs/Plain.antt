@@ -4,12 +4,12 @@ use Rattle.std.specs.Prelude.{Bool, true, false, not, ◌&&◌}
 use Rattle.asn1_model.specs.Value.{Value, truth, number, fields, Parts, end, present}
 use Rattle.asn1_model.specs.Schema.{required, Schema, boolean, integer, sequence, Components, no_component, component}
 use Rattle.asn1_model.specs.Numbers.{is_within, fits_128}
-use Rattle.asn1_model.specs.Form.{is_present}
+use Rattle.std.specs.Prelude.{is_some}
 
 unfoldable mutual
   pub is_plain : Schema → Bool
   is_plain boolean = true
-  is_plain (integer b held) = is_present b.range.low && is_present b.range.high && not b.extensible
+  is_plain (integer b held) = is_some b.range.low && is_some b.range.high && not b.extensible
   is_plain (sequence cs false no_component) = are_plain cs
   is_plain s = false
 

@@ -5,7 +5,7 @@ use Rattle.asn1_model.specs.Value.{Value, item, members, bag, fields, chosen, Va
 use Rattle.asn1_model.specs.Schema.{Schema, enumerated, sequence_of, set_of, sequence, set, group, choice, Components, no_component, component, Alternatives, alternative}
 use Rattle.asn1_model.specs.Value.{are_all}
 use Rattle.asn1_model.specs.Tidy.{is_normal}
-use Rattle.asn1_model.specs.Form.{is_present}
+use Rattle.std.specs.Prelude.{is_some}
 use Rattle.asn1_model.specs.Tables.{item_place}
 use Rattle.asn1_model.specs.Typed.{is_of, are_of, is_of_alternative}
 use Rattle.asn1_model.specs.Versions.{grow, grow_parts, grow_alternative, lessen, lessen_parts, lessen_alternative, drop, map_each, Extends}
@@ -39,7 +39,7 @@ mutual
   unfolding grow grow_parts grow_alternative lessen lessen_parts lessen_alternative is_of are_of is_of_alternative
 
   pub grown_back : (s s' : Schema) (v u : Value) → is_of s v ≡ true → grow s s' v ≡ Some u → lessen s s' u ≡ Some v
-  grown_back (enumerated roots m adds) (enumerated roots' m' adds') (item i) u t e = as_it_was (lessen (enumerated roots m adds) (enumerated roots' m' adds')) (item i) u (known (is_present (item_place i roots)) m (is_present (item_place i adds)) (item i) t) e
+  grown_back (enumerated roots m adds) (enumerated roots' m' adds') (item i) u t e = as_it_was (lessen (enumerated roots m adds) (enumerated roots' m' adds')) (item i) u (known (is_some (item_place i roots)) m (is_some (item_place i adds)) (item i) t) e
   grown_back (sequence_of z c s) (sequence_of z' c' s') (members vs) u t e =
       let a = map_parts (map_each (λ v. grow s s' v) vs) members u e in
       subst (λ u. lessen (sequence_of z c s) (sequence_of z' c' s') u ≡ Some (members vs)) a.2 (ap (option_map members) (members_back (λ v. grow s s' v) (λ v. lessen s s' v) (λ v. is_of s v) vs a.0 (λ v u i j. grown_back s s' v u i j) ((and_parts _ _ t).1) a.1))

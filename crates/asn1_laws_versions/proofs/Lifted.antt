@@ -3,7 +3,8 @@ use Rattle.std.proofs.Common.{◌≡◌, ℕ, zero, suc, Bool, true, false, cond
 use Rattle.std.proofs.lemmas.Bool.{and_parts, and_from, eqb-true, eq-eqb}
 use Rattle.asn1_model.specs.Value.{Value, item, members, bag, fields, chosen, Values, no_more, member, values_of, Parts, end, absent, present, same, same_members, same_parts}
 use Rattle.asn1_model.specs.Schema.{Schema, cut, boolean, null, integer, enumerated, bit_string, octet_string, character_string, object_identifier, sequence_of, set_of, sequence, set, group, choice, Components, no_component, component, Alternatives, no_alternative, alternative}
-use Rattle.asn1_model.specs.Form.{pick, arranged, is_present}
+use Rattle.asn1_model.specs.Form.{pick, arranged}
+use Rattle.std.specs.Prelude.{is_some}
 use Rattle.asn1_model.specs.Tables.{item_place}
 use Rattle.asn1_model.specs.Versions.{grow, grow_parts, grow_alternative, lessen, lessen_parts, lessen_alternative, all_absent, map_each, Extends, ExtendsEach, ExtendsAlternatives}
 use Rattle.asn1_model.proofs.Forms.{chain_parts, map_parts}
@@ -153,12 +154,12 @@ mutual
 
   pub lessen_lifted : (s s' : Schema) (v u x : Value) → Extends s s' → lessen s s' v ≡ Some u → same x u ≡ true → Lifted (λ v. lessen s s' v) x v
   lessen_lifted (enumerated rs m ds) (enumerated rs' m' ds') (item n) u (item k) h e f =
-      let a = item_there (is_present (item_place n rs) || is_present (item_place n ds)) (item n) u e in
+      let a = item_there (is_some (item_place n rs) || is_some (item_place n ds)) (item n) u e in
       let q : same (item k) (item n) ≡ true = subst (λ u. same (item k) u ≡ true) (sym a.1) f in
       let j : k ≡ n = numbers_equal k n q in
-      (item k, item_kept _ (item k) (subst (λ k. (is_present (item_place k rs) || is_present (item_place k ds)) ≡ true) (sym j) a.0), q)
+      (item k, item_kept _ (item k) (subst (λ k. (is_some (item_place k rs) || is_some (item_place k ds)) ≡ true) (sym j) a.0), q)
   lessen_lifted (enumerated rs m ds) (enumerated rs' m' ds') (item n) u x h e f =
-      let a = item_there (is_present (item_place n rs) || is_present (item_place n ds)) (item n) u e in
+      let a = item_there (is_some (item_place n rs) || is_some (item_place n ds)) (item n) u e in
       none_same x u (item n) a.1 f (λ q. false_true q)
   lessen_lifted (enumerated rs m ds) (enumerated rs' m' ds') v u (item k) h e f = none_same (item k) u v (some_parts e) f (λ q. false_true q)
   lessen_lifted (enumerated rs m ds) (enumerated rs' m' ds') v u x h e f = itself _ v u x (some_parts e) refl f

@@ -3,7 +3,8 @@ use Rattle.std.proofs.Common.{◌≡◌, ℕ, zero, suc, Bool, true, false, cond
 use Rattle.std.specs.Prelude.{ℤ}
 use Rattle.asn1_model.specs.Value.{Value, item, members, bag, fields, chosen, Values, no_more, member, Parts, end}
 use Rattle.asn1_model.specs.Schema.{Counts, Size, Schema, enumerated, sequence_of, set_of, sequence, set, group, choice, Components, Alternatives, alternative}
-use Rattle.asn1_model.specs.Form.{Form, pick, arranged, is_present}
+use Rattle.asn1_model.specs.Form.{Form, pick, arranged}
+use Rattle.std.specs.Prelude.{is_some}
 use Rattle.asn1_model.specs.Tables.{item_place}
 use Rattle.asn1_model.specs.Versions.{grow, lessen, grow_alternative, lessen_alternative, map_each}
 use Rattle.asn1_model.proofs.Forms.{map_parts}
@@ -135,7 +136,7 @@ item_there : (b : Bool) (v : Value) → b ≡ true → There (cond b (Some v) No
 item_there true v e = (v, refl)
 item_there false v e = cc
 
-pub item_carried : (m : Bool) (roots adds adds' : List ℤ) (e : Bool) (n k : ℤ) → (is_present (item_place k roots) || is_present (item_place k adds)) ≡ true → Carried m (enumerated roots e adds) (enumerated roots e adds') (item n) (item k)
+pub item_carried : (m : Bool) (roots adds adds' : List ℤ) (e : Bool) (n k : ℤ) → (is_some (item_place k roots) || is_some (item_place k adds)) ≡ true → Carried m (enumerated roots e adds) (enumerated roots e adds') (item n) (item k)
 unfolding lessen grow
 item_carried m roots adds adds' e n k h = (item_there _ (item k) h, λ q. (item n, refl))
 

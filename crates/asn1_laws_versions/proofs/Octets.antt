@@ -6,8 +6,9 @@ use Rattle.asn1_model.specs.Value.{Value, item, members, bag, fields, chosen, Va
 use Rattle.asn1_model.specs.Schema.{Tag, Counts, Size, Presence, Schema, cut, boolean, null, integer, enumerated, bit_string, octet_string, character_string, object_identifier, sequence_of, set_of, sequence, set, group, choice, Components, no_component, component, Alternatives, no_alternative, alternative}
 use Rattle.asn1_model.specs.Lawful.{is_lawful, are_lawful, are_lawful_alternatives, are_distinct, tag_same, alternative_tags}
 use Rattle.asn1_model.specs.Normal.{is_at_default, is_group_left_out}
-use Rattle.asn1_model.specs.Form.{varied, written, Reads, only_if, given, is_present, own_bitmap, stands_before}
-use Rattle.asn1_model.specs.Strings.{each_is}
+use Rattle.asn1_model.specs.Form.{varied, written, Reads, only_if, given, own_bitmap, stands_before}
+use Rattle.std.specs.Prelude.{is_some}
+use Rattle.std.specs.List.{list_all}
 use Rattle.asn1_model.specs.Tables.{presence_bits, item_place}
 use Rattle.asn1_model.specs.Oer
 use Rattle.asn1_model.specs.Versions.{grow, grow_alternative, lessen, lessen_alternative, Begins, Extends, ExtendsEach, ExtendsAlternatives}
@@ -42,11 +43,11 @@ tags_kept no_alternative (alternative t' s' others') h = absurd h
 tags_kept (alternative t s others) no_alternative h = absurd h
 tags_kept (alternative t s others) (alternative t' s' others') h = ap (λ l. t ∷ l) (tags_kept others others' h.2) ∙ ap (λ u. u ∷ alternative_tags others') h.0
 
-none_of : (t t' : Tag) (others : Alternatives) → t ≡ t' → each_is (λ u. not (tag_same t' u)) (alternative_tags others) ≡ true → each_is (λ u. not (tag_same t u)) (alternative_tags others) ≡ true
-none_of t t' others e h = subst (λ t. each_is (λ u. not (tag_same t u)) (alternative_tags others) ≡ true) (sym e) h
+none_of : (t t' : Tag) (others : Alternatives) → t ≡ t' → list_all (λ u. not (tag_same t' u)) (alternative_tags others) ≡ true → list_all (λ u. not (tag_same t u)) (alternative_tags others) ≡ true
+none_of t t' others e h = subst (λ t. list_all (λ u. not (tag_same t u)) (alternative_tags others) ≡ true) (sym e) h
 
-none_of_older : (t : Tag) (more : Bool) (others others' : Alternatives) → ExtendsAlternatives more others others' → each_is (λ u. not (tag_same t u)) (alternative_tags others') ≡ true → each_is (λ u. not (tag_same t u)) (alternative_tags others) ≡ true
-none_of_older t more others others' h e = let r = tags_begin more others others' h in each_before (λ u. not (tag_same t u)) (alternative_tags others) r.0 (subst (λ l. each_is (λ u. not (tag_same t u)) l ≡ true) (sym r.1) e)
+none_of_older : (t : Tag) (more : Bool) (others others' : Alternatives) → ExtendsAlternatives more others others' → list_all (λ u. not (tag_same t u)) (alternative_tags others') ≡ true → list_all (λ u. not (tag_same t u)) (alternative_tags others) ≡ true
+none_of_older t more others others' h e = let r = tags_begin more others others' h in each_before (λ u. not (tag_same t u)) (alternative_tags others) r.0 (subst (λ l. list_all (λ u. not (tag_same t u)) l ≡ true) (sym r.1) e)
 
 distinct_older : (ts : List Tag) (more : Bool) (others others' : Alternatives) → ExtendsAlternatives more others others' → are_distinct tag_same (ts ++ alternative_tags others') ≡ true → are_distinct tag_same (ts ++ alternative_tags others) ≡ true
 distinct_older ts more others others' h d =
@@ -194,8 +195,8 @@ module _ (free : Oer.Freedom → Bool) where
       group_way cs cs' h k x v = taken_refused free m _ _
 
       -- ---- items
-      place_there : (n k : ℤ) (roots adds : List ℤ) (e : Bool) → n ≡ k → (is_present (item_place n roots) || (e && is_present (item_place n adds))) ≡ true → (is_present (item_place k roots) || is_present (item_place k adds)) ≡ true
-      place_there n k roots adds e q h = subst (λ k. (is_present (item_place k roots) || is_present (item_place k adds)) ≡ true) q (without_marker (is_present (item_place n roots)) e (is_present (item_place n adds)) h)
+      place_there : (n k : ℤ) (roots adds : List ℤ) (e : Bool) → n ≡ k → (is_some (item_place n roots) || (e && is_some (item_place n adds))) ≡ true → (is_some (item_place k roots) || is_some (item_place k adds)) ≡ true
+      place_there n k roots adds e q h = subst (λ k. (is_some (item_place k roots) || is_some (item_place k adds)) ≡ true) q (without_marker (is_some (item_place n roots)) e (is_some (item_place n adds)) h)
         where
           without_marker : (a e b : Bool) → (a || (e && b)) ≡ true → (a || b) ≡ true
           without_marker true e b h = refl
@@ -204,7 +205,7 @@ module _ (free : Oer.Freedom → Bool) where
 
       enumerated_way : (roots adds adds' : List ℤ) (e : Bool) → Begins adds adds' → Way (enumerated roots e adds) (enumerated roots e adds')
       unfolding Oer.form
-      enumerated_way roots adds adds' e h (item n) (item k) = taken_if free m (is_present (item_place n roots) || (e && is_present (item_place n adds))) (Oer.item_form n) _ _ (λ i. agree_if_right free (is_present (item_place k roots) || (e && is_present (item_place k adds'))) (λ j. agree_map free (λ q. item_carried m roots adds adds' e n k (place_there n k roots adds e q i)) (taken_same free m _ _ _ (items_alike free n k))))
+      enumerated_way roots adds adds' e h (item n) (item k) = taken_if free m (is_some (item_place n roots) || (e && is_some (item_place n adds))) (Oer.item_form n) _ _ (λ i. agree_if_right free (is_some (item_place k roots) || (e && is_some (item_place k adds'))) (λ j. agree_map free (λ q. item_carried m roots adds adds' e n k (place_there n k roots adds e q i)) (taken_same free m _ _ _ (items_alike free n k))))
       enumerated_way roots adds adds' e h (item n) v = agree_with_refused free _ _
       enumerated_way roots adds adds' e h x v = taken_refused free m _ _
 

@@ -10,7 +10,8 @@ use Rattle.asn1_model.specs.Value.{are_all}
 use Rattle.asn1_model.specs.Tidy.{is_normal, are_normal, is_normal_alternative}
 use Rattle.asn1_model.specs.Numbers.{is_count_within}
 use Rattle.asn1_model.specs.Tables.{presence_bits, presence_bit_unless, is_required, item_place}
-use Rattle.asn1_model.specs.Form.{refused, both, varied, written, Reads, only_if, given, joined, ascending, arranged, Bitmap, is_present, is_any_present, present_ones, covered_by, own_bitmap, stands_before}
+use Rattle.asn1_model.specs.Form.{refused, both, varied, written, Reads, only_if, given, joined, ascending, arranged, Bitmap, is_any_present, present_ones, covered_by, own_bitmap, stands_before}
+use Rattle.std.specs.Prelude.{is_some}
 use Rattle.asn1_model.specs.Rules.{lenient, strict_oer, oer, coer, canonical, encoding, octet_encoding, of_moderate_length, IsEncoding}
 use Rattle.asn1_laws_versions.proofs.Between.{OlderReads, OlderReadsNormal, NewerReads, NewerReadsNormal}
 use Rattle.asn1_model.specs.Oer
@@ -150,7 +151,7 @@ module _ (free : Oer.Freedom → Bool) (wide : IsTrue (free Oer.other_bitmap)) (
   AllCover (Some x ∷ xs) (Some y ∷ ys) = Sim y x × AllCover xs ys
   AllCover xs ys = ⊥
 
-  all_flags : (xs ys : List (Option Oer.OctetForm)) → AllCover xs ys → map (λ a. is_present a) ys ≡ map (λ a. is_present a) xs
+  all_flags : (xs ys : List (Option Oer.OctetForm)) → AllCover xs ys → map (λ a. is_some a) ys ≡ map (λ a. is_some a) xs
   all_flags [] [] h = refl
   all_flags (None ∷ xs) (None ∷ ys) h = let t = all_flags xs ys h in cc
   all_flags (Some x ∷ xs) (Some y ∷ ys) h = let t = all_flags xs ys h.1 in cc
@@ -352,18 +353,18 @@ module _ (free : Oer.Freedom → Bool) (wide : IsTrue (free Oer.other_bitmap)) (
   item_known false v u e = cc
 
   -- an item that the older version has, the newer one has
-  still_present : (e : Bool) (o p p' : Option ℕ) (v u : Value) (x : Oer.OctetForm) → cond (is_present o || is_present p) (Some v) None ≡ Some u → ((i : ℕ) → p ≡ Some i → p' ≡ Some i) → Sim (only_if (is_present o || (e && is_present p')) x) (only_if (is_present o || (e && is_present p)) x)
+  still_present : (e : Bool) (o p p' : Option ℕ) (v u : Value) (x : Oer.OctetForm) → cond (is_some o || is_some p) (Some v) None ≡ Some u → ((i : ℕ) → p ≡ Some i → p' ≡ Some i) → Sim (only_if (is_some o || (e && is_some p')) x) (only_if (is_some o || (e && is_some p)) x)
   still_present e (Some i) p p' v u x h m = sim_itself _
   still_present e None None p' v u x h m = cc
-  still_present e None (Some i) p' v u x h m = sim_same (ap (λ (p : Option ℕ). only_if {F = Oer.Freedom} {D = Oer.Detail} (e && is_present p) x) (m i refl))
+  still_present e None (Some i) p' v u x h m = sim_same (ap (λ (p : Option ℕ). only_if {F = Oer.Freedom} {D = Oer.Detail} (e && is_some p) x) (m i refl))
 
-  sim_enumerated : (rs rs' : List ℤ) (m m' : Bool) (as_ as_' : List ℤ) (n : ℤ) (u : Value) → (rs ≡ rs') × (m ≡ m') × Begins as_ as_' → cond (is_present (item_place n rs) || is_present (item_place n as_)) (Some (item n)) None ≡ Some u → Sim (Oer.form (enumerated rs' m' as_') (item n)) (Oer.form (enumerated rs m as_) u)
+  sim_enumerated : (rs rs' : List ℤ) (m m' : Bool) (as_ as_' : List ℤ) (n : ℤ) (u : Value) → (rs ≡ rs') × (m ≡ m') × Begins as_ as_' → cond (is_some (item_place n rs) || is_some (item_place n as_)) (Some (item n)) None ≡ Some u → Sim (Oer.form (enumerated rs' m' as_') (item n)) (Oer.form (enumerated rs m as_) u)
   unfolding Oer.form
   sim_enumerated rs rs' m m' as_ as_' n u h e =
-      let part : List ℤ → Bool → Oer.OctetForm = λ rs m. only_if (is_present (item_place n rs) || (m && is_present (item_place n as_'))) (Oer.item_form n) in
+      let part : List ℤ → Bool → Oer.OctetForm = λ rs m. only_if (is_some (item_place n rs) || (m && is_some (item_place n as_'))) (Oer.item_form n) in
       let left : Oer.form (enumerated rs' m' as_') (item n) ≡ part rs m = ap (λ rs. part rs m') (sym h.0) ∙ ap (λ m. part rs m) (sym h.1) in
       let kept : (i : ℕ) → item_place n as_ ≡ Some i → item_place n as_' ≡ Some i = λ i q. ap (item_place n) (sym h.2.1) ∙ place_kept n as_ h.2.0 i q in
-      let same : item n ≡ u = item_known (is_present (item_place n rs) || is_present (item_place n as_)) (item n) u e in
+      let same : item n ≡ u = item_known (is_some (item_place n rs) || is_some (item_place n as_)) (item n) u e in
       sim_between left (still_present m (item_place n rs) (item_place n as_) (item_place n as_') (item n) u (Oer.item_form n) e kept) (ap (λ v. Oer.form (enumerated rs m as_) v) same)
 
   -- lists and bags of the same counts
@@ -626,16 +627,16 @@ module _ (free : Oer.Freedom → Bool) (wide : IsTrue (free Oer.other_bitmap)) (
       let f : Oer.addition_forms (component t o s cs) (absent rs) ≡ Some (None ∷ r.0) = absent_forms t o s cs rs ∙ ap (λ b. cond b None (option_map cons_none (Oer.addition_forms cs rs))) n ∙ ap (option_map cons_none) r.1 in
       (None ∷ r.0, ap (Oer.addition_forms (component t o s cs)) (sym a) ∙ f, subst (λ l. Behind (None ∷ r.0) l) b r.2, λ m. ap suc (r.3 m) ∙ ap length b)
 
-  more_items : (rs as_ as_' : List ℤ) (n : ℤ) (m : Bool) (o : Option ℕ) → item_place n rs ≡ o → Begins as_ as_' → (p : Option ℕ) → item_place n as_ ≡ p → Sim (only_if (is_present o || (m && is_present p)) (Oer.item_form n)) (only_if (is_present o || (m && is_present (item_place n as_'))) (Oer.item_form n))
+  more_items : (rs as_ as_' : List ℤ) (n : ℤ) (m : Bool) (o : Option ℕ) → item_place n rs ≡ o → Begins as_ as_' → (p : Option ℕ) → item_place n as_ ≡ p → Sim (only_if (is_some o || (m && is_some p)) (Oer.item_form n)) (only_if (is_some o || (m && is_some (item_place n as_'))) (Oer.item_form n))
   more_items rs as_ as_' n m (Some i) e b p f = sim_itself _
   more_items rs as_ as_' n false None e b p f = sim_refused _
   more_items rs as_ as_' n true None e b None f = sim_refused _
-  more_items rs as_ as_' n true None e b (Some j) f = sim_same (ap (λ (q : Option ℕ). only_if {F = Oer.Freedom} {D = Oer.Detail} (is_present q) (Oer.item_form n)) (sym (ap (item_place n) (sym b.1) ∙ place_kept n as_ b.0 j f)))
+  more_items rs as_ as_' n true None e b (Some j) f = sim_same (ap (λ (q : Option ℕ). only_if {F = Oer.Freedom} {D = Oer.Detail} (is_some q) (Oer.item_form n)) (sym (ap (item_place n) (sym b.1) ∙ place_kept n as_ b.0 j f)))
 
   grown_enumerated : (rs rs' : List ℤ) (m m' : Bool) (as_ as_' : List ℤ) (n : ℤ) → (rs ≡ rs') × (m ≡ m') × Begins as_ as_' → Sim (Oer.form (enumerated rs m as_) (item n)) (Oer.form (enumerated rs' m' as_') (item n))
   unfolding Oer.form
   grown_enumerated rs rs' m m' as_ as_' n h =
-      let part : List ℤ → Bool → Oer.OctetForm = λ rs m. only_if (is_present (item_place n rs) || (m && is_present (item_place n as_'))) (Oer.item_form n) in
+      let part : List ℤ → Bool → Oer.OctetForm = λ rs m. only_if (is_some (item_place n rs) || (m && is_some (item_place n as_'))) (Oer.item_form n) in
       let right : part rs m ≡ part rs' m' = ap (λ rs. part rs m) h.0 ∙ ap (λ m. part rs' m) h.1 in
       sim_between refl (more_items rs as_ as_' n m (item_place n rs) refl h.2 (item_place n as_) refl) right
 

@@ -6,9 +6,11 @@ use Rattle.asn1_model.specs.Value.{Value, item, members, bag, fields, chosen, Va
 use Rattle.asn1_model.specs.Schema.{Counts, Size, Presence, Schema, cut, boolean, null, integer, enumerated, bit_string, octet_string, character_string, object_identifier, sequence_of, set_of, sequence, set, group, choice, Components, no_component, component, Alternatives, no_alternative, alternative}
 use Rattle.asn1_model.specs.Lawful.{is_lawful, are_lawful, are_lawful_alternatives}
 use Rattle.asn1_model.specs.Normal.{is_at_default, is_group_left_out}
-use Rattle.asn1_model.specs.Form.{exactly, both, varied, written, Reads, only_if, given, is_present, own_bitmap, stands_before}
+use Rattle.asn1_model.specs.Form.{exactly, both, varied, written, Reads, only_if, given, own_bitmap, stands_before}
+use Rattle.std.specs.Prelude.{is_some}
 use Rattle.asn1_model.specs.Numbers.{binary, by_eights}
-use Rattle.asn1_model.specs.Strings.{each_is, is_octet}
+use Rattle.asn1_model.specs.Strings.{is_octet}
+use Rattle.std.specs.List.{list_all}
 use Rattle.asn1_model.specs.Tables.{presence_bits, alternative_count, item_place}
 use Rattle.asn1_model.specs.Oer.{packed}
 use Rattle.asn1_model.specs.Per
@@ -58,7 +60,7 @@ module _ (free : Per.Freedom → Bool) where
   unfolding Per.counted_octets
   octets_and_eights al os w k l =
       let e : map (λ o. exactly o) (by_eights w) ≡ Per.octet_units (packed w) = eights_units k w l in
-      subst (λ us. Alike free (Per.counted_octets al os) (Per.counted al us) (Unit {0})) (sym e) (agree_if_left free (each_is is_octet os) {x = Per.counted al (Per.octet_units os)} {y = Per.counted al (Per.octet_units (packed w))} (λ i. agree_map free (λ q. tt) (octet_units_alike free al os (packed w))))
+      subst (λ us. Alike free (Per.counted_octets al os) (Per.counted al us) (Unit {0})) (sym e) (agree_if_left free (list_all is_octet os) {x = Per.counted al (Per.octet_units os)} {y = Per.counted al (Per.octet_units (packed w))} (λ i. agree_map free (λ q. tt) (octet_units_alike free al os (packed w))))
 
   octets_and_open : (al : Bool) (os : List ℕ) (x : Per.BitForm) → Alike free (Per.counted_octets al os) (Per.open_type al x) (Unit {0})
   unfolding Per.open_type Reads
@@ -66,7 +68,7 @@ module _ (free : Per.Freedom → Bool) where
     fronts = λ p a b r s f g e.
         let c = complete_whole free x g.0 0 g.1 in
         let n : List ℕ = g.2.0 in
-        let j = when_read free (each_is is_octet n) _ p b g.2.2 in
+        let j = when_read free (list_all is_octet n) _ p b g.2.2 in
         let q = (octets_and_eights al os (g.0 ++ flat_map (binary 8) n) _ (joined_long free g.0 n c.0 c.1)).fronts p a b r s f j e in
         (q.0, tt);
   }
@@ -178,16 +180,16 @@ module _ (free : Per.Freedom → Bool) where
       group_way cs cs' h k x v = taken_refused free m _ _
 
       -- ---- items
-      known : (o p : Option ℕ) (i : ℕ) → p ≡ Some i → (is_present o || is_present p) ≡ true
-      known None p i e = ap (λ p. is_present p) e
+      known : (o p : Option ℕ) (i : ℕ) → p ≡ Some i → (is_some o || is_some p) ≡ true
+      known None p i e = ap (λ p. is_some p) e
       known (Some j) p i e = refl
 
       abbrev Place : List ℤ → ℤ → Option ℕ → Type 0
       Place ds v o = item_place v ds ≡ o
 
-      items_way : (roots adds adds' : List ℤ) (n k : ℤ) → Begins adds adds' → (e : Bool) (i j c d : Option ℕ) → Place roots n i → Place adds n j → Place roots k c → Place adds' k d → Met m (Per.item_form al (length roots) e i j) (Per.item_form al (length roots) e c d) ((is_present (item_place k roots) || is_present (item_place k adds)) ≡ true)
+      items_way : (roots adds adds' : List ℤ) (n k : ℤ) → Begins adds adds' → (e : Bool) (i j c d : Option ℕ) → Place roots n i → Place adds n j → Place roots k c → Place adds' k d → Met m (Per.item_form al (length roots) e i j) (Per.item_form al (length roots) e c d) ((is_some (item_place k roots) || is_some (item_place k adds)) ≡ true)
       unfolding Per.item_form Per.added_item
-      items_way roots adds adds' n k h e (Some i) j (Some c) d p q r s = agree_map free (λ u. ap (λ o. is_present o || is_present (item_place k adds)) r) (taken_same free m _ _ _ (behind_extension_bit free e false _ _ _ (constrained_alike free al (length roots - 1) i c)))
+      items_way roots adds adds' n k h e (Some i) j (Some c) d p q r s = agree_map free (λ u. ap (λ o. is_some o || is_some (item_place k adds)) r) (taken_same free m _ _ _ (behind_extension_bit free e false _ _ _ (constrained_alike free al (length roots - 1) i c)))
       items_way roots adds adds' n k h false (Some i) j None d p q r s = agree_with_refused free _ _
       items_way roots adds adds' n k h true (Some i) j None None p q r s = agree_with_refused free _ _
       items_way roots adds adds' n k h true (Some i) j None (Some d) p q r s = taken_same free m _ _ _ (root_or_added free _ _ _)

@@ -3,7 +3,8 @@ use Rattle.std.proofs.Common.{◌≡◌, ℕ, suc, not, Bool, true, false, cond,
 use Rattle.std.proofs.lemmas.List.{append-nil}
 use Rattle.asn1_model.specs.Value.{Value, Parts, end, absent, present}
 use Rattle.asn1_model.specs.Schema.{Tag, Presence, required, optional, by_default, Schema, Components, no_component, component}
-use Rattle.asn1_model.specs.Form.{Form, refused, both, joined, Bitmap, is_present, is_any_present, present_ones, covered_by, own_bitmap}
+use Rattle.asn1_model.specs.Form.{Form, refused, both, joined, Bitmap, is_any_present, present_ones, covered_by, own_bitmap}
+use Rattle.std.specs.Prelude.{is_some}
 use Rattle.asn1_model.specs.Tables.{presence_bits, is_required, presence_bit_unless}
 use Rattle.asn1_model.specs.Versions.{grow, grow_parts, lessen, lessen_parts, all_absent, both_parts, KeepsPresence, ExtendsEach}
 use Rattle.asn1_model.proofs.Forms.{map_parts}
@@ -154,7 +155,7 @@ module _ (F : Type 0) (D : F → Type 0) (A : Type 0) (free : F → Bool) (m : B
     Tells xs all = adding.Tells F D A free unknown unknown_alike xs all
 
     abbrev Flags : List (Option (Form F D A)) → List Bool
-    Flags xs = map (λ a. is_present a) xs
+    Flags xs = map (λ a. is_some a) xs
 
     abbrev No : List (Option (Form F D A)) → Type 0
     No xs = is_any_present xs ≡ false
@@ -241,14 +242,14 @@ module _ (F : Type 0) (D : F → Type 0) (A : Type 0) (free : F → Bool) (m : B
         some_one e = cc
 
     -- ---- one place in both versions
-    places_meet : (x y : Option Forms) (xs ys all others : List (Option Forms)) (P : Type 0) → Tells (x ∷ xs) all → (m ≡ true → length all ≡ suc (length xs)) → Tells (y ∷ ys) others → Flags all ≡ Flags others → (No (x ∷ xs) → No (y ∷ ys) → P) → (is_present x ≡ is_present y → (us vs : List (Option Forms)) → Tells xs us → (m ≡ true → length us ≡ length xs) → Tells ys vs → Flags us ≡ Flags vs → Meets (joined (present_ones (x ∷ us))) (joined (present_ones (y ∷ vs))) P) → Meets (joined (present_ones all)) (joined (present_ones others)) P
+    places_meet : (x y : Option Forms) (xs ys all others : List (Option Forms)) (P : Type 0) → Tells (x ∷ xs) all → (m ≡ true → length all ≡ suc (length xs)) → Tells (y ∷ ys) others → Flags all ≡ Flags others → (No (x ∷ xs) → No (y ∷ ys) → P) → (is_some x ≡ is_some y → (us vs : List (Option Forms)) → Tells xs us → (m ≡ true → length us ≡ length xs) → Tells ys vs → Flags us ≡ Flags vs → Meets (joined (present_ones (x ∷ us))) (joined (present_ones (y ∷ vs))) P) → Meets (joined (present_ones all)) (joined (present_ones others)) P
     places_meet x y xs ys [] [] P t l u e k c = taken_same free m _ _ _ (agree_map free (λ q. k t u) (agree_nothing free))
     places_meet x y xs ys [] (b ∷ others) P t l u e k c = cc
     places_meet x y xs ys (a ∷ all) [] P t l u e k c = cc
     places_meet x y xs ys (a ∷ all) (b ∷ others) P t l u e k c =
-        let head : is_present a ≡ is_present b = cc in
+        let head : is_some a ≡ is_some b = cc in
         let tail : Flags all ≡ Flags others = cc in
-        let flags : is_present x ≡ is_present y = ap (λ z. is_present z) t.0 ∙ head ∙ ap (λ z. is_present z) (sym u.0) in
+        let flags : is_some x ≡ is_some y = ap (λ z. is_some z) t.0 ∙ head ∙ ap (λ z. is_some z) (sym u.0) in
         subst (λ z. Meets (joined (present_ones (z ∷ all))) (joined (present_ones (b ∷ others))) P) t.0 (subst (λ z. Meets (joined (present_ones (x ∷ all))) (joined (present_ones (z ∷ others))) P) u.0 (c flags all others t.1 (λ q. one_less _ _ (l q)) u.1 tail))
       where
         one_less : (i j : ℕ) → suc i ≡ suc j → i ≡ j
@@ -329,7 +330,7 @@ module _ (F : Type 0) (D : F → Type 0) (A : Type 0) (free : F → Bool) (m : B
     other_differs : (ms ns : List Bool) → true ∷ ms ≡ false ∷ ns → ⊥
     other_differs ms ns e = cc
 
-    module _ (preamble : List Bool → Form F D A) (preambles_alike : (ms ns : List Bool) → length ms ≡ length ns → Agree {F = F} {D = D} {A = A} free (preamble ms) (preamble ns) (ms ≡ ns)) (bits : List (Option (Form F D A)) → Form F D A) (bits_alike : (xs ys : List (Option (Form F D A))) → Agree {F = F} {D = D} {A = A} free (bits xs) (bits ys) (map (λ a. is_present a) xs ≡ map (λ a. is_present a) ys)) (hidden : Form F D A → Form F D A) (hidden_left : (x y : Form F D A) (P : Type 0) → Agree {F = F} {D = D} {A = A} free x y P → Agree {F = F} {D = D} {A = A} free (hidden x) y P) (hidden_right : (x y : Form F D A) (P : Type 0) → Agree {F = F} {D = D} {A = A} free x y P → Agree {F = F} {D = D} {A = A} free x (hidden y) P) (hidden_taken : (x y : Form F D A) (P : Type 0) → Agree {F = F} {D = D} {A = A} free (taken free m x) y P → Agree {F = F} {D = D} {A = A} free (taken free m (hidden x)) y P) where
+    module _ (preamble : List Bool → Form F D A) (preambles_alike : (ms ns : List Bool) → length ms ≡ length ns → Agree {F = F} {D = D} {A = A} free (preamble ms) (preamble ns) (ms ≡ ns)) (bits : List (Option (Form F D A)) → Form F D A) (bits_alike : (xs ys : List (Option (Form F D A))) → Agree {F = F} {D = D} {A = A} free (bits xs) (bits ys) (map (λ a. is_some a) xs ≡ map (λ a. is_some a) ys)) (hidden : Form F D A → Form F D A) (hidden_left : (x y : Form F D A) (P : Type 0) → Agree {F = F} {D = D} {A = A} free x y P → Agree {F = F} {D = D} {A = A} free (hidden x) y P) (hidden_right : (x y : Form F D A) (P : Type 0) → Agree {F = F} {D = D} {A = A} free x y P → Agree {F = F} {D = D} {A = A} free x (hidden y) P) (hidden_taken : (x y : Form F D A) (P : Type 0) → Agree {F = F} {D = D} {A = A} free (taken free m x) y P → Agree {F = F} {D = D} {A = A} free (taken free m (hidden x)) y P) where
       abbrev With : List Bool → Form F D A → List (Option (Form F D A)) → Form F D A
       With ms root all = adding.with_all F D A free unknown unknown_alike added preamble preambles_alike bits bits_alike hidden hidden_left hidden_right ms root all
 

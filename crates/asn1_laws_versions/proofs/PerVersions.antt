@@ -10,7 +10,8 @@ use Rattle.asn1_model.specs.Value.{are_all}
 use Rattle.asn1_model.specs.Tidy.{is_normal, are_normal, is_normal_alternative}
 use Rattle.asn1_model.specs.Numbers.{binary, is_count_within}
 use Rattle.asn1_model.specs.Tables.{presence_bits, presence_bit_unless, is_required, alternative_count, item_place}
-use Rattle.asn1_model.specs.Form.{exactly, refused, both, varied, written, Reads, only_if, given, joined, ascending, arranged, Bitmap, is_present, is_any_present, present_ones, covered_by, own_bitmap, stands_before}
+use Rattle.asn1_model.specs.Form.{exactly, refused, both, varied, written, Reads, only_if, given, joined, ascending, arranged, Bitmap, is_any_present, present_ones, covered_by, own_bitmap, stands_before}
+use Rattle.std.specs.Prelude.{is_some}
 use Rattle.asn1_model.specs.Oer.{packed}
 use Rattle.asn1_model.specs.Per
 use Rattle.asn1_model.specs.Versions.{grow, grow_parts, grow_alternative, all_absent, lessen, lessen_parts, lessen_alternative, map_each, both_parts, Begins, KeepsPresence, Extends, ExtendsEach, ExtendsAlternatives}
@@ -373,7 +374,7 @@ module _ (free : Per.Freedom → Bool) (wide : IsTrue (free Per.other_bitmap)) (
   place_kept n [] es j e = cc
   place_kept n (d ∷ ds) es j e = place_next (same_number n d) (item_place n ds) (item_place n (ds ++ es)) j (λ i h. place_kept n ds es i h) e
 
-  sim_item : (al e : Bool) (k : ℕ) (o j j' : Option ℕ) (v u : Value) → cond (is_present o || is_present j) (Some v) None ≡ Some u → ((i : ℕ) → j ≡ Some i → j' ≡ Some i) → Sim (Per.item_form al k e o j') (Per.item_form al k e o j)
+  sim_item : (al e : Bool) (k : ℕ) (o j j' : Option ℕ) (v u : Value) → cond (is_some o || is_some j) (Some v) None ≡ Some u → ((i : ℕ) → j ≡ Some i → j' ≡ Some i) → Sim (Per.item_form al k e o j') (Per.item_form al k e o j)
   unfolding Per.item_form
   sim_item al e k (Some i) j j' v u h m = sim_itself _
   sim_item al e k None None j' v u h m = cc
@@ -404,12 +405,12 @@ module _ (free : Per.Freedom → Bool) (wide : IsTrue (free Per.other_bitmap)) (
   item_known true v u e = some_parts e
   item_known false v u e = cc
 
-  sim_enumerated : (al : Bool) (rs rs' : List ℤ) (m m' : Bool) (as_ as_' : List ℤ) (n : ℤ) (u : Value) → (rs ≡ rs') × (m ≡ m') × Begins as_ as_' → cond (is_present (item_place n rs) || is_present (item_place n as_)) (Some (item n)) None ≡ Some u → Sim (Per.form al (enumerated rs' m' as_') (item n)) (Per.form al (enumerated rs m as_) u)
+  sim_enumerated : (al : Bool) (rs rs' : List ℤ) (m m' : Bool) (as_ as_' : List ℤ) (n : ℤ) (u : Value) → (rs ≡ rs') × (m ≡ m') × Begins as_ as_' → cond (is_some (item_place n rs) || is_some (item_place n as_)) (Some (item n)) None ≡ Some u → Sim (Per.form al (enumerated rs' m' as_') (item n)) (Per.form al (enumerated rs m as_) u)
   unfolding Per.form
   sim_enumerated al rs rs' m m' as_ as_' n u h e =
       let left : Per.form al (enumerated rs' m' as_') (item n) ≡ Per.item_form al (length rs) m (item_place n rs) (item_place n as_') = ap (λ rs. Per.item_form al (length rs) m' (item_place n rs) (item_place n as_')) (sym h.0) ∙ ap (λ m. Per.item_form al (length rs) m (item_place n rs) (item_place n as_')) (sym h.1) in
       let kept : (i : ℕ) → item_place n as_ ≡ Some i → item_place n as_' ≡ Some i = λ i q. ap (item_place n) (sym h.2.1) ∙ place_kept n as_ h.2.0 i q in
-      let same : item n ≡ u = item_known (is_present (item_place n rs) || is_present (item_place n as_)) (item n) u e in
+      let same : item n ≡ u = item_known (is_some (item_place n rs) || is_some (item_place n as_)) (item n) u e in
       sim_between left (sim_item al m (length rs) (item_place n rs) (item_place n as_) (item_place n as_') (item n) u e kept) (ap (λ v. Per.form al (enumerated rs m as_) v) same)
 
   -- lists and bags of the same sizes

@@ -8,7 +8,7 @@ use Rattle.asn1_model.specs.Schema.{enumerated, bit_string, octet_string, charac
 use Rattle.asn1_model.specs.Schema.{sequence, set, group, choice, Components, no_component, component, Alternatives}
 use Rattle.asn1_model.specs.Schema.{no_alternative, alternative}
 use Rattle.asn1_model.specs.Numbers.{is_at_most, is_count_to}
-use Rattle.asn1_model.specs.Strings.{each_is}
+use Rattle.std.specs.List.{list_all}
 use Rattle.asn1_model.specs.Typed.{is_of}
 
 -- The order of tags: by class, and then by number (X.680 8.6).
@@ -29,7 +29,7 @@ smallest t (u ∷ us) = cond (tag_less u t) (smallest u us) (smallest t us)
 
 abbrev pub are_distinct : {X : Type 0} → (X → X → Bool) → List X → Bool
 are_distinct e [] = true
-are_distinct e (x ∷ xs) = each_is (λ y. not (e x y)) xs && are_distinct e xs
+are_distinct e (x ∷ xs) = list_all (λ y. not (e x y)) xs && are_distinct e xs
 
 -- Each element stands before the next.
 abbrev pub are_ascending : {X : Type 0} → (X → X → Bool) → List X → Bool
@@ -57,7 +57,7 @@ is_empty (x ∷ xs) = false
 
 -- There is a tag, and each has one of the four classes (X.680 8.1).
 abbrev pub are_tags : List Tag → Bool
-are_tags ts = not (is_empty ts) && each_is is_tag ts
+are_tags ts = not (is_empty ts) && list_all is_tag ts
 
 -- Whether a type may begin with these tags: with one that it has or is given, a CHOICE with no tag of its own with
 -- those of all its alternatives in their order, and a group of additions with those of its components (X.680 25, 29 and

@@ -1,7 +1,7 @@
 -- The octet encoding rules (X.696): the form of a value of a type, in octets.
 use Rattle.std.specs.Prelude.{ℕ, zero, suc, ◌+◌, ◌*◌, ◌/◌, ◌^◌, ◌==◌, ltb, leb, not, max, ℤ, pos, negsuc, Bool, true}
 use Rattle.std.specs.Prelude.{false, cond, ◌&&◌, ◌||◌, List, [], ◌∷◌, ◌++◌, length, map, replicate, flat_map, Option}
-use Rattle.std.specs.Prelude.{Some, None, option_map}
+use Rattle.std.specs.Prelude.{Some, None, is_some, option_map}
 use Rattle.asn1_model.specs.Value.{Value, truth, nothing, number, item, bit_list, octet_list, text, arcs, members, bag}
 use Rattle.asn1_model.specs.Value.{fields, chosen, Parts, end, absent, present, each}
 use Rattle.asn1_model.specs.Schema.{Tag, Range, Bounds, Counts, Size, StringKind, bmp, Schema, boolean, null}
@@ -12,12 +12,13 @@ pub use Rattle.asn1_model.specs.Numbers.{packed}
 use Rattle.asn1_model.specs.Numbers.{missing, digits, octet_width, least_octets, signed_octets, complement, is_within}
 use Rattle.asn1_model.specs.Numbers.{is_count_within, fits_128}
 use Rattle.asn1_model.specs.Form.{Form, exactly, refused, both, varied, within, written, nothing_more, only_if, given}
-use Rattle.asn1_model.specs.Form.{joined, stands_before, ascending, in_order, Bitmap, is_present, is_any_present}
+use Rattle.asn1_model.specs.Form.{joined, stands_before, ascending, in_order, Bitmap, is_any_present}
 use Rattle.asn1_model.specs.Form.{present_ones, covered_by, own_bitmap}
 pub use Rattle.asn1_model.specs.Form.{Freedom, Detail, longer_length, longer_number, any_truth, longer_item}
 pub use Rattle.asn1_model.specs.Form.{empty_bit_string, any_unused_bits, long_tag, default_spelled_out, empty_group}
 pub use Rattle.asn1_model.specs.Form.{other_bitmap, empty_bitmap, octets_behind, other_order}
-use Rattle.asn1_model.specs.Strings.{may_hold, identifier_octets, is_identifier, is_octet, each_is, groups_of_seven}
+use Rattle.asn1_model.specs.Strings.{may_hold, identifier_octets, is_identifier, is_octet, groups_of_seven}
+use Rattle.std.specs.List.{list_all}
 use Rattle.asn1_model.specs.Tables.{is_bounded, item_place, is_required, presence_bits}
 unfoldable pub use Rattle.asn1_model.specs.Tables.{spelled}
 
@@ -36,7 +37,7 @@ length_form n = only_if (ltb n (2 ^ 64)) (varied longer_length (cond (ltb n 128)
 
 -- Octets behind their number (X.696 8.6).
 unfoldable pub counted : List ℕ → OctetForm
-counted os = only_if (each_is is_octet os) (both (length_form (length os)) (exactly os))
+counted os = only_if (list_all is_octet os) (both (length_form (length os)) (exactly os))
 
 -- A whole number in the fewest octets of two's complement, behind their number (X.696 10).
 unfoldable pub signed : ℤ → OctetForm
@@ -126,7 +127,7 @@ bit_string_form false bs =
 
 -- Octets, behind their number unless there is one size (X.696 14).
 unfoldable pub octets_form : Bool → List ℕ → OctetForm
-octets_form true os = only_if (each_is is_octet os) (exactly os)
+octets_form true os = only_if (list_all is_octet os) (exactly os)
 octets_form false os = counted os
 
 -- The octets of a character string: two for each character of a BMPString, the highest first, else one (X.696 27).
@@ -154,7 +155,7 @@ preamble bs = exactly (packed (bs ++ replicate (missing (length bs)) false))
 
 -- The presence bitmap as a BIT STRING of varying size, and each addition that is there (X.696 16.4).
 unfoldable pub additions : List (Option OctetForm) → OctetForm
-additions xs = both (counted_bits (map (λ a. is_present a) xs)) (joined (present_ones xs))
+additions xs = both (counted_bits (map (λ a. is_some a) xs)) (joined (present_ones xs))
 
 -- The extension bit set, the root, and the additions (X.696 16).
 unfoldable pub with_additions : List Bool → OctetForm → List (Option OctetForm) → OctetForm
@@ -193,7 +194,7 @@ unfoldable mutual
   form null nothing = nothing_more
   form (integer b held) (number v) = integer_form b held v
   form (enumerated roots e adds) (item v) =
-      only_if (is_present (item_place v roots) || (e && is_present (item_place v adds))) (item_form v)
+      only_if (is_some (item_place v roots) || (e && is_some (item_place v adds))) (item_form v)
   form (bit_string z held) (bit_list bs) = only_if (admits z held (length bs)) (bit_string_form (is_fixed z) bs)
   form (octet_string z held) (octet_list os) = only_if (admits z held (length os)) (octets_form (is_fixed z) os)
   form (character_string k z a held) (text cs) =

@@ -3,7 +3,8 @@
 -- message or open type that holds them, and never before a field of no bits.
 use Rattle.std.specs.Prelude.{ℕ, zero, suc, ◌-◌, ◌*◌, ◌/◌, ◌%◌, ◌^◌, ◌==◌, ltb, leb, not, ℤ, Bool, true, false, cond}
 use Rattle.std.specs.Prelude.{◌&&◌, ◌||◌, List, [], ◌∷◌, ◌++◌, length, take, drop, map, replicate, flat_map, Option}
-use Rattle.std.specs.Prelude.{Some, None, option_map, option_and_then}
+use Rattle.std.specs.Prelude.{Some, None, is_some, option_map, option_and_then, filter}
+use Rattle.std.specs.List.{list_all}
 use Rattle.asn1_model.specs.Value.{Value, truth, nothing, number, item, bit_list, octet_list, text, arcs, members, bag}
 use Rattle.asn1_model.specs.Value.{fields, chosen, Parts, end, absent, present, each}
 use Rattle.asn1_model.specs.Schema.{Range, Bounds, Counts, Size, Alphabet, StringKind, Schema, boolean, null}
@@ -14,13 +15,13 @@ pub use Rattle.asn1_model.specs.Numbers.{missing, by_eights}
 use Rattle.asn1_model.specs.Numbers.{digits, binary, width, octet_width, least_octets, signed_octets, complement, above}
 use Rattle.asn1_model.specs.Numbers.{is_at_most, is_within, is_count_within, fits_128}
 use Rattle.asn1_model.specs.Form.{Form, exactly, refused, both, placed, varied, within, written, nothing_more, only_if}
-use Rattle.asn1_model.specs.Form.{given, joined, stands_before, ascending, in_order, Bitmap, is_present, is_any_present}
+use Rattle.asn1_model.specs.Form.{given, joined, stands_before, ascending, in_order, Bitmap, is_any_present}
 use Rattle.asn1_model.specs.Form.{present_ones, covered_by, own_bitmap}
 pub use Rattle.asn1_model.specs.Form.{Freedom, Detail, any_padding, two_octet_length, other_fragments, longer_number}
 pub use Rattle.asn1_model.specs.Form.{root_told_outside, long_small_number, default_spelled_out, empty_group}
 pub use Rattle.asn1_model.specs.Form.{other_bitmap, empty_bitmap, octets_behind, other_order}
 use Rattle.asn1_model.specs.Strings.{Run, permitted, how_many, largest, place_of, may_hold, is_of_octets}
-use Rattle.asn1_model.specs.Strings.{identifier_octets, is_identifier, is_octet, each_is}
+use Rattle.asn1_model.specs.Strings.{identifier_octets, is_identifier, is_octet}
 use Rattle.asn1_model.specs.Tables.{is_bounded, item_place, is_required, presence_bits, alternative_count}
 unfoldable pub use Rattle.asn1_model.specs.Tables.{spelled}
 
@@ -72,13 +73,9 @@ fragments al (m ∷ ms) us =
     only_if (leb 1 m && leb m 4 && leb (m * 16384) (length us)) (both (at_octet al (exactly (true ∷ true ∷ binary 6 m)))
     (both (joined (take (m * 16384) us)) (fragments al ms (drop (m * 16384) us))))
 
-abbrev pub unless_zero : ℕ → List ℕ
-unless_zero zero = []
-unless_zero (suc n) = suc n ∷ []
-
 -- The largest fragments first: as many of 65536 units as fit, and one of what is left in whole 16384s (X.691 11.9.3.8).
 abbrev pub largest_first : ℕ → List ℕ
-largest_first n = replicate (n / 65536) 4 ++ unless_zero (n / 16384 % 4)
+largest_first n = replicate (n / 65536) 4 ++ filter (λ m. not (m == 0)) (n / 16384 % 4 ∷ [])
 
 -- Units behind their number (X.691 11.9).
 unfoldable pub counted : Bool → List BitForm → BitForm
@@ -92,7 +89,7 @@ octet_units os = map (λ o. exactly (binary 8 o)) os
 
 -- Octets behind their number (X.691 11.9).
 unfoldable pub counted_octets : Bool → List ℕ → BitForm
-counted_octets al os = only_if (each_is is_octet os) (counted al (octet_units os))
+counted_octets al os = only_if (list_all is_octet os) (counted al (octet_units os))
 
 -- A number with a lower bound alone, by how far it is above that, in the fewest octets (X.691 11.7 and 13.2.3).
 unfoldable pub semi_constrained : Bool → ℕ → BitForm
@@ -232,11 +229,11 @@ counted_eights al w = counted al (map (λ o. exactly o) (by_eights w))
 -- An open type: a complete encoding behind its number of octets (X.691 11.2).
 unfoldable pub open_type : Bool → BitForm → BitForm
 open_type al x = within (complete x) (λ w.
-    varied octets_behind [] (λ more. only_if (each_is is_octet more)
+    varied octets_behind [] (λ more. only_if (list_all is_octet more)
     (counted_eights al (w ++ flat_map (binary 8) more))))
 
 abbrev pub flag : Option BitForm → BitForm
-flag a = exactly (is_present a ∷ [])
+flag a = exactly (is_some a ∷ [])
 
 -- The number of additions that the bitmap has, its bits, and each addition that is there as an open type (X.691 19.7 to
 -- 19.9).
@@ -283,7 +280,7 @@ unfoldable mutual
   form al (enumerated roots e adds) (item v) = item_form al (length roots) e (item_place v roots) (item_place v adds)
   form al (bit_string z held) (bit_list bs) = sized al z held (string_has_padding 1 (length bs)) (bit_units bs)
   form al (octet_string z held) (octet_list os) =
-      only_if (each_is is_octet os) (sized al z held (string_has_padding 8 (length os)) (octet_units os))
+      only_if (list_all is_octet os) (sized al z held (string_has_padding 8 (length os)) (octet_units os))
   form al (character_string k z a held) (text cs) = string_form al k z a held cs
   form al object_identifier (arcs ns) = only_if (is_identifier ns) (counted_octets al (identifier_octets ns))
   form al (sequence_of z held s) (members vs) = sized al z held never (each (λ v. form al s v) vs)

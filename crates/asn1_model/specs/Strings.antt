@@ -1,13 +1,11 @@
 -- Character strings and object identifiers: what may stand in them, and the octets of an identifier.
 use Rattle.std.specs.Prelude.{ℕ, ◌+◌, ◌-◌, ◌*◌, ◌^◌, ◌==◌, ltb, leb, max, Bool, true, false, cond, ◌&&◌, ◌||◌, List, []}
 use Rattle.std.specs.Prelude.{◌∷◌, ◌++◌, filter, map, flat_map, Option, Some, None, option_map}
+use Rattle.std.specs.List.{list_all, list_any}
+use Rattle.std.specs.Str.{is_utf8}
 use Rattle.asn1_model.specs.Schema.{Alphabet, StringKind, numeric, printable, visible, ia5, bmp, general, graphic}
 use Rattle.asn1_model.specs.Schema.{teletex, utf8}
 use Rattle.asn1_model.specs.Numbers.{digits, places}
-
-abbrev pub each_is : {X : Type 0} → (X → Bool) → List X → Bool
-each_is test [] = true
-each_is test (x ∷ xs) = test x && each_is test xs
 
 -- The characters from one number to another.
 pub record Run : Type 0 where
@@ -46,8 +44,7 @@ place_of c (r ∷ rs) =
     cond (is_in_run c r) (Some (c - r.first)) (option_map (λ i. r.last + 1 - r.first + i) (place_of c rs))
 
 abbrev pub is_among : List Run → ℕ → Bool
-is_among [] c = false
-is_among (r ∷ rs) c = is_in_run c r || is_among rs c
+is_among rs c = list_any (is_in_run c) rs
 
 -- A character put among others that ascend, unless it is one of them.
 abbrev pub put_in : ℕ → List ℕ → List ℕ
@@ -76,31 +73,11 @@ is_of_octets teletex = true
 is_of_octets utf8 = true
 is_of_octets k = false
 
--- Behind each first octet of UTF-8, the runs in which the next ones stand (ISO/IEC 10646 annex D).
-abbrev pub utf8_follows : ℕ → Option (List Run)
-utf8_follows o =
-    let c = run 128 191 in
-    cond (ltb o 128) (Some [])
-    (cond (ltb o 194) None
-    (cond (ltb o 224) (Some (c ∷ []))
-    (cond (o == 224) (Some (run 160 191 ∷ c ∷ []))
-    (cond (o == 237) (Some (run 128 159 ∷ c ∷ []))
-    (cond (ltb o 240) (Some (c ∷ c ∷ []))
-    (cond (o == 240) (Some (run 144 191 ∷ c ∷ c ∷ []))
-    (cond (ltb o 244) (Some (c ∷ c ∷ c ∷ []))
-    (cond (o == 244) (Some (run 128 143 ∷ c ∷ c ∷ [])) None))))))))
-
--- Whether octets are well-formed UTF-8, where these runs are still due.
-abbrev pub is_utf8_after : List Run → List ℕ → Bool
-is_utf8_after [] [] = true
-is_utf8_after (r ∷ rs) [] = false
-is_utf8_after [] (o ∷ os) = elim (utf8_follows o) [ None ↦ false | Some rs ↦ is_utf8_after rs os ]
-is_utf8_after (r ∷ rs) (o ∷ os) = is_in_run o r && is_utf8_after rs os
-
--- Whether a value of the kind may hold these.
+-- Whether a value of the kind may hold these: of UTF8String octets that are well-formed UTF-8 (ISO/IEC 10646 annex D),
+-- as the library of the language has it.
 abbrev pub may_hold : StringKind → List ℕ → Bool
-may_hold utf8 os = is_utf8_after [] os
-may_hold k cs = each_is (is_among (characters_of k)) cs
+may_hold utf8 os = is_utf8 os
+may_hold k cs = list_all (is_among (characters_of k)) cs
 
 abbrev pub with_top_bits : List ℕ → List ℕ
 with_top_bits [] = []
@@ -121,7 +98,7 @@ identifier_octets arcs = []
 -- Whether arcs have contents: a first arc of at most 2, a second one below 40 unless the first is 2 (X.680 32), and
 -- each within 32 bits, by the project's choice.
 abbrev pub is_identifier : List ℕ → Bool
-is_identifier (a ∷ b ∷ rest) = leb a 2 && (a == 2 || ltb b 40) && each_is (λ arc. ltb arc (2 ^ 32)) (b ∷ rest)
+is_identifier (a ∷ b ∷ rest) = leb a 2 && (a == 2 || ltb b 40) && list_all (λ arc. ltb arc (2 ^ 32)) (b ∷ rest)
 is_identifier arcs = false
 
 abbrev pub is_octet : ℕ → Bool

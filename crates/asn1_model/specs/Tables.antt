@@ -2,7 +2,8 @@
 use Rattle.std.specs.Prelude.{ℕ, zero, suc, ◌+◌, ℤ, Bool, true, false, cond, ◌||◌, List, [], ◌∷◌, Option, Some, None}
 use Rattle.std.specs.Prelude.{option_map}
 use Rattle.asn1_model.specs.Value.{Value, Parts, end, absent, present, same_number}
-use Rattle.asn1_model.specs.Form.{Form, Freedom, Detail, varied, only_if, is_present, default_spelled_out, empty_group}
+use Rattle.asn1_model.specs.Form.{Form, Freedom, Detail, varied, only_if, default_spelled_out, empty_group}
+use Rattle.std.specs.Prelude.{is_some}
 use Rattle.asn1_model.specs.Normal.{is_at_default, is_group_left_out}
 use Rattle.asn1_model.specs.Schema.{Bounds, Presence, required, Schema, Components, no_component, component}
 use Rattle.asn1_model.specs.Schema.{Alternatives, no_alternative, alternative}
@@ -14,7 +15,7 @@ item_place v (d ∷ ds) = cond (same_number v d) (Some zero) (option_map suc (it
 
 -- Whether there is a value constraint.
 abbrev pub is_bounded : Bounds → Bool
-is_bounded b = is_present b.range.low || is_present b.range.high || b.extensible
+is_bounded b = is_some b.range.low || is_some b.range.high || b.extensible
 
 abbrev pub is_required : Presence → Bool
 is_required required = true

@@ -9,8 +9,9 @@ use Rattle.asn1_model.specs.Schema.{choice, Components, no_component, component,
 use Rattle.asn1_model.specs.Schema.{alternative}
 use Rattle.asn1_model.specs.Value.{are_all}
 use Rattle.asn1_model.specs.Numbers.{is_within, is_count_within}
-use Rattle.asn1_model.specs.Strings.{each_is, is_octet, may_hold, is_of_octets, is_identifier}
-use Rattle.asn1_model.specs.Form.{is_present}
+use Rattle.asn1_model.specs.Strings.{is_octet, may_hold, is_of_octets, is_identifier}
+use Rattle.std.specs.List.{list_all}
+use Rattle.std.specs.Prelude.{is_some}
 use Rattle.asn1_model.specs.Tables.{item_place, is_required}
 use Rattle.asn1_model.specs.Oer.{admits}
 
@@ -24,9 +25,9 @@ unfoldable mutual
   is_of boolean (truth b) = true
   is_of null nothing = true
   is_of (integer b held) (number v) = is_within held v && (b.extensible || is_within b.range v)
-  is_of (enumerated roots e adds) (item v) = is_present (item_place v roots) || (e && is_present (item_place v adds))
+  is_of (enumerated roots e adds) (item v) = is_some (item_place v roots) || (e && is_some (item_place v adds))
   is_of (bit_string z held) (bit_list bs) = admits z held (length bs)
-  is_of (octet_string z held) (octet_list os) = each_is is_octet os && admits z held (length os)
+  is_of (octet_string z held) (octet_list os) = list_all is_octet os && admits z held (length os)
   is_of (character_string k z a held) (text cs) =
       may_hold k cs && is_count_within held (length cs) && (is_of_octets k || admits z held (length cs))
   is_of object_identifier (arcs ns) = is_identifier ns

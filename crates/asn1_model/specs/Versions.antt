@@ -9,7 +9,7 @@ use Rattle.asn1_model.specs.Schema.{enumerated, bit_string, octet_string, charac
 use Rattle.asn1_model.specs.Schema.{sequence_of, set_of, sequence, set, group, choice, Components, no_component}
 use Rattle.asn1_model.specs.Schema.{component, Alternatives, no_alternative, alternative}
 use Rattle.asn1_model.specs.Normal.{normal}
-use Rattle.asn1_model.specs.Form.{is_present}
+use Rattle.std.specs.Prelude.{is_some}
 use Rattle.asn1_model.specs.Tables.{item_place}
 
 abbrev pub map_each : (Value → Option Value) → Values → Option Values
@@ -60,7 +60,7 @@ unfoldable mutual
   -- item that stands elsewhere.
   pub lessen : Schema → Schema → Value → Option Value
   lessen (enumerated roots e adds) (enumerated roots' e' adds') (item v) =
-      cond (is_present (item_place v roots) || is_present (item_place v adds)) (Some (item v)) None
+      cond (is_some (item_place v roots) || is_some (item_place v adds)) (Some (item v)) None
   lessen (sequence_of z h s) (sequence_of z' h' s') (members vs) = option_map members (map_each (λ v. lessen s s' v) vs)
   lessen (set_of z h s) (set_of z' h' s') (bag vs) = option_map bag (map_each (λ v. lessen s s' v) vs)
   lessen (sequence cs e adds) (sequence cs' e' adds') (fields ps qs) =

@@ -1,7 +1,7 @@
 -- Lists of constraints: what they admit, and lists joined.
 use Rattle.std.proofs.Common.{◌≡◌, ◌∙◌, refl, sym, ap, ℕ, ℤ, leb, Bool, true, false, ◌&&◌, ◌||◌, List, [], ◌∷◌, ◌++◌, map, fold, Option, Some, None}
 use Rattle.asn1_model.specs.Numbers.{is_at_most}
-use Rattle.asn1_model.specs.Strings.{each_is}
+use Rattle.std.specs.List.{list_all}
 use Rattle.asn1_schema_constraints.specs.declared.parts.Value.{Value}
 use Rattle.asn1_schema_constraints.specs.declared.parts.Size.{Size}
 use Rattle.asn1_schema_constraints.specs.declared.extensions.Extensible.{Extensible}
@@ -112,15 +112,15 @@ both_admit_count a b n = root_of_both met_sizes (λ root. admits_count root.rang
 
 -- what respects both, respects lists
 each_alone : (test : Constraints → Bool) → ((a b : Constraints) → test (both a b) ≡ (test a && test b)) → (a : Constraints) (cs : List Constraint)
-    → test (fold both a (map alone cs)) ≡ (test a && each_is (λ c. test (alone c)) cs)
+    → test (fold both a (map alone cs)) ≡ (test a && list_all (λ c. test (alone c)) cs)
 each_alone test h a [] = and_true (test a)
 each_alone test h a (c ∷ cs) = each_alone test h (both a (alone c)) cs
-    ∙ (ap (λ t. t && each_is (λ d. test (alone d)) cs) (h a (alone c)) ∙ and_groups (test a) (test (alone c)) (each_is (λ d. test (alone d)) cs))
+    ∙ (ap (λ t. t && list_all (λ d. test (alone d)) cs) (h a (alone c)) ∙ and_groups (test a) (test (alone c)) (list_all (λ d. test (alone d)) cs))
 
 -- a list admits a number exactly if each of its constraints does
-pub all_admit_number : (cs : List Constraint) (v : ℤ) → admit_number (all_of cs) v ≡ each_is (λ c. admit_number (alone c) v) cs
+pub all_admit_number : (cs : List Constraint) (v : ℤ) → admit_number (all_of cs) v ≡ list_all (λ c. admit_number (alone c) v) cs
 all_admit_number cs v = each_alone (λ c. admit_number c v) (λ a b. both_admit_number a b v) unconstrained cs
 
 -- a list admits a size exactly if each of its constraints does
-pub all_admit_count : (cs : List Constraint) (n : ℕ) → admit_count (all_of cs) n ≡ each_is (λ c. admit_count (alone c) n) cs
+pub all_admit_count : (cs : List Constraint) (n : ℕ) → admit_count (all_of cs) n ≡ list_all (λ c. admit_count (alone c) n) cs
 all_admit_count cs n = each_alone (λ c. admit_count c n) (λ a b. both_admit_count a b n) unconstrained cs

@@ -1,6 +1,6 @@
 //! Single constraints of any kind, and what a list of them comes to (X.680 clauses 50 to 52).
 ghost use Rattle.std.specs.Prelude.{◌≡◌, ℕ, ℤ, ◌&&◌, Some, None, false, pos};
-ghost use Rattle.asn1_model.specs.Strings.{each_is};
+ghost use Rattle.std.specs.List.{list_all};
 ghost use Rattle.std.specs.Option.{option_copied};
 ghost use Rattle.asn1_schema_constraints.specs.Sets.{alone, kind_of, kind_number, value_part, size_part, alphabet_part};
 ghost use Rattle.asn1_schema_constraints.specs.Sets.{has_marker, unconstrained, both_parts, met_values, met_sizes};
@@ -237,8 +237,8 @@ impl<'a> Constraints<'a> {
     /// These constraints together, applied in turn.
     pub fn new(constraints: &[Constraint<'a>]) -> Self
         ensures list { result ≡ all_of constraints.now }
-        ensures numbers { (v : ℤ) → admit_number result v ≡ each_is (λ c. admit_number (alone c) v) constraints.now }
-        ensures sizes { (n : ℕ) → admit_count result n ≡ each_is (λ c. admit_count (alone c) n) constraints.now }
+        ensures numbers { (v : ℤ) → admit_number result v ≡ list_all (λ c. admit_number (alone c) v) constraints.now }
+        ensures sizes { (n : ℕ) → admit_count result n ≡ list_all (λ c. admit_count (alone c) n) constraints.now }
     {
         let mut all = Constraints::NONE;
         for constraint in constraints {

@@ -2,7 +2,8 @@
 use Rattle.std.proofs.Common.{◌≡◌, ℕ, zero, suc, ◌+◌, ◌==◌, ltb, not, Bool, true, false, ◌&&◌, ◌||◌, List, [], ◌∷◌, ◌++◌, length, take, drop, map, Option, Some, None, option_map, refl, ap, sym, ◌∙◌, arith}
 use Rattle.std.proofs.lemmas.List.{append-nil}
 use Rattle.std.proofs.lemmas.Bool.{lt-ltb, ltb-true}
-use Rattle.asn1_model.specs.Form.{Form, Bitmap, is_present, is_any_present, present_ones, covered_by}
+use Rattle.asn1_model.specs.Form.{Form, Bitmap, is_any_present, present_ones, covered_by}
+use Rattle.std.specs.Prelude.{is_some}
 use Rattle.asn1_laws_fronts.proofs.Additions as adding
 use Rattle.asn1_schema_finding.specs.PresenceBits.{first_bits, is_any_set}
 
@@ -12,13 +13,13 @@ Octets = List (Option (List ℕ))
 
 -- which are there
 abbrev pub flags : {X : Type 0} → List (Option X) → List Bool
-flags xs = map (λ a. is_present a) xs
+flags xs = map (λ a. is_some a) xs
 
 -- ---- the bits of a bitmap
 
 pub any_set : {X : Type 0} (xs : List (Option X)) → is_any_set (flags xs) ≡ is_any_present xs
 any_set [] = refl
-any_set (x ∷ xs) = ap (λ t. is_present x || t) (any_set xs)
+any_set (x ∷ xs) = ap (λ t. is_some x || t) (any_set xs)
 
 -- where none is there
 pub none_flags : {X : Type 0} (xs : List (Option X)) → is_any_present xs ≡ false → (flags xs ≡ first_bits (length xs) []) × (present_ones xs ≡ [])
@@ -90,7 +91,7 @@ module _ {X : Type 0} (unknown : List ℕ → X) where
   covers (x ∷ xs) us (t ∷ bs) e f =
       let g : flags xs ≡ first_bits (length xs) bs = cc in
       let r = covers xs us bs g f in
-      let h : is_present x ≡ t = cc in
+      let h : is_some x ≡ t = cc in
       (record { covered = suc r.0.covered; further = r.0.further }, x ∷ r.1, covered_more r.0 x xs r.1 r.2, ap (λ l. l ∷ flags r.1) h ∙ ap (λ l. t ∷ l) r.3, one_more x x r.1 xs (present_ones (unknown_ones us)) refl r.4)
 
   -- and back
@@ -103,7 +104,7 @@ module _ {F : Type 0} {D : F → Type 0} {A : Type 0} (free : F → Bool) (unkno
   told_by (x ∷ xs) [] t = let r = none_flags (x ∷ xs) t in ([], r.0, refl, sym (append-nil (present_ones (x ∷ xs)) ∙ r.1))
   told_by (x ∷ xs) (y ∷ all) t =
       let r = told_by xs all t.1 in
-      (r.0, ap (λ l. is_present l ∷ flags xs) t.0 ∙ ap (λ l. is_present y ∷ l) r.1, r.2, one_more x y all xs (present_ones (unknown_ones unknown r.0)) t.0 r.3)
+      (r.0, ap (λ l. is_some l ∷ flags xs) t.0 ∙ ap (λ l. is_some y ∷ l) r.1, r.2, one_more x y all xs (present_ones (unknown_ones unknown r.0)) t.0 r.3)
 
   pub told_of : (b : Bitmap) (xs all : List (Option (Form F D A))) → covered_by unknown b xs ≡ Some all → Told unknown xs all
   told_of b xs all e = told_by xs all (adding.covered_tells F D A free unknown alike b xs all e)

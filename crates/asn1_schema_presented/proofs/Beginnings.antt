@@ -4,7 +4,7 @@ use Rattle.std.specs.Prelude.{◌&&◌, ◌==◌}
 use Rattle.std.proofs.lemmas.Bool.{and_parts, and_from}
 use Rattle.asn1_model.specs.Value.{same_list}
 use Rattle.asn1_model.specs.Schema.{Tag, Schema, cut, group, choice, Components, Alternatives}
-use Rattle.asn1_model.specs.Strings.{each_is}
+use Rattle.std.specs.List.{list_all}
 use Rattle.asn1_model.specs.Lawful.{tag_less, tag_same, is_tag, smallest, is_group, component_tags, alternative_tags, are_tags, begins_with, are_tags_of}
 use Rattle.asn1_schema_presented.specs.Tables.{is_one_tag, are_choice_tags}
 
@@ -60,8 +60,8 @@ one_of_two : (b : Bool) (t u : Tag) → is_tag t ≡ true → is_tag u ≡ true 
 one_of_two true t u e f ts h = h u f
 one_of_two false t u e f ts h = h t e
 
-pub smallest_is_tag : (ts : List Tag) (t : Tag) → is_tag t ≡ true → each_is is_tag ts ≡ true → is_tag (smallest t ts) ≡ true
+pub smallest_is_tag : (ts : List Tag) (t : Tag) → is_tag t ≡ true → list_all is_tag ts ≡ true → is_tag (smallest t ts) ≡ true
 smallest_is_tag [] t e h = e
 smallest_is_tag (u ∷ ts) t e h =
-    let p = and_parts (is_tag u) (each_is is_tag ts) h in
+    let p = and_parts (is_tag u) (list_all is_tag ts) h in
     one_of_two (tag_less u t) t u e p.0 ts (λ v k. smallest_is_tag ts v k p.1)

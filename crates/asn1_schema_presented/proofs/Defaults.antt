@@ -6,7 +6,8 @@ use Rattle.asn1_model.specs.Schema.{Range, Bounds, Counts, Size, Schema, by_defa
 use Rattle.asn1_model.specs.Tidy.{is_normal}
 use Rattle.asn1_model.specs.Typed.{is_of}
 use Rattle.asn1_model.specs.Numbers.{is_within, is_count_within}
-use Rattle.asn1_model.specs.Strings.{each_is, is_octet, may_hold, is_of_octets, is_identifier}
+use Rattle.asn1_model.specs.Strings.{is_octet, may_hold, is_of_octets, is_identifier}
+use Rattle.std.specs.List.{list_all}
 use Rattle.asn1_model.specs.Oer.{admits}
 use Rattle.asn1_schema_presented.specs.Typed.{HasDefault, IsDefault}
 use Rattle.asn1_schema_presented.proofs.TypesByKind.{boolean_value, null_value, integer_value, bit_string_value, octet_string_value, character_string_value, identifier_value}
@@ -30,7 +31,7 @@ pub bit_string_default : (z : Size) (h : Counts) (bs : List Bool) → admits z h
 unfolding is_of is_normal
 bit_string_default z h bs e = record { is_value = bit_string_value z h bs; typed = λ n. e; spelled = λ n. refl }
 
-pub octet_string_default : (z : Size) (h : Counts) (os : List ℕ) → (each_is is_octet os && admits z h (length os)) ≡ true → IsDefault (λ _. octet_string z h) (octet_list os)
+pub octet_string_default : (z : Size) (h : Counts) (os : List ℕ) → (list_all is_octet os && admits z h (length os)) ≡ true → IsDefault (λ _. octet_string z h) (octet_list os)
 unfolding is_of is_normal
 octet_string_default z h os e = record { is_value = octet_string_value z h os; typed = λ n. e; spelled = λ n. refl }
 

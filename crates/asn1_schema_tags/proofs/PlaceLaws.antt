@@ -4,7 +4,7 @@ use Rattle.std.specs.List.{position_from}
 use Rattle.std.proofs.lemmas.Option.{slice_get_within}
 use Rattle.asn1_model.specs.Schema.{Tag as ModelTag}
 use Rattle.asn1_model.specs.Lawful.{tag_same}
-use Rattle.asn1_model.specs.Strings.{each_is}
+use Rattle.std.specs.List.{list_all}
 use Rattle.asn1_schema_tags.specs.Trees.{leaves, leaves_of, are_unique, place_of, counted}
 use Rattle.asn1_schema_tags.specs.Tags.{tag_of}
 use Rattle.asn1_schema_tags.specs.declared.tags.Tag.{Tag}
@@ -148,11 +148,11 @@ pub place_within : (xs : List ModelTag) (t : ModelTag) (k : ℕ) → place_of xs
 place_within xs t k e = slice_get_within xs k t (place_back xs t k e)
 
 -- an element passes what each does
-each_passes : (p : ModelTag → Bool) (xs : List ModelTag) (n : ℕ) (t : ModelTag) → each_is p xs ≡ true → slice_get xs n ≡ Some t → p t ≡ true
+each_passes : (p : ModelTag → Bool) (xs : List ModelTag) (n : ℕ) (t : ModelTag) → list_all p xs ≡ true → slice_get xs n ≡ Some t → p t ≡ true
 each_passes p [] n t a e = cc
 each_passes p (x ∷ xs) zero t a e =
-    let same : x ≡ t = cc in ap p (sym same) ∙ (both_true (p x) (each_is p xs) a).0
-each_passes p (x ∷ xs) (suc n) t a e = each_passes p xs n t (both_true (p x) (each_is p xs) a).1 e
+    let same : x ≡ t = cc in ap p (sym same) ∙ (both_true (p x) (list_all p xs) a).0
+each_passes p (x ∷ xs) (suc n) t a e = each_passes p xs n t (both_true (p x) (list_all p xs) a).1 e
 
 -- a test that is not passed
 not_true : (b : Bool) → not b ≡ true → b ≡ false
@@ -167,7 +167,7 @@ tag_back (x ∷ xs) zero t u e =
     let first : tag_same t x ≡ true = ap (tag_same t) same ∙ tag_same_itself t in
     ap (λ b. cond b (Some 0) (position_from (tag_same t) 1 xs)) first
 tag_back (x ∷ xs) (suc n) t u e =
-    let parts = both_true (each_is (λ y. not (tag_same x y)) xs) (are_unique xs) u in
+    let parts = both_true (list_all (λ y. not (tag_same x y)) xs) (are_unique xs) u in
     let other : tag_same x t ≡ false = not_true (tag_same x t) (each_passes (λ y. not (tag_same x y)) xs n t parts.0 e) in
     ap (λ b. cond b (Some 0) (position_from (tag_same t) 1 xs)) (tag_same_flip x t other)
     ∙ (position_from_zero (tag_same t) 1 xs ∙ (ap (option_map (λ j. 1 + j)) (tag_back xs n t parts.1 e) ∙ ap (λ (k : ℕ). Some k) (let s : 1 + n ≡ suc n = omega arith in s)))

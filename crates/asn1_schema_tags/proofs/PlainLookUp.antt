@@ -4,7 +4,7 @@ use Rattle.std.proofs.lemmas.Bool.{eqb-true}
 use Rattle.std.specs.List.{position_from}
 use Rattle.asn1_model.specs.Schema.{Tag as ModelTag}
 use Rattle.asn1_model.specs.Lawful.{tag_same}
-use Rattle.asn1_model.specs.Strings.{each_is}
+use Rattle.std.specs.List.{list_all}
 use Rattle.asn1_schema_tags.specs.Tags.{tag_of}
 use Rattle.asn1_schema_tags.specs.Trees.{place_of}
 use Rattle.asn1_schema_tags.specs.Places.{ascends, looked_up, stands_at, is_tag_there, is_place_there, are_listed, is_table_of}
@@ -13,12 +13,12 @@ use Rattle.asn1_schema_tags.proofs.Halves.{left, right, none_there}
 use Rattle.asn1_schema_tags.specs.Same.{tag_is, differ}
 
 -- A table's entry passes what all entries pass.
-passes : (test : TagPlace → Bool) (ps : List TagPlace) (k : ℕ) (r : TagPlace) → each_is test ps ≡ true → slice_get ps k ≡ Some r → test r ≡ true
+passes : (test : TagPlace → Bool) (ps : List TagPlace) (k : ℕ) (r : TagPlace) → list_all test ps ≡ true → slice_get ps k ≡ Some r → test r ≡ true
 passes test [] k r e f = cc
 passes test (p ∷ ps) zero r e f =
     let is : p ≡ r = cc in
-    sym (ap test is) ∙ left (test p) (each_is test ps) e
-passes test (p ∷ ps) (suc k) r e f = passes test ps k r (right (test p) (each_is test ps) e) f
+    sym (ap test is) ∙ left (test p) (list_all test ps) e
+passes test (p ∷ ps) (suc k) r e f = passes test ps k r (right (test p) (list_all test ps) e) f
 
 -- A tag that is not found is none of those that were searched.
 absent : (t : ModelTag) (n : ℕ) (ts : List ModelTag) (k : ℕ) (u : ModelTag) → position_from (tag_same t) n ts ≡ None → slice_get ts k ≡ Some u
@@ -49,7 +49,7 @@ listed ps t n (x ∷ ts) j e f = go (tag_same t x) refl f (listed ps t (n + 1) t
   go false c f r = r (right (is_place_there (looked_up ps x) n) (are_listed ps (n + 1) ts) e) f
 
 -- A tag that is not found does not stand in the table.
-unlisted : (ps : List TagPlace) (t : ModelTag) (ts : List ModelTag) → each_is (stands_at ts) ps ≡ true
+unlisted : (ps : List TagPlace) (t : ModelTag) (ts : List ModelTag) → list_all (stands_at ts) ps ≡ true
     → position_from (tag_same t) 0 ts ≡ None → looked_up ps t ≡ None
 unlisted ps t ts e f = none_there ps t each where
   each : (k : ℕ) (r : TagPlace) → slice_get ps k ≡ Some r → tag_same t (tag_of r.tag) ≡ false
@@ -63,7 +63,7 @@ unlisted ps t ts e f = none_there ps t each where
 pub same_as_search : (ps : List TagPlace) (t : ModelTag) (ts : List ModelTag) → is_table_of ps ts ≡ true → looked_up ps t ≡ place_of ts t
 same_as_search ps t ts e = go (place_of ts t) refl where
   stand : Bool
-  stand = each_is (stands_at ts) ps
+  stand = list_all (stands_at ts) ps
 
   go : (o : Option ℕ) → place_of ts t ≡ o → looked_up ps t ≡ o
   go None f = unlisted ps t ts (right (ascends ps) stand (left (ascends ps && stand) (are_listed ps 0 ts) e)) f

@@ -4,7 +4,7 @@ use Rattle.std.proofs.lemmas.List.{length-map}
 use Rattle.asn1_model.specs.Schema.{Tag as ModelTag}
 use Rattle.asn1_model.specs.Lawful.{tag_less}
 use Rattle.asn1_schema_tags.specs.Tags.{tag_of}
-use Rattle.asn1_model.specs.Strings.{each_is}
+use Rattle.std.specs.List.{list_all}
 use Rattle.asn1_schema_tags.specs.Places.{ascends, looked_up, stands_at, is_place_there, are_listed, is_table_of}
 use Rattle.asn1_schema_tags.specs.declared.probes.TagPlace.{TagPlace}
 use Rattle.asn1_schema_tags.specs.declared.tags.Tag.{Tag}
@@ -60,12 +60,12 @@ listed_in_turn ps n (t ∷ ts) us =
 -- A table that ascends, and whose tags stand at their places, is one of the tags of the root and then the added ones if
 -- both are listed.
 pub table_parts : (ps : List TagPlace) (ts us : List Tag) {a b : Bool} → a ≡ ascends ps → a ≡ true
-    → b ≡ each_is (stands_at (map tag_of ts ++ map tag_of us)) ps → b ≡ true
+    → b ≡ list_all (stands_at (map tag_of ts ++ map tag_of us)) ps → b ≡ true
     → is_table_of ps (map tag_of ts ++ map tag_of us) ≡ (are_listed ps 0 (map tag_of ts) && are_listed ps (length ts) (map tag_of us))
 table_parts ps ts us e f g h =
     let all : List ModelTag = map tag_of ts ++ map tag_of us in
     let n : 0 + length (map tag_of ts) ≡ length ts = omega (arith, length-map ts tag_of) in
-    ap (λ x. x && each_is (stands_at all) ps && are_listed ps 0 all) (sym e ∙ f)
+    ap (λ x. x && list_all (stands_at all) ps && are_listed ps 0 all) (sym e ∙ f)
     ∙ (ap (λ x. x && are_listed ps 0 all) (sym g ∙ h)
     ∙ (listed_in_turn ps 0 (map tag_of ts) (map tag_of us)
     ∙ ap (λ k. are_listed ps 0 (map tag_of ts) && are_listed ps k (map tag_of us)) n))

@@ -6,7 +6,7 @@ use Rattle.std.proofs.lemmas.List.{take_all}
 use Rattle.std.proofs.lemmas.List.Folds.{list_any-append}
 use Rattle.asn1_model.specs.Schema.{Tag as ModelTag}
 use Rattle.asn1_model.specs.Lawful.{tag_less, tag_same, smallest}
-use Rattle.asn1_model.specs.Strings.{each_is}
+use Rattle.std.specs.List.{list_all}
 use Rattle.asn1_schema_tags.specs.Tags.{tag_of}
 use Rattle.asn1_schema_tags.specs.Trees.{leaves_step, leaves, leaves_of, no_own_tag, own_tag_step, own_tag, are_unique, is_among, share_a_tag}
 use Rattle.asn1_schema_tags.specs.declared.tags.Tag.{Tag}
@@ -46,15 +46,15 @@ smallest-append t (x ∷ xs) ys =
     [ true ↦ smallest-append x xs ys | false ↦ smallest-append t xs ys ]
 
 -- a test of each element of two lists joined
-each_is-append : {X : Type 0} (p : X → Bool) (xs ys : List X) → each_is p (xs ++ ys) ≡ (each_is p xs && each_is p ys)
+each_is-append : {X : Type 0} (p : X → Bool) (xs ys : List X) → list_all p (xs ++ ys) ≡ (list_all p xs && list_all p ys)
 each_is-append p [] ys = refl
-each_is-append p (x ∷ xs) ys = elim (p x) as (λ b. (b && each_is p (xs ++ ys)) ≡ ((b && each_is p xs) && each_is p ys))
+each_is-append p (x ∷ xs) ys = elim (p x) as (λ b. (b && list_all p (xs ++ ys)) ≡ ((b && list_all p xs) && list_all p ys))
     [ true ↦ each_is-append p xs ys | false ↦ refl ]
 
 -- no element passes exactly if none is found
-each_is_not : {X : Type 0} (p : X → Bool) (xs : List X) → each_is (λ y. not (p y)) xs ≡ not (list_any p xs)
+each_is_not : {X : Type 0} (p : X → Bool) (xs : List X) → list_all (λ y. not (p y)) xs ≡ not (list_any p xs)
 each_is_not p [] = refl
-each_is_not p (x ∷ xs) = elim (p x) as (λ b. (not b && each_is (λ y. not (p y)) xs) ≡ not (b || list_any p xs))
+each_is_not p (x ∷ xs) = elim (p x) as (λ b. (not b && list_all (λ y. not (p y)) xs) ≡ not (b || list_any p xs))
     [ true ↦ refl | false ↦ each_is_not p xs ]
 
 -- the truth values in the step of the next lemma
@@ -68,9 +68,9 @@ regroup false b c d e = refl
 pub are_unique-append : (xs ys : List ModelTag) → are_unique (xs ++ ys) ≡ (are_unique xs && (not (share_a_tag xs ys) && are_unique ys))
 are_unique-append [] ys = refl
 are_unique-append (x ∷ xs) ys =
-    ap (λ b. b && are_unique (xs ++ ys)) (each_is-append (λ y. not (tag_same x y)) xs ys ∙ ap (λ b. each_is (λ y. not (tag_same x y)) xs && b) (each_is_not (tag_same x) ys))
-    ∙ (ap (λ b. (each_is (λ y. not (tag_same x y)) xs && not (is_among ys x)) && b) (are_unique-append xs ys)
-    ∙ regroup (each_is (λ y. not (tag_same x y)) xs) (is_among ys x) (are_unique xs) (share_a_tag xs ys) (are_unique ys))
+    ap (λ b. b && are_unique (xs ++ ys)) (each_is-append (λ y. not (tag_same x y)) xs ys ∙ ap (λ b. list_all (λ y. not (tag_same x y)) xs && b) (each_is_not (tag_same x) ys))
+    ∙ (ap (λ b. (list_all (λ y. not (tag_same x y)) xs && not (is_among ys x)) && b) (are_unique-append xs ys)
+    ∙ regroup (list_all (λ y. not (tag_same x y)) xs) (is_among ys x) (are_unique xs) (share_a_tag xs ys) (are_unique ys))
 
 -- what is among two lists joined is among either
 pub is_among-append : (xs ys : List ModelTag) (t : ModelTag) → is_among (xs ++ ys) t ≡ (is_among xs t || is_among ys t)

@@ -3,7 +3,7 @@ use Rattle.std.specs.Prelude.{ℕ, ◌+◌, ◌==◌, Bool, true, false, cond, �
 use Rattle.std.specs.Prelude.{Option, Some, None}
 use Rattle.asn1_model.specs.Schema.{Tag as ModelTag}
 use Rattle.asn1_model.specs.Lawful.{tag_less, tag_same, are_ascending}
-use Rattle.asn1_model.specs.Strings.{each_is}
+use Rattle.std.specs.List.{list_all}
 use Rattle.asn1_schema_tags.specs.Tags.{tag_of}
 use Rattle.asn1_schema_tags.specs.declared.probes.TagPlace.{TagPlace}
 
@@ -46,4 +46,4 @@ are_listed ps i (t ∷ ts) = is_place_there (looked_up ps t) i && are_listed ps 
 
 -- A table lists each of some tags with its place among them, and nothing else, ascending by tag.
 abbrev pub is_table_of : List TagPlace → List ModelTag → Bool
-is_table_of ps ts = ascends ps && each_is (stands_at ts) ps && are_listed ps 0 ts
+is_table_of ps ts = ascends ps && list_all (stands_at ts) ps && are_listed ps 0 ts

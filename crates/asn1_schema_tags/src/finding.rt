@@ -3,7 +3,7 @@ ghost use Rattle.std.specs.Prelude.{◌≡◌, ◌≤◌, ◌+◌, ◌++◌, len
 ghost use Rattle.asn1_model.specs.Numbers.{width};
 ghost use Rattle.asn1_schema_tags.specs.Places.{ascends, looked_up, is_table_of, stands_at};
 ghost use Rattle.asn1_schema_tags.specs.Places.{are_listed as are_listed_from, is_place_there};
-ghost use Rattle.asn1_model.specs.Strings.{each_is};
+ghost use Rattle.std.specs.List.{list_all};
 ghost use Rattle.asn1_schema_tags.specs.Tags.{tag_of};
 ghost use Rattle.asn1_schema_tags.specs.Trees.{place_of};
 
@@ -72,7 +72,7 @@ fn tag_at(variants: &[Tag], extended: &[Tag], place: usize) -> Option<Tag>
 
 /// Whether each tag of a table stands at its place among those of the root and then the added ones.
 fn stand_there(places: &[TagPlace], variants: &[Tag], extended: &[Tag]) -> bool
-    ensures { result ≡ each_is (stands_at (map tag_of variants.now ++ map tag_of extended.now)) places.now }
+    ensures { result ≡ list_all (stands_at (map tag_of variants.now ++ map tag_of extended.now)) places.now }
 {
     for entry in places {
         match tag_at(variants, extended, entry.place) {

@@ -1,18 +1,18 @@
 -- Items that differ in what each has.
 use Rattle.std.proofs.Common.{◌≡◌, ◌∙◌, sym, ap, ℕ, zero, suc, ℤ, Bool, true, false, not, List, [], ◌∷◌, map, slice_get, Some}
 use Rattle.asn1_model.specs.Value.{same_number}
-use Rattle.asn1_model.specs.Strings.{each_is}
+use Rattle.std.specs.List.{list_all}
 use Rattle.asn1_model.specs.Lawful.{are_distinct}
 use Rattle.asn1_schema_variants.proofs.Places.{same_number_self, both_true}
 
 module _ {A X : Type 0} (f : A → X) (same : X → X → Bool) (self : (x : X) → same x x ≡ true) where
-  each_at : (p : X → Bool) (xs : List A) (i : ℕ) (y : A) → each_is p (map f xs) ≡ true → slice_get xs i ≡ Some y → p (f y) ≡ true
+  each_at : (p : X → Bool) (xs : List A) (i : ℕ) (y : A) → list_all p (map f xs) ≡ true → slice_get xs i ≡ Some y → p (f y) ≡ true
   each_at p [] i y a e = cc
-  each_at p (x ∷ xs) zero y a e = let s : x ≡ y = cc in ap (λ z. p (f z)) (sym s) ∙ (both_true (p (f x)) (each_is p (map f xs)) a).0
-  each_at p (x ∷ xs) (suc i) y a e = each_at p xs i y (both_true (p (f x)) (each_is p (map f xs)) a).1 e
+  each_at p (x ∷ xs) zero y a e = let s : x ≡ y = cc in ap (λ z. p (f z)) (sym s) ∙ (both_true (p (f x)) (list_all p (map f xs)) a).0
+  each_at p (x ∷ xs) (suc i) y a e = each_at p xs i y (both_true (p (f x)) (list_all p (map f xs)) a).1 e
 
   -- the first is none of those behind it
-  none_behind : (x y : A) (xs : List A) (i : ℕ) → each_is (λ z. not (same (f x) z)) (map f xs) ≡ true → slice_get xs i ≡ Some y → f x ≡ f y → ⊥
+  none_behind : (x y : A) (xs : List A) (i : ℕ) → list_all (λ z. not (same (f x) z)) (map f xs) ≡ true → slice_get xs i ≡ Some y → f x ≡ f y → ⊥
   none_behind x y xs i a e h =
       let n : not (same (f x) (f y)) ≡ true = each_at (λ z. not (same (f x) z)) xs i y a e in
       let t : same (f x) (f y) ≡ true = ap (λ z. same (f x) z) (sym h) ∙ self (f x) in
@@ -23,11 +23,11 @@ module _ {A X : Type 0} (f : A → X) (same : X → X → Bool) (self : (x : X) 
   same_place (z ∷ zs) zero zero x y d e g h = cc
   same_place (z ∷ zs) zero (suc j) x y d e g h =
       let s : z ≡ x = cc in
-      absurd (none_behind z y zs j (both_true (each_is (λ w. not (same (f z) w)) (map f zs)) (are_distinct same (map f zs)) d).0 g (ap f s ∙ h))
+      absurd (none_behind z y zs j (both_true (list_all (λ w. not (same (f z) w)) (map f zs)) (are_distinct same (map f zs)) d).0 g (ap f s ∙ h))
   same_place (z ∷ zs) (suc i) zero x y d e g h =
       let s : z ≡ y = cc in
-      absurd (none_behind z x zs i (both_true (each_is (λ w. not (same (f z) w)) (map f zs)) (are_distinct same (map f zs)) d).0 e (ap f s ∙ sym h))
-  same_place (z ∷ zs) (suc i) (suc j) x y d e g h = same_place zs i j x y (both_true (each_is (λ w. not (same (f z) w)) (map f zs)) (are_distinct same (map f zs)) d).1 e g h
+      absurd (none_behind z x zs i (both_true (list_all (λ w. not (same (f z) w)) (map f zs)) (are_distinct same (map f zs)) d).0 e (ap f s ∙ sym h))
+  same_place (z ∷ zs) (suc i) (suc j) x y d e g h = same_place zs i j x y (both_true (list_all (λ w. not (same (f z) w)) (map f zs)) (are_distinct same (map f zs)) d).1 e g h
 
   pub one_by : (xs : List A) → ((x : A) → (i : ℕ) × (slice_get xs i ≡ Some x)) → are_distinct same (map f xs) ≡ true → (x y : A) → f x ≡ f y → x ≡ y
   one_by xs k d x y h = same_place xs (k x).0 (k y).0 x y d (k x).1 (k y).1 h

@@ -6,7 +6,7 @@ use Rattle.asn1_schema_variants.specs.Items.{IsPlaced}
 use Rattle.std.proofs.lemmas.Option.{slice_get-map, slice_get_past, slice_get-get_or}
 use Rattle.std.proofs.lemmas.List.{drop_more}
 use Rattle.asn1_model.specs.Value.{same_number}
-use Rattle.asn1_model.specs.Strings.{each_is}
+use Rattle.std.specs.List.{list_all}
 use Rattle.asn1_model.specs.Lawful.{are_distinct}
 use Rattle.asn1_model.specs.Tables.{item_place}
 
@@ -33,24 +33,24 @@ not_true false e = refl
 pub distinct_before : (xs ys : List ℤ) → are_distinct same_number (xs ++ ys) ≡ true → are_distinct same_number xs ≡ true
 distinct_before [] ys e = refl
 distinct_before (x ∷ xs) ys e =
-    let d = both_true (each_is (λ y. not (same_number x y)) (xs ++ ys)) (are_distinct same_number (xs ++ ys)) e in
+    let d = both_true (list_all (λ y. not (same_number x y)) (xs ++ ys)) (are_distinct same_number (xs ++ ys)) e in
     rw (each_before (λ y. not (same_number x y)) xs ys d.0, distinct_before xs ys d.1) refl where
-      each_before : (p : ℤ → Bool) (xs ys : List ℤ) → each_is p (xs ++ ys) ≡ true → each_is p xs ≡ true
+      each_before : (p : ℤ → Bool) (xs ys : List ℤ) → list_all p (xs ++ ys) ≡ true → list_all p xs ≡ true
       each_before p [] ys e = refl
-      each_before p (x ∷ xs) ys e = let d = both_true (p x) (each_is p (xs ++ ys)) e in rw (d.0, each_before p xs ys d.1) refl
+      each_before p (x ∷ xs) ys e = let d = both_true (p x) (list_all p (xs ++ ys)) e in rw (d.0, each_before p xs ys d.1) refl
 
 pub distinct_behind : (xs ys : List ℤ) → are_distinct same_number (xs ++ ys) ≡ true → are_distinct same_number ys ≡ true
 distinct_behind [] ys e = e
-distinct_behind (x ∷ xs) ys e = distinct_behind xs ys (both_true (each_is (λ y. not (same_number x y)) (xs ++ ys)) (are_distinct same_number (xs ++ ys)) e).1
+distinct_behind (x ∷ xs) ys e = distinct_behind xs ys (both_true (list_all (λ y. not (same_number x y)) (xs ++ ys)) (are_distinct same_number (xs ++ ys)) e).1
 
-each_behind : (p : ℤ → Bool) (xs ys : List ℤ) → each_is p (xs ++ ys) ≡ true → each_is p ys ≡ true
+each_behind : (p : ℤ → Bool) (xs ys : List ℤ) → list_all p (xs ++ ys) ≡ true → list_all p ys ≡ true
 each_behind p [] ys e = e
-each_behind p (x ∷ xs) ys e = each_behind p xs ys (both_true (p x) (each_is p (xs ++ ys)) e).1
+each_behind p (x ∷ xs) ys e = each_behind p xs ys (both_true (p x) (list_all p (xs ++ ys)) e).1
 
-each_at : (p : ℤ → Bool) (xs : List ℤ) (i : ℕ) (v : ℤ) → each_is p xs ≡ true → slice_get xs i ≡ Some v → p v ≡ true
+each_at : (p : ℤ → Bool) (xs : List ℤ) (i : ℕ) (v : ℤ) → list_all p xs ≡ true → slice_get xs i ≡ Some v → p v ≡ true
 each_at p [] i v a e = cc
-each_at p (x ∷ xs) zero v a e = let s : x ≡ v = cc in ap p (sym s) ∙ (both_true (p x) (each_is p xs) a).0
-each_at p (x ∷ xs) (suc i) v a e = each_at p xs i v (both_true (p x) (each_is p xs) a).1 e
+each_at p (x ∷ xs) zero v a e = let s : x ≡ v = cc in ap p (sym s) ∙ (both_true (p x) (list_all p xs) a).0
+each_at p (x ∷ xs) (suc i) v a e = each_at p xs i v (both_true (p x) (list_all p xs) a).1 e
 
 other : (x v : ℤ) → same_number x v ≡ false → same_number v x ≡ false
 other x v e = go (same_number v x) refl where
@@ -63,14 +63,14 @@ pub place_at : (v : ℤ) (xs : List ℤ) (i : ℕ) → are_distinct same_number 
 place_at v [] i d e = cc
 place_at v (x ∷ xs) zero d e = let s : x ≡ v = cc in rw (s, same_number_self v) refl
 place_at v (x ∷ xs) (suc i) d e =
-    let h = both_true (each_is (λ y. not (same_number x y)) xs) (are_distinct same_number xs) d in
+    let h = both_true (list_all (λ y. not (same_number x y)) xs) (are_distinct same_number xs) d in
     rw (other x v (not_true (same_number x v) (each_at (λ y. not (same_number x y)) xs i v h.0 e)), place_at v xs i h.1 e) refl
 
 -- and it stands nowhere before
 pub not_before : (v : ℤ) (xs ys : List ℤ) (i : ℕ) → are_distinct same_number (xs ++ ys) ≡ true → slice_get ys i ≡ Some v → item_place v xs ≡ None
 not_before v [] ys i d e = refl
 not_before v (x ∷ xs) ys i d e =
-    let h = both_true (each_is (λ y. not (same_number x y)) (xs ++ ys)) (are_distinct same_number (xs ++ ys)) d in
+    let h = both_true (list_all (λ y. not (same_number x y)) (xs ++ ys)) (are_distinct same_number (xs ++ ys)) d in
     rw (other x v (not_true (same_number x v) (each_at (λ y. not (same_number x y)) ys i v (each_behind (λ y. not (same_number x y)) xs ys h.0) e)), not_before v xs ys i h.1 e) refl
 
 -- at the place of a number stands that number

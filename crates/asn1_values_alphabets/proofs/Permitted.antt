@@ -1,7 +1,7 @@
 -- Lists of permitted characters.
 use Rattle.std.proofs.Common.{◌≡◌, ℕ, ◌<◌, Bool, true, false, not, cond, ◌&&◌, List, [], ◌∷◌, ◌++◌, ◌+◌, ◌∙◌, length, get_or, drop, Some, None, refl, sym, ap}
 use Rattle.std.specs.Prelude.{find}
-use Rattle.asn1_model.specs.Strings.{each_is}
+use Rattle.std.specs.List.{list_all}
 use Rattle.std.specs.Prelude.{option_map, All, Result, Ok, Err, MatchResult, IsOk}
 use Rattle.std.specs.Str.{IsAscii}
 use Rattle.std.proofs.lemmas.Str.Ascii.{IsAscii-from_all}
@@ -14,37 +14,37 @@ use Rattle.asn1_values_alphabets.specs.declared.error.PermittedAlphabetError.The
 use Rattle.asn1_values_alphabets.specs.Permitted.{permits, permits_all, first_refused, IsRefusalOf, IsOutside}
 
 -- a character at the end
-pub each_is-push : (p : ℕ → Bool) (cs : List ℕ) (c : ℕ) → each_is p cs ≡ true → p c ≡ true → each_is p (cs ++ c ∷ []) ≡ true
+pub each_is-push : (p : ℕ → Bool) (cs : List ℕ) (c : ℕ) → list_all p cs ≡ true → p c ≡ true → list_all p (cs ++ c ∷ []) ≡ true
 each_is-push p [] c h k = rw k refl
 each_is-push p (x ∷ cs) c h k = by_test (p x) h (λ i. each_is-push p cs c i k)
   where
-    by_test : (t : Bool) → t && each_is p cs ≡ true → (each_is p cs ≡ true → each_is p (cs ++ c ∷ []) ≡ true) → t && each_is p (cs ++ c ∷ []) ≡ true
+    by_test : (t : Bool) → t && list_all p cs ≡ true → (list_all p cs ≡ true → list_all p (cs ++ c ∷ []) ≡ true) → t && list_all p (cs ++ c ∷ []) ≡ true
     by_test true i r = r i
     by_test false i r = cc
 
 -- none is refused where all are permitted, and the other way round
-pub each_is-find : (p : ℕ → Bool) (cs : List ℕ) → find (λ c. not (p c)) cs ≡ None → each_is p cs ≡ true
+pub each_is-find : (p : ℕ → Bool) (cs : List ℕ) → find (λ c. not (p c)) cs ≡ None → list_all p cs ≡ true
 each_is-find p [] h = refl
 each_is-find p (x ∷ cs) h = by_test (p x) h (λ i. each_is-find p cs i)
   where
-    by_test : (t : Bool) → cond (not t) (Some x) (find (λ c. not (p c)) cs) ≡ None → (find (λ c. not (p c)) cs ≡ None → each_is p cs ≡ true) → t && each_is p cs ≡ true
+    by_test : (t : Bool) → cond (not t) (Some x) (find (λ c. not (p c)) cs) ≡ None → (find (λ c. not (p c)) cs ≡ None → list_all p cs ≡ true) → t && list_all p cs ≡ true
     by_test true i r = r i
     by_test false i r = cc
 
-pub find-each_is : (p : ℕ → Bool) (cs : List ℕ) → each_is p cs ≡ true → find (λ c. not (p c)) cs ≡ None
+pub find-each_is : (p : ℕ → Bool) (cs : List ℕ) → list_all p cs ≡ true → find (λ c. not (p c)) cs ≡ None
 find-each_is p [] h = refl
 find-each_is p (x ∷ cs) h = by_test (p x) h (λ i. find-each_is p cs i)
   where
-    by_test : (t : Bool) → t && each_is p cs ≡ true → (each_is p cs ≡ true → find (λ c. not (p c)) cs ≡ None) → cond (not t) (Some x) (find (λ c. not (p c)) cs) ≡ None
+    by_test : (t : Bool) → t && list_all p cs ≡ true → (list_all p cs ≡ true → find (λ c. not (p c)) cs ≡ None) → cond (not t) (Some x) (find (λ c. not (p c)) cs) ≡ None
     by_test true i r = r i
     by_test false i r = cc
 
 -- the first refused behind permitted characters
-pub find-append : (p : ℕ → Bool) (cs ds : List ℕ) → each_is p cs ≡ true → find (λ c. not (p c)) (cs ++ ds) ≡ find (λ c. not (p c)) ds
+pub find-append : (p : ℕ → Bool) (cs ds : List ℕ) → list_all p cs ≡ true → find (λ c. not (p c)) (cs ++ ds) ≡ find (λ c. not (p c)) ds
 find-append p [] ds h = refl
 find-append p (x ∷ cs) ds h = by_test (p x) h (λ i. find-append p cs ds i)
   where
-    by_test : (t : Bool) → t && each_is p cs ≡ true → (each_is p cs ≡ true → find (λ c. not (p c)) (cs ++ ds) ≡ find (λ c. not (p c)) ds) → cond (not t) (Some x) (find (λ c. not (p c)) (cs ++ ds)) ≡ find (λ c. not (p c)) ds
+    by_test : (t : Bool) → t && list_all p cs ≡ true → (list_all p cs ≡ true → find (λ c. not (p c)) (cs ++ ds) ≡ find (λ c. not (p c)) ds) → cond (not t) (Some x) (find (λ c. not (p c)) (cs ++ ds)) ≡ find (λ c. not (p c)) ds
     by_test true i r = r i
     by_test false i r = cc
 
@@ -70,14 +70,14 @@ pub turn_of_text : (k : StringKind) (all : List ℕ) (n c : ℕ) → n < length 
 turn_of_text k all n c h e = at_drop_more (first_refused k) all n c h ∙ ap (λ x. first_refused k (x ∷ drop (n + 1) all)) (sym e)
 
 -- permitted characters below 128 are a text in ASCII
-pub IsAscii-permitted : (p : ℕ → Bool) (cs : List ℕ) → ((c : ℕ) → p c ≡ true → c < 128) → each_is p cs ≡ true → IsAscii cs
+pub IsAscii-permitted : (p : ℕ → Bool) (cs : List ℕ) → ((c : ℕ) → p c ≡ true → c < 128) → list_all p cs ≡ true → IsAscii cs
 IsAscii-permitted p cs a h = IsAscii-from_all cs (below p cs a h)
   where
-    below : (p : ℕ → Bool) (cs : List ℕ) → ((c : ℕ) → p c ≡ true → c < 128) → each_is p cs ≡ true → All (λ b. b < 128) cs
+    below : (p : ℕ → Bool) (cs : List ℕ) → ((c : ℕ) → p c ≡ true → c < 128) → list_all p cs ≡ true → All (λ b. b < 128) cs
     below p [] a h = All-nil (λ b. b < 128)
     below p (x ∷ cs) a h = by_test (p x) refl h (λ i. below p cs a i)
       where
-        by_test : (t : Bool) → p x ≡ t → t && each_is p cs ≡ true → (each_is p cs ≡ true → All (λ b. b < 128) cs) → All (λ b. b < 128) (x ∷ cs)
+        by_test : (t : Bool) → p x ≡ t → t && list_all p cs ≡ true → (list_all p cs ≡ true → All (λ b. b < 128) cs) → All (λ b. b < 128) (x ∷ cs)
         by_test true e i r = All-cons (λ b. b < 128) x cs (a x e) (r i)
         by_test false e i r = cc
 

@@ -1,7 +1,8 @@
 -- Which characters a string may hold, and why one is refused (X.680 41).
 use Rattle.std.specs.Prelude.{◌≡◌, ℕ, Bool, true, not, List, find, Option, Some, option_map}
 use Rattle.asn1_model.specs.Schema.{StringKind}
-use Rattle.asn1_model.specs.Strings.{characters_of, each_is, is_among}
+use Rattle.asn1_model.specs.Strings.{characters_of, is_among}
+use Rattle.std.specs.List.{list_all}
 use Rattle.asn1_values_alphabets.specs.declared.error.InvalidRestrictedString.{InvalidRestrictedString}
 use Rattle.asn1_values_alphabets.specs.declared.error.PermittedAlphabetError.{PermittedAlphabetError}
 use Rattle.asn1_values_alphabets.specs.declared.error.PermittedAlphabetError.TheVariants as refusal
@@ -12,7 +13,7 @@ permits k c = is_among (characters_of k) c
 
 -- whether a string of this kind may hold these characters
 abbrev pub permits_all : StringKind → List ℕ → Bool
-permits_all k cs = each_is (permits k) cs
+permits_all k cs = list_all (permits k) cs
 
 -- the first character that it may not hold
 abbrev pub first_refused : StringKind → List ℕ → Option ℕ

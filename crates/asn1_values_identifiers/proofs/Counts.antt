@@ -6,7 +6,8 @@ use Rattle.std.proofs.lemmas.Nat.{pow-add}
 use Rattle.std.proofs.Math.Nat.{pow-suc, mul_comm}
 use Rattle.std.proofs.Math.Pow.{pow_mono}
 use Rattle.asn1_model.specs.Numbers.{digits, places, binary, octet_bits}
-use Rattle.asn1_model.specs.Strings.{groups_of_seven, each_is, is_octet}
+use Rattle.asn1_model.specs.Strings.{groups_of_seven, is_octet}
+use Rattle.std.specs.List.{list_all}
 use Rattle.asn1_values_bits.proofs.Binary.{binary_join, octet_bits_push}
 use Rattle.asn1_values_identifiers.specs.Groups.{leading, contents}
 use Rattle.asn1_values_identifiers.proofs.Sevens.{leading_one, leading_many, groups_one, groups_more}
@@ -58,33 +59,33 @@ few_leading (suc k) n p h =
 
 -- ---- as octets
 
-each_joined : (xs ys : List ℕ) → each_is is_octet xs ≡ true → each_is is_octet ys ≡ true → each_is is_octet (xs ++ ys) ≡ true
+each_joined : (xs ys : List ℕ) → list_all is_octet xs ≡ true → list_all is_octet ys ≡ true → list_all is_octet (xs ++ ys) ≡ true
 each_joined [] ys h k = k
-each_joined (x ∷ xs) ys h k = let p = and_parts (is_octet x) (each_is is_octet xs) h in ap (λ b. b && each_is is_octet (xs ++ ys)) p.0 ∙ each_joined xs ys p.1 k
+each_joined (x ∷ xs) ys h k = let p = and_parts (is_octet x) (list_all is_octet xs) h in ap (λ b. b && list_all is_octet (xs ++ ys)) p.0 ∙ each_joined xs ys p.1 k
 
-octets_raised : (w n : ℕ) → each_is is_octet (map (λ d. d + 128) (digits 128 w n)) ≡ true
+octets_raised : (w n : ℕ) → list_all is_octet (map (λ d. d + 128) (digits 128 w n)) ≡ true
 octets_raised zero n = refl
 octets_raised (suc w) n =
     let h : ltb (n / 128 ^ w % 128 + 128) 256 ≡ true = lt-ltb _ _ (omega arith) in
-    ap (λ b. b && each_is is_octet (map (λ d. d + 128) (digits 128 w n))) h ∙ octets_raised w n
+    ap (λ b. b && list_all is_octet (map (λ d. d + 128) (digits 128 w n))) h ∙ octets_raised w n
 
-leading_octets : (n : ℕ) → each_is is_octet (leading n) ≡ true
+leading_octets : (n : ℕ) → list_all is_octet (leading n) ≡ true
 unfolding leading
 leading_octets n = octets_raised (places 128 n) n
 
-group_octets : (n : ℕ) → each_is is_octet (groups_of_seven n) ≡ true
+group_octets : (n : ℕ) → list_all is_octet (groups_of_seven n) ≡ true
 group_octets n = elim (cases_lt n 128) [
-  | inl h ↦ ap (each_is is_octet) (groups_one n h) ∙ ap (λ b. b && true) (lt-ltb n 256 (omega arith))
+  | inl h ↦ ap (list_all is_octet) (groups_one n h) ∙ ap (λ b. b && true) (lt-ltb n 256 (omega arith))
   | inr h ↦
-      ap (each_is is_octet) (groups_more n h)
+      ap (list_all is_octet) (groups_more n h)
       ∙ each_joined (leading (n / 128)) ((n % 128) ∷ []) (leading_octets (n / 128)) (ap (λ b. b && true) (lt-ltb (n % 128) 256 (omega arith)))
 ]
 
-arc_octets : (xs : List ℕ) → each_is is_octet (flat_map groups_of_seven xs) ≡ true
+arc_octets : (xs : List ℕ) → list_all is_octet (flat_map groups_of_seven xs) ≡ true
 arc_octets [] = refl
 arc_octets (x ∷ xs) = each_joined (groups_of_seven x) (flat_map groups_of_seven xs) (group_octets x) (arc_octets xs)
 
-pub contents_octets : (first : ℕ) (others : List ℕ) → each_is is_octet (contents first others) ≡ true
+pub contents_octets : (first : ℕ) (others : List ℕ) → list_all is_octet (contents first others) ≡ true
 contents_octets first others = each_joined (groups_of_seven first) (flat_map groups_of_seven others) (group_octets first) (arc_octets others)
 
 -- ---- as bits

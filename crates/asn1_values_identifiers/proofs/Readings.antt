@@ -1,7 +1,8 @@
 -- What is written reads back, and what is read was written.
 use Rattle.std.proofs.Common.{◌≡◌, ℕ, zero, suc, ◌+◌, ◌-◌, ◌*◌, ◌/◌, ◌%◌, ◌^◌, ◌<◌, ◌≤◌, ◌==◌, ltb, min, Bool, true, false, List, [], ◌∷◌, ◌++◌, flat_map, Option, Some, None, Result, Ok, Err, length, refl, ap, sym, ◌∙◌, arith, append_assoc, append-nil}
 use Rattle.std.proofs.lemmas.Bool.{and_parts}
-use Rattle.asn1_model.specs.Strings.{groups_of_seven, each_is, is_octet}
+use Rattle.asn1_model.specs.Strings.{groups_of_seven, is_octet}
+use Rattle.std.specs.List.{list_all}
 use Rattle.asn1_values_identifiers.specs.declared.fault.IdentifierError.{IdentifierError}
 use Rattle.asn1_values_identifiers.specs.declared.fault.IdentifierError.TheVariants.{Padded, ArcTooLarge}
 use Rattle.asn1_values_identifiers.specs.Groups.{leading}
@@ -123,7 +124,7 @@ group_read limit n os h = go (ltb n 128) refl
         ∙ stops limit (n / 128) (n % 128) os (omega arith) ∙ ap (λ k. ended limit k (subidentifiers (2 ^ 32) None os)) m
         ∙ small_enough limit n (subidentifiers (2 ^ 32) None os) h
 
-pub groups_read : (ns : List ℕ) → each_is (λ n. ltb n (2 ^ 32)) ns ≡ true → subidentifiers (2 ^ 32) None (flat_map groups_of_seven ns) ≡ Ok ns
+pub groups_read : (ns : List ℕ) → list_all (λ n. ltb n (2 ^ 32)) ns ≡ true → subidentifiers (2 ^ 32) None (flat_map groups_of_seven ns) ≡ Ok ns
 groups_read [] h = refl
 groups_read (n ∷ ns) h =
     let p = and_parts _ _ h in
@@ -198,7 +199,7 @@ after_octet limit begun o os t u =
     ]
 
 -- octets, and numbers that are read of them, are those that writing gives
-pub wrote : (limit : ℕ) (begun : Option ℕ) (os : List ℕ) → IsBegun begun → each_is is_octet os ≡ true → Wrote begun os (subidentifiers limit begun os)
+pub wrote : (limit : ℕ) (begun : Option ℕ) (os : List ℕ) → IsBegun begun → list_all is_octet os ≡ true → Wrote begun os (subidentifiers limit begun os)
 wrote limit None [] b h = refl
 wrote limit (Some n) [] b h = tt
 wrote limit begun (o ∷ os) b h = go (is_padding begun o) refl (ltb o 128) refl (wrote (2 ^ 32) None os tt ((and_parts _ _ h).1)) (λ n p. wrote limit (Some n) os p ((and_parts _ _ h).1))

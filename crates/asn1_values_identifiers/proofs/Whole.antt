@@ -1,7 +1,8 @@
 -- Whole identifiers: their octets and their arcs.
 use Rattle.std.proofs.Common.{◌≡◌, ℕ, zero, suc, ◌+◌, ◌-◌, ◌*◌, ◌/◌, ◌^◌, ◌<◌, ◌≤◌, ◌==◌, ltb, leb, ◌&&◌, ◌||◌, Bool, true, false, List, [], ◌∷◌, ◌++◌, flat_map, drop, Option, Some, None, Result, Ok, Err, length, slice_index_or, refl, ap, sym, ◌∙◌, arith, ◌⊎◌, inl, inr, subst, Fits, w8, w32}
 use Rattle.std.proofs.lemmas.Bool.{and_parts}
-use Rattle.asn1_model.specs.Strings.{groups_of_seven, identifier_octets, is_identifier, each_is, is_octet}
+use Rattle.asn1_model.specs.Strings.{groups_of_seven, identifier_octets, is_identifier, is_octet}
+use Rattle.std.specs.List.{list_all}
 use Rattle.asn1_values_identifiers.specs.declared.fault.IdentifierError.{IdentifierError}
 use Rattle.asn1_values_identifiers.specs.Identifiers.{subidentifiers, in_front, ended, begun_number, is_padding, is_valid, first_arc, second_arc, arcs_from, arcs_of}
 use Rattle.asn1_values_identifiers.proofs.Readings.{judged, below, not_below, below_true, below_false, group_read, groups_read, wrote, Wrote, after_octet}
@@ -10,16 +11,16 @@ and_join : (a b : Bool) → a ≡ true → b ≡ true → (a && b) ≡ true
 and_join a b e f = grind arith
 
 -- each number of a list of 32 bits
-pub each_below : (xs : List ℕ) → ((i : ℕ) → Fits w32 (slice_index_or xs i 0)) → each_is (λ n. ltb n (2 ^ 32)) xs ≡ true
+pub each_below : (xs : List ℕ) → ((i : ℕ) → Fits w32 (slice_index_or xs i 0)) → list_all (λ n. ltb n (2 ^ 32)) xs ≡ true
 each_below [] h = refl
 each_below (x ∷ xs) h = and_join _ _ (below_true x (2 ^ 32) (omega (arith, h 0))) (each_below xs (λ i. h (suc i)))
 
-pub each_octet : (xs : List ℕ) → ((i : ℕ) → Fits w8 (slice_index_or xs i 0)) → each_is is_octet xs ≡ true
+pub each_octet : (xs : List ℕ) → ((i : ℕ) → Fits w8 (slice_index_or xs i 0)) → list_all is_octet xs ≡ true
 each_octet [] h = refl
 each_octet (x ∷ xs) h = and_join _ _ (below_true x 256 (omega (arith, h 0))) (each_octet xs (λ i. h (suc i)))
 
 -- valid arcs of 32 bits, at least two, have octets
-pub valid_identifier : (xs : List ℕ) → is_valid xs ≡ true → 2 ≤ length xs → each_is (λ n. ltb n (2 ^ 32)) xs ≡ true → is_identifier xs ≡ true
+pub valid_identifier : (xs : List ℕ) → is_valid xs ≡ true → 2 ≤ length xs → list_all (λ n. ltb n (2 ^ 32)) xs ≡ true → is_identifier xs ≡ true
 valid_identifier [] v l h = absurd (omega arith)
 valid_identifier (a ∷ []) v l h = absurd (omega arith)
 valid_identifier (a ∷ b ∷ rest) v l h = and_join _ _ v ((and_parts _ _ h).1)
@@ -75,7 +76,7 @@ identifier_read (a ∷ []) h = absurd (never h)
     never e = cc
 identifier_read (a ∷ b ∷ rest) h =
     let v : (leb a 2 && (a == 2 || ltb b 40)) ≡ true = (and_parts _ _ h).0 in
-    let bs : each_is (λ n. ltb n (2 ^ 32)) (b ∷ rest) ≡ true = (and_parts _ _ h).1 in
+    let bs : list_all (λ n. ltb n (2 ^ 32)) (b ∷ rest) ≡ true = (and_parts _ _ h).1 in
     let n = 40 * a + b in
     let lt : n < 2 ^ 32 + 80 = shared_small a b v (below b (2 ^ 32) ((and_parts _ _ bs).0)) in
     let f = first_back a b v in
@@ -88,10 +89,10 @@ identifier_read (a ∷ b ∷ rest) h =
 -- numbers below their limits
 abbrev Within : ℕ → Result (List ℕ) IdentifierError → Type 0
 Within limit (Ok []) = Unit {0}
-Within limit (Ok (n ∷ ns)) = (n < limit) × (each_is (λ m. ltb m (2 ^ 32)) ns ≡ true)
+Within limit (Ok (n ∷ ns)) = (n < limit) × (list_all (λ m. ltb m (2 ^ 32)) ns ≡ true)
 Within limit (Err e) = Unit {0}
 
-each_within : (ns : List ℕ) → Within (2 ^ 32) (Ok ns) → each_is (λ m. ltb m (2 ^ 32)) ns ≡ true
+each_within : (ns : List ℕ) → Within (2 ^ 32) (Ok ns) → list_all (λ m. ltb m (2 ^ 32)) ns ≡ true
 each_within [] w = refl
 each_within (n ∷ ns) w = and_join _ _ (below_true n (2 ^ 32) w.0) w.1
 
@@ -165,5 +166,5 @@ written_from os xs (Ok (n ∷ ns)) w b e = let x : (first_arc n ∷ second_arc n
 written_from os xs (Ok []) w b e = cc
 written_from os xs (Err f) w b e = cc
 
-pub read_written : (os xs : List ℕ) → each_is is_octet os ≡ true → arcs_of os ≡ Ok xs → IsWritten os xs
+pub read_written : (os xs : List ℕ) → list_all is_octet os ≡ true → arcs_of os ≡ Ok xs → IsWritten os xs
 read_written os xs h e = written_from os xs (subidentifiers (2 ^ 32 + 80) None os) (wrote (2 ^ 32 + 80) None os tt h) (within (2 ^ 32 + 80) None os) e

@@ -4,7 +4,7 @@ use Rattle.std.proofs.lemmas.List.{length-append, length-replicate}
 use Rattle.std.specs.List.{AllByRecursion}
 use Rattle.asn1_laws_values.proofs.Octets.{packed_back}
 use Rattle.asn1_model.specs.Numbers.{octet_bits, packed, missing}
-use Rattle.asn1_model.specs.Form.{is_present}
+use Rattle.std.specs.Prelude.{is_some}
 use Rattle.asn1_values_bits.proofs.Binary.{length-octet_bits}
 use Rattle.asn1_values_bits.proofs.Leading.{packed-next}
 use Rattle.oer_codec_fronts.specs.Takes.{Scope, components}
@@ -36,7 +36,7 @@ bits_with_unused bs w e =
     let b : octet_bits w ≡ bs ++ replicate (missing (length bs)) false = ap octet_bits (sym e) ∙ packed_back ((length bs + 7) / 8) (bs ++ replicate (missing (length bs)) false) (l ∙ m) in
     (b, sym (length-octet_bits w) ∙ ap length b ∙ l)
 
-has_bits : (e : Bool) (n : ℕ) (x : Option Bool) (ms : List Bool) → is_present x ≡ e → length ms ≡ n → length (preamble_bits x ms) ≡ cond e 1 0 + n
+has_bits : (e : Bool) (n : ℕ) (x : Option Bool) (ms : List Bool) → is_some x ≡ e → length ms ≡ n → length (preamble_bits x ms) ≡ cond e 1 0 + n
 has_bits e n None ms p l = subst (λ b. length ms ≡ cond b 1 0 + n) p (omega (arith, l))
 has_bits e n (Some x) ms p l = subst (λ b. suc (length ms) ≡ cond b 1 0 + n) p (omega (arith, l))
 

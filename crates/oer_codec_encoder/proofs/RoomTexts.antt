@@ -4,13 +4,14 @@ use Rattle.std.proofs.lemmas.Bool.{lt-ltb}
 use Rattle.std.proofs.lemmas.List.{take-append-drop, take-set, drop-set, drop-set-lt, length-drop, length-set, get_or-drop}
 use Rattle.asn1_model.specs.Form.{written}
 use Rattle.asn1_model.specs.Oer
-use Rattle.asn1_model.specs.Strings.{each_is, is_octet}
+use Rattle.asn1_model.specs.Strings.{is_octet}
+use Rattle.std.specs.List.{list_all}
 use Rattle.oer_codec_writing.specs.Writing.{Adds}
 use Rattle.oer_codec_writing.proofs.LengthTexts.{short_length, adds_text, adds_counted}
 
-each_small : (os : List ℕ) → ((i : ℕ) → i < length os → get_or os i 0 < 256) → each_is is_octet os ≡ true
+each_small : (os : List ℕ) → ((i : ℕ) → i < length os → get_or os i 0 < 256) → list_all is_octet os ≡ true
 each_small [] h = refl
-each_small (o ∷ os) h = ap (λ b. b && each_is is_octet os) (lt-ltb _ _ (h 0 (omega arith))) ∙ each_small os (λ i l. h (suc i) (omega arith))
+each_small (o ∷ os) h = ap (λ b. b && list_all is_octet os) (lt-ltb _ _ (h 0 (omega arith))) ∙ each_small os (λ i l. h (suc i) (omega arith))
 
 set_whole : (o : List ℕ) (start n : ℕ) → start < length o → set o start n ≡ take start o ++ n ∷ drop (start + 1) o
 set_whole o start n l = sym (take-append-drop start (set o start n)) ∙ ap (λ t. t ++ drop start (set o start n)) (take-set o start n) ∙ ap (λ t. take start o ++ t) (drop-set o start n l)

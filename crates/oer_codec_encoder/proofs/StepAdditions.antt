@@ -6,7 +6,8 @@ use Rattle.asn1_model.specs.Schema.{Tag, Presence, Schema, sequence, set, Compon
 use Rattle.asn1_model.specs.Normal.{is_at_default, is_group_left_out}
 use Rattle.asn1_model.specs.Tables.{is_required, presence_bits}
 use Rattle.std.proofs.lemmas.Bool.{lt-ltb}
-use Rattle.asn1_model.specs.Form.{exactly, refused, both, given, joined, is_present, is_any_present, present_ones, covered_by, written}
+use Rattle.asn1_model.specs.Form.{exactly, refused, both, given, joined, is_any_present, present_ones, covered_by, written}
+use Rattle.std.specs.Prelude.{is_some}
 use Rattle.asn1_model.specs.Oer
 use Rattle.asn1_schema_presented.specs.Records.{Record, additions_begin, addition, addition_ends, is_default, is_empty, mismatch}
 use Rattle.asn1_schema_presented.specs.Presents.{presents, added_records, component_count, root_records, optional_count, behind_root}
@@ -64,7 +65,7 @@ as_forms us = map (λ o. option_map (λ w. exactly w) o) us
 
 -- which additions are there
 abbrev told : List (Option (List ℕ)) → List Bool
-told us = map (λ o. is_present o) us
+told us = map (λ o. is_some o) us
 
 abbrev pub EachStill : List (Option Oer.OctetForm) → Type 0
 EachStill [] = Unit {0}
@@ -85,7 +86,7 @@ joined_exactly (Some w ∷ us) p = ap (λ o. option_map (λ b. w ++ b) o) (joine
 -- what the texts have in common with the forms
 record Alike (xs : List (Option Oer.OctetForm)) (us : List (Option (List ℕ))) : Type 0 where
   any : is_any_present xs ≡ is_any_present (as_forms us)
-  bits : map (λ a. is_present a) xs ≡ map (λ a. is_present a) (as_forms us)
+  bits : map (λ a. is_some a) xs ≡ map (λ a. is_some a) (as_forms us)
   text : (p : ℕ) → written (joined (present_ones xs)) p ≡ Some (texts_joined us)
 
 alike : (xs : List (Option Oer.OctetForm)) (us : List (Option (List ℕ))) → EachStill xs → texts_of xs ≡ Some us → Alike xs us
@@ -129,9 +130,9 @@ still_exact l = record { at = λ p. refl }
 
 -- ---- the same by which are there, and by all of their octets
 
-told_more : (us : List (Option (List ℕ))) (o : Option (List ℕ)) → told (us ++ o ∷ []) ≡ told us ++ is_present o ∷ []
+told_more : (us : List (Option (List ℕ))) (o : Option (List ℕ)) → told (us ++ o ∷ []) ≡ told us ++ is_some o ∷ []
 told_more [] o = refl
-told_more (u ∷ us) o = ap (λ l. is_present u ∷ l) (told_more us o)
+told_more (u ∷ us) o = ap (λ l. is_some u ∷ l) (told_more us o)
 
 joined_more : (us : List (Option (List ℕ))) (w : List ℕ) → texts_joined (us ++ Some w ∷ []) ≡ texts_joined us ++ w
 joined_more [] w = append-nil w
@@ -143,7 +144,7 @@ joined_same [] = refl
 joined_same (None ∷ us) = joined_same us
 joined_same (Some v ∷ us) = ap (λ l. v ++ l) (joined_same us)
 
-told_forms : (us : List (Option (List ℕ))) → map (λ a. is_present a) (as_forms us) ≡ told us
+told_forms : (us : List (Option (List ℕ))) → map (λ a. is_some a) (as_forms us) ≡ told us
 told_forms [] = refl
 told_forms (None ∷ us) = ap (λ l. false ∷ l) (told_forms us)
 told_forms (Some w ∷ us) = ap (λ l. true ∷ l) (told_forms us)
@@ -157,7 +158,7 @@ exact_text : (l : List ℕ) (p : ℕ) → written {F = Oer.Freedom} {D = Oer.Det
 unfolding written
 exact_text l p = refl
 
-by_forms : (ms : List Bool) (r : List ℕ) (us : List (Option (List ℕ))) → written (Oer.with_additions ms (exactly r) (as_forms us)) 0 ≡ written (both (Oer.preamble (true ∷ ms)) (both (exactly r) (both (Oer.counted_bits (map (λ a. is_present a) (as_forms us))) (joined (present_ones (as_forms us)))))) 0
+by_forms : (ms : List Bool) (r : List ℕ) (us : List (Option (List ℕ))) → written (Oer.with_additions ms (exactly r) (as_forms us)) 0 ≡ written (both (Oer.preamble (true ∷ ms)) (both (exactly r) (both (Oer.counted_bits (map (λ a. is_some a) (as_forms us))) (joined (present_ones (as_forms us)))))) 0
 unfolding Oer.with_additions Oer.additions
 by_forms ms r us = refl
 
@@ -265,13 +266,13 @@ module _ (ms : List Bool) (x : Oer.OctetForm) (xs : List (Option Oer.OctetForm))
   unfolding written
   first = ap (option_map (λ b. preamble_octets (false ∷ ms) ++ b)) (hx.at (p + length (preamble_octets (false ∷ ms))))
 
-  with_some : (r : List ℕ) → written (Oer.with_additions ms (exactly r) (as_forms us)) 0 ≡ option_map (λ c. preamble_octets (true ∷ ms) ++ (r ++ (c ++ texts_joined us))) (written (Oer.counted_bits (map (λ a. is_present a) xs)) 0)
+  with_some : (r : List ℕ) → written (Oer.with_additions ms (exactly r) (as_forms us)) 0 ≡ option_map (λ c. preamble_octets (true ∷ ms) ++ (r ++ (c ++ texts_joined us))) (written (Oer.counted_bits (map (λ a. is_some a) xs)) 0)
   unfolding written Oer.with_additions Oer.additions
-  with_some r = sum ms (exactly r) (map (λ a. is_present a) (as_forms us)) (joined (present_ones (as_forms us))) (texts_joined us) (still_exact r) (joined_exactly us) 0 ∙ ap (λ b. option_map (λ c. preamble_octets (true ∷ ms) ++ (r ++ (c ++ texts_joined us))) (written (Oer.counted_bits b) 0)) (sym a.bits)
+  with_some r = sum ms (exactly r) (map (λ a. is_some a) (as_forms us)) (joined (present_ones (as_forms us))) (texts_joined us) (still_exact r) (joined_exactly us) 0 ∙ ap (λ b. option_map (λ c. preamble_octets (true ∷ ms) ++ (r ++ (c ++ texts_joined us))) (written (Oer.counted_bits b) 0)) (sym a.bits)
 
-  with_all : written (Oer.with_additions ms x xs) p ≡ option_and_then (λ r. option_map (λ c. preamble_octets (true ∷ ms) ++ (r ++ (c ++ texts_joined us))) (written (Oer.counted_bits (map (λ a. is_present a) xs)) 0)) (written x 0)
+  with_all : written (Oer.with_additions ms x xs) p ≡ option_and_then (λ r. option_map (λ c. preamble_octets (true ∷ ms) ++ (r ++ (c ++ texts_joined us))) (written (Oer.counted_bits (map (λ a. is_some a) xs)) 0)) (written x 0)
   unfolding Oer.with_additions Oer.additions
-  with_all = sum ms x (map (λ a. is_present a) xs) (joined (present_ones xs)) (texts_joined us) hx a.text p
+  with_all = sum ms x (map (λ a. is_some a) xs) (joined (present_ones xs)) (texts_joined us) hx a.text p
 
   go : (t : Bool) → is_any_present xs ≡ t → cond t (written (Oer.with_additions ms x xs) p) (written (both (Oer.preamble (false ∷ ms)) x) p) ≡ option_and_then (λ r. closing ms r us) (written x 0)
   go true d = with_all ∙ chain_same (written x 0) _ (λ r. closing ms r us) (λ r. sym (both_ways r ∙ ap (λ t. cond t (written (Oer.with_additions ms (exactly r) (as_forms us)) 0) (written (both (Oer.preamble (false ∷ ms)) (exactly r)) 0)) d ∙ with_some r))
@@ -313,9 +314,9 @@ none_closes ms x xs h e p =
     bitmaps q None = refl
     bitmaps q (Some c) = ap (option_map (λ b. c ++ b)) (l.1 (q + length c))
 
-    roots : (o : Option (List ℕ)) → option_and_then (λ r. option_map (λ b. r ++ b) (written (both (Oer.counted_bits (map (λ a. is_present a) xs)) (joined (present_ones xs))) (p + length (preamble_octets (true ∷ ms)) + length r))) o ≡ None
+    roots : (o : Option (List ℕ)) → option_and_then (λ r. option_map (λ b. r ++ b) (written (both (Oer.counted_bits (map (λ a. is_some a) xs)) (joined (present_ones xs))) (p + length (preamble_octets (true ∷ ms)) + length r))) o ≡ None
     roots None = refl
-    roots (Some r) = ap (option_map (λ b. r ++ b)) (bitmaps (p + length (preamble_octets (true ∷ ms)) + length r) (written (Oer.counted_bits (map (λ a. is_present a) xs)) (p + length (preamble_octets (true ∷ ms)) + length r)))
+    roots (Some r) = ap (option_map (λ b. r ++ b)) (bitmaps (p + length (preamble_octets (true ∷ ms)) + length r) (written (Oer.counted_bits (map (λ a. is_some a) xs)) (p + length (preamble_octets (true ∷ ms)) + length r)))
 
 -- ---- positions: what has the bridge has the same text everywhere
 

@@ -4,7 +4,8 @@ use Rattle.std.specs.Prelude.{ℤ, pos, negsuc, ltb, cond, ◌^◌}
 use Rattle.asn1_model.specs.Schema.{Tag, Range, Bounds}
 use Rattle.asn1_model.specs.Numbers.{digits, octet_width, least_octets, signed_octets, complement}
 use Rattle.asn1_model.specs.Form.{Form, exactly, refused, both, varied, written, only_if, given}
-use Rattle.asn1_model.specs.Strings.{is_octet, each_is}
+use Rattle.asn1_model.specs.Strings.{is_octet}
+use Rattle.std.specs.List.{list_all}
 use Rattle.asn1_model.specs.Oer
 
 -- a form whose canonical text does not depend on its position
@@ -60,7 +61,7 @@ length_still n = still_if (ltb n (2 ^ 64)) (still_varied (by_length (ltb n 128) 
 
 pub counted_still : (os : List ℕ) → OctetsStill (Oer.counted os)
 unfolding Oer.counted
-counted_still os = still_if (each_is is_octet os) (still_both (length_still (length os)) (still_exactly os))
+counted_still os = still_if (list_all is_octet os) (still_both (length_still (length os)) (still_exactly os))
 
 pub unsigned_still : (n : ℕ) → OctetsStill (Oer.unsigned n)
 unfolding Oer.unsigned

@@ -7,7 +7,8 @@ use Rattle.asn1_model.specs.Numbers.{digits, least_octets, signed_octets, comple
 use Rattle.asn1_model.specs.Normal.{is_at_default, is_group_left_out}
 use Rattle.asn1_model.specs.Form.{exactly, refused, both, varied, within, Reads, only_if, given, joined, Bitmap, is_any_present, present_ones, stands_before, written}
 use Rattle.asn1_model.specs.Tables.{is_required, presence_bits}
-use Rattle.asn1_model.specs.Strings.{is_octet, each_is}
+use Rattle.asn1_model.specs.Strings.{is_octet}
+use Rattle.std.specs.List.{list_all}
 use Rattle.asn1_model.specs.Oer
 use Rattle.asn1_laws_values.proofs.Listed.{listed, each_is_map, order_map}
 
@@ -62,7 +63,7 @@ module _ (free : Oer.Freedom → Bool) where
 
   pub counted_moves : (os : List ℕ) → Moves (Oer.counted os)
   unfolding Oer.counted
-  counted_moves os = moves_if (each_is is_octet os) (moves_both (length_moves (length os)) (moves_exactly os))
+  counted_moves os = moves_if (list_all is_octet os) (moves_both (length_moves (length os)) (moves_exactly os))
 
   signed_moves : (v : ℤ) → Moves (Oer.signed v)
   unfolding Oer.signed

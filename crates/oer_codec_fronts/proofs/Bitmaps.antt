@@ -5,7 +5,8 @@ use Rattle.std.proofs.lemmas.List.{append-nil}
 use Rattle.asn1_model.specs.Value.{Parts, end, absent, present}
 use Rattle.asn1_model.specs.Schema.{Components, no_component, component}
 use Rattle.asn1_model.specs.Tables.{is_required, presence_bits}
-use Rattle.asn1_model.specs.Form.{both, varied, given, only_if, joined, Bitmap, is_present, is_any_present, present_ones, covered_by, Reads}
+use Rattle.asn1_model.specs.Form.{both, varied, given, only_if, joined, Bitmap, is_any_present, present_ones, covered_by, Reads}
+use Rattle.std.specs.Prelude.{is_some}
 use Rattle.asn1_model.specs.Oer
 use Rattle.asn1_model.proofs.Forms.{map_parts}
 use Rattle.asn1_laws_fronts.proofs.OerNumbers.{counted_alike}
@@ -162,7 +163,7 @@ module _ (free : Oer.Freedom → Bool) where
   Extensible adds qs ms y = given (Oer.addition_forms adds qs) (Oer.sequence_form true ms y)
 
   module _ (other : IsTrue (free Oer.other_bitmap)) (adds : Components) (ha : EachFinds free adds) (qs : Parts) where
-    extensible_in : (ms : List Bool) (y : Oer.OctetForm) → Moves free y → (x : Option Bool) (more : List Bool) (os mid o2 : List ℕ) (k : List Scope) (b : State) → is_present x ≡ true → Front free (Oer.preamble (preamble_bits x (ms ++ more))) os mid → Front free y mid o2 → Chain (Step free) (additions_begin (component_count adds) ∷ added_records adds qs) (o2, components x more ∷ k) b → Front free (Extensible adds qs ms y) os b.0 × (b.1 ≡ k)
+    extensible_in : (ms : List Bool) (y : Oer.OctetForm) → Moves free y → (x : Option Bool) (more : List Bool) (os mid o2 : List ℕ) (k : List Scope) (b : State) → is_some x ≡ true → Front free (Oer.preamble (preamble_bits x (ms ++ more))) os mid → Front free y mid o2 → Chain (Step free) (additions_begin (component_count adds) ∷ added_records adds qs) (o2, components x more ∷ k) b → Front free (Extensible adds qs ms y) os b.0 × (b.1 ≡ k)
     extensible_in ms y moves None more os mid o2 k b e f g c = cc
     extensible_in ms y moves (Some true) (z ∷ more) os mid o2 k b e f g c = absurd c.1
     extensible_in ms y moves (Some false) (z ∷ more) os mid o2 k b e f g c = absurd c.1
@@ -198,7 +199,7 @@ module _ (free : Oer.Freedom → Bool) where
   module _ (other : IsTrue (free Oer.other_bitmap)) (adds : Components) (ha : EachShows free adds) (qs : Parts) where
     -- what is held at the extension marker, with additions like these
     abbrev AtExtensionBit : List Bool → Oer.OctetForm → List ℕ → List Scope → State → Type 0
-    AtExtensionBit ms y os k b = (ss : Parts) × (x : Option Bool) × (mid : List ℕ) × (o2 : List ℕ) × LikeParts adds qs ss × (is_present x ≡ true) × Front free (Oer.preamble (preamble_bits x ms)) os mid × Front free y mid o2 × Chain (Step free) (additions_begin (component_count adds) ∷ added_records adds ss) (o2, components x [] ∷ k) b
+    AtExtensionBit ms y os k b = (ss : Parts) × (x : Option Bool) × (mid : List ℕ) × (o2 : List ℕ) × LikeParts adds qs ss × (is_some x ≡ true) × Front free (Oer.preamble (preamble_bits x ms)) os mid × Front free y mid o2 × Chain (Step free) (additions_begin (component_count adds) ∷ added_records adds ss) (o2, components x [] ∷ k) b
 
     no_unknown : (os : List ℕ) → Skips free [] os os
     no_unknown os = ([], refl, nothing_front free os)

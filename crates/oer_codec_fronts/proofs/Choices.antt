@@ -4,7 +4,7 @@ use Rattle.std.proofs.lemmas.Bool.{and_parts, and_from, eq-eqb}
 use Rattle.asn1_model.specs.Value.{Value, chosen, same}
 use Rattle.asn1_model.specs.Schema.{Tag, Schema, choice, Alternatives, no_alternative, alternative as other}
 use Rattle.asn1_model.specs.Lawful.{tag_same, are_distinct, alternative_tags}
-use Rattle.asn1_model.specs.Strings.{each_is}
+use Rattle.std.specs.List.{list_all}
 use Rattle.asn1_model.specs.Form.{both}
 use Rattle.asn1_model.specs.Oer
 use Rattle.asn1_laws_values.proofs.Listed.{EachAlternative}
@@ -41,7 +41,7 @@ not_true true e = cc
 not_true false e = refl
 
 -- a tag that is none of these has no place, and another that has one is not it
-apart_from : (u t : Tag) (us : List Tag) (i : ℕ) → each_is (λ w. not (tag_same u w)) us ≡ true → tag_place t us ≡ Some i → tag_same t u ≡ false
+apart_from : (u t : Tag) (us : List Tag) (i : ℕ) → list_all (λ w. not (tag_same u w)) us ≡ true → tag_place t us ≡ Some i → tag_same t u ≡ false
 apart_from u t [] i h e = cc
 apart_from u t (w ∷ us) i h e = by_head (λ j f. apart_from u t us j ((and_parts _ _ h).1) f) (tag_same t w) refl
   where
@@ -70,7 +70,7 @@ behind_all t (u ∷ us) ws i h e =
     let r : tag_place t us ≡ None = behind_all t us ws i p.1 e in
     rw (a, r) refl
   where
-    last : (xs ys : List Tag) → each_is (λ w. not (tag_same u w)) (xs ++ ys) ≡ true → each_is (λ w. not (tag_same u w)) ys ≡ true
+    last : (xs ys : List Tag) → list_all (λ w. not (tag_same u w)) (xs ++ ys) ≡ true → list_all (λ w. not (tag_same u w)) ys ≡ true
     last [] ys q = q
     last (x ∷ xs) ys q = last xs ys ((and_parts _ _ q).1)
 
@@ -134,7 +134,7 @@ module _ (free : Oer.Freedom → Bool) where
   first_place : (u : Tag) (us : List Tag) → tag_place u (u ∷ us) ≡ Some zero
   first_place u us = let e = itself u in rw e refl
 
-  later_place : (u t : Tag) (us : List Tag) (i : ℕ) → each_is (λ w. not (tag_same u w)) us ≡ true → tag_place t us ≡ Some i → tag_place t (u ∷ us) ≡ Some (suc i)
+  later_place : (u t : Tag) (us : List Tag) (i : ℕ) → list_all (λ w. not (tag_same u w)) us ≡ true → tag_place t us ≡ Some i → tag_place t (u ∷ us) ≡ Some (suc i)
   later_place u t us i h e = let a = apart_from u t us i h e in rw (a, e) refl
 
   table_out : (plus : Bool) (others : Alternatives) → EachAlternative (λ s. Shows free s) others → are_distinct tag_same (alternative_tags others) ≡ true → (i : ℕ) (v : Value) (a b : State) → Found free (Oer.alternative_form plus others i v) a b → Read plus others i v a b

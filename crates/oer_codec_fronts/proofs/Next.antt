@@ -5,7 +5,7 @@ use Rattle.std.proofs.lemmas.Bool.{and_parts, eqb-true}
 use Rattle.asn1_model.specs.Value.{truth, nothing, number, item, bit_list, octet_list, text, arcs}
 use Rattle.asn1_model.specs.Schema.{Tag, Counts, Size, StringKind, Alphabet, Bounds, Range, null, integer, enumerated, bit_string, octet_string, character_string, object_identifier}
 use Rattle.asn1_model.specs.Lawful.{tag_same}
-use Rattle.asn1_model.specs.Form.{is_present}
+use Rattle.std.specs.Prelude.{is_some}
 use Rattle.asn1_model.specs.Strings.{may_hold, identifier_octets, is_identifier}
 use Rattle.asn1_model.specs.Tables.{item_place}
 use Rattle.asn1_model.specs.Oer
@@ -54,7 +54,7 @@ module _ (free : Oer.Freedom → Bool) where
 
   items : (roots : List ℤ) (e : Bool) (adds : List ℤ) (v w : ℤ) → OctetsAlike free (Oer.form (enumerated roots e adds) (item v)) (Oer.form (enumerated roots e adds) (item w)) (v ≡ w)
   unfolding Oer.form
-  items roots e adds v w = agree_if free (is_present (item_place v roots) || (e && is_present (item_place v adds))) (is_present (item_place w roots) || (e && is_present (item_place w adds))) _ _ (λ i j. items_alike free v w)
+  items roots e adds v w = agree_if free (is_some (item_place v roots) || (e && is_some (item_place v adds))) (is_some (item_place w roots) || (e && is_some (item_place w adds))) _ _ (λ i j. items_alike free v w)
 
   integers : (z : Bounds) (h : Range) (v w : ℤ) → OctetsAlike free (Oer.form (integer z h) (number v)) (Oer.form (integer z h) (number w)) (v ≡ w)
   unfolding Oer.form
@@ -94,7 +94,7 @@ module _ (free : Oer.Freedom → Bool) where
   same_member v w os (members (suc n) ∷ k) b c f g = (f.0 ∙ sym g.0, f.1 ∙ sym g.1)
   same_member v w os k b c f g = absurd f
 
-  same_preamble : (x y : Option Bool) (ms ns : List Bool) → is_present x ≡ is_present y → length ms ≡ length ns → (length (preamble_bits x ms) ≡ length (preamble_bits y ns)) × (preamble_bits x ms ≡ preamble_bits y ns → (x ≡ y) × (ms ≡ ns))
+  same_preamble : (x y : Option Bool) (ms ns : List Bool) → is_some x ≡ is_some y → length ms ≡ length ns → (length (preamble_bits x ms) ≡ length (preamble_bits y ns)) × (preamble_bits x ms ≡ preamble_bits y ns → (x ≡ y) × (ms ≡ ns))
   same_preamble None None ms ns e l = (l, λ f. (refl, f))
   same_preamble None (Some y) ms ns e l = cc
   same_preamble (Some x) None ms ns e l = cc

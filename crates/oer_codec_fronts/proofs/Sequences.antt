@@ -5,7 +5,8 @@ use Rattle.asn1_model.specs.Value.{Value, Parts, end, absent, present}
 use Rattle.asn1_model.specs.Schema.{Presence, Schema, Components, no_component, component}
 use Rattle.asn1_model.specs.Normal.{is_at_default, is_group_left_out}
 use Rattle.asn1_model.specs.Tables.{is_required, presence_bits}
-use Rattle.asn1_model.specs.Form.{exactly, both, joined, is_present, present_ones, Reads}
+use Rattle.asn1_model.specs.Form.{exactly, both, joined, present_ones, Reads}
+use Rattle.std.specs.Prelude.{is_some}
 use Rattle.asn1_model.specs.Oer
 use Rattle.asn1_model.proofs.Forms.{map_parts}
 use Rattle.asn1_schema_finding.proofs.PresenceBits.{presence_bits_count}
@@ -24,7 +25,7 @@ use Rattle.oer_codec_fronts.proofs.Parts.{EachFinds, EachShows, root_in, root_ou
 module _ (free : Oer.Freedom → Bool) where
   -- ---- the preamble and the root
   abbrev pub Opened : Bool → Components → Parts → List Record → State → State → Type 0
-  Opened e cs ps rs a b = (x : Option Bool) × (more : List Bool) × (os : List ℕ) × (mid : List ℕ) × (is_present x ≡ e) × Front free (Oer.preamble (preamble_bits x (presence_bits cs ps ++ more))) a.0 os × Front free (Oer.component_forms cs ps) os mid × Chain (Step free) rs (mid, components x more ∷ a.1) b
+  Opened e cs ps rs a b = (x : Option Bool) × (more : List Bool) × (os : List ℕ) × (mid : List ℕ) × (is_some x ≡ e) × Front free (Oer.preamble (preamble_bits x (presence_bits cs ps ++ more))) a.0 os × Front free (Oer.component_forms cs ps) os mid × Chain (Step free) rs (mid, components x more ∷ a.1) b
 
   pub begun_in : (e : Bool) (cs : Components) → EachFinds free cs → (ps : Parts) (rs : List Record) (a m b : State) → Begins free e (optional_count cs) a m → Chain (Step free) (root_records cs ps rs) m b → Opened e cs ps rs a b
   begun_in e cs h ps rs a m b t c =
@@ -35,7 +36,7 @@ module _ (free : Oer.Freedom → Bool) where
   abbrev pub Closed : Bool → Components → Parts → List Record → State → State → Type 0
   Closed e cs ps rs a b = (qs : Parts) × (m : State) × LikeParts cs ps qs × Begins free e (optional_count cs) a m × Chain (Step free) (root_records cs qs rs) m b
 
-  pub begun_out : (e : Bool) (cs : Components) → EachShows free cs → (ps : Parts) (rs : List Record) (a b : State) (x : Option Bool) (os mid : List ℕ) → is_present x ≡ e → Front free (Oer.preamble (preamble_bits x (presence_bits cs ps))) a.0 os → Front free (Oer.component_forms cs ps) os mid → Chain (Step free) rs (mid, components x [] ∷ a.1) b → Closed e cs ps rs a b
+  pub begun_out : (e : Bool) (cs : Components) → EachShows free cs → (ps : Parts) (rs : List Record) (a b : State) (x : Option Bool) (os mid : List ℕ) → is_some x ≡ e → Front free (Oer.preamble (preamble_bits x (presence_bits cs ps))) a.0 os → Front free (Oer.component_forms cs ps) os mid → Chain (Step free) rs (mid, components x [] ∷ a.1) b → Closed e cs ps rs a b
   begun_out e cs h ps rs a b x os mid i f g c =
       let r = root_out free cs h ps rs x [] os mid a.1 b g c in
       let ms : List Bool = presence_bits cs r.0 in
@@ -44,7 +45,7 @@ module _ (free : Oer.Freedom → Bool) where
       (r.0, (os, components x ms ∷ a.1), r.1, (x, ms, i, presence_bits_count cs r.0, f', refl), d)
 
   -- ---- without an extension marker
-  closed_in : (x : Option Bool) (more : List Bool) (mid : List ℕ) (k : List Scope) (b : State) → is_present x ≡ false → Chain (Step free) (ends ∷ []) (mid, components x more ∷ k) b → (x ≡ None) × (more ≡ []) × (b ≡ (mid, k))
+  closed_in : (x : Option Bool) (more : List Bool) (mid : List ℕ) (k : List Scope) (b : State) → is_some x ≡ false → Chain (Step free) (ends ∷ []) (mid, components x more ∷ k) b → (x ≡ None) × (more ≡ []) × (b ≡ (mid, k))
   closed_in None [] mid k b e c = (refl, refl, c.2 ∙ c.1)
   closed_in None (z ∷ zs) mid k b e c = absurd c.1
   closed_in (Some y) more mid k b e c = cc
@@ -79,7 +80,7 @@ module _ (free : Oer.Freedom → Bool) where
   -- ---- additions
   -- what is read of additions: those that these bits tell of, and unknown ones
   abbrev pub AddRead : Option (List (Option Oer.OctetForm)) → List Bool → List Bool → List ℕ → List Scope → State → Type 0
-  AddRead o ms us os k b = (xs : List (Option Oer.OctetForm)) × (mid : List ℕ) × (o ≡ Some xs) × (map (λ a. is_present a) xs ≡ ms) × Front free (joined (present_ones xs)) os mid × Skips free us mid b.0 × (b.1 ≡ k)
+  AddRead o ms us os k b = (xs : List (Option Oer.OctetForm)) × (mid : List ℕ) × (o ≡ Some xs) × (map (λ a. is_some a) xs ≡ ms) × Front free (joined (present_ones xs)) os mid × Skips free us mid b.0 × (b.1 ≡ k)
 
   abbrev Adds : Option (List (Option Oer.OctetForm)) → List Record → List Bool → List Scope → State → Type 0
   Adds o tail us k b = (ms : List Bool) (os : List ℕ) → Chain (Step free) tail (os, added ms us ∷ k) b → AddRead o ms us os k b
@@ -165,10 +166,10 @@ module _ (free : Oer.Freedom → Bool) where
       (r.0, m, r.1, (rest, z.2, refl), chain_append (Step free) (presents s r.0) (addition_ends ∷ noted_by (is_at_default o s r.0) (is_group_left_out s r.0)) m j after r.2 (after, (z.4, refl), c))
 
   -- the first of the additions' flags
-  first_flag : (x : Option Oer.OctetForm) (o : Option (List (Option Oer.OctetForm))) (ms us : List Bool) (os : List ℕ) (k : List Scope) (b : State) → AddRead (option_map (λ xs. x ∷ xs) o) ms us os k b → (ys : List (Option Oer.OctetForm)) × (o ≡ Some ys) × (ms ≡ is_present x ∷ map (λ a. is_present a) ys) × (mid : List ℕ) × Front free (joined (present_ones (x ∷ ys))) os mid × Skips free us mid b.0 × (b.1 ≡ k)
+  first_flag : (x : Option Oer.OctetForm) (o : Option (List (Option Oer.OctetForm))) (ms us : List Bool) (os : List ℕ) (k : List Scope) (b : State) → AddRead (option_map (λ xs. x ∷ xs) o) ms us os k b → (ys : List (Option Oer.OctetForm)) × (o ≡ Some ys) × (ms ≡ is_some x ∷ map (λ a. is_some a) ys) × (mid : List ℕ) × Front free (joined (present_ones (x ∷ ys))) os mid × Skips free us mid b.0 × (b.1 ≡ k)
   first_flag x o ms us os k b r =
       let t = map_parts o (λ xs. x ∷ xs) r.0 r.2 in
-      (t.0, t.1, sym (ap (λ xs. map (λ a. is_present a) xs) t.2 ∙ r.3), r.1, subst (λ xs. Front free (joined (present_ones xs)) os r.1) (sym t.2) r.4, r.5, r.6)
+      (t.0, t.1, sym (ap (λ xs. map (λ a. is_some a) xs) t.2 ∙ r.3), r.1, subst (λ xs. Front free (joined (present_ones xs)) os r.1) (sym t.2) r.4, r.5, r.6)
 
   -- unless it is required, an addition may be left out
   unless_required : (q : Bool) (o : Option (List (Option Oer.OctetForm))) (xs : List (Option Oer.OctetForm)) → cond q None o ≡ Some xs → (q ≡ false) × (o ≡ Some xs)
@@ -184,14 +185,14 @@ module _ (free : Oer.Freedom → Bool) where
   added_out no_component h end ms us os k b r =
       let e : r.0 ≡ [] = cc r.2 in
       let f : Front free (exactly []) os r.1 = subst (λ xs. Front free (joined (present_ones xs)) os r.1) e r.4 in
-      let g : [] ≡ ms = ap (λ xs. map (λ a. is_present a) xs) (sym e) ∙ r.3 in
+      let g : [] ≡ ms = ap (λ xs. map (λ a. is_some a) xs) (sym e) ∙ r.3 in
       (end, (parts_self end, λ q. refl), subst (λ l. Chain (Step free) (ends ∷ []) (os, added l us ∷ k) b) g (b, (subst (λ l. Skips free us l b.0) (of_nothing free os r.1 f) r.5, r.6), refl))
   added_out no_component h (absent qs) ms us os k b r = cc r.2
   added_out no_component h (present v qs) ms us os k b r = cc r.2
   added_out (component t o s cs) h (present v qs) ms us os k b r =
       let x : Oer.OctetForm = Opening s v (is_at_default o s v) (is_group_left_out s v) in
       let p = first_flag (Some x) (Oer.addition_forms cs qs) ms us os k b r in
-      let ns : List Bool = map (λ a. is_present a) p.0 in
+      let ns : List Bool = map (λ a. is_some a) p.0 in
       let q = split free x (joined (present_ones p.0)) (joined_move (Oer.addition_forms cs qs) (additions_move free cs qs) p.0 p.1) os p.3 p.4 in
       let w = one_out s h.0 o v os q.0 ns us k q.1 in
       let others = added_out cs h.1 qs ns us q.0 k b (p.0, p.3, p.1, refl, q.2, p.5, p.6) in
@@ -201,7 +202,7 @@ module _ (free : Oer.Freedom → Bool) where
   added_out (component t o s cs) h (absent qs) ms us os k b r =
       let z = unless_required (is_required o) (option_map (λ xs. None ∷ xs) (Oer.addition_forms cs qs)) r.0 r.2 in
       let p = first_flag None (Oer.addition_forms cs qs) ms us os k b (r.0, r.1, z.1, r.3, r.4, r.5, r.6) in
-      let ns : List Bool = map (λ a. is_present a) p.0 in
+      let ns : List Bool = map (λ a. is_some a) p.0 in
       let others = added_out cs h.1 qs ns us os k b (p.0, p.3, p.1, refl, p.4, p.5, p.6) in
       let tail : List Record = added_records cs others.0 in
       (absent others.0, like_absent t o s cs qs others.0 others.1, subst (λ l. Chain (Step free) (cond (is_required o) (mismatch ∷ []) (addition false ∷ []) ++ tail) (os, added l us ∷ k) b) (sym p.2) (back_absent (is_required o) z.0 tail ns us os k b others.2))

@@ -7,7 +7,8 @@ use Rattle.asn1_model.specs.Schema.{Tag, Counts, boolean, null, integer, enumera
 use Rattle.asn1_model.specs.Schema.{character_string, object_identifier}
 use Rattle.asn1_model.specs.Lawful.{tag_same}
 use Rattle.asn1_model.specs.Numbers.{is_count_within}
-use Rattle.asn1_model.specs.Form.{Reads, joined, is_present, present_ones}
+use Rattle.asn1_model.specs.Form.{Reads, joined, present_ones}
+use Rattle.std.specs.Prelude.{is_some}
 use Rattle.asn1_model.specs.Oer
 use Rattle.asn1_schema_finding.specs.PresenceBits.{preamble_bits, first_bits, is_any_set}
 use Rattle.asn1_schema_presented.specs.Records.{Record, flag, nil, whole, one_of, bits, octets, characters, identifier}
@@ -63,7 +64,7 @@ NextMember v os k b = ⊥
 -- A preamble with or without the extension bit, and with so many presence bits.
 abbrev pub Begins : (Oer.Freedom → Bool) → Bool → ℕ → State → State → Type 0
 Begins free e n a b =
-    (x : Option Bool) × (ms : List Bool) × (is_present x ≡ e) × (length ms ≡ n)
+    (x : Option Bool) × (ms : List Bool) × (is_some x ≡ e) × (length ms ≡ n)
     × Front free (Oer.preamble (preamble_bits x ms)) a.0 b.0 × (b.1 ≡ components x ms ∷ a.1)
 
 -- The next presence bit.
@@ -107,7 +108,7 @@ unknown_forms xs = map (option_map (λ os. Oer.counted os)) xs
 -- Unknown additions are passed over by their lengths.
 abbrev pub Skips : (Oer.Freedom → Bool) → List Bool → List ℕ → List ℕ → Type 0
 Skips free us os rest =
-    (xs : List (Option (List ℕ))) × (map (λ a. is_present a) (unknown_forms xs) ≡ us)
+    (xs : List (Option (List ℕ))) × (map (λ a. is_some a) (unknown_forms xs) ≡ us)
     × Front free (joined (present_ones (unknown_forms xs))) os rest
 
 -- ---- choices

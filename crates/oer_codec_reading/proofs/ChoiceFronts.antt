@@ -4,7 +4,7 @@ use Rattle.std.specs.List.{position_from}
 use Rattle.asn1_model.specs.Oer
 use Rattle.asn1_model.specs.Lawful.{tag_same}
 use Rattle.asn1_model.specs.Schema.{Tag}
-use Rattle.asn1_model.specs.Strings.{each_is}
+use Rattle.std.specs.List.{list_all}
 use Rattle.asn1_schema_faults.specs.declared.DecodeError.{DecodeError}
 use Rattle.asn1_schema_tags.specs.Chosen.{ChoiceTags, alternative_at, alternative_of}
 use Rattle.asn1_schema_tags.specs.Trees.{place_of}
@@ -17,7 +17,7 @@ use Rattle.oer_codec_reading.proofs.Fronts.{if_stands, missed, not_before}
 use Rattle.oer_codec_reading.proofs.Places.{place_fits, place_below}
 
 module _ (roots : List Tag) (e : Bool) (others : List Tag) (t : Tag) where
-  fits : each_is is_in_32_bits roots ≡ true → each_is is_in_32_bits others ≡ true → (plus : Bool) (i : ℕ) → IsPlace roots e others t plus i → is_in_32_bits t ≡ true
+  fits : list_all is_in_32_bits roots ≡ true → list_all is_in_32_bits others ≡ true → (plus : Bool) (i : ℕ) → IsPlace roots e others t plus i → is_in_32_bits t ≡ true
   fits a b false i p = place_fits t roots i a p
   fits a b true i p = place_fits t others i b p.2
 
@@ -80,7 +80,7 @@ module _ (c : ChoiceTags) (t : Tag) (o : Option Chosen) (e : o ≡ alternative_o
   not_found = subst (λ p. IfNone p ((plus : Bool) (i : ℕ) → IsPlace c.roots c.extensible c.additions t plus i → ⊥)) by_places (none_at c.roots c.additions t c.extensible (tag_place t c.roots) (tag_place t c.additions) refl refl)
 
 -- ---- tags
-pub no_tag : (free : Oer.Freedom → Bool) (roots others : List Tag) (os : List ℕ) (e : DecodeError) → each_is is_in_32_bits roots ≡ true → each_is is_in_32_bits others ≡ true → Misses free tag_in os e → NoTag free roots others os e
+pub no_tag : (free : Oer.Freedom → Bool) (roots others : List Tag) (os : List ℕ) (e : DecodeError) → list_all is_in_32_bits roots ≡ true → list_all is_in_32_bits others ≡ true → Misses free tag_in os e → NoTag free roots others os e
 no_tag free roots others os e a b m = record {
   none = λ i x t plus j rest p s. missed free tag_in os e m i t rest (if_stands free (is_in_32_bits t) (Oer.tag_form t) os rest (fits roots x others t a b plus j p) s);
   fresh = not_before free tag_in os e m;

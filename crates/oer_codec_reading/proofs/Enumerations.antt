@@ -2,7 +2,8 @@
 use Rattle.std.proofs.Common.{◌≡◌, ℕ, ℤ, Bool, true, false, ◌&&◌, ◌||◌, inl, inr, List, Option, Some, None, refl, sym, subst}
 use Rattle.std.proofs.lemmas.Bool.{and_parts, or_cases}
 use Rattle.asn1_laws_fronts.proofs.OctetUnits.{items_alike}
-use Rattle.asn1_model.specs.Form.{Reads, is_present}
+use Rattle.asn1_model.specs.Form.{Reads}
+use Rattle.std.specs.Prelude.{is_some}
 use Rattle.asn1_model.specs.Oer.{Freedom, form, item_form}
 use Rattle.asn1_model.specs.Schema.{enumerated}
 use Rattle.asn1_model.specs.Tables.{item_place}
@@ -18,9 +19,9 @@ as_front free v os rest h = record { text = h.0; has_form = h.2; in_front = h.1 
 
 -- whether a number is one of a type's items
 abbrev is_item : List ℤ → Bool → List ℤ → ℤ → Bool
-is_item roots e adds v = is_present (item_place v roots) || (e && is_present (item_place v adds))
+is_item roots e adds v = is_some (item_place v roots) || (e && is_some (item_place v adds))
 
-present : (o : Option ℕ) (i : ℕ) → o ≡ Some i → is_present o ≡ true
+present : (o : Option ℕ) (i : ℕ) → o ≡ Some i → is_some o ≡ true
 present None i e = cc e
 present (Some j) i e = refl
 
@@ -41,12 +42,12 @@ placed roots e adds v false i h = or_left _ _ (present (item_place v roots) i h)
 placed roots e adds v true i h = or_right _ _ (both_true e _ h.1 (present (item_place v adds) i h.2))
 
 not_placed : (roots : List ℤ) (e : Bool) (adds : List ℤ) (v : ℤ) → IsNone roots e adds v → is_item roots e adds v ≡ true → ⊥
-not_placed roots e adds v h t = elim (or_cases (is_present (item_place v roots)) (e && is_present (item_place v adds)) t) [
+not_placed roots e adds v h t = elim (or_cases (is_some (item_place v roots)) (e && is_some (item_place v adds)) t) [
   | inl p ↦ none_present (item_place v roots) h.0 p
-  | inr p ↦ let q = and_parts e (is_present (item_place v adds)) p in none_present (item_place v adds) (h.1 q.0) q.1
+  | inr p ↦ let q = and_parts e (is_some (item_place v adds)) p in none_present (item_place v adds) (h.1 q.0) q.1
 ]
   where
-    none_present : (o : Option ℕ) → o ≡ None → is_present o ≡ true → ⊥
+    none_present : (o : Option ℕ) → o ≡ None → is_some o ≡ true → ⊥
     none_present None e p = cc p
     none_present (Some i) e p = cc e
 

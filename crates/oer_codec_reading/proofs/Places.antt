@@ -13,7 +13,7 @@ use Rattle.oer_codec_reading.proofs.Freedoms.{and_true}
 use Rattle.asn1_model.specs.Schema.{Tag}
 use Rattle.asn1_model.specs.Tables.{item_place}
 use Rattle.asn1_model.specs.Value.{same_number}
-use Rattle.asn1_model.specs.Strings.{each_is}
+use Rattle.std.specs.List.{list_all}
 use Rattle.oer_codec_fronts.specs.Takes.{tag_place}
 use Rattle.oer_codec_fronts.proofs.Next.{same_tag}
 use Rattle.oer_codec_reading.specs.Tags.{is_in_32_bits}
@@ -69,23 +69,23 @@ small_item (o ∷ []) h l =
 small_item (o ∷ p ∷ os) h l = absurd (omega arith)
 
 -- ---- numbers of 32 bits
-each_more : (us : List Tag) (u : Tag) → each_is is_in_32_bits us ≡ true → is_in_32_bits u ≡ true → each_is is_in_32_bits (us ++ u ∷ []) ≡ true
+each_more : (us : List Tag) (u : Tag) → list_all is_in_32_bits us ≡ true → is_in_32_bits u ≡ true → list_all is_in_32_bits (us ++ u ∷ []) ≡ true
 each_more [] u e f = and_true _ _ f refl
-each_more (v ∷ us) u e f = let p = and_parts (is_in_32_bits v) (each_is is_in_32_bits us) e in and_true _ _ p.0 (each_more us u p.1 f)
+each_more (v ∷ us) u e f = let p = and_parts (is_in_32_bits v) (list_all is_in_32_bits us) e in and_true _ _ p.0 (each_more us u p.1 f)
 
-pub numbers_more : {X : Type 0} (f : X → Tag) (xs : List X) (i : ℕ) (d : X) (n : ℕ) → i < length xs → n ≡ (f (get_or xs i d)).number → n < 2 ^ 32 → each_is is_in_32_bits (map f (take i xs)) ≡ true → each_is is_in_32_bits (map f (take (i + 1) xs)) ≡ true
+pub numbers_more : {X : Type 0} (f : X → Tag) (xs : List X) (i : ℕ) (d : X) (n : ℕ) → i < length xs → n ≡ (f (get_or xs i d)).number → n < 2 ^ 32 → list_all is_in_32_bits (map f (take i xs)) ≡ true → list_all is_in_32_bits (map f (take (i + 1) xs)) ≡ true
 numbers_more f xs i d n l e s g =
-    ap (λ ys. each_is is_in_32_bits (map f ys)) (take_more xs i d l)
-    ∙ ap (each_is is_in_32_bits) (map-append f (take i xs) (get_or xs i d ∷ []))
+    ap (λ ys. list_all is_in_32_bits (map f ys)) (take_more xs i d l)
+    ∙ ap (list_all is_in_32_bits) (map-append f (take i xs) (get_or xs i d ∷ []))
     ∙ each_more (map f (take i xs)) (f (get_or xs i d)) g (ap (λ k. ltb k (2 ^ 32)) (sym e) ∙ lt-ltb n (2 ^ 32) s)
 
 -- a tag that has a place in a table is one of its tags
-pub place_fits : (t : Tag) (us : List Tag) (i : ℕ) → each_is is_in_32_bits us ≡ true → tag_place t us ≡ Some i → is_in_32_bits t ≡ true
+pub place_fits : (t : Tag) (us : List Tag) (i : ℕ) → list_all is_in_32_bits us ≡ true → tag_place t us ≡ Some i → is_in_32_bits t ≡ true
 place_fits t [] i a e = cc e
-place_fits t (u ∷ us) i a e = go (tag_same t u) refl (tag_place t us) refl (λ j f. place_fits t us j ((and_parts (is_in_32_bits u) (each_is is_in_32_bits us) a).1) f)
+place_fits t (u ∷ us) i a e = go (tag_same t u) refl (tag_place t us) refl (λ j f. place_fits t us j ((and_parts (is_in_32_bits u) (list_all is_in_32_bits us) a).1) f)
   where
     go : (b : Bool) → tag_same t u ≡ b → (o : Option ℕ) → tag_place t us ≡ o → ((j : ℕ) → tag_place t us ≡ Some j → is_in_32_bits t ≡ true) → is_in_32_bits t ≡ true
-    go true b o f further = ap is_in_32_bits (same_tag t u b) ∙ (and_parts (is_in_32_bits u) (each_is is_in_32_bits us) a).0
+    go true b o f further = ap is_in_32_bits (same_tag t u b) ∙ (and_parts (is_in_32_bits u) (list_all is_in_32_bits us) a).0
     go false b None f further = let g : None ≡ Some i = sym (ap (λ c. cond c (Some zero) (option_map suc (tag_place t us))) b ∙ ap (option_map suc) f) ∙ e in cc g
     go false b (Some j) f further = further j f
 

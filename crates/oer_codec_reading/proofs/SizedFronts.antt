@@ -5,7 +5,8 @@ use Rattle.asn1_model.specs.Schema.{Size, Counts, octet_string}
 use Rattle.asn1_model.specs.Value.{Value, octet_list}
 use Rattle.asn1_model.specs.Numbers.{is_count_to, is_count_within}
 use Rattle.asn1_model.specs.Form.{Reads, exactly}
-use Rattle.asn1_model.specs.Strings.{each_is, is_octet}
+use Rattle.asn1_model.specs.Strings.{is_octet}
+use Rattle.std.specs.List.{list_all}
 use Rattle.asn1_model.specs.Oer.{Freedom, form, admits, is_fixed, is_fixed_at, octets_form, counted}
 use Rattle.asn1_values_natives.proofs.OctetLaws.{AreOctets}
 use Rattle.oer_codec_reading_lengths.specs.Fronts.{Stands, NoneStands}
@@ -35,13 +36,13 @@ pub one_length : (z : Size) (held : Counts) (n : ℕ) → is_fixed z ≡ true �
 one_length z held n f g = at_size z.extensible z.counts n f ((and_parts _ _ g).1)
 
 module _ (free : Freedom → Bool) where
-  octets_stand : (os w rest : List ℕ) → each_is is_octet os ≡ true → os ++ rest ≡ w → Stands free (octets_form true os) w rest
+  octets_stand : (os w rest : List ℕ) → list_all is_octet os ≡ true → os ++ rest ≡ w → Stands free (octets_form true os) w rest
   unfolding octets_form
-  octets_stand os w rest e h = if_stands free (each_is is_octet os) (exactly os) w rest e (exactly_stands free os w rest h)
+  octets_stand os w rest e h = if_stands free (list_all is_octet os) (exactly os) w rest e (exactly_stands free os w rest h)
 
   octets_front : (os w rest : List ℕ) → Stands free (octets_form true os) w rest → os ++ rest ≡ w
   unfolding octets_form
-  octets_front os w rest h = exactly_front free os w rest (if_front free (each_is is_octet os) (exactly os) w rest h).1
+  octets_front os w rest h = exactly_front free os w rest (if_front free (list_all is_octet os) (exactly os) w rest h).1
 
   counted_is : (os w rest : List ℕ) → Stands free (octets_form false os) w rest → Stands free (counted os) w rest
   unfolding octets_form
@@ -99,10 +100,10 @@ module _ (free : Freedom → Bool) where
   to_sized false low os w rest e h = h
 
   -- What stands in front is octets.
-  pub sized_octets : (size : Option ℕ) (os w rest : List ℕ) → Stands free (sized size os) w rest → each_is is_octet os ≡ true
+  pub sized_octets : (size : Option ℕ) (os w rest : List ℕ) → Stands free (sized size os) w rest → list_all is_octet os ≡ true
   unfolding sized octets_form
   sized_octets None os w rest h = (counted_front free os w rest h).0
-  sized_octets (Some m) os w rest h = (if_front free (each_is is_octet os) (exactly os) w rest (if_front free (length os == m) (octets_form true os) w rest h).1).0
+  sized_octets (Some m) os w rest h = (if_front free (list_all is_octet os) (exactly os) w rest (if_front free (length os == m) (octets_form true os) w rest h).1).0
 
   pub sized_text : (m : ℕ) (os w rest : List ℕ) → Stands free (sized (Some m) os) w rest → (length os ≡ m) × (os ++ rest ≡ w)
   unfolding sized

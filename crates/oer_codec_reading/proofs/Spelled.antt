@@ -4,7 +4,8 @@ use Rattle.std.proofs.lemmas.Bool.{false≢true, false_from_ne_true, leb-true, l
 use Rattle.std.proofs.lemmas.List.{take_all, take_more}
 use Rattle.asn1_model.specs.Oer.{string_octets}
 use Rattle.asn1_model.specs.Schema.{StringKind, bmp}
-use Rattle.asn1_model.specs.Strings.{each_is, is_octet}
+use Rattle.asn1_model.specs.Strings.{is_octet}
+use Rattle.std.specs.List.{list_all}
 use Rattle.asn1_values_alphabets.specs.Permitted.{permits, permits_all}
 use Rattle.asn1_values_alphabets.proofs.Permitted.{each_is-push}
 use Rattle.oer_codec_reading.specs.Characters.{width, spelled, pairs, characters_in}
@@ -93,7 +94,7 @@ pub characters-spelled : (t : StringKind) (wide : Bool) (cs : List ℕ) → perm
 characters-spelled t true cs e h = pairs-spelled t cs e h
 characters-spelled t false cs e h = refl
 
-spelled-pairs : (os : List ℕ) → each_is is_octet os ≡ true → length os % 2 ≡ 0 → spelled true (pairs os) ≡ os
+spelled-pairs : (os : List ℕ) → list_all is_octet os ≡ true → length os % 2 ≡ 0 → spelled true (pairs os) ≡ os
 spelled-pairs [] a e = refl
 spelled-pairs (o ∷ []) a e = absurd (omega (arith, e))
 spelled-pairs (o ∷ p ∷ os) a e =
@@ -106,6 +107,6 @@ spelled-pairs (o ∷ p ∷ os) a e =
     ap (λ n. n ∷ ((o * 256 + p) / 1 % 256) ∷ spelled true (pairs os)) high ∙ ap (λ n. o ∷ n ∷ spelled true (pairs os)) low ∙ ap (λ xs. o ∷ p ∷ xs) (spelled-pairs os r.1 (omega (arith, e)))
 
 -- Octets are those of the characters that they are.
-pub spelled-characters : (wide : Bool) (os : List ℕ) → each_is is_octet os ≡ true → length os % width wide ≡ 0 → spelled wide (characters_in wide os) ≡ os
+pub spelled-characters : (wide : Bool) (os : List ℕ) → list_all is_octet os ≡ true → length os % width wide ≡ 0 → spelled wide (characters_in wide os) ≡ os
 spelled-characters true os a e = spelled-pairs os a e
 spelled-characters false os a e = refl

@@ -1,7 +1,7 @@
 //! Tags (X.696 8.7).
 ghost use Rattle.std.specs.Prelude.{◌≡◌, ◌^◌, true, Some, None, map, IfOk, IfErr};
 ghost use Rattle.asn1_model.specs.Oer.{tag_form};
-ghost use Rattle.asn1_model.specs.Strings.{each_is};
+ghost use Rattle.std.specs.List.{list_all};
 ghost use Rattle.asn1_schema_tags.specs.Tags.{tag_of};
 ghost use Rattle.oer_codec_reading.specs.Fronts.{freedoms, Misses, Stands};
 ghost use Rattle.oer_codec_reading.specs.Tags.{is_in_32_bits, number_behind, tag_in};
@@ -71,7 +71,7 @@ fn number_of(tag: &Tag) -> u32
 /// Goes through the numbers of the tags of a table: 32 bits hold each of them, so a tag with a larger number has no
 /// place in it.
 pub(crate) fn visit_numbers(table: &[Tag])
-    ensures { each_is is_in_32_bits (map tag_of table.now) ≡ true }
+    ensures { list_all is_in_32_bits (map tag_of table.now) ≡ true }
 {
     for entry in table {
         let _number = number_of(entry);

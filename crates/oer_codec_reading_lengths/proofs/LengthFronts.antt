@@ -5,7 +5,8 @@ use Rattle.std.proofs.Math.Bool.{or-true}
 use Rattle.std.proofs.Math.Nat.{pow-le-pow_right}
 use Rattle.asn1_model.specs.Form.{exactly, only_if}
 use Rattle.asn1_model.specs.Numbers.{digits, octet_width}
-use Rattle.asn1_model.specs.Strings.{each_is, is_octet}
+use Rattle.asn1_model.specs.Strings.{is_octet}
+use Rattle.std.specs.List.{list_all}
 use Rattle.asn1_model.specs.Oer.{Freedom, OctetForm, length_form, long_length, longer_length, counted}
 use Rattle.asn1_values_natives.specs.Octets.{unsigned_number}
 use Rattle.asn1_values_natives.proofs.OctetLaws.{AreOctets, unsigned-lt, length-digits, unsigned-digits, digits-unsigned}
@@ -152,22 +153,22 @@ length_one free n m os r s x y = go (length_front free n os r x).1 (length_front
 
 -- ---- octets behind their number
 
-pub each_octet : (os : List ℕ) → AreOctets os → each_is is_octet os ≡ true
+pub each_octet : (os : List ℕ) → AreOctets os → list_all is_octet os ≡ true
 each_octet [] h = refl
 each_octet (o ∷ os) h = and_true _ _ (lt-ltb o 256 h.0) (each_octet os h.1)
 
-pub are_octets : (os : List ℕ) → each_is is_octet os ≡ true → AreOctets os
+pub are_octets : (os : List ℕ) → list_all is_octet os ≡ true → AreOctets os
 are_octets [] e = tt
-are_octets (o ∷ os) e = let p = and_parts (is_octet o) (each_is is_octet os) e in (ltb-true o 256 p.0, are_octets os p.1)
+are_octets (o ∷ os) e = let p = and_parts (is_octet o) (list_all is_octet os) e in (ltb-true o 256 p.0, are_octets os p.1)
 
 module _ (free : Freedom → Bool) where
-  pub counted_stands : (os w rest : List ℕ) → each_is is_octet os ≡ true → Stands free (length_form (length os)) w (os ++ rest) → Stands free (counted os) w rest
+  pub counted_stands : (os w rest : List ℕ) → list_all is_octet os ≡ true → Stands free (length_form (length os)) w (os ++ rest) → Stands free (counted os) w rest
   unfolding counted
-  counted_stands os w rest e h = if_stands free (each_is is_octet os) _ w rest e (followed_stands free (length_form (length os)) os w rest h)
+  counted_stands os w rest e h = if_stands free (list_all is_octet os) _ w rest e (followed_stands free (length_form (length os)) os w rest h)
 
-  pub counted_front : (os w rest : List ℕ) → Stands free (counted os) w rest → (each_is is_octet os ≡ true) × Stands free (length_form (length os)) w (os ++ rest)
+  pub counted_front : (os w rest : List ℕ) → Stands free (counted os) w rest → (list_all is_octet os ≡ true) × Stands free (length_form (length os)) w (os ++ rest)
   unfolding counted
-  counted_front os w rest h = let i = if_front free (each_is is_octet os) _ w rest h in (i.0, followed_front free (length_form (length os)) os w rest i.1)
+  counted_front os w rest h = let i = if_front free (list_all is_octet os) _ w rest h in (i.0, followed_front free (length_form (length os)) os w rest i.1)
 
   -- One list of octets at most stands in front behind its number.
   pub counted_one : (a b w r s : List ℕ) → Stands free (counted a) w r → Stands free (counted b) w s → (a ≡ b) × (r ≡ s)

@@ -7,16 +7,17 @@ use Rattle.asn1_model.specs.Form.{written}
 use Rattle.asn1_model.specs.Schema.{Size, Counts, Alphabet, StringKind, numeric, printable, visible, ia5, bmp, general, graphic, teletex, utf8, character_string}
 use Rattle.asn1_model.specs.Value.{text}
 use Rattle.asn1_model.specs.Numbers.{digits}
-use Rattle.asn1_model.specs.Strings.{Run, characters_of, each_is, is_among, is_octet, may_hold}
+use Rattle.asn1_model.specs.Strings.{Run, characters_of, is_among, is_octet, may_hold}
+use Rattle.std.specs.List.{list_all}
 use Rattle.asn1_model.specs.Oer
 use Rattle.oer_codec_writing.proofs.LengthTexts.{digits_octets}
 use Rattle.oer_codec_writing.proofs.ScalarTexts.{if_true, if_false}
 
-among_most : (rs : List Run) (c m : ℕ) → each_is (λ (r : Run). leb r.last m) rs ≡ true → is_among rs c ≡ true → c ≤ m
+among_most : (rs : List Run) (c m : ℕ) → list_all (λ (r : Run). leb r.last m) rs ≡ true → is_among rs c ≡ true → c ≤ m
 among_most [] c m h e = cc
-among_most (r ∷ rs) c m h e = go (λ q i. among_most rs c m q i) (leb r.last m) (each_is (λ (q : Run). leb q.last m) rs) refl refl h (leb r.first c) (leb c r.last) refl e
+among_most (r ∷ rs) c m h e = go (λ q i. among_most rs c m q i) (leb r.last m) (list_all (λ (q : Run). leb q.last m) rs) refl refl h (leb r.first c) (leb c r.last) refl e
   where
-    go : (each_is (λ (q : Run). leb q.last m) rs ≡ true → is_among rs c ≡ true → c ≤ m) → (a b : Bool) → leb r.last m ≡ a → each_is (λ (q : Run). leb q.last m) rs ≡ b → (a && b) ≡ true → (x y : Bool) → leb c r.last ≡ y → ((x && y) || is_among rs c) ≡ true → c ≤ m
+    go : (list_all (λ (q : Run). leb q.last m) rs ≡ true → is_among rs c ≡ true → c ≤ m) → (a b : Bool) → leb r.last m ≡ a → list_all (λ (q : Run). leb q.last m) rs ≡ b → (a && b) ≡ true → (x y : Bool) → leb c r.last ≡ y → ((x && y) || is_among rs c) ≡ true → c ≤ m
     go f true true p q h true true s e = let i = leb-true r.last m p in let j = leb-true c r.last s in omega arith
     go f true true p q h true false s e = f q e
     go f true true p q h false y s e = f q e
@@ -38,9 +39,9 @@ both_true : (p q : Bool) → (p && q) ≡ true → (p ≡ true) × (q ≡ true)
 both_true true q e = (refl, e)
 both_true false q e = cc
 
-pub narrow_octets : (k : StringKind) (cs : List ℕ) → is_among (characters_of k) 256 ≡ false → each_is (is_among (characters_of k)) cs ≡ true → each_is is_octet cs ≡ true
+pub narrow_octets : (k : StringKind) (cs : List ℕ) → is_among (characters_of k) 256 ≡ false → list_all (is_among (characters_of k)) cs ≡ true → list_all is_octet cs ≡ true
 narrow_octets k [] w e = refl
-narrow_octets k (c ∷ cs) w e = let p = both_true _ _ e in ap (λ b. b && each_is is_octet cs) (narrow_octet k c w p.0) ∙ narrow_octets k cs w p.1
+narrow_octets k (c ∷ cs) w e = let p = both_true _ _ e in ap (λ b. b && list_all is_octet cs) (narrow_octet k c w p.0) ∙ narrow_octets k cs w p.1
 
 pub narrow_text : (k : StringKind) (cs : List ℕ) → is_among (characters_of k) 256 ≡ false → Oer.string_octets k cs ≡ cs
 narrow_text numeric cs w = refl
@@ -64,15 +65,15 @@ wide_text graphic cs w = cc
 wide_text teletex cs w = cc
 wide_text utf8 cs w = cc
 
-pub wide_octets : (cs : List ℕ) → each_is is_octet (flat_map (digits 256 2) cs) ≡ true
+pub wide_octets : (cs : List ℕ) → list_all is_octet (flat_map (digits 256 2) cs) ≡ true
 wide_octets [] = refl
-wide_octets (c ∷ cs) = let p = both_true _ _ (digits_octets 2 c) in let q = both_true _ _ p.1 in ap (λ b. b && (is_octet (c / 256 ^ 0 % 256) && each_is is_octet (flat_map (digits 256 2) cs))) p.0 ∙ (ap (λ b. b && each_is is_octet (flat_map (digits 256 2) cs)) q.0 ∙ wide_octets cs)
+wide_octets (c ∷ cs) = let p = both_true _ _ (digits_octets 2 c) in let q = both_true _ _ p.1 in ap (λ b. b && (is_octet (c / 256 ^ 0 % 256) && list_all is_octet (flat_map (digits 256 2) cs))) p.0 ∙ (ap (λ b. b && list_all is_octet (flat_map (digits 256 2) cs)) q.0 ∙ wide_octets cs)
 
 pub length-wide : (cs : List ℕ) → length (flat_map (digits 256 2) cs) ≡ length cs * 2
 length-wide [] = refl
 length-wide (c ∷ cs) = omega (arith, length-wide cs)
 
-pub octet_at : (cs : List ℕ) (i : ℕ) → each_is is_octet cs ≡ true → i < length cs → get_or cs i 0 < 256
+pub octet_at : (cs : List ℕ) (i : ℕ) → list_all is_octet cs ≡ true → i < length cs → get_or cs i 0 < 256
 octet_at [] i h l = absurd (omega arith)
 octet_at (c ∷ cs) zero h l = ltb-true c 256 (both_true _ _ h).0
 octet_at (c ∷ cs) (suc i) h l = octet_at cs i (both_true _ _ h).1 (omega arith)

@@ -5,7 +5,8 @@ use Rattle.std.proofs.lemmas.Nat.{and_mask}
 use Rattle.std.proofs.lemmas.Bool.{lt-ltb, le-ltb, le-leb}
 use Rattle.asn1_model.specs.Form.{written, only_if, varied, exactly, both}
 use Rattle.asn1_model.specs.Numbers.{digits, octet_width, least_octets}
-use Rattle.asn1_model.specs.Strings.{each_is, is_octet}
+use Rattle.asn1_model.specs.Strings.{is_octet}
+use Rattle.std.specs.List.{list_all}
 use Rattle.asn1_model.specs.Oer
 use Rattle.asn1_values_natives.proofs.OctetLaws.{length-digits, AreOctets}
 use Rattle.asn1_values_natives.proofs.TwosComplement.{octets-all}
@@ -21,15 +22,15 @@ digit_pushed old now left n x h e d =
     let o : x ≡ n / 256 ^ k % 256 = e ∙ and_mask (n / 2 ^ (8 * k)) 8 ∙ ap (λ p. n / p % 256) (sym (pow256 k)) in
     ap (λ w. w ++ digits 256 k n) d ∙ append_assoc old (x ∷ []) (digits 256 k n) ∙ ap (λ y. old ++ (y ∷ digits 256 k n)) o ∙ sym (ap (λ j. old ++ digits 256 j n) l)
 
-pub digits_octets : (k n : ℕ) → each_is is_octet (digits 256 k n) ≡ true
+pub digits_octets : (k n : ℕ) → list_all is_octet (digits 256 k n) ≡ true
 digits_octets zero n = refl
-digits_octets (suc k) n = let h : ltb (n / 256 ^ k % 256) 256 ≡ true = lt-ltb _ _ (omega arith) in ap (λ b. b && each_is is_octet (digits 256 k n)) h ∙ digits_octets k n
+digits_octets (suc k) n = let h : ltb (n / 256 ^ k % 256) 256 ≡ true = lt-ltb _ _ (omega arith) in ap (λ b. b && list_all is_octet (digits 256 k n)) h ∙ digits_octets k n
 
-octets_are : (os : List ℕ) → AreOctets os → each_is is_octet os ≡ true
+octets_are : (os : List ℕ) → AreOctets os → list_all is_octet os ≡ true
 octets_are [] h = refl
-octets_are (o ∷ os) h = ap (λ b. b && each_is is_octet os) (lt-ltb _ _ h.0) ∙ octets_are os h.1
+octets_are (o ∷ os) h = ap (λ b. b && list_all is_octet os) (lt-ltb _ _ h.0) ∙ octets_are os h.1
 
-pub all_octets : (os : List ℕ) → ((i : ℕ) → Fits w8 (get_or os i 0)) → each_is is_octet os ≡ true
+pub all_octets : (os : List ℕ) → ((i : ℕ) → Fits w8 (get_or os i 0)) → list_all is_octet os ≡ true
 all_octets os h = octets_are os (octets-all os h)
 
 pub width_64 : (n : ℕ) → n < 2 ^ 64 → octet_width n ≤ 8
@@ -86,13 +87,13 @@ long_length n h k =
 
 -- ---- octets behind their number
 
-pub counted_text : (os w : List ℕ) → each_is is_octet os ≡ true → written (Oer.length_form (length os)) 0 ≡ Some w → written (Oer.counted os) 0 ≡ Some (w ++ os)
+pub counted_text : (os w : List ℕ) → list_all is_octet os ≡ true → written (Oer.length_form (length os)) 0 ≡ Some w → written (Oer.counted os) 0 ≡ Some (w ++ os)
 unfolding written Oer.counted
 counted_text os w h e =
     ap (λ t. written (only_if t (both (Oer.length_form (length os)) (exactly os))) 0) h
     ∙ ap (λ o. option_and_then (λ a. option_map (λ b. a ++ b) (Some os)) o) e
 
-pub adds_counted : (os old mid new : List ℕ) → each_is is_octet os ≡ true → Adds (written (Oer.length_form (length os)) 0) old mid → new ≡ mid ++ os → Adds (written (Oer.counted os) 0) old new
+pub adds_counted : (os old mid new : List ℕ) → list_all is_octet os ≡ true → Adds (written (Oer.length_form (length os)) 0) old mid → new ≡ mid ++ os → Adds (written (Oer.counted os) 0) old new
 adds_counted os old mid new h a e = go (written (Oer.length_form (length os)) 0) refl a
   where
     go : (o : Option (List ℕ)) → written (Oer.length_form (length os)) 0 ≡ o → Adds o old mid → Adds (written (Oer.counted os) 0) old new

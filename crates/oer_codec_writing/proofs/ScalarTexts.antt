@@ -1,11 +1,13 @@
 -- The texts of scalars, and what their writers added.
 use Rattle.std.proofs.Common.{◌≡◌, ℕ, ℤ, ◌&&◌, ◌||◌, Bool, true, false, cond, List, [], ◌∷◌, ◌++◌, length, Option, Some, None, option_map, refl, ap, subst, sym, ◌∙◌}
-use Rattle.asn1_model.specs.Form.{written, only_if, exactly, is_present}
+use Rattle.asn1_model.specs.Form.{written, only_if, exactly}
+use Rattle.std.specs.Prelude.{is_some}
 use Rattle.asn1_model.specs.Tables.{item_place}
 use Rattle.asn1_schema_variants.specs.Items.{IsPlaced}
 use Rattle.asn1_model.specs.Schema.{Size, Counts, boolean, enumerated, octet_string, object_identifier}
 use Rattle.asn1_model.specs.Value.{truth, item, octet_list, arcs}
-use Rattle.asn1_model.specs.Strings.{each_is, is_octet, is_identifier, identifier_octets}
+use Rattle.asn1_model.specs.Strings.{is_octet, is_identifier, identifier_octets}
+use Rattle.std.specs.List.{list_all}
 use Rattle.asn1_model.specs.Oer
 use Rattle.oer_codec_writing.specs.Writing.{Adds}
 
@@ -37,9 +39,9 @@ adds_truth false x old new e h = ap (option_map (λ w. old ++ w)) false_text ∙
 
 -- ---- octets
 
-pub adds_octets : (os old new : List ℕ) → each_is is_octet os ≡ true → new ≡ old ++ os → Adds (written (Oer.octets_form true os) 0) old new
+pub adds_octets : (os old new : List ℕ) → list_all is_octet os ≡ true → new ≡ old ++ os → Adds (written (Oer.octets_form true os) 0) old new
 unfolding written Oer.octets_form
-adds_octets os old new h e = ap (option_map (λ w. old ++ w)) (if_true (each_is is_octet os) (exactly os) h) ∙ ap Some (sym e)
+adds_octets os old new h e = ap (option_map (λ w. old ++ w)) (if_true (list_all is_octet os) (exactly os) h) ∙ ap Some (sym e)
 
 pub adds_counted_octets : (os old new : List ℕ) → Adds (written (Oer.counted os) 0) old new → Adds (written (Oer.octets_form false os) 0) old new
 unfolding Oer.octets_form
@@ -81,10 +83,10 @@ placed_behind : (a b e : Bool) → e ≡ true → b ≡ true → (a || (e && b))
 placed_behind true b e h k = refl
 placed_behind false b e h k = ap (λ x. x && b) h ∙ k
 
-is_item : (roots : List ℤ) (e : Bool) (others : List ℤ) (v : ℤ) (added : Bool) (i : ℕ) → IsPlaced roots e others v added i → (is_present (item_place v roots) || (e && is_present (item_place v others))) ≡ true
-is_item roots e others v false i h = placed _ _ e (ap is_present h)
-is_item roots e others v true i h = placed_behind _ _ e h.1 (ap is_present h.2)
+is_item : (roots : List ℤ) (e : Bool) (others : List ℤ) (v : ℤ) (added : Bool) (i : ℕ) → IsPlaced roots e others v added i → (is_some (item_place v roots) || (e && is_some (item_place v others))) ≡ true
+is_item roots e others v false i h = placed _ _ e (ap is_some h)
+is_item roots e others v true i h = placed_behind _ _ e h.1 (ap is_some h.2)
 
 pub item_text : (roots : List ℤ) (e : Bool) (others : List ℤ) (v : ℤ) (added : Bool) (i : ℕ) → IsPlaced roots e others v added i → written (Oer.form (enumerated roots e others) (item v)) 0 ≡ written (Oer.item_form v) 0
 unfolding Oer.form
-item_text roots e others v added i h = if_true (is_present (item_place v roots) || (e && is_present (item_place v others))) (Oer.item_form v) (is_item roots e others v added i h)
+item_text roots e others v added i h = if_true (is_some (item_place v roots) || (e && is_some (item_place v others))) (Oer.item_form v) (is_item roots e others v added i h)

@@ -4,7 +4,8 @@ ghost use Rattle.asn1_model.specs.Form.{written};
 ghost use Rattle.asn1_model.specs.Numbers.{digits};
 ghost use Rattle.asn1_model.specs.Oer.{form, octets_form};
 ghost use Rattle.asn1_model.specs.Schema.{character_string, utf8};
-ghost use Rattle.asn1_model.specs.Strings.{each_is, is_octet};
+ghost use Rattle.asn1_model.specs.Strings.{is_octet};
+ghost use Rattle.std.specs.List.{list_all};
 ghost use Rattle.asn1_model.specs.Schema.{any_count};
 ghost use Rattle.asn1_model.specs.Value.{text};
 ghost use Rattle.asn1_model.specs.Versions.{Begins};
@@ -49,7 +50,7 @@ fn push_narrow<S: StaticPermittedAlphabet>(
     octets: &mut Vec<u8>,
     value: &S,
 ) -> Result<(), EncodeError>
-    requires { IsTrue (each_is is_octet (S.characters value.now)) }
+    requires { IsTrue (list_all is_octet (S.characters value.now)) }
     ensures text { MatchResult result (λ _. octets.new.items ≡ octets.old.items ++ S.characters value.now)
         (λ e. e ≡ EncodeError.OutOfMemory) }
     ensures kept { OnErr result (Begins octets.old.items octets.new.items) }
@@ -87,7 +88,7 @@ fn push_narrow_string<S: StaticPermittedAlphabet>(
     fixed: bool,
     value: &S,
 ) -> Result<(), EncodeError>
-    requires { IsTrue (each_is is_octet (S.characters value.now)) }
+    requires { IsTrue (list_all is_octet (S.characters value.now)) }
     ensures text { MatchResult result
         (λ _. Adds (written (octets_form fixed (S.characters value.now)) 0) octets.old.items octets.new.items)
         (λ e. e ≡ EncodeError.OutOfMemory) }

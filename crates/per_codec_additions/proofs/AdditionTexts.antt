@@ -2,7 +2,8 @@
 use Rattle.std.proofs.Common.{◌≡◌, ℕ, ◌+◌, ◌-◌, ◌*◌, ◌^◌, ◌<◌, ◌≤◌, leb, Bool, true, false, not, ◌&&◌, List, [], ◌∷◌, ◌++◌, length, map, take, slice_range, Option, Some, None, refl, ap, subst, sym, ◌∙◌, arith}
 use Rattle.std.proofs.lemmas.Bool.{le-leb, leb-true}
 use Rattle.std.proofs.lemmas.List.{append-nil, take_all, map-append}
-use Rattle.asn1_model.specs.Form.{exactly, joined, is_present, present_ones}
+use Rattle.asn1_model.specs.Form.{exactly, joined, present_ones}
+use Rattle.std.specs.Prelude.{is_some}
 use Rattle.asn1_model.specs.Numbers.{binary}
 use Rattle.asn1_model.specs.Per
 use Rattle.asn1_values_bits.proofs.Binary.{binary_join}
@@ -55,7 +56,7 @@ adds_many al us n old mid new e h x y =
 
 -- ---- additions
 
-flags_of : (al : Bool) (slots : List (Option (List Bool))) → map Per.flag (as_open_types al slots) ≡ Per.bit_units (map is_present slots)
+flags_of : (al : Bool) (slots : List (Option (List Bool))) → map Per.flag (as_open_types al slots) ≡ Per.bit_units (map is_some slots)
 flags_of al [] = refl
 flags_of al (None ∷ slots) = ap (λ us. exactly (false ∷ []) ∷ us) (flags_of al slots)
 flags_of al (Some w ∷ slots) = ap (λ us. exactly (true ∷ []) ∷ us) (flags_of al slots)
@@ -78,7 +79,7 @@ pub present_past : (al : Bool) (o : Option (List Bool)) (slots : List (Option (L
 present_past al None slots old new e b = b
 present_past al (Some v) slots old new e b = cc
 
-pub adds_additions : (al : Bool) (slots : List (Option (List Bool))) (bitmap : List Bool) (old mid new : Packed) → bitmap ≡ map is_present slots → Adds (text_at (Per.normally_few al (Per.bit_units bitmap)) (place old)) old mid → Present al slots mid new → Adds (text_at (Per.additions al (as_open_types al slots)) (place old)) old new
+pub adds_additions : (al : Bool) (slots : List (Option (List Bool))) (bitmap : List Bool) (old mid new : Packed) → bitmap ≡ map is_some slots → Adds (text_at (Per.normally_few al (Per.bit_units bitmap)) (place old)) old mid → Present al slots mid new → Adds (text_at (Per.additions al (as_open_types al slots)) (place old)) old new
 unfolding Per.additions
 adds_additions al slots bitmap old mid new e a b =
     adds_both (Per.normally_few al (map Per.flag (as_open_types al slots))) (joined (present_ones (as_open_types al slots))) old mid new

@@ -4,7 +4,8 @@ use mir.Val.{bool_byte}
 use Rattle.std.proofs.Math.Nat.{pow-suc}
 use Rattle.std.proofs.Math.Seq.{drop-append_seam}
 use Rattle.std.proofs.lemmas.List.{take_all, take_more, take-append-le, drop_all, drop_more, drop-append-le, length-drop, map-append}
-use Rattle.asn1_model.specs.Form.{exactly, is_any_present, is_present}
+use Rattle.asn1_model.specs.Form.{exactly, is_any_present}
+use Rattle.std.specs.Prelude.{is_some}
 use Rattle.asn1_model.specs.Numbers.{binary, missing, octet_bits, packed}
 use Rattle.asn1_model.specs.Per
 use Rattle.asn1_values_bits.specs.Octets.{padded}
@@ -207,14 +208,14 @@ slots_passed al shared ss i old h = subst (λ l. Present al (all_bits shared l) 
 pub adds_kept : (al : Bool) (shared : List ℕ) (ss : List Slot) (slots : List (Option (List Bool))) (old mid new : Packed) → all_bits shared ss ≡ slots → Adds (text_at (Per.normally_few al (Per.bit_units (map is_there ss))) (place old)) old mid → Present al (all_bits shared ss) mid new → Adds (text_at (Per.additions al (as_open_types al slots)) (place old)) old new
 adds_kept al shared ss slots old mid new e a b = subst (λ l. Adds (text_at (Per.additions al (as_open_types al l)) (place old)) old new) e (adds_additions al (all_bits shared ss) (map is_there ss) old mid new (all_there ss) a b)
   where
-    there : (s : Slot) → is_there s ≡ is_present (kept_bits shared s)
+    there : (s : Slot) → is_there s ≡ is_some (kept_bits shared s)
     there Absent = refl
     there (InPlace os count n) = refl
     there (Shared from to n) = refl
 
-    all_there : (ts : List Slot) → map is_there ts ≡ map is_present (all_bits shared ts)
+    all_there : (ts : List Slot) → map is_there ts ≡ map is_some (all_bits shared ts)
     all_there [] = refl
-    all_there (t ∷ ts) = ap (λ b. b ∷ map is_there ts) (there t) ∙ ap (λ bs. is_present (kept_bits shared t) ∷ bs) (all_there ts)
+    all_there (t ∷ ts) = ap (λ b. b ∷ map is_there ts) (there t) ∙ ap (λ bs. is_some (kept_bits shared t) ∷ bs) (all_there ts)
 
 -- ---- presence bits as a number
 

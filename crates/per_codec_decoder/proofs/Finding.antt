@@ -5,7 +5,8 @@ use Rattle.asn1_schema_presented.specs.Levels.{level}
 use Rattle.asn1_model.specs.Value.{Value, truth, nothing, number, item, bit_list, octet_list, text, arcs}
 use Rattle.asn1_model.specs.Schema.{Range, Bounds, Counts, Size, Alphabet, StringKind, Schema, boolean, null, integer, enumerated, bit_string, octet_string, character_string, object_identifier}
 use Rattle.asn1_model.specs.Numbers.{is_within, is_count_within, fits_128}
-use Rattle.asn1_model.specs.Strings.{each_is, is_octet}
+use Rattle.asn1_model.specs.Strings.{is_octet}
+use Rattle.std.specs.List.{list_all}
 use Rattle.asn1_model.specs.Tables.{is_bounded}
 use Rattle.asn1_model.specs.Per
 use Rattle.asn1_laws_fronts.proofs.PerNumbers.{length_of_map}
@@ -70,7 +71,7 @@ none_found old now q s e x same faults m asked =
 module _ (free : Per.Freedom → Bool) (al : Bool) (a b : Place) where
   pub octets_within : (z : Size) (h : Counts) (v : List ℕ) → Front free (Per.form al (octet_string z h) (octet_list v)) a b → is_count_within h (length v) ≡ true
   unfolding Per.form Per.sized
-  octets_within z h v f = subst (λ n. is_count_within h n ≡ true) (length_of_map _ v) (if_out free (is_count_within h (length (Per.octet_units v))) _ a b (if_out free (each_is is_octet v) _ a b f).1).0
+  octets_within z h v f = subst (λ n. is_count_within h n ≡ true) (length_of_map _ v) (if_out free (is_count_within h (length (Per.octet_units v))) _ a b (if_out free (list_all is_octet v) _ a b f).1).0
 
   pub bits_within : (z : Size) (h : Counts) (v : List Bool) → Front free (Per.form al (bit_string z h) (bit_list v)) a b → is_count_within h (length v) ≡ true
   unfolding Per.form Per.sized

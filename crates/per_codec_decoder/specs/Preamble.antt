@@ -1,7 +1,8 @@
 -- What stands in front of the components of a sequence, set or group (X.691 19.1 to 19.3), and of additions (X.691
 -- 19.7).
 use Rattle.std.specs.Prelude.{◌≡◌, ℕ, Bool, true, false, List, [], length}
-use Rattle.asn1_model.specs.Form.{exactly, is_present}
+use Rattle.asn1_model.specs.Form.{exactly}
+use Rattle.std.specs.Prelude.{is_some}
 use Rattle.asn1_model.specs.Per
 use Rattle.asn1_schema_faults.specs.declared.DecodeError.{DecodeError}
 use Rattle.asn1_schema_faults.specs.declared.DecodeError.TheVariants.{OutOfMemory}
@@ -10,7 +11,7 @@ use Rattle.per_codec_fronts.specs.Takes.{Place, Scope, components, Front}
 
 -- The extension bit, if there is one, and so many presence bits, and the scope that they open.
 abbrev pub HasPreamble : (Per.Freedom → Bool) → Bool → ℕ → Scope → Place → Place → Type 0
-HasPreamble free e n (components x ms) a b = (is_present x ≡ e) × (length ms ≡ n)
+HasPreamble free e n (components x ms) a b = (is_some x ≡ e) × (length ms ≡ n)
     × Front free (exactly (preamble_bits x ms)) a b
 HasPreamble free e n s a b = ⊥
 

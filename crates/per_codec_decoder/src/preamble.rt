@@ -1,6 +1,6 @@
 //! The preamble of a sequence, set or group (X.691 19.1 to 19.3).
 ghost use Rattle.std.specs.Prelude.{◌≡◌, [], true, OnOk, IfOk, IfErr};
-ghost use Rattle.asn1_model.specs.Form.{is_present};
+ghost use Rattle.std.specs.Prelude.{is_some};
 ghost use Rattle.asn1_schema_finding.specs.PresenceBits.{preamble_bits};
 ghost use Rattle.per_codec_reading.specs.Fronts.{freedoms, is_aligned, IsFresh, Leads};
 ghost use Rattle.per_codec_decoder.specs.Preamble.{HasBitmap, HasPreamble, NoBitmap, NoPreamble};
@@ -23,7 +23,7 @@ fn read_extension_bit(
     place: &mut Stretch<'_>,
     extensible: bool,
 ) -> Result<Option<bool>, DecodeError>
-    ensures there { IfOk result (λ bit. is_present bit ≡ extensible) }
+    ensures there { IfOk result (λ bit. is_some bit ≡ extensible) }
     ensures bits { IfOk result (λ bit. Leads (preamble_bits bit []) place.old.place place.new.place) }
     ensures storage { OnOk result (place.new.storage ≡ place.old.storage) }
     ensures only { IfErr result (λ _. (extensible ≡ true) × (place.old.place.1 ≡ [])) }

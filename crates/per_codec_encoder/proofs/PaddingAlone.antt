@@ -5,7 +5,8 @@ use Rattle.asn1_model.specs.Value.{Value, truth, nothing, number, item, bit_list
 use Rattle.asn1_model.specs.Schema.{Range, Bounds, Counts, Size, StringKind, Alphabet, Presence, Schema, boolean, null, integer, enumerated, bit_string, octet_string, character_string, object_identifier, sequence_of, set_of, sequence, set, group, choice, Components, no_component, component, Alternatives, no_alternative, alternative}
 use Rattle.asn1_model.specs.Normal.{is_at_default, is_group_left_out}
 use Rattle.asn1_model.specs.Tables.{is_required, presence_bits}
-use Rattle.asn1_model.specs.Strings.{Run, permitted, may_hold, is_of_octets, each_is, is_octet}
+use Rattle.asn1_model.specs.Strings.{Run, permitted, may_hold, is_of_octets, is_octet}
+use Rattle.std.specs.List.{list_all}
 use Rattle.asn1_model.specs.Numbers.{digits, binary, width, octet_width, least_octets, above, is_count_within}
 use Rattle.asn1_model.specs.Form.{exactly, refused, both, placed, varied, within, only_if, given, joined, is_any_present, present_ones, put_in_place, with_keys, ascending, written}
 use Rattle.asn1_model.specs.Per
@@ -142,7 +143,7 @@ counted_padding al us h = padding_varied (fragments_padding al _ us h)
 
 counted_octets_padding : (al : Bool) (os : List ℕ) → PaddingAlone (Per.counted_octets al os)
 unfolding Per.counted_octets
-counted_octets_padding al os = padding_if (each_is is_octet os) (counted_padding al (Per.octet_units os) (map_padding (λ o. exactly (binary 8 o)) (λ o. padding_exactly (binary 8 o)) os))
+counted_octets_padding al os = padding_if (list_all is_octet os) (counted_padding al (Per.octet_units os) (map_padding (λ o. exactly (binary 8 o)) (λ o. padding_exactly (binary 8 o)) os))
 
 semi_constrained_padding : (al : Bool) (d : ℕ) → PaddingAlone (Per.semi_constrained al d)
 unfolding Per.semi_constrained

@@ -4,7 +4,8 @@ use Rattle.std.proofs.lemmas.List.{append-nil}
 use Rattle.asn1_model.specs.Value.{Parts, end, absent, present}
 use Rattle.asn1_model.specs.Schema.{Components, no_component, component}
 use Rattle.asn1_model.specs.Tables.{is_required, presence_bits}
-use Rattle.asn1_model.specs.Form.{exactly, both, varied, given, only_if, joined, Bitmap, is_present, is_any_present, present_ones, covered_by, Reads}
+use Rattle.asn1_model.specs.Form.{exactly, both, varied, given, only_if, joined, Bitmap, is_any_present, present_ones, covered_by, Reads}
+use Rattle.std.specs.Prelude.{is_some}
 use Rattle.asn1_model.specs.Per
 use Rattle.asn1_model.proofs.Forms.{map_parts}
 use Rattle.asn1_laws_fronts.proofs.PerNumbers.{counted_octets_alike}
@@ -154,7 +155,7 @@ module _ (free : Per.Freedom → Bool) (al : Bool) where
   Extensible adds qs ms y = given (Per.addition_forms al adds qs) (Per.sequence_form al true ms y)
 
   module _ (other : IsTrue (free Per.other_bitmap)) (adds : Components) (ha : EachFinds al free adds) (qs : Parts) where
-    extensible_in : (ms : List Bool) (y : Per.BitForm) → (x : Option Bool) (more : List Bool) (start mid o2 : Place) (k : List Scope) (b : State) → is_present x ≡ true → Front free (exactly (preamble_bits x (ms ++ more))) start mid → Front free y mid o2 → Chain (Step free al) (additions_begin (component_count adds) ∷ added_records adds qs) (o2, components x more ∷ k) b → Front free (Extensible adds qs ms y) start b.0 × (b.1 ≡ k)
+    extensible_in : (ms : List Bool) (y : Per.BitForm) → (x : Option Bool) (more : List Bool) (start mid o2 : Place) (k : List Scope) (b : State) → is_some x ≡ true → Front free (exactly (preamble_bits x (ms ++ more))) start mid → Front free y mid o2 → Chain (Step free al) (additions_begin (component_count adds) ∷ added_records adds qs) (o2, components x more ∷ k) b → Front free (Extensible adds qs ms y) start b.0 × (b.1 ≡ k)
     extensible_in ms y None more start mid o2 k b e f g c = cc
     extensible_in ms y (Some true) (z ∷ more) start mid o2 k b e f g c = absurd c.1
     extensible_in ms y (Some false) (z ∷ more) start mid o2 k b e f g c = absurd c.1
@@ -189,7 +190,7 @@ module _ (free : Per.Freedom → Bool) (al : Bool) where
   module _ (other : IsTrue (free Per.other_bitmap)) (adds : Components) (ha : EachShows al free adds) (qs : Parts) where
     -- what is held at the extension bit, with additions like these
     abbrev AtExtensionBit : List Bool → Per.BitForm → Place → List Scope → State → Type 0
-    AtExtensionBit ms y start k b = (ss : Parts) × (x : Option Bool) × (mid : Place) × (o2 : Place) × LikeParts adds qs ss × (is_present x ≡ true) × Front free (exactly (preamble_bits x ms)) start mid × Front free y mid o2 × Chain (Step free al) (additions_begin (component_count adds) ∷ added_records adds ss) (o2, components x [] ∷ k) b
+    AtExtensionBit ms y start k b = (ss : Parts) × (x : Option Bool) × (mid : Place) × (o2 : Place) × LikeParts adds qs ss × (is_some x ≡ true) × Front free (exactly (preamble_bits x ms)) start mid × Front free y mid o2 × Chain (Step free al) (additions_begin (component_count adds) ∷ added_records adds ss) (o2, components x [] ∷ k) b
 
     no_unknown : (start : Place) → Skips al free [] start start
     no_unknown start = ([], refl, nothing_front free start)

@@ -5,8 +5,10 @@ use Rattle.std.proofs.lemmas.Bool.{and_parts, leb-true}
 use Rattle.asn1_model.specs.Value.{truth, nothing, number, item, bit_list, octet_list, text, arcs}
 use Rattle.asn1_model.specs.Schema.{Counts, Size, StringKind, Alphabet, Bounds, Range, boolean, null, integer, enumerated, bit_string, octet_string, character_string, object_identifier}
 use Rattle.asn1_model.specs.Numbers.{binary, octet_bits}
-use Rattle.asn1_model.specs.Form.{exactly, both, only_if, nothing_more, is_present}
-use Rattle.asn1_model.specs.Strings.{each_is, is_octet, is_identifier, identifier_octets}
+use Rattle.asn1_model.specs.Form.{exactly, both, only_if, nothing_more}
+use Rattle.std.specs.Prelude.{is_some}
+use Rattle.asn1_model.specs.Strings.{is_octet, is_identifier, identifier_octets}
+use Rattle.std.specs.List.{list_all}
 use Rattle.asn1_model.specs.Per
 use Rattle.asn1_schema_presented.specs.Records.{Record, flag, nil, whole, one_of, bits, octets, characters, identifier, list_begins, bag_begins, further, sequence_begins, set_begins, group_begins, presence_bit, is_default, is_empty, additions_begin, addition, addition_ends, choice_begins, ends, mismatch, question, told}
 use Rattle.asn1_laws_fronts.proofs.Fronts.{agree_exactly, agree_nothing, agree_first, agree_map, agree_if, agree_if_right, agree_varied_right}
@@ -35,16 +37,16 @@ state_same b c e f =
 abbrev flagged : Bool → Option Per.BitForm
 flagged b = cond b (Some (exactly [])) None
 
-flag_bit : (b : Bool) → is_present (flagged b) ≡ b
+flag_bit : (b : Bool) → is_some (flagged b) ≡ b
 flag_bit true = refl
 flag_bit false = refl
 
-flags_back : (bs : List Bool) → map (λ a. is_present a) (map (λ b. flagged b) bs) ≡ bs
+flags_back : (bs : List Bool) → map (λ a. is_some a) (map (λ b. flagged b) bs) ≡ bs
 flags_back [] = refl
-flags_back (b ∷ bs) = ap (λ t. t ∷ map (λ a. is_present a) (map (λ b. flagged b) bs)) (flag_bit b) ∙ ap (λ l. b ∷ l) (flags_back bs)
+flags_back (b ∷ bs) = ap (λ t. t ∷ map (λ a. is_some a) (map (λ b. flagged b) bs)) (flag_bit b) ∙ ap (λ l. b ∷ l) (flags_back bs)
 
 -- presence bits as units
-pub flag_units : (xs : List (Option Per.BitForm)) → map Per.flag xs ≡ Per.bit_units (map (λ a. is_present a) xs)
+pub flag_units : (xs : List (Option Per.BitForm)) → map Per.flag xs ≡ Per.bit_units (map (λ a. is_some a) xs)
 flag_units [] = refl
 flag_units (x ∷ xs) = ap (λ l. Per.flag x ∷ l) (flag_units xs)
 
@@ -86,7 +88,7 @@ module _ (free : Per.Freedom → Bool) where
 
   octet_strings : (al : Bool) (z : Size) (h : Counts) (v w : List ℕ) → Alike free (Per.form al (octet_string z h) (octet_list v)) (Per.form al (octet_string z h) (octet_list w)) (v ≡ w)
   unfolding Per.form
-  octet_strings al z h v w = agree_if free (each_is is_octet v) (each_is is_octet w) _ _ (λ i j. agree_map free (λ q. octets_again v w i j q) (sized_alike free ℕ same_bits (λ o. exactly (binary 8 o)) (λ o p. agree_exactly free _ _ refl) al z h (Per.string_has_padding 8 (length v)) (Per.string_has_padding 8 (length w)) v w (λ l. ap (λ n. Per.string_has_padding 8 n z.counts) l)))
+  octet_strings al z h v w = agree_if free (list_all is_octet v) (list_all is_octet w) _ _ (λ i j. agree_map free (λ q. octets_again v w i j q) (sized_alike free ℕ same_bits (λ o. exactly (binary 8 o)) (λ o p. agree_exactly free _ _ refl) al z h (Per.string_has_padding 8 (length v)) (Per.string_has_padding 8 (length w)) v w (λ l. ap (λ n. Per.string_has_padding 8 n z.counts) l)))
 
   strings : (al : Bool) (k : StringKind) (z : Size) (l : Alphabet) (h : Counts) (v w : List ℕ) → Alike free (Per.form al (character_string k z l h) (text v)) (Per.form al (character_string k z l h) (text w)) (v ≡ w)
   unfolding Per.form
@@ -170,7 +172,7 @@ module _ (free : Per.Freedom → Bool) where
   same_member al v w a k b c f g = absurd f
 
   -- ---- components
-  same_preamble : (x y : Option Bool) (ms ns : List Bool) → is_present x ≡ is_present y → length ms ≡ length ns → (length (preamble_bits x ms) ≡ length (preamble_bits y ns)) × (preamble_bits x ms ≡ preamble_bits y ns → (x ≡ y) × (ms ≡ ns))
+  same_preamble : (x y : Option Bool) (ms ns : List Bool) → is_some x ≡ is_some y → length ms ≡ length ns → (length (preamble_bits x ms) ≡ length (preamble_bits y ns)) × (preamble_bits x ms ≡ preamble_bits y ns → (x ≡ y) × (ms ≡ ns))
   same_preamble None None ms ns e l = (l, λ f. (refl, f))
   same_preamble None (Some y) ms ns e l = cc
   same_preamble (Some x) None ms ns e l = cc

@@ -6,7 +6,8 @@ use Rattle.asn1_model.specs.Schema.{Presence, Schema, Components, no_component, 
 use Rattle.asn1_model.specs.Normal.{is_at_default, is_group_left_out}
 use Rattle.asn1_model.specs.Numbers.{octet_bits}
 use Rattle.asn1_model.specs.Tables.{is_required, presence_bits}
-use Rattle.asn1_model.specs.Form.{exactly, both, joined, is_present, present_ones}
+use Rattle.asn1_model.specs.Form.{exactly, both, joined, present_ones}
+use Rattle.std.specs.Prelude.{is_some}
 use Rattle.asn1_model.specs.Per
 use Rattle.asn1_model.proofs.Forms.{map_parts}
 use Rattle.asn1_schema_presented.specs.Records.{Record, addition, addition_ends, ends, mismatch}
@@ -25,7 +26,7 @@ use Rattle.per_codec_fronts.proofs.Parts.{EachFinds, EachShows, root_in, root_ou
 module _ (free : Per.Freedom → Bool) (al : Bool) where
   -- ---- the preamble and the root
   abbrev pub Opened : Bool → Components → Parts → List Record → State → State → Type 0
-  Opened e cs ps rs a b = (x : Option Bool) × (more : List Bool) × (start : Place) × (mid : Place) × (is_present x ≡ e) × Front free (exactly (preamble_bits x (presence_bits cs ps ++ more))) a.0 start × Front free (Per.component_forms al cs ps) start mid × Chain (Step free al) rs (mid, components x more ∷ a.1) b
+  Opened e cs ps rs a b = (x : Option Bool) × (more : List Bool) × (start : Place) × (mid : Place) × (is_some x ≡ e) × Front free (exactly (preamble_bits x (presence_bits cs ps ++ more))) a.0 start × Front free (Per.component_forms al cs ps) start mid × Chain (Step free al) rs (mid, components x more ∷ a.1) b
 
   pub begun_in : (e : Bool) (cs : Components) → EachFinds al free cs → (ps : Parts) (rs : List Record) (a m b : State) → Begins free e (optional_count cs) a m → Chain (Step free al) (root_records cs ps rs) m b → Opened e cs ps rs a b
   begun_in e cs h ps rs a m b t c =
@@ -36,7 +37,7 @@ module _ (free : Per.Freedom → Bool) (al : Bool) where
   abbrev pub Closed : Bool → Components → Parts → List Record → State → State → Type 0
   Closed e cs ps rs a b = (qs : Parts) × (m : State) × LikeParts cs ps qs × Begins free e (optional_count cs) a m × Chain (Step free al) (root_records cs qs rs) m b
 
-  pub begun_out : (e : Bool) (cs : Components) → EachShows al free cs → (ps : Parts) (rs : List Record) (a b : State) (x : Option Bool) (start mid : Place) → is_present x ≡ e → Front free (exactly (preamble_bits x (presence_bits cs ps))) a.0 start → Front free (Per.component_forms al cs ps) start mid → Chain (Step free al) rs (mid, components x [] ∷ a.1) b → Closed e cs ps rs a b
+  pub begun_out : (e : Bool) (cs : Components) → EachShows al free cs → (ps : Parts) (rs : List Record) (a b : State) (x : Option Bool) (start mid : Place) → is_some x ≡ e → Front free (exactly (preamble_bits x (presence_bits cs ps))) a.0 start → Front free (Per.component_forms al cs ps) start mid → Chain (Step free al) rs (mid, components x [] ∷ a.1) b → Closed e cs ps rs a b
   begun_out e cs h ps rs a b x start mid i f g c =
       let r = root_out free al cs h ps rs x [] start mid a.1 b g c in
       let ms : List Bool = presence_bits cs r.0 in
@@ -45,7 +46,7 @@ module _ (free : Per.Freedom → Bool) (al : Bool) where
       (r.0, (start, components x ms ∷ a.1), r.1, (x, ms, i, presence_bits_count cs r.0, f', refl), d)
 
   -- ---- without an extension bit
-  closed_in : (x : Option Bool) (more : List Bool) (mid : Place) (k : List Scope) (b : State) → is_present x ≡ false → Chain (Step free al) (ends ∷ []) (mid, components x more ∷ k) b → (x ≡ None) × (more ≡ []) × (b ≡ (mid, k))
+  closed_in : (x : Option Bool) (more : List Bool) (mid : Place) (k : List Scope) (b : State) → is_some x ≡ false → Chain (Step free al) (ends ∷ []) (mid, components x more ∷ k) b → (x ≡ None) × (more ≡ []) × (b ≡ (mid, k))
   closed_in None [] mid k b e c = (refl, refl, c.2 ∙ c.1)
   closed_in None (z ∷ zs) mid k b e c = absurd c.1
   closed_in (Some y) more mid k b e c = cc
@@ -69,7 +70,7 @@ module _ (free : Per.Freedom → Bool) (al : Bool) where
   -- ---- additions
   -- what is read of additions: those that these bits tell of, and unknown ones
   abbrev pub AddRead : Option (List (Option Per.BitForm)) → List Bool → List Bool → Place → List Scope → State → Type 0
-  AddRead o ms us start k b = (xs : List (Option Per.BitForm)) × (mid : Place) × (o ≡ Some xs) × (map (λ a. is_present a) xs ≡ ms) × Front free (joined (present_ones xs)) start mid × Skips al free us mid b.0 × (b.1 ≡ k)
+  AddRead o ms us start k b = (xs : List (Option Per.BitForm)) × (mid : Place) × (o ≡ Some xs) × (map (λ a. is_some a) xs ≡ ms) × Front free (joined (present_ones xs)) start mid × Skips al free us mid b.0 × (b.1 ≡ k)
 
   abbrev Adds : Option (List (Option Per.BitForm)) → List Record → List Bool → List Scope → State → Type 0
   Adds o tail us k b = (ms : List Bool) (start : Place) → Chain (Step free al) tail (start, added ms us ∷ k) b → AddRead o ms us start k b
@@ -154,10 +155,10 @@ module _ (free : Per.Freedom → Bool) (al : Bool) where
       (r.0, m, r.1, (z.0, rest, z.2, refl), chain_append (Step free al) (presents s r.0) (addition_ends ∷ noted_by (is_at_default o s r.0) (is_group_left_out s r.0)) m j after r.2 (after, z.4 (added ms us ∷ k), c))
 
   -- the first of the additions' flags
-  first_flag : (x : Option Per.BitForm) (o : Option (List (Option Per.BitForm))) (ms us : List Bool) (start : Place) (k : List Scope) (b : State) → AddRead (option_map (λ xs. x ∷ xs) o) ms us start k b → (ys : List (Option Per.BitForm)) × (o ≡ Some ys) × (ms ≡ is_present x ∷ map (λ a. is_present a) ys) × (mid : Place) × Front free (joined (present_ones (x ∷ ys))) start mid × Skips al free us mid b.0 × (b.1 ≡ k)
+  first_flag : (x : Option Per.BitForm) (o : Option (List (Option Per.BitForm))) (ms us : List Bool) (start : Place) (k : List Scope) (b : State) → AddRead (option_map (λ xs. x ∷ xs) o) ms us start k b → (ys : List (Option Per.BitForm)) × (o ≡ Some ys) × (ms ≡ is_some x ∷ map (λ a. is_some a) ys) × (mid : Place) × Front free (joined (present_ones (x ∷ ys))) start mid × Skips al free us mid b.0 × (b.1 ≡ k)
   first_flag x o ms us start k b r =
       let t = map_parts o (λ xs. x ∷ xs) r.0 r.2 in
-      (t.0, t.1, sym (ap (λ xs. map (λ a. is_present a) xs) t.2 ∙ r.3), r.1, subst (λ xs. Front free (joined (present_ones xs)) start r.1) (sym t.2) r.4, r.5, r.6)
+      (t.0, t.1, sym (ap (λ xs. map (λ a. is_some a) xs) t.2 ∙ r.3), r.1, subst (λ xs. Front free (joined (present_ones xs)) start r.1) (sym t.2) r.4, r.5, r.6)
 
   -- unless it is required, an addition may be left out
   unless_required : (q : Bool) (o : Option (List (Option Per.BitForm))) (xs : List (Option Per.BitForm)) → cond q None o ≡ Some xs → (q ≡ false) × (o ≡ Some xs)
@@ -173,14 +174,14 @@ module _ (free : Per.Freedom → Bool) (al : Bool) where
   added_out no_component h end ms us start k b r =
       let e : r.0 ≡ [] = cc r.2 in
       let f : Front free (exactly []) start r.1 = subst (λ xs. Front free (joined (present_ones xs)) start r.1) e r.4 in
-      let g : [] ≡ ms = ap (λ xs. map (λ a. is_present a) xs) (sym e) ∙ r.3 in
+      let g : [] ≡ ms = ap (λ xs. map (λ a. is_some a) xs) (sym e) ∙ r.3 in
       (end, (parts_self end, λ q. refl), subst (λ l. Chain (Step free al) (ends ∷ []) (start, added l us ∷ k) b) g (b, (subst (λ l. Skips al free us l b.0) (of_nothing free start r.1 f) r.5, r.6), refl))
   added_out no_component h (absent qs) ms us start k b r = cc r.2
   added_out no_component h (present v qs) ms us start k b r = cc r.2
   added_out (component t o s cs) h (present v qs) ms us start k b r =
       let x : Per.BitForm = Opening s v (is_at_default o s v) (is_group_left_out s v) in
       let p = first_flag (Some x) (Per.addition_forms al cs qs) ms us start k b r in
-      let ns : List Bool = map (λ a. is_present a) p.0 in
+      let ns : List Bool = map (λ a. is_some a) p.0 in
       let q = split free x (joined (present_ones p.0)) start p.3 p.4 in
       let w = one_out s h.0 o v start q.0 ns us k q.1 in
       let others = added_out cs h.1 qs ns us q.0 k b (p.0, p.3, p.1, refl, q.2, p.5, p.6) in
@@ -190,7 +191,7 @@ module _ (free : Per.Freedom → Bool) (al : Bool) where
   added_out (component t o s cs) h (absent qs) ms us start k b r =
       let z = unless_required (is_required o) (option_map (λ xs. None ∷ xs) (Per.addition_forms al cs qs)) r.0 r.2 in
       let p = first_flag None (Per.addition_forms al cs qs) ms us start k b (r.0, r.1, z.1, r.3, r.4, r.5, r.6) in
-      let ns : List Bool = map (λ a. is_present a) p.0 in
+      let ns : List Bool = map (λ a. is_some a) p.0 in
       let others = added_out cs h.1 qs ns us start k b (p.0, p.3, p.1, refl, p.4, p.5, p.6) in
       let tail : List Record = added_records cs others.0 in
       (absent others.0, like_absent t o s cs qs others.0 others.1, subst (λ l. Chain (Step free al) (cond (is_required o) (mismatch ∷ []) (addition false ∷ []) ++ tail) (start, added l us ∷ k) b) (sym p.2) (back_absent (is_required o) z.0 tail ns us start k b others.2))

@@ -3,7 +3,8 @@ use Rattle.std.proofs.Common.{◌≡◌, ℕ, suc, Bool, Option, Some, None, tru
 use Rattle.std.proofs.lemmas.Bool.{and_parts}
 use Rattle.asn1_model.specs.Value.{Value, fields, Parts, end, absent, present, same}
 use Rattle.asn1_model.specs.Schema.{Schema, cut, boolean, null, integer, enumerated, bit_string, octet_string, character_string, object_identifier, sequence_of, set_of, sequence, set, group, choice, Components, no_component, component, Alternatives, no_alternative, alternative}
-use Rattle.asn1_model.specs.Form.{given, is_present}
+use Rattle.asn1_model.specs.Form.{given}
+use Rattle.std.specs.Prelude.{is_some}
 use Rattle.asn1_model.specs.Lawful.{is_lawful, are_lawful, are_lawful_alternatives}
 use Rattle.asn1_model.specs.Tables.{presence_bits}
 use Rattle.asn1_model.specs.Per
@@ -39,7 +40,7 @@ module _ (al : Bool) (free : Per.Freedom → Bool) (other : IsTrue (free Per.oth
   no_additions : (cs : Components) → EachFinds al free cs → (ps : Parts) (n : ℕ) (rs : List Record) (a m b : State) → Begins free false (optional_count cs) a m → Chain (Step free al) (root_records cs ps (additions_begin n ∷ rs)) m b → ⊥
   no_additions cs h ps n rs a m b t c = let o = begun_in free al false cs h ps (additions_begin n ∷ rs) a m b t c in without o.0 o.1 o.3 o.4 o.7
     where
-      without : (x : Option Bool) (more : List Bool) (mid : Place) → is_present x ≡ false → Chain (Step free al) (additions_begin n ∷ rs) (mid, components x more ∷ a.1) b → ⊥
+      without : (x : Option Bool) (more : List Bool) (mid : Place) → is_some x ≡ false → Chain (Step free al) (additions_begin n ∷ rs) (mid, components x more ∷ a.1) b → ⊥
       without None more mid e c = c.1
       without (Some x) more mid e c = cc
 

@@ -7,8 +7,10 @@ use Rattle.asn1_model.specs.Value.{truth, nothing, number, item, bit_list, octet
 use Rattle.asn1_model.specs.Schema.{Counts, Size, boolean, null, integer, enumerated, bit_string, octet_string}
 use Rattle.asn1_model.specs.Schema.{character_string, object_identifier}
 use Rattle.asn1_model.specs.Numbers.{binary, missing, octet_bits, is_count_within}
-use Rattle.asn1_model.specs.Strings.{each_is, is_octet}
-use Rattle.asn1_model.specs.Form.{Reads, exactly, both, joined, is_present, present_ones}
+use Rattle.asn1_model.specs.Strings.{is_octet}
+use Rattle.std.specs.List.{list_all}
+use Rattle.asn1_model.specs.Form.{Reads, exactly, both, joined, present_ones}
+use Rattle.std.specs.Prelude.{is_some}
 use Rattle.asn1_model.specs.Per
 use Rattle.asn1_schema_presented.specs.Records.{Record, flag, nil, whole, one_of, bits, octets, characters, identifier}
 use Rattle.asn1_schema_presented.specs.Records.{list_begins, bag_begins, further, sequence_begins, set_begins}
@@ -139,7 +141,7 @@ NextMember al free v a k b = ⊥
 -- The extension bit, if there is one, and so many presence bits (X.691 19.1 to 19.3).
 abbrev pub Begins : (Per.Freedom → Bool) → Bool → ℕ → State → State → Type 0
 Begins free e n a b =
-    (x : Option Bool) × (ms : List Bool) × (is_present x ≡ e) × (length ms ≡ n)
+    (x : Option Bool) × (ms : List Bool) × (is_some x ≡ e) × (length ms ≡ n)
     × Front free (exactly (preamble_bits x ms)) a.0 b.0 × (b.1 ≡ components x ms ∷ a.1)
 
 -- The next presence bit.
@@ -174,7 +176,7 @@ completion (suc n) = Per.padding (missing (suc n))
 -- It ends: the value's bits are padded, and nothing is left behind them, or the reader takes octets there.
 abbrev pub Closes : (Per.Freedom → Bool) → Place → Place → List Scope → State → Type 0
 Closes free a rest k b =
-    (mid : Place) × (more : List ℕ) × Front free (completion a.0) a mid × (each_is is_octet more ≡ true)
+    (mid : Place) × (more : List ℕ) × Front free (completion a.0) a mid × (list_all is_octet more ≡ true)
     × (mid.1 ≡ octet_bits more) × ((more ≡ []) ⊎ IsTrue (free Per.octets_behind)) × (b ≡ (rest, k))
 
 -- Whether the next addition is there.
@@ -194,7 +196,7 @@ unknown_forms al xs = map (option_map (λ os. Per.counted_octets al os)) xs
 -- Unknown additions are passed over by their lengths.
 abbrev pub Skips : Bool → (Per.Freedom → Bool) → List Bool → Place → Place → Type 0
 Skips al free us a b =
-    (xs : List (Option (List ℕ))) × (map (λ a. is_present a) (unknown_forms al xs) ≡ us)
+    (xs : List (Option (List ℕ))) × (map (λ a. is_some a) (unknown_forms al xs) ≡ us)
     × Front free (joined (present_ones (unknown_forms al xs))) a b
 
 -- ---- choices (X.691 23)

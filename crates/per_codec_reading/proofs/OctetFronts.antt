@@ -2,7 +2,8 @@
 use Rattle.std.proofs.Common.{◌≡◌, ℕ, zero, suc, ◌*◌, ◌/◌, ◌%◌, ◌==◌, Bool, true, false, List, [], ◌∷◌, ◌++◌, length, replicate, refl, ap, sym, ◌∙◌, subst, arith, length-append, Fits, w8, get_or, append-nil}
 use Rattle.std.proofs.lemmas.Bool.{eqb-true, eq-eqb, and_from, lt-ltb}
 use Rattle.asn1_model.specs.Numbers.{binary, missing, octet_bits, packed}
-use Rattle.asn1_model.specs.Strings.{each_is, is_octet}
+use Rattle.asn1_model.specs.Strings.{is_octet}
+use Rattle.std.specs.List.{list_all}
 use Rattle.asn1_model.specs.Form.{exactly}
 use Rattle.asn1_model.specs.Per
 use Rattle.asn1_laws_values.proofs.Octets.{packed_octets}
@@ -13,14 +14,14 @@ use Rattle.per_codec_reading.specs.Fronts.{NoneStands}
 use Rattle.per_codec_reading.specs.Units.{Units, units_of, counted_units}
 
 -- ---- octets
-pub fits_octets : (os : List ℕ) → ((i : ℕ) → Fits w8 (get_or os i 0)) → each_is is_octet os ≡ true
+pub fits_octets : (os : List ℕ) → ((i : ℕ) → Fits w8 (get_or os i 0)) → list_all is_octet os ≡ true
 fits_octets [] h = refl
 fits_octets (o ∷ os) h = and_from _ _ (lt-ltb o 256 (h zero).fits) (fits_octets os (λ i. h (suc i)))
 
 pub whole_padded : (bs : List Bool) → length bs % 8 ≡ 0 → padded bs ≡ bs
 whole_padded bs h = let m : missing (length bs) ≡ 0 = omega arith in ap (λ k. bs ++ replicate k false) m ∙ append-nil bs
 
-pub packed_small : (bs : List Bool) → length bs % 8 ≡ 0 → each_is is_octet (packed (padded bs)) ≡ true
+pub packed_small : (bs : List Bool) → length bs % 8 ≡ 0 → list_all is_octet (packed (padded bs)) ≡ true
 packed_small bs h =
     let e = whole_padded bs h in
     let k : length (padded bs) ≡ 8 * (length bs / 8) = ap length e ∙ omega arith in
@@ -39,7 +40,7 @@ module _ (free : Per.Freedom → Bool) where
   pub counted_size : (al : Bool) (w n : ℕ) (bs : List Bool) (a b : Place) → Front free (counted_units al w (n, bs)) a b → length bs ≡ n * w
   counted_size al w n bs a b f = eqb-true _ _ (if_out free (length bs == n * w) _ a b f).0
 
-  pub octets_front : (al : Bool) (us : Units) (os : List ℕ) (a b : Place) → Front free (counted_units al 8 us) a b → each_is is_octet os ≡ true → octet_bits os ≡ us.1 → Front free (Per.counted_octets al os) a b
+  pub octets_front : (al : Bool) (us : Units) (os : List ℕ) (a b : Place) → Front free (counted_units al 8 us) a b → list_all is_octet os ≡ true → octet_bits os ≡ us.1 → Front free (Per.counted_octets al os) a b
   unfolding Per.counted_octets
   octets_front al us os a b f s e =
       let i = if_out free (length us.1 == us.0 * 8) _ a b f in
@@ -48,10 +49,10 @@ module _ (free : Per.Freedom → Bool) where
       let m = ap length e in
       let k : us.0 ≡ length os = omega arith in
       let q : units_of 8 us.0 us.1 ≡ Per.octet_units os = ap (λ j. units_of 8 j us.1) k ∙ ap (units_of 8 (length os)) (sym e) ∙ octet_pieces os in
-      if_in free (each_is is_octet os) _ a b s (subst (λ x. Front free (Per.counted al x) a b) q i.1)
+      if_in free (list_all is_octet os) _ a b s (subst (λ x. Front free (Per.counted al x) a b) q i.1)
 
   pub no_octets : (al : Bool) (a : Place) → NoneStands free (counted_units al 8) a → NoneStands free (Per.counted_octets al) a
   unfolding Per.counted_octets
   no_octets al a n os b f =
-      let i = if_out free (each_is is_octet os) _ a b f in
+      let i = if_out free (list_all is_octet os) _ a b f in
       n (length os, octet_bits os) b (if_in free (length (octet_bits os) == length os * 8) _ a b (eq-eqb _ _ (length-octet_bits os)) (subst (λ x. Front free (Per.counted al x) a b) (sym (octet_pieces os)) i.1))

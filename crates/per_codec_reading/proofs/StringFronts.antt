@@ -5,7 +5,8 @@ use Rattle.asn1_model.specs.Schema.{Counts, Size, Alphabet, bit_string, octet_st
 use Rattle.asn1_model.specs.Value.{Value, bit_list, octet_list, text, arcs}
 use Rattle.asn1_model.specs.Schema.{any_count}
 use Rattle.asn1_model.specs.Numbers.{octet_bits, is_count_within}
-use Rattle.asn1_model.specs.Strings.{each_is, is_octet, may_hold, is_identifier, identifier_octets}
+use Rattle.asn1_model.specs.Strings.{is_octet, may_hold, is_identifier, identifier_octets}
+use Rattle.std.specs.List.{list_all}
 use Rattle.asn1_model.specs.Form.{exactly}
 use Rattle.asn1_model.specs.Per
 use Rattle.asn1_laws_fronts.proofs.PerNumbers.{counted_octets_alike}
@@ -34,7 +35,7 @@ module _ (free : Per.Freedom → Bool) (al : Bool) where
   sized_size z h w has_padding us a b f = eqb-true _ _ (if_out free (length us.1 == us.0 * w) _ a b f).0
 
   -- ---- OCTET STRING
-  pub octet_string_stands : (z : Size) (h : Counts) (us : Units) (os : List ℕ) (a b : Place) → Front free (sized_units al z h 8 (contents_have_padding Strings 8) us) a b → each_is is_octet os ≡ true → octet_bits os ≡ us.1 → Front free (Per.form al (octet_string z h) (octet_list os)) a b
+  pub octet_string_stands : (z : Size) (h : Counts) (us : Units) (os : List ℕ) (a b : Place) → Front free (sized_units al z h 8 (contents_have_padding Strings 8) us) a b → list_all is_octet os ≡ true → octet_bits os ≡ us.1 → Front free (Per.form al (octet_string z h) (octet_list os)) a b
   unfolding Per.form
   octet_string_stands z h us os a b f s e =
       let i = if_out free (length us.1 == us.0 * 8) _ a b f in
@@ -44,12 +45,12 @@ module _ (free : Per.Freedom → Bool) (al : Bool) where
       let k : us.0 ≡ length os = omega arith in
       let q : units_of 8 us.0 us.1 ≡ Per.octet_units os = ap (λ j. units_of 8 j us.1) k ∙ ap (units_of 8 (length os)) (sym e) ∙ octet_pieces os in
       let g = subst (λ u. Front free (Per.sized al z h (Per.string_has_padding 8 us.0) u) a b) q i.1 in
-      if_in free (each_is is_octet os) _ a b s (subst (λ j. Front free (Per.sized al z h (Per.string_has_padding 8 j) (Per.octet_units os)) a b) k g)
+      if_in free (list_all is_octet os) _ a b s (subst (λ j. Front free (Per.sized al z h (Per.string_has_padding 8 j) (Per.octet_units os)) a b) k g)
 
   pub no_octet_string : (z : Size) (h : Counts) (a : Place) → NoneStands free (sized_units al z h 8 (contents_have_padding Strings 8)) a → NoneStands free (Per.form al (octet_string z h)) a
   unfolding Per.form
   no_octet_string z h a n (octet_list os) b f =
-      let i = if_out free (each_is is_octet os) _ a b f in
+      let i = if_out free (list_all is_octet os) _ a b f in
       let g = subst (λ u. Front free (Per.sized al z h (Per.string_has_padding 8 (length os)) u) a b) (sym (octet_pieces os)) i.1 in
       n (length os, octet_bits os) b (if_in free (length (octet_bits os) == length os * 8) _ a b (eq-eqb _ _ (length-octet_bits os)) g)
   no_octet_string z h a n v b f = of_refused free a b f

@@ -3,7 +3,8 @@ ghost use Rattle.std.specs.Prelude.{◌≡◌, ◌%◌, true, length, IfOk, IfEr
 ghost use Rattle.std.specs.Cow.{cow_slice_items, IsBorrowedSlice};
 ghost use Rattle.asn1_model.specs.Numbers.{octet_bits};
 ghost use Rattle.asn1_model.specs.Per as Per;
-ghost use Rattle.asn1_model.specs.Strings.{each_is, is_octet};
+ghost use Rattle.asn1_model.specs.Strings.{is_octet};
+ghost use Rattle.std.specs.List.{list_all};
 ghost use Rattle.asn1_values_bits.specs.BitStr.{bits_of, offset_of};
 ghost use Rattle.per_codec_fronts.specs.Takes.{Front};
 ghost use Rattle.per_codec_reading.specs.Fronts.{freedoms, Misses};
@@ -20,7 +21,7 @@ use std::borrow::CowSlice;
 /// The octets, lent.
 fn borrowed(octets: &[u8]) -> CowSlice<'_, u8>
     ensures octets { cow_slice_items result ≡ octets.now }
-    ensures small { each_is is_octet octets.now ≡ true }
+    ensures small { list_all is_octet octets.now ≡ true }
     ensures lent { IsBorrowedSlice result }
 {
     CowSlice::Borrowed(octets)
@@ -47,7 +48,7 @@ fn lent_octets<'input>(
 ) -> Result<CowSlice<'input, u8>, AllocError>
     requires { length (bits_of bits) % 8 ≡ 0 }
     ensures octets { IfOk result (λ octets. octet_bits (cow_slice_items octets) ≡ bits_of bits.entry) }
-    ensures small { IfOk result (λ octets. each_is is_octet (cow_slice_items octets) ≡ true) }
+    ensures small { IfOk result (λ octets. list_all is_octet (cow_slice_items octets) ≡ true) }
     ensures lent { offset_of bits.entry ≡ 0 → IsOkAnd result IsBorrowedSlice }
 {
     if let Some(octets) = bits.aligned_octets() {
@@ -61,7 +62,7 @@ fn lent_octets<'input>(
 fn joined_octets(bits: BitBuffer) -> Vec<u8>
     requires { length bits % 8 ≡ 0 }
     ensures octets { octet_bits result.items ≡ bits }
-    ensures small { each_is is_octet result.items ≡ true }
+    ensures small { list_all is_octet result.items ≡ true }
 {
     bits.into_vec()
 }
@@ -73,7 +74,7 @@ impl<'input> Run<'input> {
     pub fn into_octets(self, alloc: Global) -> Result<CowSlice<'input, u8>, AllocError>
         requires { length (bits_in self.bits) % 8 ≡ 0 }
         ensures octets { IfOk result (λ octets. octet_bits (cow_slice_items octets) ≡ bits_in self.entry.bits) }
-        ensures small { IfOk result (λ octets. each_is is_octet (cow_slice_items octets) ≡ true) }
+        ensures small { IfOk result (λ octets. list_all is_octet (cow_slice_items octets) ≡ true) }
         ensures lent { storage_of self.entry.bits ≡ Some 0 → IsOkAnd result IsBorrowedSlice }
     {
         match self.bits {

@@ -9,7 +9,8 @@ use Rattle.asn1_model.specs.Value.{Value, text}
 use Rattle.asn1_model.specs.Schema.{any_count}
 use Rattle.asn1_model.specs.Numbers.{binary, width, is_count_within}
 use Rattle.asn1_model.specs.Form.{exactly, given, only_if}
-use Rattle.asn1_model.specs.Strings.{Run, how_many, largest, place_of, permitted, is_of_octets, may_hold, each_is}
+use Rattle.asn1_model.specs.Strings.{Run, how_many, largest, place_of, permitted, is_of_octets, may_hold}
+use Rattle.std.specs.List.{list_all}
 use Rattle.asn1_model.specs.Per
 use Rattle.asn1_model.proofs.Forms.{map_parts}
 use Rattle.asn1_laws_values.proofs.Places.{places_fewest}
@@ -146,7 +147,7 @@ one_form : (a : Coded) (rs : List Run) (c : ℕ) → SameCharacters a.runs rs �
 unfolding Per.character
 one_form a rs c s h = ap (by_place (largest rs) a.code_bits c) (sym (s.places c)) ∙ ap (λ n. by_place n a.code_bits c (place_of c a.runs)) (sym s.greatest) ∙ coded_form (largest a.runs) a.code_bits c (place_of c a.runs) h
 
-forms : (a : Coded) (rs : List Run) (cs : List ℕ) → SameCharacters a.runs rs → each_is (has_code a) cs ≡ true → map (Per.character a.code_bits rs) cs ≡ map (λ t. exactly t) (map (text_of a) cs)
+forms : (a : Coded) (rs : List Run) (cs : List ℕ) → SameCharacters a.runs rs → list_all (has_code a) cs ≡ true → map (Per.character a.code_bits rs) cs ≡ map (λ t. exactly t) (map (text_of a) cs)
 forms a rs [] s h = refl
 forms a rs (c ∷ cs) s h = let p = and_parts _ _ h in ap (λ x. x ∷ map (Per.character a.code_bits rs) cs) (one_form a rs c s p.0) ∙ ap (λ l. exactly (text_of a c) ∷ l) (forms a rs cs s p.1)
 
@@ -158,7 +159,7 @@ mapped_some : (f : ℕ → ℕ) (o : Option ℕ) → is_some o ≡ true → is_s
 mapped_some f (Some i) e = refl
 mapped_some f None e = cc
 
-pairs_coded : (a : Coded) (rs : List Run) (cs : List ℕ) → SameCharacters a.runs rs → Pairwise (HasPlace rs) cs cs → each_is (has_code a) cs ≡ true
+pairs_coded : (a : Coded) (rs : List Run) (cs : List ℕ) → SameCharacters a.runs rs → Pairwise (HasPlace rs) cs cs → list_all (has_code a) cs ≡ true
 pairs_coded a rs [] s p = refl
 pairs_coded a rs (c ∷ cs) s p = and_from _ _ (mapped_some (λ i. cond (ltb (largest a.runs) (2 ^ a.code_bits)) c i) (place_of c a.runs) (ap is_some (s.places c) ∙ p.0)) (pairs_coded a rs cs s p.1)
 
@@ -173,7 +174,7 @@ module _ (free : Per.Freedom → Bool) (al : Bool) where
   unfolding Per.character
   placed_alike rs o c d = agree_given free (place_of c rs) (place_of d rs) _ _ (λ i j e f. agree_map free (λ q. ap is_some e) (binary_alike free (Per.character_bits al rs) _ _ (code_fits al rs c i o e) (code_fits al rs d j o f)))
 
-  all_coded : (z : Size) (held : Counts) (a : Coded) (rs : List Run) (cs : List ℕ) (p q : Place) → SameCharacters a.runs rs → Orderly rs → Front free (Per.characters al z held rs cs) p q → each_is (has_code a) cs ≡ true
+  all_coded : (z : Size) (held : Counts) (a : Coded) (rs : List Run) (cs : List ℕ) (p q : Place) → SameCharacters a.runs rs → Orderly rs → Front free (Per.characters al z held rs cs) p q → list_all (has_code a) cs ≡ true
   unfolding Per.characters
   all_coded z held a rs cs p q s o f =
       let x = sized_alike free ℕ (HasPlace rs) (Per.character (Per.character_bits al rs) rs) (placed_alike rs o) al z held (Per.characters_have_padding (Per.character_bits al rs) (length cs)) (Per.characters_have_padding (Per.character_bits al rs) (length cs)) cs cs (λ n. refl) in
@@ -186,7 +187,7 @@ module _ (free : Per.Freedom → Bool) (al : Bool) (k : StringKind) (z : Size) (
   abbrev of_units : Units → Per.BitForm
   of_units us = sized_units al z any_count a.code_bits (contents_have_padding Characters a.code_bits) us
 
-  of_width : (cs : List ℕ) → each_is (has_code a) cs ≡ true → Per.characters al z any_count (permitted k l) cs ≡ in_codes cs
+  of_width : (cs : List ℕ) → list_all (has_code a) cs ≡ true → Per.characters al z any_count (permitted k l) cs ≡ in_codes cs
   unfolding Per.characters
   of_width cs h = ap (λ n. Per.sized al z any_count (Per.characters_have_padding n (length cs)) (map (Per.character n (permitted k l)) cs)) (sym b) ∙ ap (λ us. Per.sized al z any_count (Per.characters_have_padding a.code_bits (length cs)) us) (forms a (permitted k l) cs s h)
 

@@ -2,7 +2,8 @@
 use Rattle.std.proofs.Common.{◌≡◌, inr, ℕ, ◌+◌, ◌-◌, ◌*◌, ◌/◌, ◌^◌, ◌<◌, ◌==◌, leb, ltb, cond, ◌&&◌, Bool, true, false, IsTrue, List, [], ◌∷◌, ◌++◌, length, refl, ap, sym, ◌∙◌, subst, length-append, arith}
 use Rattle.std.proofs.lemmas.Bool.{leb-true, le-leb, lt-ltb, eqb-true, eq-eqb, and_parts, and_from}
 use Rattle.asn1_model.specs.Numbers.{binary, octet_bits, packed}
-use Rattle.asn1_model.specs.Strings.{each_is, is_octet}
+use Rattle.asn1_model.specs.Strings.{is_octet}
+use Rattle.std.specs.List.{list_all}
 use Rattle.asn1_model.specs.Form.{exactly, both, only_if, joined}
 use Rattle.asn1_model.specs.Per
 use Rattle.asn1_laws_values.proofs.Octets.{packed_back, packed_octets}
@@ -75,7 +76,7 @@ module _ (free : Per.Freedom → Bool) where
     pub units_told : (os : List ℕ) (a b : Place) → Front free (Per.counted_octets al os) a b → Front free (counted_units al 8 (length os, octet_bits os)) a b
     unfolding Per.counted_octets
     units_told os a b f =
-        let i = if_out free (each_is is_octet os) _ a b f in
+        let i = if_out free (list_all is_octet os) _ a b f in
         if_in free (length (octet_bits os) == length os * 8) _ a b (eq-eqb _ _ (length-octet_bits os)) (subst (λ x. Front free (Per.counted al x) a b) (sym (octet_pieces os)) i.1)
 
     -- ---- bitmaps

@@ -5,7 +5,8 @@ use Rattle.std.proofs.lemmas.Bool.{false≢true, leb-true, le-leb, ltb-true, lt-
 use Rattle.std.proofs.Math.Nat.{pow-le-pow_right}
 use Rattle.asn1_model.specs.Numbers.{digits, complement, octet_width, least_octets, signed_octets, is_within}
 use Rattle.asn1_model.specs.Form.{only_if}
-use Rattle.asn1_model.specs.Strings.{each_is, is_octet}
+use Rattle.asn1_model.specs.Strings.{is_octet}
+use Rattle.std.specs.List.{list_all}
 use Rattle.asn1_model.specs.Per
 use Rattle.asn1_values_natives.specs.Octets.{unsigned_number, signed_number}
 use Rattle.asn1_values_natives.proofs.OctetLaws.{AreOctets, unsigned-lt, length-digits, unsigned-digits, digits-unsigned}
@@ -19,9 +20,9 @@ use Rattle.per_codec_reading.specs.Fronts.{NoneStands}
 use Rattle.per_codec_reading_values.specs.Whole.{number_octets, offset_form, is_offset, in_128_bits}
 
 -- ---- octets as numbers
-are_octets : (os : List ℕ) → each_is is_octet os ≡ true → AreOctets os
+are_octets : (os : List ℕ) → list_all is_octet os ≡ true → AreOctets os
 are_octets [] h = tt
-are_octets (o ∷ os) h = let p = and_parts (is_octet o) (each_is is_octet os) h in (ltb-true o 256 p.0, are_octets os p.1)
+are_octets (o ∷ os) h = let p = and_parts (is_octet o) (list_all is_octet os) h in (ltb-true o 256 p.0, are_octets os p.1)
 
 least_positive : (v : ℤ) → 1 ≤ signed_octets v
 least_positive v = let e = signed_octets-plain v in omega (arith, e)
@@ -46,7 +47,7 @@ unsigned_back k n h =
 module _ (free : Per.Freedom → Bool) where
   octets_of : (al : Bool) (os : List ℕ) (a b : Place) → Front free (Per.counted_octets al os) a b → AreOctets os
   unfolding Per.counted_octets
-  octets_of al os a b f = are_octets os (if_out free (each_is is_octet os) _ a b f).0
+  octets_of al os a b f = are_octets os (if_out free (list_all is_octet os) _ a b f).0
 
   -- ---- the octets
   pub octets_read : (al : Bool) (os : List ℕ) (a b : Place) → 0 < length os → Front free (Per.counted_octets al os) a b → Front free (number_octets al os) a b

@@ -1,7 +1,8 @@
 -- Octets that are passed over, one fragment after another and one unknown addition after another.
 use Rattle.std.proofs.Common.{◌≡◌, ℕ, ◌+◌, ◌*◌, ◌<◌, Bool, true, false, IsTrue, Some, None, List, [], ◌∷◌, ◌++◌, length, map, refl, ap, sym, subst}
 use Rattle.asn1_model.specs.Numbers as Numbers
-use Rattle.asn1_model.specs.Form.{joined, present_ones, is_present}
+use Rattle.asn1_model.specs.Form.{joined, present_ones}
+use Rattle.std.specs.Prelude.{is_some}
 use Rattle.asn1_model.specs.Per
 use Rattle.asn1_laws_fronts.proofs.PerNumbers.{counted_octets_alike}
 use Rattle.asn1_schema_faults.specs.declared.DecodeError.{DecodeError}
@@ -58,19 +59,19 @@ module _ (free : Per.Freedom → Bool) (al : Bool) where
 
   skipped_there : (us : List Bool) (a b : Place) → Skips al free (true ∷ us) a b → (os : List ℕ) × (m : Place) × Front free (Per.counted_octets al os) a m × Skips al free us m b
   skipped_there us a b ([], e, f) = let n : [] ≡ true ∷ us = e in cc
-  skipped_there us a b (None ∷ xs, e, f) = let n : false ∷ map (λ a. is_present a) (unknown_forms al xs) ≡ true ∷ us = e in cc
+  skipped_there us a b (None ∷ xs, e, f) = let n : false ∷ map (λ a. is_some a) (unknown_forms al xs) ≡ true ∷ us = e in cc
   skipped_there us a b (Some os ∷ xs, e, f) =
-      let n : true ∷ map (λ a. is_present a) (unknown_forms al xs) ≡ true ∷ us = e in
-      let t : map (λ a. is_present a) (unknown_forms al xs) ≡ us = cc in
+      let n : true ∷ map (λ a. is_some a) (unknown_forms al xs) ≡ true ∷ us = e in
+      let t : map (λ a. is_some a) (unknown_forms al xs) ≡ us = cc in
       let s = split free (Per.counted_octets al os) (joined (present_ones (unknown_forms al xs))) a b f in
       (os, s.0, s.1, (xs, t, s.2))
 
   skipped_absent : (us : List Bool) (a b : Place) → Skips al free (false ∷ us) a b → Skips al free us a b
   skipped_absent us a b ([], e, f) = let n : [] ≡ false ∷ us = e in cc
-  skipped_absent us a b (Some os ∷ xs, e, f) = let n : true ∷ map (λ a. is_present a) (unknown_forms al xs) ≡ false ∷ us = e in cc
+  skipped_absent us a b (Some os ∷ xs, e, f) = let n : true ∷ map (λ a. is_some a) (unknown_forms al xs) ≡ false ∷ us = e in cc
   skipped_absent us a b (None ∷ xs, e, f) =
-      let n : false ∷ map (λ a. is_present a) (unknown_forms al xs) ≡ false ∷ us = e in
-      let t : map (λ a. is_present a) (unknown_forms al xs) ≡ us = cc in
+      let n : false ∷ map (λ a. is_some a) (unknown_forms al xs) ≡ false ∷ us = e in
+      let t : map (λ a. is_some a) (unknown_forms al xs) ≡ us = cc in
       (xs, t, f)
 
   one_octets : (us : Units) (os : List ℕ) (a b c : Place) → Front free (counted_units al 8 us) a b → Front free (Per.counted_octets al os) a c → b ≡ c

@@ -4,7 +4,7 @@ use Rattle.std.specs.Prelude.{flat_map, is_some, unwrap_or}
 use Rattle.std.proofs.lemmas.Bool.{and_parts, and_from}
 use Rattle.asn1_model.specs.Numbers.{binary, octet_bits}
 use Rattle.asn1_model.specs.Schema.{StringKind}
-use Rattle.asn1_model.specs.Strings.{each_is}
+use Rattle.std.specs.List.{list_all}
 use Rattle.asn1_laws_fronts.proofs.PerNumbers.{binary_equal, length-binary}
 use Rattle.asn1_values_alphabets.specs.Permitted.{permits}
 use Rattle.per_codec_alphabets.specs.Codes.{Coded, code_of, has_code, text_of}
@@ -18,7 +18,7 @@ spelled_end : (a : Coded) (cs : List ℕ) (c : ℕ) → flat_map (text_of a) (cs
 spelled_end a [] c = nothing_behind (text_of a c)
 spelled_end a (d ∷ cs) c = ap (λ l. text_of a d ++ l) (spelled_end a cs c) ∙ sym (append_assoc (text_of a d) (flat_map (text_of a) cs) (text_of a c))
 
-each_end : (test : ℕ → Bool) (cs : List ℕ) (c : ℕ) → each_is test cs ≡ true → test c ≡ true → each_is test (cs ++ c ∷ []) ≡ true
+each_end : (test : ℕ → Bool) (cs : List ℕ) (c : ℕ) → list_all test cs ≡ true → test c ≡ true → list_all test (cs ++ c ∷ []) ≡ true
 each_end test [] c h e = and_from _ _ e refl
 each_end test (d ∷ cs) c h e = let p = and_parts _ _ h in and_from _ _ p.0 (each_end test cs c p.1 e)
 

@@ -1,7 +1,7 @@
 -- Characters whose codes are some bits (X.691 30.5).
 use Rattle.std.specs.Prelude.{◌≡◌, ◌⊎◌, ℕ, ◌^◌, ◌<◌, Bool, true, List, length, flat_map, Some}
 use Rattle.asn1_model.specs.Schema.{StringKind}
-use Rattle.asn1_model.specs.Strings.{each_is}
+use Rattle.std.specs.List.{list_all}
 use Rattle.asn1_schema_faults.specs.declared.DecodeError.{DecodeError}
 use Rattle.asn1_schema_faults.specs.declared.DecodeError.TheVariants.{OutOfMemory}
 use Rattle.asn1_values_alphabets.specs.Permitted.{permits_all}
@@ -10,7 +10,7 @@ use Rattle.per_codec_alphabets.specs.Codes.{Coded, code_of, has_code, text_of}
 -- Permitted characters, whose codes one behind the other are these bits.
 pub record Spells (k : StringKind) (a : Coded) (cs : List ℕ) (w : List Bool) : Type 0 where
   pub permitted : permits_all k cs ≡ true
-  pub coded : each_is (has_code a) cs ≡ true
+  pub coded : list_all (has_code a) cs ≡ true
   pub spelled : flat_map (text_of a) cs ≡ w
 
 -- No so many characters have these codes.

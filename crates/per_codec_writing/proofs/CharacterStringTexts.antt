@@ -4,7 +4,8 @@ use Rattle.std.proofs.lemmas.Bool.{le-leb}
 use Rattle.asn1_model.specs.Form.{only_if}
 use Rattle.asn1_model.specs.Numbers.{is_count_within}
 use Rattle.asn1_model.specs.Schema.{Size, Counts, Alphabet, StringKind, character_string}
-use Rattle.asn1_model.specs.Strings.{Run, is_of_octets, may_hold, permitted, each_is}
+use Rattle.asn1_model.specs.Strings.{Run, is_of_octets, may_hold, permitted}
+use Rattle.std.specs.List.{list_all}
 use Rattle.asn1_model.specs.Schema.{any_count}
 use Rattle.asn1_model.specs.Value.{text}
 use Rattle.asn1_model.specs.Per
@@ -22,11 +23,11 @@ module _ (al : Bool) (z : Size) (h : Counts) (rs : List Run) (a : Coded) (cs : L
   unfolding Per.characters
   of_width = ap (λ n. Per.sized al z h (Per.characters_have_padding n (length cs)) (map (Per.character n rs) cs)) (sym b)
 
-  pub coded_none : (p : Option ℕ) → each_is (has_code a) cs ≡ false → text_at (Per.characters al z h rs cs) p ≡ None
+  pub coded_none : (p : Option ℕ) → list_all (has_code a) cs ≡ false → text_at (Per.characters al z h rs cs) p ≡ None
   coded_none p t = ap (λ x. text_at x p) of_width ∙ none_sized (Per.character a.code_bits rs) (has_code a) (λ c e q. no_form a rs c q s e) al z h (Per.characters_have_padding a.code_bits (length cs)) cs t p
 
 -- the sizes as a writer has them are y
-pub coded_text : (al : Bool) (z y : Size) (h : Counts) (rs : List Run) (a : Coded) (cs : List ℕ) → SameCharacters a.runs rs → a.code_bits ≡ Per.character_bits al rs → (has_padding : Bool) (p : Option ℕ) → each_is (has_code a) cs ≡ true → y ≡ z → has_padding ≡ Per.characters_have_padding a.code_bits (length cs) y.counts → text_at (Per.characters al z h rs cs) p ≡ text_at (Per.sized al y h (λ _. has_padding) (forms_of (texts_of a cs))) p
+pub coded_text : (al : Bool) (z y : Size) (h : Counts) (rs : List Run) (a : Coded) (cs : List ℕ) → SameCharacters a.runs rs → a.code_bits ≡ Per.character_bits al rs → (has_padding : Bool) (p : Option ℕ) → list_all (has_code a) cs ≡ true → y ≡ z → has_padding ≡ Per.characters_have_padding a.code_bits (length cs) y.counts → text_at (Per.characters al z h rs cs) p ≡ text_at (Per.sized al y h (λ _. has_padding) (forms_of (texts_of a cs))) p
 coded_text al z y h rs a cs s b has_padding p t d e =
     ap (λ x. text_at (Per.characters al x h rs cs) p) (sym d)
     ∙ ap (λ x. text_at x p) (of_width al y h rs a cs s b ∙ ap (λ us. Per.sized al y h (Per.characters_have_padding a.code_bits (length cs)) us) (forms a rs cs s t) ∙ sized_padded al y h (Per.characters_have_padding a.code_bits (length cs)) (λ _. has_padding) (forms_of (texts_of a cs)) (sym e))

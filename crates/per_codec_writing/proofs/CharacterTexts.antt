@@ -6,7 +6,8 @@ use Rattle.std.proofs.lemmas.List.{take_more, get_or-drop}
 use Rattle.asn1_model.specs.Form.{exactly, given}
 use Rattle.asn1_model.specs.Numbers.{binary}
 use Rattle.asn1_model.specs.Per
-use Rattle.asn1_model.specs.Strings.{Run, largest, place_of, each_is, is_among, is_in_run}
+use Rattle.asn1_model.specs.Strings.{Run, largest, place_of, is_among, is_in_run}
+use Rattle.std.specs.List.{list_all}
 use Rattle.per_codec_alphabets.specs.Codes.{Coded, SameCharacters, code_in, code_of, has_code, text_of}
 use Rattle.per_codec_alphabets.specs.declared.single.CodedRun.{CodedRun}
 use Rattle.per_codec_packing.specs.Texts.{as_text, text_at}
@@ -69,7 +70,7 @@ one_form : (a : Coded) (rs : List Run) (c : ℕ) → SameCharacters a.runs rs �
 unfolding Per.character
 one_form a rs c s h = ap (by_place (largest rs) a.code_bits c) (sym (s.places c)) ∙ ap (λ n. by_place n a.code_bits c (place_of c a.runs)) (sym s.greatest) ∙ coded_form (largest a.runs) a.code_bits c (place_of c a.runs) h
 
-pub forms : (a : Coded) (rs : List Run) (cs : List ℕ) → SameCharacters a.runs rs → each_is (has_code a) cs ≡ true → map (Per.character a.code_bits rs) cs ≡ forms_of (texts_of a cs)
+pub forms : (a : Coded) (rs : List Run) (cs : List ℕ) → SameCharacters a.runs rs → list_all (has_code a) cs ≡ true → map (Per.character a.code_bits rs) cs ≡ forms_of (texts_of a cs)
 forms a rs [] s h = refl
 forms a rs (c ∷ cs) s h = let p = and_parts _ _ h in ap (λ x. x ∷ map (Per.character a.code_bits rs) cs) (one_form a rs c s p.0) ∙ ap (λ l. exactly (text_of a c) ∷ l) (forms a rs cs s p.1)
 
@@ -86,12 +87,12 @@ placed f c (r ∷ rs) h = go (is_in_run c r) (placed f c rs) h
     go true k e = refl
     go false k e = behind (place_of c rs) (k e)
 
-pub all_coded : (a : Coded) (rs : List Run) (cs : List ℕ) → SameCharacters a.runs rs → each_is (is_among rs) cs ≡ true → each_is (has_code a) cs ≡ true
+pub all_coded : (a : Coded) (rs : List Run) (cs : List ℕ) → SameCharacters a.runs rs → list_all (is_among rs) cs ≡ true → list_all (has_code a) cs ≡ true
 all_coded a rs [] s h = refl
 all_coded a rs (c ∷ cs) s h =
     let p = and_parts _ _ h in
     let code : ℕ → ℕ = λ i. cond (ltb (largest a.runs) (2 ^ a.code_bits)) c i in
-    ap (λ b. b && each_is (has_code a) cs) (ap (λ o. is_some (option_map code o)) (s.places c) ∙ placed code c rs p.0) ∙ all_coded a rs cs s p.1
+    ap (λ b. b && list_all (has_code a) cs) (ap (λ o. is_some (option_map code o)) (s.places c) ∙ placed code c rs p.0) ∙ all_coded a rs cs s p.1
 
 -- ---- codes that are the characters' own numbers
 number_text : (t : Bool) (b c : ℕ) (o : Option ℕ) → t ≡ true → is_some (option_map (λ i. cond t c i) o) ≡ true → binary b c ≡ binary b (unwrap_or (option_map (λ i. cond t c i) o) 0)
@@ -113,7 +114,7 @@ run_codes a r c e h = ap (λ o. binary a.code_bits (unwrap_or o 0)) (e c) ∙ ap
     there true n e = refl
     there false n e = cc
 
-pub based_forms : (a : Coded) (base : ℕ) (cs : List ℕ) → ((c : ℕ) → has_code a c ≡ true → text_of a c ≡ low_bits base a.code_bits c) → each_is (has_code a) cs ≡ true → forms_of (map (low_bits base a.code_bits) cs) ≡ forms_of (texts_of a cs)
+pub based_forms : (a : Coded) (base : ℕ) (cs : List ℕ) → ((c : ℕ) → has_code a c ≡ true → text_of a c ≡ low_bits base a.code_bits c) → list_all (has_code a) cs ≡ true → forms_of (map (low_bits base a.code_bits) cs) ≡ forms_of (texts_of a cs)
 based_forms a base [] t h = refl
 based_forms a base (c ∷ cs) t h =
     let p = and_parts _ _ h in

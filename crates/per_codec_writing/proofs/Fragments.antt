@@ -2,7 +2,8 @@
 use Rattle.std.proofs.Common.{◌≡◌, ℕ, suc, ◌-◌, ◌*◌, ◌/◌, ◌%◌, ◌<◌, ◌≤◌, min, Bool, true, ◌&&◌, List, [], ◌∷◌, ◌++◌, replicate, inl, inr, refl, ap, sym, ◌∙◌, arith, get_or, Fits}
 use Rattle.std.specs.Int.{w8}
 use Rattle.std.proofs.lemmas.Bool.{cases_lt, lt-ltb}
-use Rattle.asn1_model.specs.Strings.{each_is, is_octet}
+use Rattle.asn1_model.specs.Strings.{is_octet}
+use Rattle.std.specs.List.{list_all}
 use Rattle.asn1_model.specs.Per
 use Rattle.asn1_values_natives.proofs.OctetLaws.{AreOctets}
 use Rattle.asn1_values_natives.proofs.TwosComplement.{octets-all}
@@ -47,13 +48,13 @@ first_of_them n m h e = elim (cases_lt n 65536) [
 
 -- ---- octets
 
-octets_are : (os : List ℕ) → AreOctets os → each_is is_octet os ≡ true
+octets_are : (os : List ℕ) → AreOctets os → list_all is_octet os ≡ true
 octets_are [] h = refl
-octets_are (o ∷ os) h = ap (λ b. b && each_is is_octet os) (lt-ltb _ _ h.0) ∙ octets_are os h.1
+octets_are (o ∷ os) h = ap (λ b. b && list_all is_octet os) (lt-ltb _ _ h.0) ∙ octets_are os h.1
 
-pub all_octets : (os : List ℕ) → ((i : ℕ) → Fits w8 (get_or os i 0)) → each_is is_octet os ≡ true
+pub all_octets : (os : List ℕ) → ((i : ℕ) → Fits w8 (get_or os i 0)) → list_all is_octet os ≡ true
 all_octets os h = octets_are os (octets-all os h)
 
-pub adds_octets : (al : Bool) (os : List ℕ) (old new : Packed) → each_is is_octet os ≡ true → Adds (text_at (Per.counted al (Per.octet_units os)) (place old)) old new → Adds (text_at (Per.counted_octets al os) (place old)) old new
+pub adds_octets : (al : Bool) (os : List ℕ) (old new : Packed) → list_all is_octet os ≡ true → Adds (text_at (Per.counted al (Per.octet_units os)) (place old)) old new → Adds (text_at (Per.counted_octets al os) (place old)) old new
 unfolding Per.counted_octets
-adds_octets al os old new h a = adds_same _ _ old new (if_true (each_is is_octet os) (Per.counted al (Per.octet_units os)) (place old) h) a
+adds_octets al os old new h a = adds_same _ _ old new (if_true (list_all is_octet os) (Per.counted al (Per.octet_units os)) (place old) h) a

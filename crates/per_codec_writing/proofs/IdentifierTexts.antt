@@ -5,7 +5,8 @@ use Rattle.std.proofs.lemmas.List.Concat.{flat_map-append}
 use Rattle.std.proofs.Math.Seq.{take-suc}
 use Rattle.asn1_model.specs.Numbers.{octet_bits}
 use Rattle.asn1_model.specs.Per
-use Rattle.asn1_model.specs.Strings.{each_is, is_octet, groups_of_seven}
+use Rattle.asn1_model.specs.Strings.{is_octet, groups_of_seven}
+use Rattle.std.specs.List.{list_all}
 use Rattle.asn1_values_bits.proofs.Binary.{octet_bits-append}
 use Rattle.asn1_values_identifiers.specs.Groups.{contents}
 use Rattle.per_codec_packing.specs.Texts.{as_text, text_at}
@@ -40,7 +41,7 @@ unit_count : (os : List ℕ) → length (Per.octet_units os) ≡ length os
 unit_count [] = refl
 unit_count (o ∷ os) = ap suc (unit_count os)
 
-pub short_counted : (al : Bool) (os : List ℕ) (n : ℕ) (old mid new : Packed) → each_is is_octet os ≡ true → n ≡ length os → n < 16384 → Adds (text_at (Per.short_length al n) (place old)) old mid → new ≡ plus mid (as_text (octet_bits os)) → Adds (text_at (Per.counted_octets al os) (place old)) old new
+pub short_counted : (al : Bool) (os : List ℕ) (n : ℕ) (old mid new : Packed) → list_all is_octet os ≡ true → n ≡ length os → n < 16384 → Adds (text_at (Per.short_length al n) (place old)) old mid → new ≡ plus mid (as_text (octet_bits os)) → Adds (text_at (Per.counted_octets al os) (place old)) old new
 short_counted al os n old mid new h e l a b =
     let due : Due = record { units = n; behind = None } in
     adds_octets al os old new h

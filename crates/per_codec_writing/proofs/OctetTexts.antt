@@ -6,7 +6,8 @@ use Rattle.asn1_model.specs.Form.{exactly}
 use Rattle.asn1_model.specs.Numbers as Numbers
 use Rattle.asn1_model.specs.Numbers.{binary}
 use Rattle.asn1_model.specs.Schema.{StringKind, numeric, printable, visible, ia5, bmp, general, graphic, teletex, utf8}
-use Rattle.asn1_model.specs.Strings.{Run, run, characters_of, is_among, is_octet, is_of_octets, each_is, largest, place_of}
+use Rattle.asn1_model.specs.Strings.{Run, run, characters_of, is_among, is_octet, is_of_octets, largest, place_of}
+use Rattle.std.specs.List.{list_all}
 use Rattle.asn1_model.specs.Per
 use Rattle.asn1_values_alphabets.specs.Permitted.{permits_all}
 use Rattle.per_codec_alphabets.specs.Codes.{Coded, SameCharacters, text_of}
@@ -57,19 +58,19 @@ own_text a c s e h =
     ∙ ap (λ o. binary 8 (unwrap_or (option_map (λ i. cond (ltb 255 (2 ^ 8)) c i) o) 0)) (s.places c)
     ∙ ap (λ o. binary 8 (unwrap_or o 0)) (own_code c h)
 
-own_texts : (a : Coded) (cs : List ℕ) → SameCharacters a.runs octets → a.code_bits ≡ 8 → each_is (is_among octets) cs ≡ true → forms_of (texts_of a cs) ≡ Per.octet_units cs
+own_texts : (a : Coded) (cs : List ℕ) → SameCharacters a.runs octets → a.code_bits ≡ 8 → list_all (is_among octets) cs ≡ true → forms_of (texts_of a cs) ≡ Per.octet_units cs
 own_texts a [] s e h = refl
 own_texts a (c ∷ cs) s e h = let p = and_parts _ _ h in ap (λ t. exactly t ∷ forms_of (texts_of a cs)) (own_text a c s e p.0) ∙ ap (λ l. exactly (binary 8 c) ∷ l) (own_texts a cs s e p.1)
 
-are_octets : (cs : List ℕ) → each_is (is_among octets) cs ≡ true → each_is is_octet cs ≡ true
+are_octets : (cs : List ℕ) → list_all (is_among octets) cs ≡ true → list_all is_octet cs ≡ true
 are_octets [] h = refl
-are_octets (c ∷ cs) h = let p = and_parts _ _ h in ap (λ b. b && each_is is_octet cs) (octet c p.0) ∙ are_octets cs p.1
+are_octets (c ∷ cs) h = let p = and_parts _ _ h in ap (λ b. b && list_all is_octet cs) (octet c p.0) ∙ are_octets cs p.1
 
 pub octets_text : (al : Bool) (k : StringKind) (a : Coded) (cs : List ℕ) (old new : Packed) (rs : List Run) → is_of_octets k ≡ true → permits_all k cs ≡ true → rs ≡ characters_of k → SameCharacters a.runs rs → a.code_bits ≡ Per.character_bits al rs → Adds (text_at (Per.counted al (forms_of (texts_of a cs))) (place old)) old new → Adds (text_at (Per.counted_octets al cs) (place old)) old new
 unfolding Per.counted_octets
 octets_text al k a cs old new rs o h e s b w =
     let r : rs ≡ octets = e ∙ all_octets k o in
-    let m : each_is (is_among octets) cs ≡ true = ap (λ q. each_is (is_among q) cs) (sym (all_octets k o)) ∙ h in
+    let m : list_all (is_among octets) cs ≡ true = ap (λ q. list_all (is_among q) cs) (sym (all_octets k o)) ∙ h in
     let t : SameCharacters a.runs octets = subst (λ q. SameCharacters a.runs q) r s in
     let n : a.code_bits ≡ 8 = b ∙ ap (Per.character_bits al) r ∙ eight al in
-    adds_same _ _ old new (if_true (each_is is_octet cs) (Per.counted al (Per.octet_units cs)) (place old) (are_octets cs m) ∙ ap (λ us. text_at (Per.counted al us) (place old)) (sym (own_texts a cs t n m))) w
+    adds_same _ _ old new (if_true (list_all is_octet cs) (Per.counted al (Per.octet_units cs)) (place old) (are_octets cs m) ∙ ap (λ us. text_at (Per.counted al us) (place old)) (sym (own_texts a cs t n m))) w

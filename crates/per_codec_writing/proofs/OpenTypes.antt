@@ -5,7 +5,8 @@ use Rattle.std.proofs.lemmas.List.{append-nil, length-replicate}
 use Rattle.asn1_model.specs.Form.{exactly, only_if, written}
 use Rattle.asn1_model.specs.Numbers.{missing, packed}
 use Rattle.asn1_model.specs.Per
-use Rattle.asn1_model.specs.Strings.{each_is, is_octet}
+use Rattle.asn1_model.specs.Strings.{is_octet}
+use Rattle.std.specs.List.{list_all}
 use Rattle.asn1_laws_values.proofs.Octets.{eights_units, packed_octets}
 use Rattle.asn1_values_bits.specs.Octets.{padded}
 use Rattle.per_codec_packing.specs.Texts.{text_at}
@@ -18,7 +19,7 @@ open_text al w z k p e n =
     ap (option_and_then (λ (y : List Bool). text_at (Per.counted_eights al (y ++ [])) p)) e
     ∙ ap (λ y. text_at (Per.counted_eights al y) p) (append-nil z)
     ∙ ap (λ us. text_at (Per.counted al us) p) (eights_units k z n)
-    ∙ sym (if_true (each_is is_octet (packed z)) (Per.counted al (Per.octet_units (packed z))) p (packed_octets k z n))
+    ∙ sym (if_true (list_all is_octet (packed z)) (Per.counted al (Per.octet_units (packed z))) p (packed_octets k z n))
 
 padding_written : (n p : ℕ) → written (Per.padding n) p ≡ Some (replicate n false)
 unfolding Per.padding written

@@ -4,7 +4,8 @@ use Rattle.std.specs.Prelude.{⊤}
 use Rattle.std.proofs.lemmas.List.{length-drop, drop_more, take_more, map-append}
 use Rattle.asn1_model.specs.Form.{written, ascending, with_keys, put_in_place, stands_before, given}
 use Rattle.asn1_model.specs.Numbers.{octet_bits}
-use Rattle.asn1_model.specs.Strings.{each_is, is_octet}
+use Rattle.asn1_model.specs.Strings.{is_octet}
+use Rattle.std.specs.List.{list_all}
 use Rattle.asn1_model.specs.Per
 use Rattle.asn1_laws_numbers.proofs.Ordered.{ordered_as_bits}
 use Rattle.asn1_schema_order.specs.Entries.{octets_of, ArePlaced, AreInOrder}
@@ -34,7 +35,7 @@ Held = List ℕ × Entry
 -- the entries are of some texts, and have octets
 abbrev AreOf : List Text → List Held → Type 0
 AreOf ts [] = ⊤
-AreOf ts (e ∷ es) = (each_is is_octet e.0 ≡ true) × (e.1.index < length ts) × AreOf ts es
+AreOf ts (e ∷ es) = (list_all is_octet e.0 ≡ true) × (e.1.index < length ts) × AreOf ts es
 
 -- entries are of some texts
 abbrev pub AreWithin : List Text → List Entry → Type 0
@@ -50,7 +51,7 @@ module _ (ts : List Text) where
   abbrev turned : Held → List Bool × Per.BitForm
   turned e = (octet_bits e.0, form_at e.1)
 
-  put_turned : (e : Held) (es : List Held) → each_is is_octet e.0 ≡ true → AreOf ts es → put_in_place by_bits (turned e) (map turned es) ≡ map turned (put_in_place by_octets e es)
+  put_turned : (e : Held) (es : List Held) → list_all is_octet e.0 ≡ true → AreOf ts es → put_in_place by_bits (turned e) (map turned es) ≡ map turned (put_in_place by_octets e es)
   put_turned e [] h k = refl
   put_turned e (d ∷ es) h k =
       ap (λ b. cond b (turned d ∷ put_in_place by_bits (turned e) (map turned es)) (turned e ∷ turned d ∷ map turned es)) (ordered_as_bits d.0 e.0 k.0 h)
@@ -60,7 +61,7 @@ module _ (ts : List Text) where
       go true i = ap (λ l. turned d ∷ l) i
       go false i = refl
 
-  put_of : (e : Held) (es : List Held) → each_is is_octet e.0 ≡ true → e.1.index < length ts → AreOf ts es → AreOf ts (put_in_place by_octets e es)
+  put_of : (e : Held) (es : List Held) → list_all is_octet e.0 ≡ true → e.1.index < length ts → AreOf ts es → AreOf ts (put_in_place by_octets e es)
   put_of e [] h l k = (h, l, tt)
   put_of e (d ∷ es) h l k = go (by_octets d.0 e.0) (put_of e es h l k.2)
     where
@@ -96,8 +97,8 @@ module _ (ts : List Text) where
       entry : Held
       entry = (octets_of e, e)
 
-      octets : each_is is_octet (octets_of e) ≡ true
-      octets = ap (each_is is_octet) p.0 ∙ r.0.octets
+      octets : list_all is_octet (octets_of e) ≡ true
+      octets = ap (list_all is_octet) p.0 ∙ r.0.octets
 
       text : get_or ts e.index [] ≡ u
       text = ap (λ k. get_or ts k []) p.1 ∙ at.1

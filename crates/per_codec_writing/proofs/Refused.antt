@@ -5,7 +5,7 @@ use Rattle.std.proofs.lemmas.List.{take-map, drop-map}
 use Rattle.asn1_model.specs.Form.{exactly, only_if, both, joined}
 use Rattle.asn1_model.specs.Numbers.{binary}
 use Rattle.asn1_model.specs.Schema.{Size, Counts}
-use Rattle.asn1_model.specs.Strings.{each_is}
+use Rattle.std.specs.List.{list_all}
 use Rattle.asn1_model.specs.Per
 use Rattle.per_codec_packing.specs.Texts.{Text, on, text_at}
 
@@ -39,42 +39,42 @@ unfolding Per.at_octet
 none_at_octet false x h p = h p
 none_at_octet true x h p = none_second _ x h p
 
-split : (test : ℕ → Bool) (n : ℕ) (cs : List ℕ) → each_is test cs ≡ (each_is test (take n cs) && each_is test (drop n cs))
+split : (test : ℕ → Bool) (n : ℕ) (cs : List ℕ) → list_all test cs ≡ (list_all test (take n cs) && list_all test (drop n cs))
 split test zero cs = refl
 split test (suc n) [] = refl
-split test (suc n) (c ∷ cs) = ap (λ b. test c && b) (split test n cs) ∙ go (test c) (each_is test (take n cs)) (each_is test (drop n cs))
+split test (suc n) (c ∷ cs) = ap (λ b. test c && b) (split test n cs) ∙ go (test c) (list_all test (take n cs)) (list_all test (drop n cs))
   where
     go : (x y z : Bool) → (x && (y && z)) ≡ ((x && y) && z)
     go true y z = refl
     go false y z = refl
 
 module _ (f : ℕ → Per.BitForm) (test : ℕ → Bool) (h : (c : ℕ) → test c ≡ false → Never (f c)) where
-  none_joined : (cs : List ℕ) → each_is test cs ≡ false → Never (joined (map f cs))
+  none_joined : (cs : List ℕ) → list_all test cs ≡ false → Never (joined (map f cs))
   none_joined [] e p = cc
   none_joined (c ∷ cs) e p = go (test c) refl e (λ k. none_joined cs k)
     where
-      go : (b : Bool) → test c ≡ b → (b && each_is test cs) ≡ false → (each_is test cs ≡ false → Never (joined (map f cs))) → text_at (both (f c) (joined (map f cs))) p ≡ None
+      go : (b : Bool) → test c ≡ b → (b && list_all test cs) ≡ false → (list_all test cs ≡ false → Never (joined (map f cs))) → text_at (both (f c) (joined (map f cs))) p ≡ None
       go false t k r = none_first (f c) (joined (map f cs)) (h c t) p
       go true t k r = none_second (f c) (joined (map f cs)) (r k) p
 
-  none_parts : (x : Per.BitForm) (n : ℕ) (cs : List ℕ) → each_is test cs ≡ false → (each_is test (drop n cs) ≡ false → Never x) → Never (both (joined (take n (map f cs))) x)
-  none_parts x n cs e r = go (each_is test (take n cs)) refl (sym (split test n cs) ∙ e)
+  none_parts : (x : Per.BitForm) (n : ℕ) (cs : List ℕ) → list_all test cs ≡ false → (list_all test (drop n cs) ≡ false → Never x) → Never (both (joined (take n (map f cs))) x)
+  none_parts x n cs e r = go (list_all test (take n cs)) refl (sym (split test n cs) ∙ e)
     where
-      go : (b : Bool) → each_is test (take n cs) ≡ b → (each_is test (take n cs) && each_is test (drop n cs)) ≡ false → Never (both (joined (take n (map f cs))) x)
+      go : (b : Bool) → list_all test (take n cs) ≡ b → (list_all test (take n cs) && list_all test (drop n cs)) ≡ false → Never (both (joined (take n (map f cs))) x)
       go false t k = none_first _ x (rw take-map (none_joined (take n cs) t))
       go true t k = none_second _ x (r (rw t at k))
 
-  none_fragments : (al : Bool) (ms cs : List ℕ) → each_is test cs ≡ false → Never (Per.fragments al ms (map f cs))
+  none_fragments : (al : Bool) (ms cs : List ℕ) → list_all test cs ≡ false → Never (Per.fragments al ms (map f cs))
   unfolding Per.fragments
   none_fragments al [] cs e p = none_second (Per.short_length al (length (map f cs))) (joined (map f cs)) (none_joined cs e) p
   none_fragments al (m ∷ ms) cs e p =
       none_if (leb 1 m && leb m 4 && leb (m * 16384) (length (map f cs))) _ (none_second (Per.at_octet al (exactly (true ∷ true ∷ binary 6 m))) (both (joined (take (m * 16384) (map f cs))) (Per.fragments al ms (drop (m * 16384) (map f cs)))) (none_parts (Per.fragments al ms (drop (m * 16384) (map f cs))) (m * 16384) cs e (λ k. rw drop-map (none_fragments al ms (drop (m * 16384) cs) k)))) p
 
-  none_counted : (al : Bool) (cs : List ℕ) → each_is test cs ≡ false → Never (Per.counted al (map f cs))
+  none_counted : (al : Bool) (cs : List ℕ) → list_all test cs ≡ false → Never (Per.counted al (map f cs))
   unfolding Per.counted text_at
   none_counted al cs e p = none_fragments al _ cs e p
 
-  none_root : (al : Bool) (c : Counts) (o : Option ℕ) (has_padding : Counts → Bool) (cs : List ℕ) → each_is test cs ≡ false → Never (Per.sized_root al c o has_padding (map f cs))
+  none_root : (al : Bool) (c : Counts) (o : Option ℕ) (has_padding : Counts → Bool) (cs : List ℕ) → list_all test cs ≡ false → Never (Per.sized_root al c o has_padding (map f cs))
   unfolding Per.sized_root
   none_root al c None has_padding cs e p = none_counted al cs e p
   none_root al c (Some high) has_padding cs e p = none_either (ltb high 65536) _ _ (none_second _ _ (none_at_octet (al && has_padding c) _ (none_joined cs e))) (none_counted al cs e) p
@@ -85,6 +85,6 @@ module _ (f : ℕ → Per.BitForm) (test : ℕ → Bool) (h : (c : ℕ) → test
   none_with_extension_bit true true x y h k p = none_second (exactly (false ∷ [])) x h p
   none_with_extension_bit true false x y h k p = none_second (exactly (true ∷ [])) y k p
 
-  pub none_sized : (al : Bool) (z : Size) (held : Counts) (has_padding : Counts → Bool) (cs : List ℕ) → each_is test cs ≡ false → Never (Per.sized al z held has_padding (map f cs))
+  pub none_sized : (al : Bool) (z : Size) (held : Counts) (has_padding : Counts → Bool) (cs : List ℕ) → list_all test cs ≡ false → Never (Per.sized al z held has_padding (map f cs))
   unfolding Per.sized
   none_sized al z held has_padding cs e p = none_if _ _ (none_with_extension_bit z.extensible _ _ _ (none_root al z.counts z.counts.high has_padding cs e) (none_counted al cs e)) p

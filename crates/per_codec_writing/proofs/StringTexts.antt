@@ -1,7 +1,8 @@
 -- The texts of strings.
 use Rattle.std.proofs.Common.{◌≡◌, ℕ, Option, Bool, true, List, [], ◌∷◌, length, None, refl, ap, sym, ◌∙◌}
 use Rattle.asn1_model.specs.Schema.{Size, Counts, Alphabet, utf8, bit_string, octet_string, character_string, object_identifier}
-use Rattle.asn1_model.specs.Strings.{each_is, is_octet, is_utf8_after, is_identifier, identifier_octets}
+use Rattle.asn1_model.specs.Strings.{is_octet, is_utf8_after, is_identifier, identifier_octets}
+use Rattle.std.specs.List.{list_all}
 use Rattle.asn1_model.specs.Schema.{any_count}
 use Rattle.asn1_model.specs.Value.{bit_list, octet_list, text, arcs}
 use Rattle.asn1_model.specs.Per
@@ -16,11 +17,11 @@ bit_string_text al z y h bs b p s e =
     ap (λ x. text_at (Per.form al (bit_string x h) (bit_list bs)) p) (sym s)
     ∙ ap (λ x. text_at x p) (sized_padded al y h (Per.string_has_padding 1 (length bs)) (λ c. b) (Per.bit_units bs) (sym e))
 
-pub octet_string_text : (al : Bool) (z y : Size) (h : Counts) (os : List ℕ) (b : Bool) (p : Option ℕ) → y ≡ z → each_is is_octet os ≡ true → b ≡ Per.string_has_padding 8 (length os) y.counts → text_at (Per.form al (octet_string z h) (octet_list os)) p ≡ text_at (Per.sized al y h (λ c. b) (Per.octet_units os)) p
+pub octet_string_text : (al : Bool) (z y : Size) (h : Counts) (os : List ℕ) (b : Bool) (p : Option ℕ) → y ≡ z → list_all is_octet os ≡ true → b ≡ Per.string_has_padding 8 (length os) y.counts → text_at (Per.form al (octet_string z h) (octet_list os)) p ≡ text_at (Per.sized al y h (λ c. b) (Per.octet_units os)) p
 unfolding Per.form
 octet_string_text al z y h os b p s o e =
     ap (λ x. text_at (Per.form al (octet_string x h) (octet_list os)) p) (sym s)
-    ∙ if_true (each_is is_octet os) (Per.sized al y h (Per.string_has_padding 8 (length os)) (Per.octet_units os)) p o
+    ∙ if_true (list_all is_octet os) (Per.sized al y h (Per.string_has_padding 8 (length os)) (Per.octet_units os)) p o
     ∙ ap (λ x. text_at x p) (sized_padded al y h (Per.string_has_padding 8 (length os)) (λ c. b) (Per.octet_units os) (sym e))
 
 pub utf8_text : (al : Bool) (z : Size) (a : Alphabet) (os : List ℕ) (p : Option ℕ) → is_utf8_after [] os ≡ true → text_at (Per.form al (character_string utf8 z a any_count) (text os)) p ≡ text_at (Per.counted_octets al os) p

@@ -2,13 +2,14 @@
 use Rattle.std.specs.Prelude.{◌≡◌, ℕ, ⊤, true, List, [], ◌∷◌, ◌++◌, Some}
 use Rattle.asn1_model.specs.Form.{written}
 use Rattle.asn1_model.specs.Numbers.{octet_bits}
-use Rattle.asn1_model.specs.Strings.{each_is, is_octet}
+use Rattle.asn1_model.specs.Strings.{is_octet}
+use Rattle.std.specs.List.{list_all}
 use Rattle.asn1_model.specs.Per.{complete}
 use Rattle.per_codec_packing.specs.Texts.{Text, as_form}
 
 -- The octets are the complete encoding of the text (X.691 11.1).
 pub record IsKeyed (t : Text) (w : List ℕ) : Type 0 where
-  pub octets : each_is is_octet w ≡ true
+  pub octets : list_all is_octet w ≡ true
   pub key : written (complete (as_form t)) 0 ≡ Some (octet_bits w)
 
 -- The complete encoding of a text stands behind those of others.

@@ -1,6 +1,6 @@
 //! Characters as units.
 ghost use Rattle.std.specs.Prelude.{◌≡◌, ◌≤◌, ℕ, true, IfSome};
-ghost use Rattle.asn1_model.specs.Strings.{each_is};
+ghost use Rattle.std.specs.List.{list_all};
 ghost use Rattle.per_codec_alphabets.specs.Codes.{code_in, code_of, has_code, text_of};
 ghost use Rattle.per_codec_writing.specs.Characters.{low_bits, texts_of};
 ghost use Rattle.per_codec_writing.specs.Units.{forms_of};
@@ -23,7 +23,7 @@ pub struct CharacterUnits<'a, S> {
 impl<S: StaticPermittedAlphabet> CharacterUnits<'_, S> {
     /// Whether each character is one of the alphabet.
     pub fn has_codes(&self) -> bool
-        ensures { result ≡ each_is (has_code self.now.alphabet.now) (S.characters self.now.string.now) }
+        ensures { result ≡ list_all (has_code self.now.alphabet.now) (S.characters self.now.string.now) }
     {
         if let Some(run) = self.alphabet.single_run() {
             return self.are_in_run(run);
@@ -40,7 +40,7 @@ impl<S: StaticPermittedAlphabet> CharacterUnits<'_, S> {
     #[inline(always)]
     fn are_in_run(&self, run: CodedRun) -> bool
         requires { (c : ℕ) → code_of self.now.alphabet.now c ≡ code_in run c }
-        ensures { result ≡ each_is (has_code self.now.alphabet.now) (S.characters self.now.string.now) }
+        ensures { result ≡ list_all (has_code self.now.alphabet.now) (S.characters self.now.string.now) }
     {
         for place in 0..self.string.char_count() {
             if run.code(self.string.char_at(place)).is_none() {

@@ -2,7 +2,8 @@
 ghost use Rattle.std.specs.Prelude.{◌≡◌, ℕ, true, false, MatchResult};
 ghost use Rattle.asn1_model.specs.Per.{characters, counted_octets, form, sized};
 ghost use Rattle.asn1_model.specs.Schema.{character_string, StringKind};
-ghost use Rattle.asn1_model.specs.Strings.{characters_of, each_is, is_of_octets as holds_octets, permitted};
+ghost use Rattle.asn1_model.specs.Strings.{characters_of, is_of_octets as holds_octets, permitted};
+ghost use Rattle.std.specs.List.{list_all};
 ghost use Rattle.asn1_model.specs.Schema.{any_count};
 ghost use Rattle.asn1_model.specs.Value.{text};
 ghost use Rattle.asn1_schema_constraints.specs.Terms.{sizes_of, size_of, alphabet_of};
@@ -66,7 +67,7 @@ fn have_codes<S: StaticPermittedAlphabet>(
     units: &CharacterUnits<S>,
 ) -> bool
     requires { SameCharacters units.now.alphabet.now.runs (permitted S.kind (alphabet_of alphabet)) }
-    ensures { result ≡ each_is (has_code units.now.alphabet.now) (S.characters units.now.string.now) }
+    ensures { result ≡ list_all (has_code units.now.alphabet.now) (S.characters units.now.string.now) }
 {
     // The proof alone needs it: all characters of a string are those of its kind.
     let _count = units.string.char_count();
@@ -87,7 +88,7 @@ fn push_based<S: StaticPermittedAlphabet>(
     units: &CharacterUnits<S>,
     base: u8,
 ) -> Result<(), EncodeError>
-    requires coded { each_is (has_code units.now.alphabet.now) (S.characters units.now.string.now) ≡ true }
+    requires coded { list_all (has_code units.now.alphabet.now) (S.characters units.now.string.now) ≡ true }
     requires codes { (c : ℕ) → has_code units.now.alphabet.now c ≡ true
         → text_of units.now.alphabet.now c ≡ low_bits base units.now.alphabet.now.code_bits c }
     ensures { MatchResult result (λ _. Adds
@@ -119,7 +120,7 @@ fn push_coded<S: StaticPermittedAlphabet>(
     has_padding: bool,
     units: &CharacterUnits<S>,
 ) -> Result<(), EncodeError>
-    requires { each_is (has_code units.now.alphabet.now) (S.characters units.now.string.now) ≡ true }
+    requires { list_all (has_code units.now.alphabet.now) (S.characters units.now.string.now) ≡ true }
     ensures { MatchResult result (λ _. Adds
         (text_at (sized (is_aligned variant) (size_of sizes) any_count (λ _. has_padding)
         (forms_of (texts_of units.now.alphabet.now (S.characters units.now.string.now))))

@@ -2,7 +2,8 @@
 ghost use Rattle.std.specs.Prelude.{◌≡◌, true, Some, MatchResult, IfOk, OnOk};
 ghost use Rattle.asn1_model.specs.Form.{ascending, joined, stands_before, written};
 ghost use Rattle.asn1_model.specs.Per.{bit_less, complete};
-ghost use Rattle.asn1_model.specs.Strings.{each_is, is_octet};
+ghost use Rattle.asn1_model.specs.Strings.{is_octet};
+ghost use Rattle.std.specs.List.{list_all};
 ghost use Rattle.per_codec_packing.specs.Texts.{text_at};
 ghost use Rattle.per_codec_writing.specs.Writing.{Adds, place};
 ghost use Rattle.per_codec_packing.specs.Viewed.{text_of};
@@ -16,7 +17,7 @@ use std::alloc::{AllocError, Global};
 
 /// Octets are below 256, which is why they stand in the order of their bits.
 fn are_octets(octets: &[u8])
-    ensures { each_is is_octet octets.now ≡ true }
+    ensures { list_all is_octet octets.now ≡ true }
 {}
 
 /// Adds the complete encoding of a member (X.691 11.1) to those of others. Where its octets do not stand so in the
