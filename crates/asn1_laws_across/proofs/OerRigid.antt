@@ -2,6 +2,7 @@
 use Rattle.std.specs.Prelude.{ℤ, pos, negsuc}
 use Rattle.std.proofs.Common.{◌≡◌, ℕ, zero, suc, ◌+◌, ◌/◌, ◌^◌, leb, ltb, not, Bool, true, false, cond, ◌&&◌, ◌||◌, List, [], ◌∷◌, length, Option, Some, None, refl}
 use Rattle.std.proofs.lemmas.Bool.{and_parts}
+use Rattle.asn1_model.specs.Numbers.{admits}
 use Rattle.asn1_model.specs.Value.{Value, Values, no_more, member, truth, nothing, number, item, bit_list, octet_list, text, arcs, members, fields, chosen, Parts, end, absent, present, each}
 use Rattle.asn1_model.specs.Schema.{Tag, Range, Bounds, Counts, Presence, Schema, boolean, null, integer, enumerated, bit_string, octet_string, character_string, object_identifier, sequence_of, set_of, sequence, set, group, choice, Components, no_component, component, Alternatives, no_alternative, alternative}
 use Rattle.asn1_model.specs.Numbers.{digits, octet_width, least_octets, signed_octets, complement, is_within, is_count_within, fits_128}
@@ -137,9 +138,9 @@ mutual
   form_rigid null nothing h = octets _
   form_rigid (integer b held) (number v) h = integer_rigid b held v
   form_rigid (enumerated roots e adds) (item v) h = rigid_if strict_oer (is_some (item_place v roots) || (e && is_some (item_place v adds))) (item_rigid v)
-  form_rigid (bit_string z held) (bit_list bs) h = rigid_if strict_oer (Oer.admits z held (length bs)) (bit_string_rigid (Oer.is_fixed z) bs)
-  form_rigid (octet_string z held) (octet_list os) h = rigid_if strict_oer (Oer.admits z held (length os)) (octets_rigid (Oer.is_fixed z) os)
-  form_rigid (character_string k z a held) (text cs) h = rigid_if strict_oer (Oer.admits z held (length cs) && may_hold k cs) (octets_rigid (Oer.is_fixed z) (Oer.string_octets k cs))
+  form_rigid (bit_string z held) (bit_list bs) h = rigid_if strict_oer (admits z held (length bs)) (bit_string_rigid (Oer.is_fixed z) bs)
+  form_rigid (octet_string z held) (octet_list os) h = rigid_if strict_oer (admits z held (length os)) (octets_rigid (Oer.is_fixed z) os)
+  form_rigid (character_string k z a held) (text cs) h = rigid_if strict_oer (admits z held (length cs) && may_hold k cs) (octets_rigid (Oer.is_fixed z) (Oer.string_octets k cs))
   form_rigid object_identifier (arcs ns) h = rigid_if strict_oer (is_identifier ns) (counted_rigid _)
   form_rigid (sequence_of z held s) (members vs) h = members_rigid held _ (each_rigid (λ v. Oer.form s v) (λ v. form_rigid s v h) vs)
   form_rigid (set_of z held s) v h = cc

@@ -1,6 +1,7 @@
 -- Fronts of all forms of the octet rules.
 use Rattle.std.proofs.Common.{◌≡◌, ℕ, ltb, Bool, true, false, cond, ◌&&◌, ◌||◌, List, [], ◌∷◌, ◌++◌, length, map, Option, Some, None, option_map, refl, ap, ◌∙◌, subst}
 use Rattle.std.proofs.lemmas.Bool.{and_parts, and_from, eq-eqb}
+use Rattle.asn1_model.specs.Numbers.{admits}
 use Rattle.asn1_model.specs.Value.{Value, truth, nothing, number, item, bit_list, octet_list, text, arcs, members, bag, fields, chosen, Values, Parts, end, absent, present, each, values_of, same, same_members, same_parts}
 use Rattle.asn1_model.specs.Schema.{Counts, Size, StringKind, Presence, Schema, cut, boolean, null, integer, enumerated, bit_string, octet_string, character_string, object_identifier, sequence_of, set_of, sequence, set, group, choice, Components, no_component, component, Alternatives, no_alternative, alternative}
 use Rattle.asn1_model.specs.Lawful.{is_lawful, are_lawful, are_lawful_alternatives, are_distinct, tag_same, alternative_tags}
@@ -193,8 +194,8 @@ module _ (free : Oer.Freedom → Bool) where
   null_alike nothing w = agree_with_refused free _ _
   null_alike v w = agree_refused free _ _
 
-  string_alike : (k : StringKind) (z : Size) (held : Counts) (v w : List ℕ) → OctetsAlike free (only_if (Oer.admits z held (length v) && may_hold k v) (Oer.octets_form (Oer.is_fixed z) (Oer.string_octets k v))) (only_if (Oer.admits z held (length w) && may_hold k w) (Oer.octets_form (Oer.is_fixed z) (Oer.string_octets k w))) (v ≡ w)
-  string_alike k z held v w = agree_if free (Oer.admits z held (length v) && may_hold k v) (Oer.admits z held (length w) && may_hold k w) _ _ (λ i j.
+  string_alike : (k : StringKind) (z : Size) (held : Counts) (v w : List ℕ) → OctetsAlike free (only_if (admits z held (length v) && may_hold k v) (Oer.octets_form (Oer.is_fixed z) (Oer.string_octets k v))) (only_if (admits z held (length w) && may_hold k w) (Oer.octets_form (Oer.is_fixed z) (Oer.string_octets k w))) (v ≡ w)
+  string_alike k z held v w = agree_if free (admits z held (length v) && may_hold k v) (admits z held (length w) && may_hold k w) _ _ (λ i j.
       let i' = and_parts _ _ i in
       let j' = and_parts _ _ j in
       agree_map free (λ e. characters_equal k v w i'.1 j'.1 e) (octets_alike free (Oer.is_fixed z) (Oer.string_octets k v) (Oer.string_octets k w) (λ f. characters_long k v w (one_length z held (length v) (length w) f i'.0 j'.0))))
@@ -211,10 +212,10 @@ module _ (free : Oer.Freedom → Bool) where
     one_way (enumerated roots e adds) h (item v) (item w) = leaf item (agree_if free (is_some (item_place v roots) || (e && is_some (item_place v adds))) (is_some (item_place w roots) || (e && is_some (item_place w adds))) _ _ (λ i j. items_alike free v w))
     one_way (enumerated roots e adds) h (item v) w = agree_with_refused free _ _
     one_way (enumerated roots e adds) h v w = agree_refused free _ _
-    one_way (bit_string z held) h (bit_list v) (bit_list w) = leaf bit_list (agree_if free (Oer.admits z held (length v)) (Oer.admits z held (length w)) _ _ (λ i j. bit_strings_alike free (Oer.is_fixed z) v w (λ f. one_length z held (length v) (length w) f i j)))
+    one_way (bit_string z held) h (bit_list v) (bit_list w) = leaf bit_list (agree_if free (admits z held (length v)) (admits z held (length w)) _ _ (λ i j. bit_strings_alike free (Oer.is_fixed z) v w (λ f. one_length z held (length v) (length w) f i j)))
     one_way (bit_string z held) h (bit_list v) w = agree_with_refused free _ _
     one_way (bit_string z held) h v w = agree_refused free _ _
-    one_way (octet_string z held) h (octet_list v) (octet_list w) = leaf octet_list (agree_if free (Oer.admits z held (length v)) (Oer.admits z held (length w)) _ _ (λ i j. octets_alike free (Oer.is_fixed z) v w (λ f. one_length z held (length v) (length w) f i j)))
+    one_way (octet_string z held) h (octet_list v) (octet_list w) = leaf octet_list (agree_if free (admits z held (length v)) (admits z held (length w)) _ _ (λ i j. octets_alike free (Oer.is_fixed z) v w (λ f. one_length z held (length v) (length w) f i j)))
     one_way (octet_string z held) h (octet_list v) w = agree_with_refused free _ _
     one_way (octet_string z held) h v w = agree_refused free _ _
     one_way (character_string k z a held) h (text v) (text w) = leaf text (string_alike k z held v w)

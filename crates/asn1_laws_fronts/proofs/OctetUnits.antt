@@ -2,6 +2,7 @@
 use Rattle.std.specs.Prelude.{ℤ, pos, negsuc}
 use Rattle.std.proofs.Common.{◌≡◌, ℕ, suc, ◌+◌, ◌/◌, ◌<◌, ◌≤◌, ◌==◌, ltb, leb, not, lit<, Bool, true, false, cond, ◌&&◌, ◌||◌, List, [], ◌∷◌, ◌++◌, length, drop, map, flat_map, Option, Some, None, refl, ap, sym, ◌∙◌, append_assoc, inl, inr, ◌⊎◌, arith}
 use Rattle.std.proofs.lemmas.Bool.{ltb-true, leb-true, eqb-true, and_parts, or_cases}
+use Rattle.asn1_model.specs.Numbers.{admits, is_fixed_at}
 use Rattle.asn1_model.specs.Schema.{Counts, Size, StringKind, numeric, printable, visible, ia5, bmp, general, graphic, teletex, utf8}
 use Rattle.asn1_model.specs.Numbers.{digits, signed_octets, complement, is_count_to, is_count_within}
 use Rattle.asn1_model.specs.Form.{both, only_if, joined, Reads}
@@ -94,7 +95,7 @@ module _ (free : Oer.Freedom → Bool) where
   octets_alike false os ps h = counted_alike free os ps
 
 -- what has one size has one length
-at_one : (c : Counts) (high : Option ℕ) (n m : ℕ) → Oer.is_fixed_at c high ≡ true → (leb c.low n && is_count_to high n) ≡ true → (leb c.low m && is_count_to high m) ≡ true → n ≡ m
+at_one : (c : Counts) (high : Option ℕ) (n m : ℕ) → is_fixed_at c high ≡ true → (leb c.low n && is_count_to high n) ≡ true → (leb c.low m && is_count_to high m) ≡ true → n ≡ m
 at_one c None n m e f g = cc
 at_one c (Some top) n m e f g =
     let a : top ≡ c.low = eqb-true _ _ e in
@@ -106,11 +107,11 @@ at_one c (Some top) n m e f g =
     let w : m ≤ top = leb-true _ _ d.1 in
     omega arith
 
-at_size : (e : Bool) (c : Counts) (n m : ℕ) → (not e && Oer.is_fixed_at c c.high) ≡ true → (e || is_count_within c n) ≡ true → (e || is_count_within c m) ≡ true → n ≡ m
+at_size : (e : Bool) (c : Counts) (n m : ℕ) → (not e && is_fixed_at c c.high) ≡ true → (e || is_count_within c n) ≡ true → (e || is_count_within c m) ≡ true → n ≡ m
 at_size true c n m f g h = cc
 at_size false c n m f g h = at_one c c.high n m f g h
 
-pub one_length : (z : Size) (held : Counts) (n m : ℕ) → Oer.is_fixed z ≡ true → Oer.admits z held n ≡ true → Oer.admits z held m ≡ true → n ≡ m
+pub one_length : (z : Size) (held : Counts) (n m : ℕ) → Oer.is_fixed z ≡ true → admits z held n ≡ true → admits z held m ≡ true → n ≡ m
 one_length z held n m f g h = at_size z.extensible z.counts n m f ((and_parts _ _ g).1) ((and_parts _ _ h).1)
 
 -- ---- characters as octets

@@ -4,6 +4,7 @@ use Rattle.std.proofs.Common.{◌≡◌, ℕ, zero, suc, ◌+◌, ◌-◌, ◌*�
 use Rattle.std.proofs.lemmas.Bool.{and_parts, and_from, lt-ltb, ltb-true, leb-true, eqb-true}
 use Rattle.std.proofs.lemmas.List.{length-append, length-replicate}
 use Rattle.std.proofs.lemmas.Nat.{mod_below}
+use Rattle.asn1_model.specs.Numbers.{admits}
 use Rattle.asn1_model.specs.Value.{Value, truth, nothing, number, item, bit_list, octet_list, text, arcs, members, bag, fields, chosen, Values, no_more, member, Parts, end, absent, present, each}
 use Rattle.asn1_model.specs.Schema.{Tag, Range, Bounds, Counts, Presence, Schema, boolean, null, integer, enumerated, bit_string, octet_string, character_string, object_identifier, sequence_of, set_of, sequence, set, group, choice, Components, no_component, component, Alternatives, no_alternative, alternative}
 use Rattle.asn1_model.specs.Normal.{is_at_default, is_group_left_out}
@@ -303,9 +304,9 @@ module _ (free : Oer.Freedom → Bool) where
     o_form null nothing l = o_exactly [] refl
     o_form (integer b held) (number v) l = o_integer b held v
     o_form (enumerated roots e adds) (item v) l = o_if (is_some (item_place v roots) || (e && is_some (item_place v adds))) (λ h. o_item v)
-    o_form (bit_string z held) (bit_list bs) l = o_if (Oer.admits z held (length bs)) (λ h. o_bit_string (Oer.is_fixed z) bs)
-    o_form (octet_string z held) (octet_list os) l = o_if (Oer.admits z held (length os)) (λ h. o_octets (Oer.is_fixed z) os)
-    o_form (character_string k z a held) (text cs) l = o_if (Oer.admits z held (length cs) && may_hold k cs) (λ h. o_octets (Oer.is_fixed z) (Oer.string_octets k cs))
+    o_form (bit_string z held) (bit_list bs) l = o_if (admits z held (length bs)) (λ h. o_bit_string (Oer.is_fixed z) bs)
+    o_form (octet_string z held) (octet_list os) l = o_if (admits z held (length os)) (λ h. o_octets (Oer.is_fixed z) os)
+    o_form (character_string k z a held) (text cs) l = o_if (admits z held (length cs) && may_hold k cs) (λ h. o_octets (Oer.is_fixed z) (Oer.string_octets k cs))
     o_form object_identifier (arcs ns) l = o_if (is_identifier ns) (λ h. o_counted (identifier_octets ns))
     o_form (sequence_of z held s) (members vs) l = o_members held _ (o_each (λ v. Oer.form s v) vs (λ v. o_form s v ((and_parts _ _ l).1)))
     o_form (set_of z held s) (bag vs) l = o_bag held _ (o_each (λ v. Oer.form s v) vs (λ v. o_form s v ((and_parts _ _ l).1)))

@@ -14,7 +14,7 @@ use Rattle.asn1_model.specs.Tables.{is_required, presence_bits, item_place, is_b
 use Rattle.asn1_model.specs.Form.{Form, refused, varied, Reads, only_if, written, stands_before, in_order, ascending, present_ones}
 use Rattle.std.specs.Prelude.{is_some}
 use Rattle.asn1_model.specs.Per
-use Rattle.asn1_model.specs.Oer.{admits}
+use Rattle.asn1_model.specs.Numbers.{admits}
 use Rattle.asn1_model.proofs.Forms.{map_parts}
 use Rattle.asn1_laws_values.proofs.Readable.{IsRead, read_refused, read_both, read_varied, read_within, read_if, read_given, AllRead, all_in_order}
 use Rattle.asn1_model.specs.Typed.{is_of, are_of, is_of_alternative}

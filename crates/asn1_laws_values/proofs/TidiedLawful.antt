@@ -8,7 +8,7 @@ use Rattle.asn1_model.specs.Value.{are_all}
 use Rattle.asn1_model.specs.Numbers.{is_count_within}
 use Rattle.asn1_model.specs.Tables.{is_required}
 use Rattle.asn1_model.specs.Typed.{member_count, is_of, are_of, is_of_alternative}
-use Rattle.asn1_model.specs.Lawful.{tag_less, tag_same, are_distinct, are_ascending, component_tags, component_places, smallest, alternative_tags, are_no_components, are_no_alternatives, is_group, is_optional, has_no_group, has_optional_groups, is_sequence_table, begins_with, has_typed_default, is_lawful, are_lawful, are_lawful_alternatives}
+use Rattle.asn1_model.specs.Lawful.{tag_less, tag_same, are_distinct, are_ascending, component_tags, component_places, smallest, alternative_tags, are_no_components, is_empty, is_group, is_optional, has_no_group, has_optional_groups, is_sequence_table, begins_with, has_typed_default, is_lawful, are_lawful, are_lawful_alternatives}
 use Rattle.asn1_laws_values.proofs.Typed.{normal_is_of}
 use Rattle.asn1_laws_values.specs.Tidied.{changed_default, tidied, tidied_each, tidied_alternatives}
 use Rattle.asn1_laws_values.proofs.Carried.{tidied_normal}
@@ -64,11 +64,6 @@ unfolding tidied_each
 none_still no_component = refl
 none_still (component t o s cs) = refl
 
-no_alternatives_still : (os : Alternatives) → are_no_alternatives (tidied_alternatives os) ≡ are_no_alternatives os
-unfolding tidied_alternatives
-no_alternatives_still no_alternative = refl
-no_alternatives_still (alternative t s os) = refl
-
 tags_still : (cs : Components) → component_tags (tidied_each cs) ≡ component_tags cs
 unfolding tidied_each
 tags_still no_component = refl
@@ -108,9 +103,9 @@ table_still : (cs : Components) (e : Bool) (adds : Components) → is_sequence_t
 table_still cs e adds = λ i. (e || none_still adds i) && are_distinct tag_same (tags_still cs i ++ tags_still adds i) && no_group_still cs i && groups_still adds i
 
 alternatives_table : (roots : Alternatives) (e : Bool) (adds : Alternatives) →
-    (not (are_no_alternatives (tidied_alternatives roots)) && (e || are_no_alternatives (tidied_alternatives adds)) && are_ascending tag_less (alternative_tags (tidied_alternatives roots)) && are_distinct tag_same (alternative_tags (tidied_alternatives roots) ++ alternative_tags (tidied_alternatives adds)))
-    ≡ (not (are_no_alternatives roots) && (e || are_no_alternatives adds) && are_ascending tag_less (alternative_tags roots) && are_distinct tag_same (alternative_tags roots ++ alternative_tags adds))
-alternatives_table roots e adds = λ i. not (no_alternatives_still roots i) && (e || no_alternatives_still adds i) && are_ascending tag_less (alternative_tags_still roots i) && are_distinct tag_same (alternative_tags_still roots i ++ alternative_tags_still adds i)
+    (not (is_empty (alternative_tags (tidied_alternatives roots))) && (e || is_empty (alternative_tags (tidied_alternatives adds))) && are_ascending tag_less (alternative_tags (tidied_alternatives roots)) && are_distinct tag_same (alternative_tags (tidied_alternatives roots) ++ alternative_tags (tidied_alternatives adds)))
+    ≡ (not (is_empty (alternative_tags roots)) && (e || is_empty (alternative_tags adds)) && are_ascending tag_less (alternative_tags roots) && are_distinct tag_same (alternative_tags roots ++ alternative_tags adds))
+alternatives_table roots e adds = λ i. not (is_empty (alternative_tags_still roots i)) && (e || is_empty (alternative_tags_still adds i)) && are_ascending tag_less (alternative_tags_still roots i) && are_distinct tag_same (alternative_tags_still roots i ++ alternative_tags_still adds i)
 
 -- ---- lawful, with each default in its normal form
 typed_still : (s : Schema) (o : Presence) → is_lawful (tidied s) ≡ true → has_typed_default s o ≡ true → has_typed_default (tidied s) (changed_default (λ d. normal s d) o) ≡ true

@@ -1,4 +1,6 @@
 use Rattle.std.specs.Prelude.{⊤}
+use Rattle.std.specs.Str.{is_utf8, chars}
+use Rattle.std.specs.Char.{encode_utf8}
 use Rattle.asn1_model.specs.Rules.{canonical, encoding, per, octet_encoding}
 use Rattle.asn1_model.specs.Form.{written}
 use Rattle.asn1_model.proofs.Forms.{written_by}
@@ -18,5 +20,5 @@ unfolding canonical encoding per octet_encoding written normal normal_parts norm
     Per.in_any_order Per.form Per.component_forms Per.addition_forms Per.alternative_form Per.message Oer.length_form Oer.counted Oer.signed Oer.unsigned
     Oer.bounded Oer.integer_form Oer.item_form Oer.bits_form Oer.counted_bits Oer.bit_string_form Oer.octets_form Oer.tag_form Oer.open_type
     Oer.additions Oer.with_additions Oer.bitmapped Oer.sequence_form Oer.members_form Oer.in_any_order Oer.form Oer.component_forms Oer.addition_forms
-    Oer.alternative_form written_by is_normal are_normal is_normal_alternative depth depth_of_members depth_of_parts
+    Oer.alternative_form written_by is_utf8 chars encode_utf8 is_normal are_normal is_normal_alternative depth depth_of_members depth_of_parts
 on_values = tt

@@ -77,10 +77,6 @@ abbrev pub are_no_components : Components → Bool
 are_no_components no_component = true
 are_no_components cs = false
 
-abbrev pub are_no_alternatives : Alternatives → Bool
-are_no_alternatives no_alternative = true
-are_no_alternatives others = false
-
 -- The low one of two bounds is not above the high one, where both are there.
 abbrev pub are_ordered : Option ℤ → Option ℤ → Bool
 are_ordered (Some a) (Some b) = is_at_most a b
@@ -143,7 +139,7 @@ unfoldable mutual
   is_lawful (group cs) =
       not (are_no_components cs) && are_distinct tag_same (component_tags cs) && has_no_group cs && are_lawful cs
   is_lawful (choice roots e adds) =
-      not (are_no_alternatives roots) && (e || are_no_alternatives adds)
+      not (is_empty (alternative_tags roots)) && (e || is_empty (alternative_tags adds))
       && are_ascending tag_less (alternative_tags roots)
       && are_distinct tag_same (alternative_tags roots ++ alternative_tags adds) && are_lawful_alternatives roots
       && are_lawful_alternatives adds

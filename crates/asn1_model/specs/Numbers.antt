@@ -1,7 +1,7 @@
 -- Numbers as digits, as octets of two's complement and as bits; and the order of whole numbers.
 use Rattle.std.specs.Prelude.{ℕ, zero, suc, ◌+◌, ◌-◌, ◌*◌, ◌/◌, ◌%◌, ◌^◌, ◌==◌, leb, max, ℤ, pos, negsuc, ◌-ℤ◌, Bool}
-use Rattle.std.specs.Prelude.{true, false, cond, ◌&&◌, List, [], ◌∷◌, map, flat_map, Option, Some, None}
-use Rattle.asn1_model.specs.Schema.{Range, Counts}
+use Rattle.std.specs.Prelude.{true, false, cond, ◌&&◌, ◌||◌, List, [], ◌∷◌, map, flat_map, Option, Some, None}
+use Rattle.asn1_model.specs.Schema.{Range, Counts, Size}
 
 -- So many digits of a number to a base, the highest first.
 abbrev pub digits : ℕ → ℕ → ℕ → List ℕ
@@ -80,6 +80,15 @@ is_count_to (Some high) n = leb n high
 -- Whether a count is one of these (X.680 51.5).
 abbrev pub is_count_within : Counts → ℕ → Bool
 is_count_within c n = leb c.low n && is_count_to c.high n
+
+-- Whether the highest count is the lowest.
+abbrev pub is_fixed_at : Counts → Option ℕ → Bool
+is_fixed_at c None = false
+is_fixed_at c (Some high) = high == c.low
+
+-- Whether a length is one that the program's type holds and a size without an extension marker admits.
+abbrev pub admits : Size → Counts → ℕ → Bool
+admits z held n = is_count_within held n && (z.extensible || is_count_within z.counts n)
 
 -- Whether 128 bits of two's complement hold it. That a number outside them is refused under any value constraint is the
 -- project's choice.

@@ -10,7 +10,7 @@ use Rattle.asn1_model.specs.Schema.{sequence_of, set_of, sequence, set, group, c
 use Rattle.asn1_model.specs.Schema.{component, Alternatives, no_alternative, alternative}
 pub use Rattle.asn1_model.specs.Numbers.{packed}
 use Rattle.asn1_model.specs.Numbers.{missing, digits, octet_width, least_octets, signed_octets, complement, is_within}
-use Rattle.asn1_model.specs.Numbers.{is_count_within, fits_128}
+use Rattle.asn1_model.specs.Numbers.{is_count_within, fits_128, is_fixed_at, admits}
 use Rattle.asn1_model.specs.Form.{Form, exactly, refused, both, varied, within, written, nothing_more, only_if, given}
 use Rattle.asn1_model.specs.Form.{joined, stands_before, ascending, in_order, Bitmap, is_any_present}
 use Rattle.asn1_model.specs.Form.{present_ones, covered_by, own_bitmap}
@@ -95,18 +95,9 @@ item_octets (negsuc n) = Some (signed_octets (negsuc n))
 unfoldable pub item_form : ℤ → OctetForm
 item_form v = varied longer_item (item_octets v) (λ o. elim o [ None ↦ short_item v | Some k ↦ long_item k v ])
 
--- Whether the highest count is the lowest.
-abbrev pub is_fixed_at : Counts → Option ℕ → Bool
-is_fixed_at c None = false
-is_fixed_at c (Some high) = high == c.low
-
 -- Whether there is one size and no extension marker, so that no length is written (X.696 13, 14 and 27).
 abbrev pub is_fixed : Size → Bool
 is_fixed z = not z.extensible && is_fixed_at z.counts z.counts.high
-
--- Whether a length is one that the program's type holds and a size without an extension marker admits.
-abbrev pub admits : Size → Counts → ℕ → Bool
-admits z held n = is_count_within held n && (z.extensible || is_count_within z.counts n)
 
 -- Bits as octets, where the unused bits of the last one are zero (X.696 13).
 unfoldable pub bits_form : List Bool → OctetForm

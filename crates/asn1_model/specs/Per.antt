@@ -3,7 +3,7 @@
 -- message or open type that holds them, and never before a field of no bits.
 use Rattle.std.specs.Prelude.{ℕ, zero, suc, ◌-◌, ◌*◌, ◌/◌, ◌%◌, ◌^◌, ◌==◌, ltb, leb, not, ℤ, Bool, true, false, cond}
 use Rattle.std.specs.Prelude.{◌&&◌, ◌||◌, List, [], ◌∷◌, ◌++◌, length, take, drop, map, replicate, flat_map, Option}
-use Rattle.std.specs.Prelude.{Some, None, is_some, option_map, option_and_then, filter}
+use Rattle.std.specs.Prelude.{Some, None, is_some, option_map, filter}
 use Rattle.std.specs.List.{list_all}
 use Rattle.asn1_model.specs.Value.{Value, truth, nothing, number, item, bit_list, octet_list, text, arcs, members, bag}
 use Rattle.asn1_model.specs.Value.{fields, chosen, Parts, end, absent, present, each}
@@ -13,7 +13,7 @@ use Rattle.asn1_model.specs.Schema.{sequence_of, set_of, sequence, set, group, c
 use Rattle.asn1_model.specs.Schema.{component, Alternatives, no_alternative, alternative}
 pub use Rattle.asn1_model.specs.Numbers.{missing, by_eights}
 use Rattle.asn1_model.specs.Numbers.{digits, binary, width, octet_width, least_octets, signed_octets, complement, above}
-use Rattle.asn1_model.specs.Numbers.{is_at_most, is_within, is_count_within, fits_128}
+use Rattle.asn1_model.specs.Numbers.{is_at_most, is_within, is_count_within, fits_128, is_fixed_at}
 use Rattle.asn1_model.specs.Form.{Form, exactly, refused, both, placed, varied, within, written, nothing_more, only_if}
 use Rattle.asn1_model.specs.Form.{given, joined, stands_before, ascending, in_order, Bitmap, is_any_present}
 use Rattle.asn1_model.specs.Form.{present_ones, covered_by, own_bitmap}
@@ -158,13 +158,10 @@ sized al z held has_padding us = only_if (is_count_within held (length us))
 abbrev pub never : Counts → Bool
 never c = false
 
--- The bits that all have, where the number of units is fixed.
-abbrev pub fixed_bits : ℕ → Counts → Option ℕ
-fixed_bits unit c = option_and_then (λ high. cond (high == c.low) (Some (high * unit)) None) c.high
-
--- Contents of no bits take no padding, and nor do fixed ones of at most 16 bits (X.691 16.9 to 16.11, 17.6 to 17.8).
+-- Contents of no bits take no padding, and nor do those of one size of at most 16 bits (X.691 16.9 to 16.11, 17.6 to
+-- 17.8).
 abbrev pub string_has_padding : ℕ → ℕ → Counts → Bool
-string_has_padding unit n c = not (n * unit == 0) && elim (fixed_bits unit c) [ None ↦ true | Some all ↦ ltb 16 all ]
+string_has_padding unit n c = not (n * unit == 0) && not (is_fixed_at c c.high && leb (c.low * unit) 16)
 
 -- Characters also take none where as many as there may be have fewer than 16 bits (X.691 30.5.6 and 30.5.7). Where they
 -- take padding is the project's choice.

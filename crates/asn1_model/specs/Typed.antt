@@ -1,6 +1,6 @@
 -- Which values are those of a type: of its kind, with the components, alternatives and items of its tables, and within
 -- the constraints that count in all sets of rules. What stands below the cut of a recursive type is not judged.
-use Rattle.std.specs.Prelude.{ℕ, zero, suc, Bool, true, false, not, ◌&&◌, ◌||◌, length}
+use Rattle.std.specs.Prelude.{ℕ, zero, suc, Bool, true, false, not, ◌&&◌, ◌||◌, length, is_some}
 use Rattle.asn1_model.specs.Value.{Value, truth, nothing, number, item, bit_list, octet_list, text, arcs, members, bag}
 use Rattle.asn1_model.specs.Value.{fields, chosen, Values, no_more, member, Parts, end, absent, present}
 use Rattle.asn1_model.specs.Schema.{Schema, cut, boolean, null, integer, enumerated, bit_string, octet_string}
@@ -8,12 +8,10 @@ use Rattle.asn1_model.specs.Schema.{character_string, object_identifier, sequenc
 use Rattle.asn1_model.specs.Schema.{choice, Components, no_component, component, Alternatives, no_alternative}
 use Rattle.asn1_model.specs.Schema.{alternative}
 use Rattle.asn1_model.specs.Value.{are_all}
-use Rattle.asn1_model.specs.Numbers.{is_within, is_count_within}
+use Rattle.asn1_model.specs.Numbers.{is_within, is_count_within, admits}
 use Rattle.asn1_model.specs.Strings.{is_octet, may_hold, is_of_octets, is_identifier}
 use Rattle.std.specs.List.{list_all}
-use Rattle.std.specs.Prelude.{is_some}
 use Rattle.asn1_model.specs.Tables.{item_place, is_required}
-use Rattle.asn1_model.specs.Oer.{admits}
 
 abbrev pub member_count : Values → ℕ
 member_count no_more = 0

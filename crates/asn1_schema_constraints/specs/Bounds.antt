@@ -5,7 +5,7 @@ use Rattle.std.specs.Option.{SomeIff}
 use Rattle.std.specs.Int.{w128}
 use Rattle.asn1_model.specs.Schema.{Range, Counts}
 use Rattle.asn1_model.specs.Numbers.{is_within, is_count_within}
-use Rattle.asn1_model.specs.Oer.{is_fixed_at}
+use Rattle.asn1_model.specs.Numbers.{is_fixed_at}
 use Rattle.asn1_schema_constraints.specs.declared.bounds.Bounded.{Bounded}
 use Rattle.asn1_schema_constraints.specs.declared.bounds.Effective.{Effective}
 use Rattle.asn1_schema_constraints.specs.declared.bounds.Effective.TheVariants.{Offset, Plain}

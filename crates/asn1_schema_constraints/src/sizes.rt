@@ -1,6 +1,7 @@
 //! The sizes that constraints leave to a string, a list or a bag (X.680 51.5), as its encoders and decoders need them.
 ghost use Rattle.std.specs.Prelude.{◌≡◌};
-ghost use Rattle.asn1_model.specs.Oer.{admits, is_fixed};
+ghost use Rattle.asn1_model.specs.Oer.{is_fixed};
+ghost use Rattle.asn1_model.specs.Numbers.{admits};
 ghost use Rattle.asn1_schema_constraints.specs.Bounds.{counts_of};
 ghost use Rattle.asn1_schema_constraints.specs.Terms.{sizes_of, size_of, one_size};
 

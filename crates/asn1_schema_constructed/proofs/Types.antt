@@ -4,7 +4,7 @@ use Rattle.asn1_model.specs.Value.{Value, item, chosen, depth}
 use Rattle.asn1_model.specs.Schema.{Tag, Schema, cut, enumerated, choice}
 use Rattle.asn1_model.specs.Normal.{normal, normal_alternative}
 use Rattle.asn1_model.specs.Tidy.{is_tidy, are_tidy_alternatives}
-use Rattle.asn1_model.specs.Lawful.{is_lawful, are_lawful_alternatives, is_group, is_tag, is_empty, are_no_alternatives, alternative_tags, are_tags, are_tags_of}
+use Rattle.asn1_model.specs.Lawful.{is_lawful, are_lawful_alternatives, is_group, is_tag, is_empty, alternative_tags, are_tags, are_tags_of}
 use Rattle.asn1_schema_presented.specs.Presents.{Fits, ChosenFits}
 use Rattle.asn1_schema_presented.specs.Tables.{scope, is_one_tag, are_choice_tags, IsType, IsValue}
 use Rattle.asn1_schema_presented.proofs.Beginnings.{tags_of_one, tags_of_cut, tags_of_choice, choice_tags}
@@ -35,7 +35,7 @@ unfolding alternatives_at
 tags_at n no_variant = refl
 tags_at n (variant t s vs) = ap (λ ts. t ∷ ts) (tags_at n vs)
 
-none_at : (n : ℕ) (vs : Variants) → are_no_alternatives (alternatives_at n vs) ≡ is_empty (tags_of vs)
+none_at : (n : ℕ) (vs : Variants) → is_empty (alternative_tags (alternatives_at n vs)) ≡ is_empty (tags_of vs)
 unfolding alternatives_at
 none_at n no_variant = refl
 none_at n (variant t s vs) = refl

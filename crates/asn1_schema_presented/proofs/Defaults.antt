@@ -8,7 +8,7 @@ use Rattle.asn1_model.specs.Typed.{is_of}
 use Rattle.asn1_model.specs.Numbers.{is_within, is_count_within}
 use Rattle.asn1_model.specs.Strings.{is_octet, may_hold, is_of_octets, is_identifier}
 use Rattle.std.specs.List.{list_all}
-use Rattle.asn1_model.specs.Oer.{admits}
+use Rattle.asn1_model.specs.Numbers.{admits}
 use Rattle.asn1_schema_presented.specs.Typed.{HasDefault, IsDefault}
 use Rattle.asn1_schema_presented.proofs.TypesByKind.{boolean_value, null_value, integer_value, bit_string_value, octet_string_value, character_string_value, identifier_value}
 

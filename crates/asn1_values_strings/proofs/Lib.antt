@@ -1,3 +1,2 @@
 pub mod Bits
 pub mod Units
-pub mod Utf8

@@ -3,6 +3,7 @@ use Rattle.std.proofs.Common.{◌≡◌, ℕ, ℤ, zero, ◌+◌, ◌<◌, ◌�
 use Rattle.std.proofs.lemmas.Bool.{and_parts, le-leb, leb-true}
 use Rattle.std.specs.Prelude.{OnOk}
 use Rattle.asn1_schema_presented.specs.Levels.{level}
+use Rattle.asn1_model.specs.Numbers.{admits}
 use Rattle.asn1_model.specs.Value.{Value, truth, nothing, number, bit_list, octet_list, text, arcs}
 use Rattle.asn1_model.specs.Schema.{Range, Bounds, Counts, Size, Alphabet, StringKind, Schema, boolean, null, integer, bit_string, octet_string, character_string, object_identifier}
 use Rattle.asn1_model.specs.Numbers.{is_within, is_count_to, is_count_within}
@@ -84,11 +85,11 @@ if_reads free false x w r = absurd r
 
 pub octets_within : (free : Oer.Freedom → Bool) (z : Size) (h : Counts) (v : List ℕ) (os rest : List ℕ) → FrontOf free (octet_string z h) (octet_list v) os rest → is_count_within h (length v) ≡ true
 unfolding Oer.form
-octets_within free z h v os rest f = (and_parts _ _ (reads_if free (Oer.admits z h (length v)) _ f.0 f.2)).0
+octets_within free z h v os rest f = (and_parts _ _ (reads_if free (admits z h (length v)) _ f.0 f.2)).0
 
 pub bits_within : (free : Oer.Freedom → Bool) (z : Size) (h : Counts) (v : List Bool) (os rest : List ℕ) → FrontOf free (bit_string z h) (bit_list v) os rest → is_count_within h (length v) ≡ true
 unfolding Oer.form
-bits_within free z h v os rest f = (and_parts _ _ (reads_if free (Oer.admits z h (length v)) _ f.0 f.2)).0
+bits_within free z h v os rest f = (and_parts _ _ (reads_if free (admits z h (length v)) _ f.0 f.2)).0
 
 in_bounds : (free : Oer.Freedom → Bool) (z : Bool) (c : Bool) (x y : Oer.OctetForm) (w : List ℕ) → Reads free (cond z x (only_if c y)) 0 w → (z || c) ≡ true
 unfolding Reads

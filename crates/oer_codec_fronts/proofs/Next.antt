@@ -2,6 +2,7 @@
 use Rattle.std.proofs.Common.{◌≡◌, ℕ, ℤ, zero, suc, Bool, true, false, ◌&&◌, ◌||◌, List, [], ◌∷◌, ◌++◌, length, drop, Option, Some, None, refl, ap, sym, ◌∙◌, subst}
 use Rattle.std.proofs.lemmas.List.{append_cancel_left}
 use Rattle.std.proofs.lemmas.Bool.{and_parts, eqb-true}
+use Rattle.asn1_model.specs.Numbers.{admits}
 use Rattle.asn1_model.specs.Value.{truth, nothing, number, item, bit_list, octet_list, text, arcs}
 use Rattle.asn1_model.specs.Schema.{Tag, Counts, Size, StringKind, Alphabet, Bounds, Range, null, integer, enumerated, bit_string, octet_string, character_string, object_identifier}
 use Rattle.asn1_model.specs.Lawful.{tag_same}
@@ -62,15 +63,15 @@ module _ (free : Oer.Freedom → Bool) where
 
   bit_strings : (z : Size) (h : Counts) (v w : List Bool) → OctetsAlike free (Oer.form (bit_string z h) (bit_list v)) (Oer.form (bit_string z h) (bit_list w)) (v ≡ w)
   unfolding Oer.form
-  bit_strings z h v w = agree_if free (Oer.admits z h (length v)) (Oer.admits z h (length w)) _ _ (λ i j. bit_strings_alike free (Oer.is_fixed z) v w (λ f. one_length z h (length v) (length w) f i j))
+  bit_strings z h v w = agree_if free (admits z h (length v)) (admits z h (length w)) _ _ (λ i j. bit_strings_alike free (Oer.is_fixed z) v w (λ f. one_length z h (length v) (length w) f i j))
 
   octet_strings : (z : Size) (h : Counts) (v w : List ℕ) → OctetsAlike free (Oer.form (octet_string z h) (octet_list v)) (Oer.form (octet_string z h) (octet_list w)) (v ≡ w)
   unfolding Oer.form
-  octet_strings z h v w = agree_if free (Oer.admits z h (length v)) (Oer.admits z h (length w)) _ _ (λ i j. octets_alike free (Oer.is_fixed z) v w (λ f. one_length z h (length v) (length w) f i j))
+  octet_strings z h v w = agree_if free (admits z h (length v)) (admits z h (length w)) _ _ (λ i j. octets_alike free (Oer.is_fixed z) v w (λ f. one_length z h (length v) (length w) f i j))
 
   strings : (k : StringKind) (z : Size) (l : Alphabet) (h : Counts) (v w : List ℕ) → OctetsAlike free (Oer.form (character_string k z l h) (text v)) (Oer.form (character_string k z l h) (text w)) (v ≡ w)
   unfolding Oer.form
-  strings k z l h v w = agree_if free (Oer.admits z h (length v) && may_hold k v) (Oer.admits z h (length w) && may_hold k w) _ _ (λ i j.
+  strings k z l h v w = agree_if free (admits z h (length v) && may_hold k v) (admits z h (length w) && may_hold k w) _ _ (λ i j.
       let i' = and_parts _ _ i in
       let j' = and_parts _ _ j in
       agree_map free (λ e. characters_equal k v w i'.1 j'.1 e) (octets_alike free (Oer.is_fixed z) (Oer.string_octets k v) (Oer.string_octets k w) (λ f. characters_long k v w (one_length z h (length v) (length w) f i'.0 j'.0))))

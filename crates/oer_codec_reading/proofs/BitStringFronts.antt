@@ -5,7 +5,8 @@ use Rattle.asn1_model.specs.Schema.{Size, Counts, bit_string}
 use Rattle.asn1_model.specs.Value.{Value, bit_list}
 use Rattle.asn1_model.specs.Numbers.{missing, packed}
 use Rattle.asn1_model.specs.Form.{Reads, exactly, only_if}
-use Rattle.asn1_model.specs.Oer.{Freedom, Detail, admits, form, is_fixed, OctetForm, bit_string_form, bits_form, counted_bits, empty_bit_string, length_form}
+use Rattle.asn1_model.specs.Oer.{Freedom, Detail, form, is_fixed, OctetForm, bit_string_form, bits_form, counted_bits, empty_bit_string, length_form}
+use Rattle.asn1_model.specs.Numbers.{admits}
 use Rattle.asn1_schema_faults.specs.declared.DecodeError.{DecodeError}
 use Rattle.oer_codec_reading_lengths.specs.declared.rules.EncodingRules.{EncodingRules}
 use Rattle.oer_codec_reading.specs.Bits.{bits_in, sized_bits}

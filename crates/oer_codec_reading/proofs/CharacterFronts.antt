@@ -2,7 +2,8 @@
 use Rattle.std.proofs.Common.{◌≡◌, ℕ, ◌*◌, ◌/◌, ◌%◌, ◌<◌, Bool, true, false, cond, ◌&&◌, ◌⊎◌, inl, inr, Option, Some, None, List, length, ap, sym, subst, ◌∙◌, arith}
 use Rattle.std.proofs.lemmas.Bool.{false≢true, and_parts, and_from}
 use Rattle.asn1_model.specs.Form.{Reads}
-use Rattle.asn1_model.specs.Oer.{Freedom, form, admits, is_fixed, octets_form, string_octets}
+use Rattle.asn1_model.specs.Oer.{Freedom, form, is_fixed, octets_form, string_octets}
+use Rattle.asn1_model.specs.Numbers.{admits}
 use Rattle.asn1_model.specs.Schema.{Size, Counts, Alphabet, StringKind, character_string}
 use Rattle.asn1_model.specs.Strings.{may_hold}
 use Rattle.asn1_model.specs.Value.{Value, text}

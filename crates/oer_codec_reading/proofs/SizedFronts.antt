@@ -7,7 +7,8 @@ use Rattle.asn1_model.specs.Numbers.{is_count_to, is_count_within}
 use Rattle.asn1_model.specs.Form.{Reads, exactly}
 use Rattle.asn1_model.specs.Strings.{is_octet}
 use Rattle.std.specs.List.{list_all}
-use Rattle.asn1_model.specs.Oer.{Freedom, form, admits, is_fixed, is_fixed_at, octets_form, counted}
+use Rattle.asn1_model.specs.Oer.{Freedom, form, is_fixed, octets_form, counted}
+use Rattle.asn1_model.specs.Numbers.{admits, is_fixed_at}
 use Rattle.asn1_values_natives.proofs.OctetLaws.{AreOctets}
 use Rattle.oer_codec_reading_lengths.specs.Fronts.{Stands, NoneStands}
 use Rattle.asn1_schema_constraints.specs.Terms.{one_size}

@@ -5,7 +5,8 @@ use Rattle.asn1_model.specs.Schema.{Size, Counts, Alphabet, utf8, octet_string, 
 use Rattle.asn1_model.specs.Value.{Value, octet_list, text}
 use Rattle.asn1_model.specs.Form.{Reads}
 use Rattle.asn1_model.specs.Strings.{may_hold}
-use Rattle.asn1_model.specs.Oer.{Freedom, form, admits, is_fixed, octets_form}
+use Rattle.asn1_model.specs.Oer.{Freedom, form, is_fixed, octets_form}
+use Rattle.asn1_model.specs.Numbers.{admits}
 use Rattle.oer_codec_reading.specs.Fronts.{Front, NoneStands}
 use Rattle.asn1_schema_constraints.specs.Terms.{one_size}
 use Rattle.oer_codec_reading.proofs.Fronts.{if_stands, if_front}

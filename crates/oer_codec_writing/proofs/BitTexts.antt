@@ -3,6 +3,7 @@ use Rattle.std.proofs.Common.{◌≡◌, ℕ, ◌+◌, ◌-◌, ◌*◌, ◌/◌
 use Rattle.std.proofs.lemmas.Bool.{eq-eqb, cases_lt}
 use Rattle.std.proofs.lemmas.Nat.{shr_below, shl_whole}
 use Rattle.std.proofs.lemmas.List.{append-nil, length-replicate, length-take, length-take-le, take-append-drop, take-append-le, take_at, drop_at, get_or-take, get_or_past}
+use Rattle.asn1_model.specs.Numbers.{admits}
 use Rattle.asn1_model.specs.Form.{written, only_if, exactly}
 use Rattle.asn1_model.specs.Schema.{Size, Counts, bit_string}
 use Rattle.asn1_model.specs.Value.{bit_list}
@@ -32,13 +33,13 @@ unfolding written Oer.bit_string_form Oer.counted_bits
 counted_bits_text bs w e =
     ap (λ o. option_and_then (λ a. option_map (λ b. a ++ b) (option_and_then (λ c. option_map (λ d. c ++ d) (written (Oer.bits_form bs) (0 + length a + length c))) (Some (missing (length bs) ∷ [])))) o) e ∙ ap (λ o. option_map (λ b. w ++ b) (option_map (λ d. (missing (length bs) ∷ []) ++ d) o)) (bits_text bs (0 + length w + 1))
 
-pub bit_string_text : (z : Size) (h : Counts) (bs : List Bool) → Oer.admits z h (length bs) ≡ true → written (Oer.form (bit_string z h) (bit_list bs)) 0 ≡ written (Oer.bit_string_form (Oer.is_fixed z) bs) 0
+pub bit_string_text : (z : Size) (h : Counts) (bs : List Bool) → admits z h (length bs) ≡ true → written (Oer.form (bit_string z h) (bit_list bs)) 0 ≡ written (Oer.bit_string_form (Oer.is_fixed z) bs) 0
 unfolding Oer.form
-bit_string_text z h bs e = if_true (Oer.admits z h (length bs)) (Oer.bit_string_form (Oer.is_fixed z) bs) e
+bit_string_text z h bs e = if_true (admits z h (length bs)) (Oer.bit_string_form (Oer.is_fixed z) bs) e
 
-pub bit_string_none : (z : Size) (h : Counts) (bs : List Bool) → Oer.admits z h (length bs) ≡ false → written (Oer.form (bit_string z h) (bit_list bs)) 0 ≡ None
+pub bit_string_none : (z : Size) (h : Counts) (bs : List Bool) → admits z h (length bs) ≡ false → written (Oer.form (bit_string z h) (bit_list bs)) 0 ≡ None
 unfolding Oer.form
-bit_string_none z h bs e = if_false (Oer.admits z h (length bs)) (Oer.bit_string_form (Oer.is_fixed z) bs) e
+bit_string_none z h bs e = if_false (admits z h (length bs)) (Oer.bit_string_form (Oer.is_fixed z) bs) e
 
 heading_text : (n : ℕ) → written (bits_heading n) 0 ≡ option_and_then (λ a. option_map (λ b. a ++ b) (Some (missing n ∷ []))) (written (Oer.length_form ((n + 7) / 8 + 1)) 0)
 unfolding written

@@ -3,6 +3,7 @@ use Rattle.std.proofs.Common.{◌≡◌, ℕ, zero, suc, ◌+◌, ◌*◌, ◌/�
 use Rattle.std.specs.Prelude.{flat_map}
 use Rattle.std.proofs.lemmas.Nat.{and_mask}
 use Rattle.std.proofs.lemmas.Bool.{lt-ltb, ltb-true, leb-true}
+use Rattle.asn1_model.specs.Numbers.{admits}
 use Rattle.asn1_model.specs.Form.{written}
 use Rattle.asn1_model.specs.Schema.{Size, Counts, Alphabet, StringKind, numeric, printable, visible, ia5, bmp, general, graphic, teletex, utf8, character_string}
 use Rattle.asn1_model.specs.Value.{text}
@@ -98,10 +99,10 @@ first_is : (p q : Bool) → p ≡ false → (p && q) ≡ false
 first_is true q e = cc
 first_is false q e = refl
 
-pub characters_text : (k : StringKind) (z : Size) (a : Alphabet) (h : Counts) (cs os : List ℕ) → Oer.admits z h (length cs) ≡ true → may_hold k cs ≡ true → Oer.string_octets k cs ≡ os → written (Oer.form (character_string k z a h) (text cs)) 0 ≡ written (Oer.octets_form (Oer.is_fixed z) os) 0
+pub characters_text : (k : StringKind) (z : Size) (a : Alphabet) (h : Counts) (cs os : List ℕ) → admits z h (length cs) ≡ true → may_hold k cs ≡ true → Oer.string_octets k cs ≡ os → written (Oer.form (character_string k z a h) (text cs)) 0 ≡ written (Oer.octets_form (Oer.is_fixed z) os) 0
 unfolding Oer.form
-characters_text k z a h cs os e m s = if_true (Oer.admits z h (length cs) && may_hold k cs) (Oer.octets_form (Oer.is_fixed z) (Oer.string_octets k cs)) (both_are e m) ∙ ap (λ l. written (Oer.octets_form (Oer.is_fixed z) l) 0) s
+characters_text k z a h cs os e m s = if_true (admits z h (length cs) && may_hold k cs) (Oer.octets_form (Oer.is_fixed z) (Oer.string_octets k cs)) (both_are e m) ∙ ap (λ l. written (Oer.octets_form (Oer.is_fixed z) l) 0) s
 
-pub characters_none : (k : StringKind) (z : Size) (a : Alphabet) (h : Counts) (cs : List ℕ) → Oer.admits z h (length cs) ≡ false → written (Oer.form (character_string k z a h) (text cs)) 0 ≡ None
+pub characters_none : (k : StringKind) (z : Size) (a : Alphabet) (h : Counts) (cs : List ℕ) → admits z h (length cs) ≡ false → written (Oer.form (character_string k z a h) (text cs)) 0 ≡ None
 unfolding Oer.form
-characters_none k z a h cs e = if_false (Oer.admits z h (length cs) && may_hold k cs) (Oer.octets_form (Oer.is_fixed z) (Oer.string_octets k cs)) (first_is _ _ e)
+characters_none k z a h cs e = if_false (admits z h (length cs) && may_hold k cs) (Oer.octets_form (Oer.is_fixed z) (Oer.string_octets k cs)) (first_is _ _ e)

@@ -4,6 +4,5 @@ pub mod IntegerTexts
 pub mod BitTexts
 pub mod DigitTexts
 pub mod CharacterTexts
-pub mod TextTexts
 pub mod TagTexts
 pub mod Fronts

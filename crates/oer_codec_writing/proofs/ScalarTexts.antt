@@ -1,5 +1,6 @@
 -- The texts of scalars, and what their writers added.
 use Rattle.std.proofs.Common.{◌≡◌, ℕ, ℤ, ◌&&◌, ◌||◌, Bool, true, false, cond, List, [], ◌∷◌, ◌++◌, length, Option, Some, None, option_map, refl, ap, subst, sym, ◌∙◌}
+use Rattle.asn1_model.specs.Numbers.{admits}
 use Rattle.asn1_model.specs.Form.{written, only_if, exactly}
 use Rattle.std.specs.Prelude.{is_some}
 use Rattle.asn1_model.specs.Tables.{item_place}
@@ -53,13 +54,13 @@ adds_sized f os old new e a = subst (λ b. Adds (written (Oer.octets_form b os) 
 pub adds_unsized : (f : Bool) (os old new : List ℕ) → f ≡ false → Adds (written (Oer.octets_form false os) 0) old new → Adds (written (Oer.octets_form f os) 0) old new
 adds_unsized f os old new e a = subst (λ b. Adds (written (Oer.octets_form b os) 0) old new) (sym e) a
 
-pub octet_string_text : (z : Size) (h : Counts) (os : List ℕ) → Oer.admits z h (length os) ≡ true → written (Oer.form (octet_string z h) (octet_list os)) 0 ≡ written (Oer.octets_form (Oer.is_fixed z) os) 0
+pub octet_string_text : (z : Size) (h : Counts) (os : List ℕ) → admits z h (length os) ≡ true → written (Oer.form (octet_string z h) (octet_list os)) 0 ≡ written (Oer.octets_form (Oer.is_fixed z) os) 0
 unfolding Oer.form
-octet_string_text z h os e = if_true (Oer.admits z h (length os)) (Oer.octets_form (Oer.is_fixed z) os) e
+octet_string_text z h os e = if_true (admits z h (length os)) (Oer.octets_form (Oer.is_fixed z) os) e
 
-pub octet_string_none : (z : Size) (h : Counts) (os : List ℕ) → Oer.admits z h (length os) ≡ false → written (Oer.form (octet_string z h) (octet_list os)) 0 ≡ None
+pub octet_string_none : (z : Size) (h : Counts) (os : List ℕ) → admits z h (length os) ≡ false → written (Oer.form (octet_string z h) (octet_list os)) 0 ≡ None
 unfolding Oer.form
-octet_string_none z h os e = if_false (Oer.admits z h (length os)) (Oer.octets_form (Oer.is_fixed z) os) e
+octet_string_none z h os e = if_false (admits z h (length os)) (Oer.octets_form (Oer.is_fixed z) os) e
 
 -- ---- object identifiers
 

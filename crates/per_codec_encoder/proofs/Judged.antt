@@ -5,7 +5,7 @@ use Rattle.std.proofs.lemmas.Bool.{ltb-true, ltb-false, le-leb, leb-true, and_pa
 use Rattle.std.proofs.lemmas.List.{length-replicate}
 use Rattle.asn1_model.specs.Schema.{Counts, Size}
 use Rattle.asn1_model.specs.Numbers.{binary, is_count_to, is_count_within}
-use Rattle.asn1_model.specs.Oer.{admits}
+use Rattle.asn1_model.specs.Numbers.{admits}
 use Rattle.asn1_model.specs.Per
 use Rattle.asn1_schema_constraints.specs.Bounds.{counts_of, members_of, lower, upper}
 use Rattle.asn1_schema_constraints.specs.declared.bounds.Bounded.{Bounded}

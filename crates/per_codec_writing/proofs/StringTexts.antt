@@ -1,7 +1,8 @@
 -- The texts of strings.
 use Rattle.std.proofs.Common.{◌≡◌, ℕ, Option, Bool, true, List, [], ◌∷◌, length, None, refl, ap, sym, ◌∙◌}
 use Rattle.asn1_model.specs.Schema.{Size, Counts, Alphabet, utf8, bit_string, octet_string, character_string, object_identifier}
-use Rattle.asn1_model.specs.Strings.{is_octet, is_utf8_after, is_identifier, identifier_octets}
+use Rattle.asn1_model.specs.Strings.{is_octet, is_identifier, identifier_octets}
+use Rattle.std.specs.Str.{is_utf8}
 use Rattle.std.specs.List.{list_all}
 use Rattle.asn1_model.specs.Schema.{any_count}
 use Rattle.asn1_model.specs.Value.{bit_list, octet_list, text, arcs}
@@ -24,10 +25,10 @@ octet_string_text al z y h os b p s o e =
     ∙ if_true (list_all is_octet os) (Per.sized al y h (Per.string_has_padding 8 (length os)) (Per.octet_units os)) p o
     ∙ ap (λ x. text_at x p) (sized_padded al y h (Per.string_has_padding 8 (length os)) (λ c. b) (Per.octet_units os) (sym e))
 
-pub utf8_text : (al : Bool) (z : Size) (a : Alphabet) (os : List ℕ) (p : Option ℕ) → is_utf8_after [] os ≡ true → text_at (Per.form al (character_string utf8 z a any_count) (text os)) p ≡ text_at (Per.counted_octets al os) p
+pub utf8_text : (al : Bool) (z : Size) (a : Alphabet) (os : List ℕ) (p : Option ℕ) → is_utf8 os ≡ true → text_at (Per.form al (character_string utf8 z a any_count) (text os)) p ≡ text_at (Per.counted_octets al os) p
 unfolding Per.form Per.string_form
 utf8_text al z a os p u =
-    if_true (is_utf8_after [] os) _ p u
+    if_true (is_utf8 os) _ p u
     ∙ if_true _ (Per.counted_octets al os) p (any_number (length os))
 
 pub identifier_text : (al : Bool) (ns : List ℕ) (p : Option ℕ) → is_identifier ns ≡ true → text_at (Per.form al object_identifier (arcs ns)) p ≡ text_at (Per.counted_octets al (identifier_octets ns)) p

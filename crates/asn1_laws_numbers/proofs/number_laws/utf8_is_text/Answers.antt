@@ -1,5 +1,5 @@
-use Rattle.asn1_values_strings.proofs.Utf8.{utf8_is_text}
+use Rattle.std.proofs.lemmas.Str.{IsUtf8-from_is_utf8, is_utf8-from_IsUtf8}
 use Rattle.asn1_laws_numbers.proofs.number_laws.utf8_is_text.Goals as goal
 
 pub returns : goal.returns
-returns c = utf8_is_text
+returns c os = (IsUtf8-from_is_utf8 os, is_utf8-from_IsUtf8 os)

@@ -1,7 +1,8 @@
 use Rattle.std.proofs.Common.{ap, length, sym, refl, ◌∙◌}
 use Rattle.std.proofs.lemmas.Result.{err_from_is_err_and}
 use Rattle.asn1_model.specs.Schema.{octet_string}
-use Rattle.asn1_model.specs.Oer.{form, admits}
+use Rattle.asn1_model.specs.Oer.{form}
+use Rattle.asn1_model.specs.Numbers.{admits}
 use Rattle.asn1_schema_constraints.specs.Bounds.{counts_of}
 use Rattle.asn1_schema_constraints.specs.Terms.{one_size, sizes_of}
 use Rattle.oer_codec_reading_lengths.specs.Fronts.{freedoms}

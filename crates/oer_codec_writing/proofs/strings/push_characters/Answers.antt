@@ -1,5 +1,6 @@
 use Rattle.std.proofs.Common.{refl, ap, sym, subst, ◌∙◌}
 use Rattle.std.specs.Prelude.{flat_map}
+use Rattle.asn1_model.specs.Numbers.{admits}
 use Rattle.asn1_model.specs.Form.{written}
 use Rattle.asn1_model.specs.Numbers.{digits}
 use Rattle.asn1_model.specs.Oer
@@ -16,7 +17,7 @@ pub returns-then-not-admits-clause-text : goal.returns-then-not-admits-clause-te
 returns-then-not-admits-clause-text g c =
     let z = sizes_of c.args.constraints.size in
     characters_none g.S.StaticPermittedAlphabet.kind z (alphabet_of c.args.constraints.permitted_alphabet) any_count (g.S.StaticPermittedAlphabet.characters c.args.value.now)
-    (ap (Oer.admits z any_count) (sym c.char_count.ensures.count) ∙ ap (λ y. Oer.admits y any_count c.char_count.result) (sym c.sizes-sizes.ensures) ∙ sym c.admits.ensures ∙ c.if-not-admits.true)
+    (ap (admits z any_count) (sym c.char_count.ensures.count) ∙ ap (λ y. admits y any_count c.char_count.result) (sym c.sizes-sizes.ensures) ∙ sym c.admits.ensures ∙ c.if-not-admits.true)
 
 pub returns-then-contains_char-clause-text : goal.returns-then-contains_char-clause-text
 returns-then-contains_char-clause-text g c =
@@ -26,7 +27,7 @@ returns-then-contains_char-clause-text g c =
     let os = flat_map (digits 256 2) cs in
     let new = c.push_wide_string.new.octets.items in
     adds_same _ _ c.args.octets.now.items new
-    (characters_text k z (alphabet_of c.args.constraints.permitted_alphabet) any_count cs os (ap (Oer.admits z any_count) (sym c.char_count.ensures.count) ∙ ap (λ y. Oer.admits y any_count c.char_count.result) (sym c.sizes-sizes.ensures) ∙ sym c.admits.ensures ∙ c.if-not-admits.false)
+    (characters_text k z (alphabet_of c.args.constraints.permitted_alphabet) any_count cs os (ap (admits z any_count) (sym c.char_count.ensures.count) ∙ ap (λ y. admits y any_count c.char_count.result) (sym c.sizes-sizes.ensures) ∙ sym c.admits.ensures ∙ c.if-not-admits.false)
     (g.met.S.StaticPermittedAlphabet.holds cs ∙ c.char_count.ensures.permitted) (wide_text k cs (sym c.contains_char.ensures ∙ c.if-contains_char.true)))
     (subst (λ b. Adds (written (Oer.octets_form b os) 0) c.args.octets.now.items new) (c.is_fixed-fixed.ensures ∙ ap Oer.is_fixed c.sizes-sizes.ensures) c.in_ok-push_wide_string.ensures.text)
 
@@ -40,7 +41,7 @@ returns-clause-text g c =
     let cs = g.S.StaticPermittedAlphabet.characters c.args.value.now in
     let new = c.push_narrow_string.new.octets.items in
     adds_same _ _ c.args.octets.now.items new
-    (characters_text k z (alphabet_of c.args.constraints.permitted_alphabet) any_count cs cs (ap (Oer.admits z any_count) (sym c.char_count.ensures.count) ∙ ap (λ y. Oer.admits y any_count c.char_count.result) (sym c.sizes-sizes.ensures) ∙ sym c.admits.ensures ∙ c.if-not-admits.false)
+    (characters_text k z (alphabet_of c.args.constraints.permitted_alphabet) any_count cs cs (ap (admits z any_count) (sym c.char_count.ensures.count) ∙ ap (λ y. admits y any_count c.char_count.result) (sym c.sizes-sizes.ensures) ∙ sym c.admits.ensures ∙ c.if-not-admits.false)
     (g.met.S.StaticPermittedAlphabet.holds cs ∙ c.char_count.ensures.permitted) (narrow_text k cs (sym c.contains_char.ensures ∙ c.if-contains_char.false)))
     (subst (λ b. Adds (written (Oer.octets_form b cs) 0) c.args.octets.now.items new) (c.is_fixed-fixed.ensures ∙ ap Oer.is_fixed c.sizes-sizes.ensures) c.in_ok-push_narrow_string.ensures.text)
 
