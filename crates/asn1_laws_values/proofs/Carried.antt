@@ -3,7 +3,7 @@ use Rattle.std.proofs.Common.{◌≡◌, ℕ, zero, suc, Bool, true, false, Some
 use Rattle.asn1_model.specs.Value.{Value, members, bag, fields, chosen, Parts, end, absent, present, same, depth}
 use Rattle.asn1_model.specs.Schema.{Presence, required, optional, by_default, Schema, cut, boolean, null, integer, enumerated, bit_string, octet_string, character_string, object_identifier, sequence_of, set_of, sequence, set, group, choice, Components, no_component, component, Alternatives, no_alternative, alternative}
 use Rattle.asn1_model.specs.Normal.{normal}
-use Rattle.asn1_model.specs.Versions.{map_each, both_parts, all_absent, grow, grow_parts, grow_alternative, lessen, lessen_parts, lessen_alternative, drop, KeepsTags, KeepsPresence, Extends, ExtendsEach, ExtendsAlternatives}
+use Rattle.asn1_model.specs.Versions.{carried, map_each, both_parts, all_absent, grow, carried_parts, carried_alternative, lessen, drop, KeepsTags, KeepsPresence, Extends, ExtendsEach, ExtendsAlternatives}
 use Rattle.asn1_laws_values.proofs.Normals.{normal_again}
 use Rattle.asn1_laws_values.specs.Tidied.{changed_default, tidied, tidied_each, tidied_alternatives}
 use Rattle.asn1_laws_values.proofs.Tidied.{tidied_alike}
@@ -17,7 +17,7 @@ tidied_absent (component t optional s cs) = ap (option_map absent) (tidied_absen
 tidied_absent (component t (by_default d) s cs) = ap (option_map absent) (tidied_absent cs)
 
 mutual
-  unfolding tidied tidied_each tidied_alternatives grow grow_parts grow_alternative
+  unfolding tidied tidied_each tidied_alternatives carried carried_parts carried_alternative
 
   pub tidied_grows : (s s' : Schema) (v : Value) → grow (tidied s) (tidied s') v ≡ grow s s' v
   tidied_grows (sequence_of z h s) (sequence_of z' h' s') (members vs) = λ i. option_map members (map_each (λ v. tidied_grows s s' v i) vs)
@@ -29,19 +29,19 @@ mutual
   tidied_grows (choice roots e adds) (choice roots' e' adds') (chosen true j v) = ap (option_map (λ w. chosen true j w)) (tidied_alternative_grows adds adds' j v)
   tidied_grows s s' v = refl
 
-  tidied_parts_grow : (cs cs' : Components) (ps : Parts) → grow_parts (tidied_each cs) (tidied_each cs') ps ≡ grow_parts cs cs' ps
+  tidied_parts_grow : (cs cs' : Components) (ps : Parts) → carried_parts true (tidied_each cs) (tidied_each cs') ps ≡ carried_parts true cs cs' ps
   tidied_parts_grow (component t o s cs) (component t' o' s' cs') (present v ps) = λ i. option_and_then (λ w. option_map (λ qs. present w qs) (tidied_parts_grow cs cs' ps i)) (tidied_grows s s' v i)
   tidied_parts_grow (component t o s cs) (component t' o' s' cs') (absent ps) = ap (option_map absent) (tidied_parts_grow cs cs' ps)
   tidied_parts_grow no_component cs' end = tidied_absent cs'
   tidied_parts_grow cs cs' ps = refl
 
-  tidied_alternative_grows : (os os' : Alternatives) (j : ℕ) (v : Value) → grow_alternative (tidied_alternatives os) (tidied_alternatives os') j v ≡ grow_alternative os os' j v
+  tidied_alternative_grows : (os os' : Alternatives) (j : ℕ) (v : Value) → carried_alternative true (tidied_alternatives os) (tidied_alternatives os') j v ≡ carried_alternative true os os' j v
   tidied_alternative_grows (alternative t s os) (alternative t' s' os') zero v = tidied_grows s s' v
   tidied_alternative_grows (alternative t s os) (alternative t' s' os') (suc j) v = tidied_alternative_grows os os' j v
   tidied_alternative_grows os os' j v = refl
 
 mutual
-  unfolding tidied tidied_each tidied_alternatives lessen lessen_parts lessen_alternative
+  unfolding tidied tidied_each tidied_alternatives carried carried_parts carried_alternative
 
   pub tidied_lessens : (s s' : Schema) (v : Value) → lessen (tidied s) (tidied s') v ≡ lessen s s' v
   tidied_lessens (sequence_of z h s) (sequence_of z' h' s') (members vs) = λ i. option_map members (map_each (λ v. tidied_lessens s s' v i) vs)
@@ -54,12 +54,12 @@ mutual
   tidied_lessens (enumerated roots e adds) (enumerated roots' e' adds') v = refl
   tidied_lessens s s' v = refl
 
-  tidied_parts_lessen : (cs cs' : Components) (ps : Parts) → lessen_parts (tidied_each cs) (tidied_each cs') ps ≡ lessen_parts cs cs' ps
+  tidied_parts_lessen : (cs cs' : Components) (ps : Parts) → carried_parts false (tidied_each cs) (tidied_each cs') ps ≡ carried_parts false cs cs' ps
   tidied_parts_lessen (component t o s cs) (component t' o' s' cs') (present v ps) = λ i. option_and_then (λ w. option_map (λ qs. present w qs) (tidied_parts_lessen cs cs' ps i)) (tidied_lessens s s' v i)
   tidied_parts_lessen (component t o s cs) (component t' o' s' cs') (absent ps) = ap (option_map absent) (tidied_parts_lessen cs cs' ps)
   tidied_parts_lessen cs cs' ps = refl
 
-  tidied_alternative_lessens : (os os' : Alternatives) (j : ℕ) (v : Value) → lessen_alternative (tidied_alternatives os) (tidied_alternatives os') j v ≡ lessen_alternative os os' j v
+  tidied_alternative_lessens : (os os' : Alternatives) (j : ℕ) (v : Value) → carried_alternative false (tidied_alternatives os) (tidied_alternatives os') j v ≡ carried_alternative false os os' j v
   tidied_alternative_lessens (alternative t s os) (alternative t' s' os') zero v = tidied_lessens s s' v
   tidied_alternative_lessens (alternative t s os) (alternative t' s' os') (suc j) v = tidied_alternative_lessens os os' j v
   tidied_alternative_lessens os os' j v = refl

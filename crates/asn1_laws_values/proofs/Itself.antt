@@ -11,7 +11,7 @@ use Rattle.asn1_model.specs.Typed.{is_of, are_of, is_of_alternative, member_coun
 use Rattle.asn1_model.specs.Tables.{is_required}
 use Rattle.asn1_model.specs.Numbers.{is_count_within}
 use Rattle.asn1_model.specs.Lawful.{is_lawful, are_lawful, are_lawful_alternatives, has_typed_default}
-use Rattle.asn1_model.specs.Versions.{map_each, both_parts, grow, grow_parts, grow_alternative, Begins, KeepsPresence, Extends, ExtendsEach, ExtendsAlternatives}
+use Rattle.asn1_model.specs.Versions.{carried, map_each, both_parts, grow, carried_parts, carried_alternative, Begins, KeepsPresence, Extends, ExtendsEach, ExtendsAlternatives}
 use Rattle.asn1_laws_values.proofs.Same.{same_self}
 use Rattle.asn1_laws_values.proofs.Typed.{normal_is_of}
 
@@ -24,7 +24,7 @@ each_stays f test h (member v vs) e =
     rw (a, b) refl
 
 mutual
-  unfolding grow grow_parts grow_alternative is_of are_of is_of_alternative
+  unfolding carried carried_parts carried_alternative is_of are_of is_of_alternative
 
   -- a value of a type is carried over to the type itself as it is
   pub grows : (s : Schema) (v : Value) → is_of s v ≡ true → grow s s v ≡ Some v
@@ -43,7 +43,7 @@ mutual
   grows (choice roots e adds) v f = refl
   grows s v e = refl
 
-  pub parts_grow : (cs : Components) (ps : Parts) → are_of cs ps ≡ true → grow_parts cs cs ps ≡ Some ps
+  pub parts_grow : (cs : Components) (ps : Parts) → are_of cs ps ≡ true → carried_parts true cs cs ps ≡ Some ps
   parts_grow no_component end e = refl
   parts_grow no_component ps e = cc
   parts_grow (component t o s cs) (present v ps) e =
@@ -54,7 +54,7 @@ mutual
   parts_grow (component t o s cs) (absent ps) e = ap (option_map absent) (parts_grow cs ps ((and_parts (not (is_required o)) (are_of cs ps) e).1))
   parts_grow (component t o s cs) end e = cc
 
-  alternative_grows : (others : Alternatives) (i : ℕ) (v : Value) → is_of_alternative others i v ≡ true → grow_alternative others others i v ≡ Some v
+  alternative_grows : (others : Alternatives) (i : ℕ) (v : Value) → is_of_alternative others i v ≡ true → carried_alternative true others others i v ≡ Some v
   alternative_grows no_alternative i v e = cc
   alternative_grows (alternative t s others) zero v e = grows s v e
   alternative_grows (alternative t s others) (suc i) v e = alternative_grows others i v e

@@ -4,7 +4,7 @@ use Rattle.std.proofs.lemmas.Bool.{and_parts, eqb-true}
 use Rattle.asn1_model.specs.Value.{Value, members, bag, fields, chosen, Values, no_more, member, values_of, Parts, end, absent, present, same, same_members, same_parts}
 use Rattle.asn1_model.specs.Schema.{Schema, cut, boolean, null, integer, enumerated, bit_string, octet_string, character_string, object_identifier, sequence_of, set_of, sequence, set, group, choice, Components, no_component, component, Alternatives, no_alternative, alternative}
 use Rattle.asn1_model.specs.Form.{pick, arranged}
-use Rattle.asn1_model.specs.Versions.{grow, grow_parts, grow_alternative, map_each, Extends, ExtendsEach, ExtendsAlternatives}
+use Rattle.asn1_model.specs.Versions.{carried, grow, carried_parts, carried_alternative, map_each, Extends, ExtendsEach, ExtendsAlternatives}
 use Rattle.asn1_model.proofs.Forms.{chain_parts, map_parts}
 use Rattle.asn1_laws_values.proofs.Messages.{some_parts}
 use Rattle.asn1_laws_values.proofs.Arranged.{arranged_parts}
@@ -96,11 +96,11 @@ same_choice b i j v w f =
     let p = and_parts _ _ f in
     (eqb-true j i ((and_parts _ _ p.0).1), p.1)
 
-at_place : (others others' : Alternatives) (i j : ℕ) (w : Value) → j ≡ i → Grows (λ v. grow_alternative others others' i v) w → Grows (λ v. grow_alternative others others' j v) w
-at_place others others' i j w n h = subst (λ k. Grows (λ v. grow_alternative others others' k v) w) (sym n) h
+at_place : (others others' : Alternatives) (i j : ℕ) (w : Value) → j ≡ i → Grows (λ v. carried_alternative true others others' i v) w → Grows (λ v. carried_alternative true others others' j v) w
+at_place others others' i j w n h = subst (λ k. Grows (λ v. carried_alternative true others others' k v) w) (sym n) h
 
 mutual
-  unfolding same same_parts Extends ExtendsEach ExtendsAlternatives grow grow_parts grow_alternative
+  unfolding same same_parts Extends ExtendsEach ExtendsAlternatives carried carried_parts carried_alternative
 
   grows_alike : (s s' : Schema) (v x w : Value) → Extends s s' → grow s s' v ≡ Some x → same w v ≡ true → Grows (λ v. grow s s' v) w
   grows_alike (sequence_of z c s) (sequence_of z' c' s') (members vs) x (members ws) h e f =
@@ -116,7 +116,7 @@ mutual
   grows_alike (set_of z c s) (set_of z' c' s') v x (bag ws) h e f = false_true f
   grows_alike (set_of z c s) (set_of z' c' s') v x w h e f = (w, refl)
   grows_alike (sequence cs m adds) (sequence cs' m' adds') (fields ps qs) x (fields rs ts) h e f =
-      let a = both_parts_parts (grow_parts cs cs' ps) (grow_parts adds adds' qs) x e in
+      let a = both_parts_parts (carried_parts true cs cs' ps) (carried_parts true adds adds' qs) x e in
       let p = and_parts _ _ f in
       let l = parts_alike false cs cs' ps a.0 rs h.0 a.2 p.0 in
       let n = parts_alike m adds adds' qs a.1 ts h.2 a.3 p.1 in
@@ -124,7 +124,7 @@ mutual
   grows_alike (sequence cs m adds) (sequence cs' m' adds') v x (fields rs ts) h e f = false_true f
   grows_alike (sequence cs m adds) (sequence cs' m' adds') v x w h e f = (w, refl)
   grows_alike (set cs m adds) (set cs' m' adds') (fields ps qs) x (fields rs ts) h e f =
-      let a = both_parts_parts (grow_parts cs cs' ps) (grow_parts adds adds' qs) x e in
+      let a = both_parts_parts (carried_parts true cs cs' ps) (carried_parts true adds adds' qs) x e in
       let p = and_parts _ _ f in
       let l = parts_alike false cs cs' ps a.0 rs h.0 a.2 p.0 in
       let n = parts_alike m adds adds' qs a.1 ts h.2 a.3 p.1 in
@@ -132,18 +132,18 @@ mutual
   grows_alike (set cs m adds) (set cs' m' adds') v x (fields rs ts) h e f = false_true f
   grows_alike (set cs m adds) (set cs' m' adds') v x w h e f = (w, refl)
   grows_alike (group cs) (group cs') (fields ps qs) x (fields rs ts) h e f =
-      let a = both_parts_parts (grow_parts cs cs' ps) (Some qs) x e in
+      let a = both_parts_parts (carried_parts true cs cs' ps) (Some qs) x e in
       let l = parts_alike false cs cs' ps a.0 rs h a.2 ((and_parts _ _ f).0) in
       (fields l.0 ts, both_parts_from _ _ l.0 ts l.1 refl)
   grows_alike (group cs) (group cs') v x (fields rs ts) h e f = false_true f
   grows_alike (group cs) (group cs') v x w h e f = (w, refl)
   grows_alike (choice roots m adds) (choice roots' m' adds') (chosen false i v) x (chosen false j w) h e f =
-      let a = map_parts (grow_alternative roots roots' i v) (λ w. chosen false i w) x e in
+      let a = map_parts (carried_alternative true roots roots' i v) (λ w. chosen false i w) x e in
       let p = same_choice false i j v w f in
       let l = at_place roots roots' i j w p.0 (alternative_alike false roots roots' i v a.0 w h.0 a.1 p.1) in
       (chosen false j l.0, ap (option_map (λ w. chosen false j w)) l.1)
   grows_alike (choice roots m adds) (choice roots' m' adds') (chosen true i v) x (chosen true j w) h e f =
-      let a = map_parts (grow_alternative adds adds' i v) (λ w. chosen true i w) x e in
+      let a = map_parts (carried_alternative true adds adds' i v) (λ w. chosen true i w) x e in
       let p = same_choice true i j v w f in
       let l = at_place adds adds' i j w p.0 (alternative_alike m adds adds' i v a.0 w h.2 a.1 p.1) in
       (chosen true j l.0, ap (option_map (λ w. chosen true j w)) l.1)
@@ -160,7 +160,7 @@ mutual
   grows_alike (character_string k z a c) s' v x w h e f = (w, refl)
   grows_alike s s' v x w h e f = absurd h
 
-  parts_alike : (more : Bool) (cs cs' : Components) (ps us qs : Parts) → ExtendsEach more cs cs' → grow_parts cs cs' ps ≡ Some us → same_parts qs ps ≡ true → (rs : Parts) × (grow_parts cs cs' qs ≡ Some rs)
+  parts_alike : (more : Bool) (cs cs' : Components) (ps us qs : Parts) → ExtendsEach more cs cs' → carried_parts true cs cs' ps ≡ Some us → same_parts qs ps ≡ true → (rs : Parts) × (carried_parts true cs cs' qs ≡ Some rs)
   parts_alike more no_component cs' end us end h e f = (us, e)
   parts_alike more no_component cs' end us (absent qs) h e f = false_true f
   parts_alike more no_component cs' end us (present w qs) h e f = false_true f
@@ -169,20 +169,20 @@ mutual
   parts_alike more (component t o s cs) no_component ps us qs h e f = absurd h
   parts_alike more (component t o s cs) (component t' o' s' cs') end us qs h e f = cc
   parts_alike more (component t o s cs) (component t' o' s' cs') (absent ps) us (absent qs) h e f =
-      let a = map_parts (grow_parts cs cs' ps) absent us e in
+      let a = map_parts (carried_parts true cs cs' ps) absent us e in
       let l = parts_alike more cs cs' ps a.0 qs h.3 a.1 f in
       (absent l.0, ap (option_map absent) l.1)
   parts_alike more (component t o s cs) (component t' o' s' cs') (absent ps) us qs h e f = false_true f
   parts_alike more (component t o s cs) (component t' o' s' cs') (present v ps) us (present w qs) h e f =
-      let d = chain_parts (grow s s' v) (λ w. option_map (λ rs. present w rs) (grow_parts cs cs' ps)) us e in
-      let a = map_parts (grow_parts cs cs' ps) (λ rs. present d.0 rs) us d.2 in
+      let d = chain_parts (grow s s' v) (λ w. option_map (λ rs. present w rs) (carried_parts true cs cs' ps)) us e in
+      let a = map_parts (carried_parts true cs cs' ps) (λ rs. present d.0 rs) us d.2 in
       let p = and_parts _ _ f in
       let k = grows_alike s s' v d.0 w h.2 d.1 p.0 in
       let l = parts_alike more cs cs' ps a.0 qs h.3 a.1 p.1 in
       (present k.0 l.0, put_part _ k.0 _ l.0 k.1 l.1)
   parts_alike more (component t o s cs) (component t' o' s' cs') (present v ps) us qs h e f = false_true f
 
-  alternative_alike : (more : Bool) (others others' : Alternatives) (i : ℕ) (v x w : Value) → ExtendsAlternatives more others others' → grow_alternative others others' i v ≡ Some x → same w v ≡ true → Grows (λ v. grow_alternative others others' i v) w
+  alternative_alike : (more : Bool) (others others' : Alternatives) (i : ℕ) (v x w : Value) → ExtendsAlternatives more others others' → carried_alternative true others others' i v ≡ Some x → same w v ≡ true → Grows (λ v. carried_alternative true others others' i v) w
   alternative_alike more no_alternative others' i v x w h e f = cc
   alternative_alike more (alternative t s others) no_alternative i v x w h e f = absurd h
   alternative_alike more (alternative t s others) (alternative t' s' others') zero v x w h e f = grows_alike s s' v x w h.1 e f

@@ -6,7 +6,7 @@ use Rattle.asn1_model.specs.Schema.{Tag, Presence, required, optional, by_defaul
 use Rattle.asn1_model.specs.Normal.{normal, normal_parts, normal_alternative, is_empty_group, is_default_by, kept}
 use Rattle.asn1_model.specs.Value.{are_all}
 use Rattle.asn1_model.specs.Typed.{is_of, are_of, is_of_alternative}
-use Rattle.asn1_model.specs.Versions.{grow, grow_parts, grow_alternative, map_each, KeepsPresence, Extends, ExtendsEach, ExtendsAlternatives}
+use Rattle.asn1_model.specs.Versions.{carried, grow, carried_parts, carried_alternative, map_each, KeepsPresence, Extends, ExtendsEach, ExtendsAlternatives}
 use Rattle.asn1_model.proofs.Forms.{chain_parts, map_parts}
 use Rattle.asn1_laws_versions.proofs.Extending.{both_parts_parts, both_parts_from}
 use Rattle.asn1_laws_versions.proofs.Grown.{each_of, each_again}
@@ -18,7 +18,7 @@ abbrev Grows : (Value → Option Value) → Value → Type 0
 Grows g v = (y : Value) × (g v ≡ Some y)
 
 abbrev PartsGrow : Components → Components → Parts → Type 0
-PartsGrow cs cs' ps = (qs : Parts) × (grow_parts cs cs' ps ≡ Some qs)
+PartsGrow cs cs' ps = (qs : Parts) × (carried_parts true cs cs' ps ≡ Some qs)
 
 either_true : (a b : Bool) → (a || b) ≡ true → (a ≡ true) ⊎ (b ≡ true)
 either_true true b e = inl refl
@@ -36,13 +36,13 @@ members_grow g f test (member v vs) us k t e =
 
 -- ---- what is left out in the normal form
 kept_absent : (t t' : List Tag) (o o' : Presence) (s s' : Schema) (cs cs' : Components) (b : Bool) (x : Value) (ps : Parts) → (are_absent ps ≡ true → PartsGrow cs cs' ps) → are_absent (kept b x ps) ≡ true → PartsGrow (component t o s cs) (component t' o' s' cs') (kept b x ps)
-unfolding grow_parts
+unfolding carried_parts
 kept_absent t t' o o' s s' cs cs' true x ps k a = let u = k a in (absent u.0, ap (option_map absent) u.1)
 kept_absent t t' o o' s s' cs cs' false x ps k a = cc
 
 -- a group of which nothing is left gains no parts
 none_left : (cs cs' : Components) (ps : Parts) → ExtendsEach false cs cs' → are_of cs ps ≡ true → are_absent (normal_parts cs ps) ≡ true → PartsGrow cs cs' (normal_parts cs ps)
-unfolding ExtendsEach are_of normal_parts grow_parts
+unfolding ExtendsEach are_of normal_parts carried_parts
 none_left no_component no_component end h k a = (end, refl)
 none_left no_component no_component (absent ps) h k a = cc
 none_left no_component no_component (present v ps) h k a = cc
@@ -56,7 +56,7 @@ none_left (component t o s cs) (component t' o' s' cs') (present v ps) h k a =
     kept_absent t t' o o' s s' cs cs' _ (normal s v) (normal_parts cs ps) (λ a. none_left cs cs' ps h.3 ((and_parts _ _ k).1) a) a
 
 empty_grows : (s s' : Schema) (v : Value) → Extends s s' → is_of s v ≡ true → is_empty_group s (normal s v) ≡ true → Grows (λ v. grow s s' v) (normal s v)
-unfolding Extends is_of normal grow
+unfolding Extends is_of normal carried
 empty_grows (group cs) (group cs') (fields ps end) h k e =
     let l = none_left cs cs' ps h k e in
     (fields l.0 end, both_parts_from _ _ l.0 end l.1 refl)
@@ -76,19 +76,19 @@ left_out_grows s s' o o' v h p k (inl e) = default_grows s s' o o' (normal s v) 
 left_out_grows s s' o o' v h p k (inr e) = empty_grows s s' v h k e
 
 -- a part that is left out or kept, and the further ones
-kept_grows : (t t' : List Tag) (o o' : Presence) (s s' : Schema) (cs cs' : Components) (b : Bool) (x : Value) (ps us : Parts) → (b ≡ true → Grows (λ v. grow s s' v) x) → grow_parts (component t o s cs) (component t' o' s' cs') (kept b x ps) ≡ Some us → Grows (λ v. grow s s' v) x × PartsGrow cs cs' ps
-unfolding grow_parts
-kept_grows t t' o o' s s' cs cs' true x ps us k e = let a = map_parts (grow_parts cs cs' ps) absent us e in (k refl, (a.0, a.1))
+kept_grows : (t t' : List Tag) (o o' : Presence) (s s' : Schema) (cs cs' : Components) (b : Bool) (x : Value) (ps us : Parts) → (b ≡ true → Grows (λ v. grow s s' v) x) → carried_parts true (component t o s cs) (component t' o' s' cs') (kept b x ps) ≡ Some us → Grows (λ v. grow s s' v) x × PartsGrow cs cs' ps
+unfolding carried_parts
+kept_grows t t' o o' s s' cs cs' true x ps us k e = let a = map_parts (carried_parts true cs cs' ps) absent us e in (k refl, (a.0, a.1))
 kept_grows t t' o o' s s' cs cs' false x ps us k e =
-    let d = chain_parts (grow s s' x) (λ w. option_map (λ rs. present w rs) (grow_parts cs cs' ps)) us e in
-    let a = map_parts (grow_parts cs cs' ps) (λ rs. present d.0 rs) us d.2 in
+    let d = chain_parts (grow s s' x) (λ w. option_map (λ rs. present w rs) (carried_parts true cs cs' ps)) us e in
+    let a = map_parts (carried_parts true cs cs' ps) (λ rs. present d.0 rs) us d.2 in
     ((d.0, d.1), (a.0, a.1))
 
 put_part : (o : Option Value) (w : Value) (p : Option Parts) (q : Parts) → o ≡ Some w → p ≡ Some q → option_and_then (λ w. option_map (λ q. present w q) p) o ≡ Some (present w q)
 put_part o w p q e f = rw (e, f) refl
 
 mutual
-  unfolding normal normal_parts normal_alternative Extends ExtendsEach ExtendsAlternatives grow grow_parts grow_alternative is_of are_of is_of_alternative
+  unfolding normal normal_parts normal_alternative Extends ExtendsEach ExtendsAlternatives carried carried_parts carried_alternative is_of are_of is_of_alternative
 
   grows : (s s' : Schema) (v x : Value) → Extends s s' → is_of s v ≡ true → grow s s' (normal s v) ≡ Some x → Grows (λ v. grow s s' v) v
   grows (sequence_of z c s) (sequence_of z' c' s') (members vs) x h k e =
@@ -102,30 +102,30 @@ mutual
       (bag l.0, ap (option_map bag) l.1)
   grows (set_of z c s) (set_of z' c' s') v x h k e = cc
   grows (sequence cs m adds) (sequence cs' m' adds') (fields ps qs) x h k e =
-      let a = both_parts_parts (grow_parts cs cs' (normal_parts cs ps)) (grow_parts adds adds' (normal_parts adds qs)) x e in
+      let a = both_parts_parts (carried_parts true cs cs' (normal_parts cs ps)) (carried_parts true adds adds' (normal_parts adds qs)) x e in
       let p = and_parts _ _ k in
       let l = parts_grow false cs cs' ps a.0 h.0 p.0 a.2 in
       let n = parts_grow m adds adds' qs a.1 h.2 p.1 a.3 in
       (fields l.0 n.0, both_parts_from _ _ l.0 n.0 l.1 n.1)
   grows (sequence cs m adds) (sequence cs' m' adds') v x h k e = cc
   grows (set cs m adds) (set cs' m' adds') (fields ps qs) x h k e =
-      let a = both_parts_parts (grow_parts cs cs' (normal_parts cs ps)) (grow_parts adds adds' (normal_parts adds qs)) x e in
+      let a = both_parts_parts (carried_parts true cs cs' (normal_parts cs ps)) (carried_parts true adds adds' (normal_parts adds qs)) x e in
       let p = and_parts _ _ k in
       let l = parts_grow false cs cs' ps a.0 h.0 p.0 a.2 in
       let n = parts_grow m adds adds' qs a.1 h.2 p.1 a.3 in
       (fields l.0 n.0, both_parts_from _ _ l.0 n.0 l.1 n.1)
   grows (set cs m adds) (set cs' m' adds') v x h k e = cc
   grows (group cs) (group cs') (fields ps end) x h k e =
-      let a = both_parts_parts (grow_parts cs cs' (normal_parts cs ps)) (Some end) x e in
+      let a = both_parts_parts (carried_parts true cs cs' (normal_parts cs ps)) (Some end) x e in
       let l = parts_grow false cs cs' ps a.0 h k a.2 in
       (fields l.0 end, both_parts_from _ _ l.0 end l.1 refl)
   grows (group cs) (group cs') v x h k e = cc
   grows (choice roots m adds) (choice roots' m' adds') (chosen false i v) x h k e =
-      let a = map_parts (grow_alternative roots roots' i (normal_alternative roots i v)) (λ w. chosen false i w) x e in
+      let a = map_parts (carried_alternative true roots roots' i (normal_alternative roots i v)) (λ w. chosen false i w) x e in
       let l = alternative_grows false roots roots' i v a.0 h.0 k a.1 in
       (chosen false i l.0, ap (option_map (λ w. chosen false i w)) l.1)
   grows (choice roots m adds) (choice roots' m' adds') (chosen true i v) x h k e =
-      let a = map_parts (grow_alternative adds adds' i (normal_alternative adds i v)) (λ w. chosen true i w) x e in
+      let a = map_parts (carried_alternative true adds adds' i (normal_alternative adds i v)) (λ w. chosen true i w) x e in
       let l = alternative_grows m adds adds' i v a.0 h.2 ((and_parts _ _ k).1) a.1 in
       (chosen true i l.0, ap (option_map (λ w. chosen true i w)) l.1)
   grows (choice roots m adds) (choice roots' m' adds') v x h k e = cc
@@ -140,14 +140,14 @@ mutual
   grows (character_string y z a c) s' v x h k e = (v, refl)
   grows s s' v x h k e = absurd h
 
-  parts_grow : (more : Bool) (cs cs' : Components) (ps us : Parts) → ExtendsEach more cs cs' → are_of cs ps ≡ true → grow_parts cs cs' (normal_parts cs ps) ≡ Some us → PartsGrow cs cs' ps
+  parts_grow : (more : Bool) (cs cs' : Components) (ps us : Parts) → ExtendsEach more cs cs' → are_of cs ps ≡ true → carried_parts true cs cs' (normal_parts cs ps) ≡ Some us → PartsGrow cs cs' ps
   parts_grow more no_component cs' end us h k e = (us, e)
   parts_grow more no_component cs' (absent ps) us h k e = cc
   parts_grow more no_component cs' (present v ps) us h k e = cc
   parts_grow more (component t o s cs) no_component ps us h k e = absurd h
   parts_grow more (component t o s cs) (component t' o' s' cs') end us h k e = cc
   parts_grow more (component t o s cs) (component t' o' s' cs') (absent ps) us h k e =
-      let a = map_parts (grow_parts cs cs' (normal_parts cs ps)) absent us e in
+      let a = map_parts (carried_parts true cs cs' (normal_parts cs ps)) absent us e in
       let l = parts_grow more cs cs' ps a.0 h.3 ((and_parts _ _ k).1) a.1 in
       (absent l.0, ap (option_map absent) l.1)
   parts_grow more (component t o s cs) (component t' o' s' cs') (present v ps) us h k e =
@@ -157,7 +157,7 @@ mutual
       let l = parts_grow more cs cs' ps b.1.0 h.3 p.1 b.1.1 in
       (present y.0 l.0, put_part _ y.0 _ l.0 y.1 l.1)
 
-  alternative_grows : (more : Bool) (others others' : Alternatives) (i : ℕ) (v x : Value) → ExtendsAlternatives more others others' → is_of_alternative others i v ≡ true → grow_alternative others others' i (normal_alternative others i v) ≡ Some x → Grows (λ v. grow_alternative others others' i v) v
+  alternative_grows : (more : Bool) (others others' : Alternatives) (i : ℕ) (v x : Value) → ExtendsAlternatives more others others' → is_of_alternative others i v ≡ true → carried_alternative true others others' i (normal_alternative others i v) ≡ Some x → Grows (λ v. carried_alternative true others others' i v) v
   alternative_grows more no_alternative others' i v x h k e = cc
   alternative_grows more (alternative t s others) no_alternative i v x h k e = absurd h
   alternative_grows more (alternative t s others) (alternative t' s' others') zero v x h k e = grows s s' v x h.1 k e

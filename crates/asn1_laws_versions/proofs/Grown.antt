@@ -3,7 +3,7 @@ use Rattle.std.proofs.Common.{◌≡◌, ℕ, zero, suc, ◌==◌, Bool, true, f
 use Rattle.std.proofs.lemmas.Bool.{eqb-true}
 use Rattle.asn1_model.specs.Value.{Value, members, bag, fields, chosen, Values, no_more, member, Parts, end, absent, present, same, same_members, same_bag, same_parts, same_truth, taken_out, with_rest}
 use Rattle.asn1_model.specs.Schema.{Schema, cut, boolean, null, integer, enumerated, bit_string, octet_string, character_string, object_identifier, sequence_of, set_of, sequence, set, group, choice, Components, no_component, component, Alternatives, no_alternative, alternative}
-use Rattle.asn1_model.specs.Versions.{grow, grow_parts, grow_alternative, all_absent, map_each, Extends, ExtendsEach, ExtendsAlternatives}
+use Rattle.asn1_model.specs.Versions.{carried, grow, carried_parts, carried_alternative, all_absent, map_each, Extends, ExtendsEach, ExtendsAlternatives}
 use Rattle.asn1_model.proofs.Forms.{chain_parts, map_parts}
 use Rattle.asn1_laws_values.proofs.Messages.{some_parts}
 use Rattle.asn1_laws_versions.proofs.Extending.{both_parts_parts, absent_of}
@@ -114,7 +114,7 @@ chosen_grown a i j v w u t h = go (i == j) refl (same_truth a a)
         none false = refl
 
 mutual
-  unfolding same same_parts Extends ExtendsEach ExtendsAlternatives grow grow_parts grow_alternative
+  unfolding same same_parts Extends ExtendsEach ExtendsAlternatives carried carried_parts carried_alternative
 
   pub same_grown : (s s' : Schema) (v w u t : Value) → Extends s s' → grow s s' v ≡ Some u → grow s s' w ≡ Some t → same u t ≡ same v w
   same_grown (sequence_of z c s) (sequence_of z' c' s') (members vs) (members ws) u t h e f =
@@ -132,46 +132,46 @@ mutual
   same_grown (set_of z c s) (set_of z' c' s') v (bag ws) u t h e f = let b = map_parts (map_each (λ v. grow s s' v) ws) bag t f in as_before u v t (bag b.0) _ (some_parts e) b.2 refl
   same_grown (set_of z c s) (set_of z' c' s') v w u t h e f = as_before u v t w _ (some_parts e) (some_parts f) refl
   same_grown (sequence cs m adds) (sequence cs' m' adds') (fields ps qs) (fields rs ss) u t h e f =
-      let a = both_parts_parts (grow_parts cs cs' ps) (grow_parts adds adds' qs) u e in
-      let b = both_parts_parts (grow_parts cs cs' rs) (grow_parts adds adds' ss) t f in
+      let a = both_parts_parts (carried_parts true cs cs' ps) (carried_parts true adds adds' qs) u e in
+      let b = both_parts_parts (carried_parts true cs cs' rs) (carried_parts true adds adds' ss) t f in
       as_before u (fields a.0 a.1) t (fields b.0 b.1) _ a.4 b.4 (fields_grown ps qs rs ss a.0 a.1 b.0 b.1 (parts_grown false cs cs' ps rs a.0 b.0 h.0 a.2 b.2) (parts_grown m adds adds' qs ss a.1 b.1 h.2 a.3 b.3))
-  same_grown (sequence cs m adds) (sequence cs' m' adds') (fields ps qs) w u t h e f = let a = both_parts_parts (grow_parts cs cs' ps) (grow_parts adds adds' qs) u e in as_before u (fields a.0 a.1) t w _ a.4 (some_parts f) refl
-  same_grown (sequence cs m adds) (sequence cs' m' adds') v (fields rs ss) u t h e f = let b = both_parts_parts (grow_parts cs cs' rs) (grow_parts adds adds' ss) t f in as_before u v t (fields b.0 b.1) _ (some_parts e) b.4 refl
+  same_grown (sequence cs m adds) (sequence cs' m' adds') (fields ps qs) w u t h e f = let a = both_parts_parts (carried_parts true cs cs' ps) (carried_parts true adds adds' qs) u e in as_before u (fields a.0 a.1) t w _ a.4 (some_parts f) refl
+  same_grown (sequence cs m adds) (sequence cs' m' adds') v (fields rs ss) u t h e f = let b = both_parts_parts (carried_parts true cs cs' rs) (carried_parts true adds adds' ss) t f in as_before u v t (fields b.0 b.1) _ (some_parts e) b.4 refl
   same_grown (sequence cs m adds) (sequence cs' m' adds') v w u t h e f = as_before u v t w _ (some_parts e) (some_parts f) refl
   same_grown (set cs m adds) (set cs' m' adds') (fields ps qs) (fields rs ss) u t h e f =
-      let a = both_parts_parts (grow_parts cs cs' ps) (grow_parts adds adds' qs) u e in
-      let b = both_parts_parts (grow_parts cs cs' rs) (grow_parts adds adds' ss) t f in
+      let a = both_parts_parts (carried_parts true cs cs' ps) (carried_parts true adds adds' qs) u e in
+      let b = both_parts_parts (carried_parts true cs cs' rs) (carried_parts true adds adds' ss) t f in
       as_before u (fields a.0 a.1) t (fields b.0 b.1) _ a.4 b.4 (fields_grown ps qs rs ss a.0 a.1 b.0 b.1 (parts_grown false cs cs' ps rs a.0 b.0 h.0 a.2 b.2) (parts_grown m adds adds' qs ss a.1 b.1 h.2 a.3 b.3))
-  same_grown (set cs m adds) (set cs' m' adds') (fields ps qs) w u t h e f = let a = both_parts_parts (grow_parts cs cs' ps) (grow_parts adds adds' qs) u e in as_before u (fields a.0 a.1) t w _ a.4 (some_parts f) refl
-  same_grown (set cs m adds) (set cs' m' adds') v (fields rs ss) u t h e f = let b = both_parts_parts (grow_parts cs cs' rs) (grow_parts adds adds' ss) t f in as_before u v t (fields b.0 b.1) _ (some_parts e) b.4 refl
+  same_grown (set cs m adds) (set cs' m' adds') (fields ps qs) w u t h e f = let a = both_parts_parts (carried_parts true cs cs' ps) (carried_parts true adds adds' qs) u e in as_before u (fields a.0 a.1) t w _ a.4 (some_parts f) refl
+  same_grown (set cs m adds) (set cs' m' adds') v (fields rs ss) u t h e f = let b = both_parts_parts (carried_parts true cs cs' rs) (carried_parts true adds adds' ss) t f in as_before u v t (fields b.0 b.1) _ (some_parts e) b.4 refl
   same_grown (set cs m adds) (set cs' m' adds') v w u t h e f = as_before u v t w _ (some_parts e) (some_parts f) refl
   same_grown (group cs) (group cs') (fields ps qs) (fields rs ss) u t h e f =
-      let a = both_parts_parts (grow_parts cs cs' ps) (Some qs) u e in
-      let b = both_parts_parts (grow_parts cs cs' rs) (Some ss) t f in
+      let a = both_parts_parts (carried_parts true cs cs' ps) (Some qs) u e in
+      let b = both_parts_parts (carried_parts true cs cs' rs) (Some ss) t f in
       as_before u (fields a.0 a.1) t (fields b.0 b.1) _ a.4 b.4 (fields_grown ps qs rs ss a.0 a.1 b.0 b.1 (parts_grown false cs cs' ps rs a.0 b.0 h a.2 b.2) (parts_by a.1 qs b.1 ss _ (some_parts a.3) (some_parts b.3) refl))
-  same_grown (group cs) (group cs') (fields ps qs) w u t h e f = let a = both_parts_parts (grow_parts cs cs' ps) (Some qs) u e in as_before u (fields a.0 a.1) t w _ a.4 (some_parts f) refl
-  same_grown (group cs) (group cs') v (fields rs ss) u t h e f = let b = both_parts_parts (grow_parts cs cs' rs) (Some ss) t f in as_before u v t (fields b.0 b.1) _ (some_parts e) b.4 refl
+  same_grown (group cs) (group cs') (fields ps qs) w u t h e f = let a = both_parts_parts (carried_parts true cs cs' ps) (Some qs) u e in as_before u (fields a.0 a.1) t w _ a.4 (some_parts f) refl
+  same_grown (group cs) (group cs') v (fields rs ss) u t h e f = let b = both_parts_parts (carried_parts true cs cs' rs) (Some ss) t f in as_before u v t (fields b.0 b.1) _ (some_parts e) b.4 refl
   same_grown (group cs) (group cs') v w u t h e f = as_before u v t w _ (some_parts e) (some_parts f) refl
   same_grown (choice roots m adds) (choice roots' m' adds') (chosen false i v) (chosen false j w) u t h e f =
-      let a = map_parts (grow_alternative roots roots' i v) (λ w. chosen false i w) u e in
-      let b = map_parts (grow_alternative roots roots' j w) (λ w. chosen false j w) t f in
-      as_before u (chosen false i a.0) t (chosen false j b.0) _ a.2 b.2 (chosen_grown false i j v w a.0 b.0 (λ n. alternative_grown false roots roots' i v w a.0 b.0 h.0 a.1 (subst (λ k. grow_alternative roots roots' k w ≡ Some b.0) (sym n) b.1)))
+      let a = map_parts (carried_alternative true roots roots' i v) (λ w. chosen false i w) u e in
+      let b = map_parts (carried_alternative true roots roots' j w) (λ w. chosen false j w) t f in
+      as_before u (chosen false i a.0) t (chosen false j b.0) _ a.2 b.2 (chosen_grown false i j v w a.0 b.0 (λ n. alternative_grown false roots roots' i v w a.0 b.0 h.0 a.1 (subst (λ k. carried_alternative true roots roots' k w ≡ Some b.0) (sym n) b.1)))
   same_grown (choice roots m adds) (choice roots' m' adds') (chosen true i v) (chosen true j w) u t h e f =
-      let a = map_parts (grow_alternative adds adds' i v) (λ w. chosen true i w) u e in
-      let b = map_parts (grow_alternative adds adds' j w) (λ w. chosen true j w) t f in
-      as_before u (chosen true i a.0) t (chosen true j b.0) _ a.2 b.2 (chosen_grown true i j v w a.0 b.0 (λ n. alternative_grown m adds adds' i v w a.0 b.0 h.2 a.1 (subst (λ k. grow_alternative adds adds' k w ≡ Some b.0) (sym n) b.1)))
+      let a = map_parts (carried_alternative true adds adds' i v) (λ w. chosen true i w) u e in
+      let b = map_parts (carried_alternative true adds adds' j w) (λ w. chosen true j w) t f in
+      as_before u (chosen true i a.0) t (chosen true j b.0) _ a.2 b.2 (chosen_grown true i j v w a.0 b.0 (λ n. alternative_grown m adds adds' i v w a.0 b.0 h.2 a.1 (subst (λ k. carried_alternative true adds adds' k w ≡ Some b.0) (sym n) b.1)))
   same_grown (choice roots m adds) (choice roots' m' adds') (chosen false i v) (chosen true j w) u t h e f =
-      let a = map_parts (grow_alternative roots roots' i v) (λ w. chosen false i w) u e in
-      let b = map_parts (grow_alternative adds adds' j w) (λ w. chosen true j w) t f in
+      let a = map_parts (carried_alternative true roots roots' i v) (λ w. chosen false i w) u e in
+      let b = map_parts (carried_alternative true adds adds' j w) (λ w. chosen true j w) t f in
       as_before u (chosen false i a.0) t (chosen true j b.0) _ a.2 b.2 refl
   same_grown (choice roots m adds) (choice roots' m' adds') (chosen true i v) (chosen false j w) u t h e f =
-      let a = map_parts (grow_alternative adds adds' i v) (λ w. chosen true i w) u e in
-      let b = map_parts (grow_alternative roots roots' j w) (λ w. chosen false j w) t f in
+      let a = map_parts (carried_alternative true adds adds' i v) (λ w. chosen true i w) u e in
+      let b = map_parts (carried_alternative true roots roots' j w) (λ w. chosen false j w) t f in
       as_before u (chosen true i a.0) t (chosen false j b.0) _ a.2 b.2 refl
-  same_grown (choice roots m adds) (choice roots' m' adds') (chosen false i v) w u t h e f = let a = map_parts (grow_alternative roots roots' i v) (λ w. chosen false i w) u e in as_before u (chosen false i a.0) t w _ a.2 (some_parts f) refl
-  same_grown (choice roots m adds) (choice roots' m' adds') (chosen true i v) w u t h e f = let a = map_parts (grow_alternative adds adds' i v) (λ w. chosen true i w) u e in as_before u (chosen true i a.0) t w _ a.2 (some_parts f) refl
-  same_grown (choice roots m adds) (choice roots' m' adds') v (chosen false j w) u t h e f = let b = map_parts (grow_alternative roots roots' j w) (λ w. chosen false j w) t f in as_before u v t (chosen false j b.0) _ (some_parts e) b.2 refl
-  same_grown (choice roots m adds) (choice roots' m' adds') v (chosen true j w) u t h e f = let b = map_parts (grow_alternative adds adds' j w) (λ w. chosen true j w) t f in as_before u v t (chosen true j b.0) _ (some_parts e) b.2 refl
+  same_grown (choice roots m adds) (choice roots' m' adds') (chosen false i v) w u t h e f = let a = map_parts (carried_alternative true roots roots' i v) (λ w. chosen false i w) u e in as_before u (chosen false i a.0) t w _ a.2 (some_parts f) refl
+  same_grown (choice roots m adds) (choice roots' m' adds') (chosen true i v) w u t h e f = let a = map_parts (carried_alternative true adds adds' i v) (λ w. chosen true i w) u e in as_before u (chosen true i a.0) t w _ a.2 (some_parts f) refl
+  same_grown (choice roots m adds) (choice roots' m' adds') v (chosen false j w) u t h e f = let b = map_parts (carried_alternative true roots roots' j w) (λ w. chosen false j w) t f in as_before u v t (chosen false j b.0) _ (some_parts e) b.2 refl
+  same_grown (choice roots m adds) (choice roots' m' adds') v (chosen true j w) u t h e f = let b = map_parts (carried_alternative true adds adds' j w) (λ w. chosen true j w) t f in as_before u v t (chosen true j b.0) _ (some_parts e) b.2 refl
   same_grown (choice roots m adds) (choice roots' m' adds') v w u t h e f = as_before u v t w _ (some_parts e) (some_parts f) refl
   same_grown cut s' v w u t h e f = as_before u v t w _ (some_parts e) (some_parts f) refl
   same_grown boolean s' v w u t h e f = as_before u v t w _ (some_parts e) (some_parts f) refl
@@ -184,7 +184,7 @@ mutual
   same_grown (character_string k z a c) s' v w u t h e f = as_before u v t w _ (some_parts e) (some_parts f) refl
   same_grown s s' v w u t h e f = absurd h
 
-  parts_grown : (more : Bool) (cs cs' : Components) (ps qs us ts : Parts) → ExtendsEach more cs cs' → grow_parts cs cs' ps ≡ Some us → grow_parts cs cs' qs ≡ Some ts → same_parts us ts ≡ same_parts ps qs
+  parts_grown : (more : Bool) (cs cs' : Components) (ps qs us ts : Parts) → ExtendsEach more cs cs' → carried_parts true cs cs' ps ≡ Some us → carried_parts true cs cs' qs ≡ Some ts → same_parts us ts ≡ same_parts ps qs
   parts_grown more no_component cs' end end us ts h e f = absent_same cs' us ts e f
   parts_grown more no_component cs' end (absent qs) us ts h e f = cc
   parts_grown more no_component cs' end (present w qs) us ts h e f = cc
@@ -195,27 +195,27 @@ mutual
   parts_grown more (component t o s cs) (component t' o' s' cs') (absent ps) end us ts h e f = cc
   parts_grown more (component t o s cs) (component t' o' s' cs') (present v ps) end us ts h e f = cc
   parts_grown more (component t o s cs) (component t' o' s' cs') (absent ps) (absent qs) us ts h e f =
-      let a = map_parts (grow_parts cs cs' ps) absent us e in
-      let b = map_parts (grow_parts cs cs' qs) absent ts f in
+      let a = map_parts (carried_parts true cs cs' ps) absent us e in
+      let b = map_parts (carried_parts true cs cs' qs) absent ts f in
       parts_by us (absent a.0) ts (absent b.0) _ a.2 b.2 (parts_grown more cs cs' ps qs a.0 b.0 h.3 a.1 b.1)
   parts_grown more (component t o s cs) (component t' o' s' cs') (absent ps) (present w qs) us ts h e f =
-      let a = map_parts (grow_parts cs cs' ps) absent us e in
-      let c = chain_parts (grow s s' w) (λ w. option_map (λ rs. present w rs) (grow_parts cs cs' qs)) ts f in
-      let b = map_parts (grow_parts cs cs' qs) (λ rs. present c.0 rs) ts c.2 in
+      let a = map_parts (carried_parts true cs cs' ps) absent us e in
+      let c = chain_parts (grow s s' w) (λ w. option_map (λ rs. present w rs) (carried_parts true cs cs' qs)) ts f in
+      let b = map_parts (carried_parts true cs cs' qs) (λ rs. present c.0 rs) ts c.2 in
       parts_by us (absent a.0) ts (present c.0 b.0) _ a.2 b.2 refl
   parts_grown more (component t o s cs) (component t' o' s' cs') (present v ps) (absent qs) us ts h e f =
-      let d = chain_parts (grow s s' v) (λ w. option_map (λ rs. present w rs) (grow_parts cs cs' ps)) us e in
-      let a = map_parts (grow_parts cs cs' ps) (λ rs. present d.0 rs) us d.2 in
-      let b = map_parts (grow_parts cs cs' qs) absent ts f in
+      let d = chain_parts (grow s s' v) (λ w. option_map (λ rs. present w rs) (carried_parts true cs cs' ps)) us e in
+      let a = map_parts (carried_parts true cs cs' ps) (λ rs. present d.0 rs) us d.2 in
+      let b = map_parts (carried_parts true cs cs' qs) absent ts f in
       parts_by us (present d.0 a.0) ts (absent b.0) _ a.2 b.2 refl
   parts_grown more (component t o s cs) (component t' o' s' cs') (present v ps) (present w qs) us ts h e f =
-      let d = chain_parts (grow s s' v) (λ w. option_map (λ rs. present w rs) (grow_parts cs cs' ps)) us e in
-      let a = map_parts (grow_parts cs cs' ps) (λ rs. present d.0 rs) us d.2 in
-      let c = chain_parts (grow s s' w) (λ w. option_map (λ rs. present w rs) (grow_parts cs cs' qs)) ts f in
-      let b = map_parts (grow_parts cs cs' qs) (λ rs. present c.0 rs) ts c.2 in
+      let d = chain_parts (grow s s' v) (λ w. option_map (λ rs. present w rs) (carried_parts true cs cs' ps)) us e in
+      let a = map_parts (carried_parts true cs cs' ps) (λ rs. present d.0 rs) us d.2 in
+      let c = chain_parts (grow s s' w) (λ w. option_map (λ rs. present w rs) (carried_parts true cs cs' qs)) ts f in
+      let b = map_parts (carried_parts true cs cs' qs) (λ rs. present c.0 rs) ts c.2 in
       parts_by us (present d.0 a.0) ts (present c.0 b.0) _ a.2 b.2 (both_same _ _ _ _ (same_grown s s' v w d.0 c.0 h.2 d.1 c.1) (parts_grown more cs cs' ps qs a.0 b.0 h.3 a.1 b.1))
 
-  alternative_grown : (more : Bool) (others others' : Alternatives) (i : ℕ) (v w u t : Value) → ExtendsAlternatives more others others' → grow_alternative others others' i v ≡ Some u → grow_alternative others others' i w ≡ Some t → same u t ≡ same v w
+  alternative_grown : (more : Bool) (others others' : Alternatives) (i : ℕ) (v w u t : Value) → ExtendsAlternatives more others others' → carried_alternative true others others' i v ≡ Some u → carried_alternative true others others' i w ≡ Some t → same u t ≡ same v w
   alternative_grown more no_alternative others' i v w u t h e f = cc
   alternative_grown more (alternative y s others) no_alternative i v w u t h e f = absurd h
   alternative_grown more (alternative y s others) (alternative y' s' others') zero v w u t h e f = same_grown s s' v w u t h.1 e f

@@ -136,7 +136,7 @@ module _ (old new : Schema) (lo : IsLawful old) (ln : IsLawful new) (ext : Exten
       let b = dropped_back old new (normal old u) (normal new g) ext (normal_is_of old u lo o) n (grown_normal u g o e) in
       let d : drop old new g ≡ Some (normal old u) = ap (lessen old new) (sym (normal_again new g)) ∙ b in
       let i = normal_depth old u in
-      left_message r g (normal old u) w d (λ s. n) (omega arith) c
+      left_message r g (normal old u) w d (λ s. normal_again old u) (omega arith) c
 
   -- either way
   pub older_again : (r : Rules) (u : Value) (w : List ℕ) → is_of old u ≡ true → depth u ≤ 128 → IsSeen old new r u w → IsMessage r old (normal old u) w

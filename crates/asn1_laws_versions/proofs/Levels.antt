@@ -3,7 +3,7 @@ use Rattle.std.proofs.Common.{◌≡◌, ℕ, zero, suc, ◌+◌, ◌≤◌, max
 use Rattle.std.proofs.lemmas.Bool.{and_parts}
 use Rattle.asn1_model.specs.Value.{Value, truth, nothing, number, item, bit_list, octet_list, text, arcs, members, bag, fields, chosen, Values, no_more, member, Parts, end, absent, present, same, same_members, same_bag, same_parts, taken_out, depth, depth_of_members, depth_of_parts}
 use Rattle.asn1_model.specs.Schema.{Schema, sequence_of, set_of, sequence, set, group, choice, Components, no_component, component, Alternatives, alternative}
-use Rattle.asn1_model.specs.Versions.{grow, grow_parts, grow_alternative, all_absent, map_each}
+use Rattle.asn1_model.specs.Versions.{carried, grow, carried_parts, carried_alternative, all_absent, map_each}
 use Rattle.asn1_model.proofs.Forms.{chain_parts, map_parts}
 use Rattle.asn1_laws_values.proofs.Messages.{some_parts}
 use Rattle.asn1_laws_values.proofs.Counts.{taken_parts, rest_parts}
@@ -89,7 +89,7 @@ members_deep g (member v vs) us k e =
     two e f = cc
 
 mutual
-  unfolding depth depth_of_members depth_of_parts grow grow_parts grow_alternative
+  unfolding depth depth_of_members depth_of_parts carried carried_parts carried_alternative
 
   pub grown_depth : (s s' : Schema) (v u : Value) → grow s s' v ≡ Some u → depth u ≡ depth v
   grown_depth (sequence_of z c s) (sequence_of z' c' s') (members vs) u e =
@@ -99,42 +99,42 @@ mutual
       let a = map_parts (map_each (λ v. grow s s' v) vs) bag u e in
       subst (λ u. depth u ≡ depth (bag vs)) a.2 (ap (λ n. n + 1) (members_deep (λ v. grow s s' v) vs a.0 (λ v u i. grown_depth s s' v u i) a.1))
   grown_depth (sequence cs m adds) (sequence cs' m' adds') (fields ps qs) u e =
-      let a = both_parts_parts (grow_parts cs cs' ps) (grow_parts adds adds' qs) u e in
+      let a = both_parts_parts (carried_parts true cs cs' ps) (carried_parts true adds adds' qs) u e in
       let h = grown_parts_depth cs cs' ps a.0 a.2 in
       let k = grown_parts_depth adds adds' qs a.1 a.3 in
       subst (λ u. depth u ≡ depth (fields ps qs)) a.4 (omega arith)
   grown_depth (set cs m adds) (set cs' m' adds') (fields ps qs) u e =
-      let a = both_parts_parts (grow_parts cs cs' ps) (grow_parts adds adds' qs) u e in
+      let a = both_parts_parts (carried_parts true cs cs' ps) (carried_parts true adds adds' qs) u e in
       let h = grown_parts_depth cs cs' ps a.0 a.2 in
       let k = grown_parts_depth adds adds' qs a.1 a.3 in
       subst (λ u. depth u ≡ depth (fields ps qs)) a.4 (omega arith)
   grown_depth (group cs) (group cs') (fields ps qs) u e =
-      let a = both_parts_parts (grow_parts cs cs' ps) (Some qs) u e in
+      let a = both_parts_parts (carried_parts true cs cs' ps) (Some qs) u e in
       let h = grown_parts_depth cs cs' ps a.0 a.2 in
       let k : depth_of_parts a.1 ≡ depth_of_parts qs = ap depth_of_parts (sym (some_parts a.3)) in
       subst (λ u. depth u ≡ depth (fields ps qs)) a.4 (omega arith)
   grown_depth (choice roots m adds) (choice roots' m' adds') (chosen false i v) u e =
-      let a = map_parts (grow_alternative roots roots' i v) (λ w. chosen false i w) u e in
+      let a = map_parts (carried_alternative true roots roots' i v) (λ w. chosen false i w) u e in
       subst (λ u. depth u ≡ depth (chosen false i v)) a.2 (ap (λ n. n + 1) (grown_alternative_depth roots roots' i v a.0 a.1))
   grown_depth (choice roots m adds) (choice roots' m' adds') (chosen true i v) u e =
-      let a = map_parts (grow_alternative adds adds' i v) (λ w. chosen true i w) u e in
+      let a = map_parts (carried_alternative true adds adds' i v) (λ w. chosen true i w) u e in
       subst (λ u. depth u ≡ depth (chosen true i v)) a.2 (ap (λ n. n + 1) (grown_alternative_depth adds adds' i v a.0 a.1))
   grown_depth s s' v u e = ap depth (sym (some_parts e))
 
-  grown_parts_depth : (cs cs' : Components) (ps us : Parts) → grow_parts cs cs' ps ≡ Some us → depth_of_parts us ≡ depth_of_parts ps
+  grown_parts_depth : (cs cs' : Components) (ps us : Parts) → carried_parts true cs cs' ps ≡ Some us → depth_of_parts us ≡ depth_of_parts ps
   grown_parts_depth (component t o s cs) (component t' o' s' cs') (present v ps) us e =
-      let d = chain_parts (grow s s' v) (λ w. option_map (λ qs. present w qs) (grow_parts cs cs' ps)) us e in
-      let a = map_parts (grow_parts cs cs' ps) (λ qs. present d.0 qs) us d.2 in
+      let d = chain_parts (grow s s' v) (λ w. option_map (λ qs. present w qs) (carried_parts true cs cs' ps)) us e in
+      let a = map_parts (carried_parts true cs cs' ps) (λ qs. present d.0 qs) us d.2 in
       let h = grown_depth s s' v d.0 d.1 in
       let k = grown_parts_depth cs cs' ps a.0 a.1 in
       subst (λ us. depth_of_parts us ≡ depth_of_parts (present v ps)) a.2 (omega arith)
   grown_parts_depth (component t o s cs) (component t' o' s' cs') (absent ps) us e =
-      let a = map_parts (grow_parts cs cs' ps) absent us e in
+      let a = map_parts (carried_parts true cs cs' ps) absent us e in
       subst (λ us. depth_of_parts us ≡ depth_of_parts ps) a.2 (grown_parts_depth cs cs' ps a.0 a.1)
   grown_parts_depth no_component cs' end us e = absent_flat cs' us e
   grown_parts_depth cs cs' ps us e = cc
 
-  grown_alternative_depth : (others others' : Alternatives) (i : ℕ) (v u : Value) → grow_alternative others others' i v ≡ Some u → depth u ≡ depth v
+  grown_alternative_depth : (others others' : Alternatives) (i : ℕ) (v u : Value) → carried_alternative true others others' i v ≡ Some u → depth u ≡ depth v
   grown_alternative_depth (alternative t s others) (alternative t' s' others') zero v u e = grown_depth s s' v u e
   grown_alternative_depth (alternative t s others) (alternative t' s' others') (suc i) v u e = grown_alternative_depth others others' i v u e
   grown_alternative_depth others others' i v u e = cc

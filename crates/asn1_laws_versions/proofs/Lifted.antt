@@ -6,7 +6,7 @@ use Rattle.asn1_model.specs.Schema.{Schema, cut, boolean, null, integer, enumera
 use Rattle.asn1_model.specs.Form.{pick, arranged}
 use Rattle.std.specs.Prelude.{is_some}
 use Rattle.asn1_model.specs.Tables.{item_place}
-use Rattle.asn1_model.specs.Versions.{grow, grow_parts, grow_alternative, lessen, lessen_parts, lessen_alternative, all_absent, map_each, Extends, ExtendsEach, ExtendsAlternatives}
+use Rattle.asn1_model.specs.Versions.{carried, grow, carried_parts, carried_alternative, lessen, all_absent, map_each, Extends, ExtendsEach, ExtendsAlternatives}
 use Rattle.asn1_model.proofs.Forms.{chain_parts, map_parts}
 use Rattle.asn1_laws_values.proofs.Messages.{some_parts}
 use Rattle.asn1_laws_values.proofs.Arranged.{arranged_parts}
@@ -150,7 +150,7 @@ item_kept false v e = cc
 
 -- ---- what is dropped
 mutual
-  unfolding same same_parts Extends ExtendsEach ExtendsAlternatives lessen lessen_parts lessen_alternative
+  unfolding same same_parts Extends ExtendsEach ExtendsAlternatives carried carried_parts carried_alternative
 
   pub lessen_lifted : (s s' : Schema) (v u x : Value) → Extends s s' → lessen s s' v ≡ Some u → same x u ≡ true → Lifted (λ v. lessen s s' v) x v
   lessen_lifted (enumerated rs m ds) (enumerated rs' m' ds') (item n) u (item k) h e f =
@@ -179,43 +179,43 @@ mutual
   lessen_lifted (set_of z c s) (set_of z' c' s') v u (bag xs) h e f = none_same (bag xs) u v (some_parts e) f (λ q. false_true q)
   lessen_lifted (set_of z c s) (set_of z' c' s') v u x h e f = itself _ v u x (some_parts e) refl f
   lessen_lifted (sequence cs m adds) (sequence cs' m' adds') (fields ps qs) u (fields xs zs) h e f =
-      let a = both_parts_parts (lessen_parts cs cs' ps) (lessen_parts adds adds' qs) u e in
+      let a = both_parts_parts (carried_parts false cs cs' ps) (carried_parts false adds adds' qs) u e in
       let q = and_parts _ _ (subst (λ u. same (fields xs zs) u ≡ true) (sym a.4) f) in
       let l = lessen_parts_lifted false cs cs' ps a.0 xs h.0 a.2 q.0 in
       let n = lessen_parts_lifted m adds adds' qs a.1 zs h.2 a.3 q.1 in
       (fields l.0 n.0, both_parts_from _ _ xs zs l.1 n.1, fields_lifted ps qs l.0 n.0 l.2 n.2)
-  lessen_lifted (sequence cs m adds) (sequence cs' m' adds') (fields ps qs) u x h e f = let a = both_parts_parts (lessen_parts cs cs' ps) (lessen_parts adds adds' qs) u e in none_same x u (fields a.0 a.1) a.4 f (λ q. false_true q)
+  lessen_lifted (sequence cs m adds) (sequence cs' m' adds') (fields ps qs) u x h e f = let a = both_parts_parts (carried_parts false cs cs' ps) (carried_parts false adds adds' qs) u e in none_same x u (fields a.0 a.1) a.4 f (λ q. false_true q)
   lessen_lifted (sequence cs m adds) (sequence cs' m' adds') v u (fields xs zs) h e f = none_same (fields xs zs) u v (some_parts e) f (λ q. false_true q)
   lessen_lifted (sequence cs m adds) (sequence cs' m' adds') v u x h e f = itself _ v u x (some_parts e) refl f
   lessen_lifted (set cs m adds) (set cs' m' adds') (fields ps qs) u (fields xs zs) h e f =
-      let a = both_parts_parts (lessen_parts cs cs' ps) (lessen_parts adds adds' qs) u e in
+      let a = both_parts_parts (carried_parts false cs cs' ps) (carried_parts false adds adds' qs) u e in
       let q = and_parts _ _ (subst (λ u. same (fields xs zs) u ≡ true) (sym a.4) f) in
       let l = lessen_parts_lifted false cs cs' ps a.0 xs h.0 a.2 q.0 in
       let n = lessen_parts_lifted m adds adds' qs a.1 zs h.2 a.3 q.1 in
       (fields l.0 n.0, both_parts_from _ _ xs zs l.1 n.1, fields_lifted ps qs l.0 n.0 l.2 n.2)
-  lessen_lifted (set cs m adds) (set cs' m' adds') (fields ps qs) u x h e f = let a = both_parts_parts (lessen_parts cs cs' ps) (lessen_parts adds adds' qs) u e in none_same x u (fields a.0 a.1) a.4 f (λ q. false_true q)
+  lessen_lifted (set cs m adds) (set cs' m' adds') (fields ps qs) u x h e f = let a = both_parts_parts (carried_parts false cs cs' ps) (carried_parts false adds adds' qs) u e in none_same x u (fields a.0 a.1) a.4 f (λ q. false_true q)
   lessen_lifted (set cs m adds) (set cs' m' adds') v u (fields xs zs) h e f = none_same (fields xs zs) u v (some_parts e) f (λ q. false_true q)
   lessen_lifted (set cs m adds) (set cs' m' adds') v u x h e f = itself _ v u x (some_parts e) refl f
   lessen_lifted (group cs) (group cs') (fields ps qs) u (fields xs zs) h e f =
-      let a = both_parts_parts (lessen_parts cs cs' ps) (Some qs) u e in
+      let a = both_parts_parts (carried_parts false cs cs' ps) (Some qs) u e in
       let q = and_parts _ _ (subst (λ u. same (fields xs zs) u ≡ true) (sym a.4) f) in
       let l = lessen_parts_lifted false cs cs' ps a.0 xs h a.2 q.0 in
       (fields l.0 zs, both_parts_from _ _ xs zs l.1 refl, fields_lifted ps qs l.0 zs l.2 (subst (λ qs. same_parts zs qs ≡ true) (sym (some_parts a.3)) q.1))
-  lessen_lifted (group cs) (group cs') (fields ps qs) u x h e f = let a = both_parts_parts (lessen_parts cs cs' ps) (Some qs) u e in none_same x u (fields a.0 a.1) a.4 f (λ q. false_true q)
+  lessen_lifted (group cs) (group cs') (fields ps qs) u x h e f = let a = both_parts_parts (carried_parts false cs cs' ps) (Some qs) u e in none_same x u (fields a.0 a.1) a.4 f (λ q. false_true q)
   lessen_lifted (group cs) (group cs') v u (fields xs zs) h e f = none_same (fields xs zs) u v (some_parts e) f (λ q. false_true q)
   lessen_lifted (group cs) (group cs') v u x h e f = itself _ v u x (some_parts e) refl f
   lessen_lifted (choice roots m adds) (choice roots' m' adds') (chosen false i v) u (chosen b j x) h e f =
-      let a = map_parts (lessen_alternative roots roots' i v) (λ w. chosen false i w) u e in
+      let a = map_parts (carried_alternative false roots roots' i v) (λ w. chosen false i w) u e in
       let q = chosen_apart false b i j a.0 x (subst (λ u. same (chosen b j x) u ≡ true) (sym a.2) f) in
       let l = lessen_alternative_lifted false roots roots' i v a.0 x h.0 a.1 q.2 in
       (chosen false i l.0, ap (option_map (λ w. chosen false i w)) l.1 ∙ ap (λ k. Some (chosen false k x)) (sym q.1) ∙ ap (λ b. Some (chosen b j x)) (sym q.0), chosen_lifted false i i v l.0 refl l.2)
   lessen_lifted (choice roots m adds) (choice roots' m' adds') (chosen true i v) u (chosen b j x) h e f =
-      let a = map_parts (lessen_alternative adds adds' i v) (λ w. chosen true i w) u e in
+      let a = map_parts (carried_alternative false adds adds' i v) (λ w. chosen true i w) u e in
       let q = chosen_apart true b i j a.0 x (subst (λ u. same (chosen b j x) u ≡ true) (sym a.2) f) in
       let l = lessen_alternative_lifted m adds adds' i v a.0 x h.2 a.1 q.2 in
       (chosen true i l.0, ap (option_map (λ w. chosen true i w)) l.1 ∙ ap (λ k. Some (chosen true k x)) (sym q.1) ∙ ap (λ b. Some (chosen b j x)) (sym q.0), chosen_lifted true i i v l.0 refl l.2)
-  lessen_lifted (choice roots m adds) (choice roots' m' adds') (chosen false i v) u x h e f = let a = map_parts (lessen_alternative roots roots' i v) (λ w. chosen false i w) u e in none_same x u (chosen false i a.0) a.2 f (λ q. false_true q)
-  lessen_lifted (choice roots m adds) (choice roots' m' adds') (chosen true i v) u x h e f = let a = map_parts (lessen_alternative adds adds' i v) (λ w. chosen true i w) u e in none_same x u (chosen true i a.0) a.2 f (λ q. false_true q)
+  lessen_lifted (choice roots m adds) (choice roots' m' adds') (chosen false i v) u x h e f = let a = map_parts (carried_alternative false roots roots' i v) (λ w. chosen false i w) u e in none_same x u (chosen false i a.0) a.2 f (λ q. false_true q)
+  lessen_lifted (choice roots m adds) (choice roots' m' adds') (chosen true i v) u x h e f = let a = map_parts (carried_alternative false adds adds' i v) (λ w. chosen true i w) u e in none_same x u (chosen true i a.0) a.2 f (λ q. false_true q)
   lessen_lifted (choice roots m adds) (choice roots' m' adds') v u (chosen b j x) h e f = none_same (chosen b j x) u v (some_parts e) f (λ q. false_true q)
   lessen_lifted (choice roots m adds) (choice roots' m' adds') v u x h e f = itself _ v u x (some_parts e) refl f
   lessen_lifted cut s' v u x h e f = itself _ v u x (some_parts e) refl f
@@ -228,34 +228,34 @@ mutual
   lessen_lifted (character_string k z a c) s' v u x h e f = itself _ v u x (some_parts e) refl f
   lessen_lifted s s' v u x h e f = absurd h
 
-  lessen_parts_lifted : (more : Bool) (cs cs' : Components) (ps us xs : Parts) → ExtendsEach more cs cs' → lessen_parts cs cs' ps ≡ Some us → same_parts xs us ≡ true → PartsLifted (λ ps. lessen_parts cs cs' ps) xs ps
+  lessen_parts_lifted : (more : Bool) (cs cs' : Components) (ps us xs : Parts) → ExtendsEach more cs cs' → carried_parts false cs cs' ps ≡ Some us → same_parts xs us ≡ true → PartsLifted (λ ps. carried_parts false cs cs' ps) xs ps
   lessen_parts_lifted more no_component cs' ps us end h e f = (ps, refl, parts_self ps)
   lessen_parts_lifted more no_component cs' ps us (absent xs) h e f = let q : same_parts (absent xs) end ≡ true = subst (λ us. same_parts (absent xs) us ≡ true) (sym (some_parts e)) f in false_true q
   lessen_parts_lifted more no_component cs' ps us (present x xs) h e f = let q : same_parts (present x xs) end ≡ true = subst (λ us. same_parts (present x xs) us ≡ true) (sym (some_parts e)) f in false_true q
   lessen_parts_lifted more (component t o s cs) no_component ps us xs h e f = absurd h
   lessen_parts_lifted more (component t o s cs) (component t' o' s' cs') end us xs h e f = cc
   lessen_parts_lifted more (component t o s cs) (component t' o' s' cs') (absent ps) us (absent xs) h e f =
-      let a = map_parts (lessen_parts cs cs' ps) absent us e in
+      let a = map_parts (carried_parts false cs cs' ps) absent us e in
       let l = lessen_parts_lifted more cs cs' ps a.0 xs h.3 a.1 (subst (λ us. same_parts (absent xs) us ≡ true) (sym a.2) f) in
       (absent l.0, ap (option_map absent) l.1, l.2)
   lessen_parts_lifted more (component t o s cs) (component t' o' s' cs') (absent ps) us xs h e f =
-      let a = map_parts (lessen_parts cs cs' ps) absent us e in
+      let a = map_parts (carried_parts false cs cs' ps) absent us e in
       let q : same_parts xs (absent a.0) ≡ true = subst (λ us. same_parts xs us ≡ true) (sym a.2) f in
       false_true q
   lessen_parts_lifted more (component t o s cs) (component t' o' s' cs') (present v ps) us (present x xs) h e f =
-      let d = chain_parts (lessen s s' v) (λ w. option_map (λ rs. present w rs) (lessen_parts cs cs' ps)) us e in
-      let a = map_parts (lessen_parts cs cs' ps) (λ rs. present d.0 rs) us d.2 in
+      let d = chain_parts (lessen s s' v) (λ w. option_map (λ rs. present w rs) (carried_parts false cs cs' ps)) us e in
+      let a = map_parts (carried_parts false cs cs' ps) (λ rs. present d.0 rs) us d.2 in
       let q = and_parts _ _ (subst (λ us. same_parts (present x xs) us ≡ true) (sym a.2) f) in
       let k = lessen_lifted s s' v d.0 x h.2 d.1 q.0 in
       let l = lessen_parts_lifted more cs cs' ps a.0 xs h.3 a.1 q.1 in
       (present k.0 l.0, put_part _ x _ xs k.1 l.1, and_from _ _ k.2 l.2)
   lessen_parts_lifted more (component t o s cs) (component t' o' s' cs') (present v ps) us xs h e f =
-      let d = chain_parts (lessen s s' v) (λ w. option_map (λ rs. present w rs) (lessen_parts cs cs' ps)) us e in
-      let a = map_parts (lessen_parts cs cs' ps) (λ rs. present d.0 rs) us d.2 in
+      let d = chain_parts (lessen s s' v) (λ w. option_map (λ rs. present w rs) (carried_parts false cs cs' ps)) us e in
+      let a = map_parts (carried_parts false cs cs' ps) (λ rs. present d.0 rs) us d.2 in
       let q : same_parts xs (present d.0 a.0) ≡ true = subst (λ us. same_parts xs us ≡ true) (sym a.2) f in
       false_true q
 
-  lessen_alternative_lifted : (more : Bool) (others others' : Alternatives) (i : ℕ) (v u x : Value) → ExtendsAlternatives more others others' → lessen_alternative others others' i v ≡ Some u → same x u ≡ true → Lifted (λ v. lessen_alternative others others' i v) x v
+  lessen_alternative_lifted : (more : Bool) (others others' : Alternatives) (i : ℕ) (v u x : Value) → ExtendsAlternatives more others others' → carried_alternative false others others' i v ≡ Some u → same x u ≡ true → Lifted (λ v. carried_alternative false others others' i v) x v
   lessen_alternative_lifted more no_alternative others' i v u x h e f = cc
   lessen_alternative_lifted more (alternative t s others) no_alternative i v u x h e f = absurd h
   lessen_alternative_lifted more (alternative t s others) (alternative t' s' others') zero v u x h e f = lessen_lifted s s' v u x h.1 e f
@@ -276,7 +276,7 @@ absent_equal (component t o s cs) us xs e f =
     false_true q
 
 mutual
-  unfolding same same_parts Extends ExtendsEach ExtendsAlternatives grow grow_parts grow_alternative
+  unfolding same same_parts Extends ExtendsEach ExtendsAlternatives carried carried_parts carried_alternative
 
   pub grow_lifted : (s s' : Schema) (v u x : Value) → Extends s s' → grow s s' v ≡ Some u → same x u ≡ true → Lifted (λ v. grow s s' v) x v
   grow_lifted (sequence_of z c s) (sequence_of z' c' s') (members vs) u (members xs) h e f =
@@ -295,43 +295,43 @@ mutual
   grow_lifted (set_of z c s) (set_of z' c' s') v u (bag xs) h e f = none_same (bag xs) u v (some_parts e) f (λ q. false_true q)
   grow_lifted (set_of z c s) (set_of z' c' s') v u x h e f = itself _ v u x (some_parts e) refl f
   grow_lifted (sequence cs m adds) (sequence cs' m' adds') (fields ps qs) u (fields xs zs) h e f =
-      let a = both_parts_parts (grow_parts cs cs' ps) (grow_parts adds adds' qs) u e in
+      let a = both_parts_parts (carried_parts true cs cs' ps) (carried_parts true adds adds' qs) u e in
       let q = and_parts _ _ (subst (λ u. same (fields xs zs) u ≡ true) (sym a.4) f) in
       let l = grow_parts_lifted false cs cs' ps a.0 xs h.0 a.2 q.0 in
       let n = grow_parts_lifted m adds adds' qs a.1 zs h.2 a.3 q.1 in
       (fields l.0 n.0, both_parts_from _ _ xs zs l.1 n.1, fields_lifted ps qs l.0 n.0 l.2 n.2)
-  grow_lifted (sequence cs m adds) (sequence cs' m' adds') (fields ps qs) u x h e f = let a = both_parts_parts (grow_parts cs cs' ps) (grow_parts adds adds' qs) u e in none_same x u (fields a.0 a.1) a.4 f (λ q. false_true q)
+  grow_lifted (sequence cs m adds) (sequence cs' m' adds') (fields ps qs) u x h e f = let a = both_parts_parts (carried_parts true cs cs' ps) (carried_parts true adds adds' qs) u e in none_same x u (fields a.0 a.1) a.4 f (λ q. false_true q)
   grow_lifted (sequence cs m adds) (sequence cs' m' adds') v u (fields xs zs) h e f = none_same (fields xs zs) u v (some_parts e) f (λ q. false_true q)
   grow_lifted (sequence cs m adds) (sequence cs' m' adds') v u x h e f = itself _ v u x (some_parts e) refl f
   grow_lifted (set cs m adds) (set cs' m' adds') (fields ps qs) u (fields xs zs) h e f =
-      let a = both_parts_parts (grow_parts cs cs' ps) (grow_parts adds adds' qs) u e in
+      let a = both_parts_parts (carried_parts true cs cs' ps) (carried_parts true adds adds' qs) u e in
       let q = and_parts _ _ (subst (λ u. same (fields xs zs) u ≡ true) (sym a.4) f) in
       let l = grow_parts_lifted false cs cs' ps a.0 xs h.0 a.2 q.0 in
       let n = grow_parts_lifted m adds adds' qs a.1 zs h.2 a.3 q.1 in
       (fields l.0 n.0, both_parts_from _ _ xs zs l.1 n.1, fields_lifted ps qs l.0 n.0 l.2 n.2)
-  grow_lifted (set cs m adds) (set cs' m' adds') (fields ps qs) u x h e f = let a = both_parts_parts (grow_parts cs cs' ps) (grow_parts adds adds' qs) u e in none_same x u (fields a.0 a.1) a.4 f (λ q. false_true q)
+  grow_lifted (set cs m adds) (set cs' m' adds') (fields ps qs) u x h e f = let a = both_parts_parts (carried_parts true cs cs' ps) (carried_parts true adds adds' qs) u e in none_same x u (fields a.0 a.1) a.4 f (λ q. false_true q)
   grow_lifted (set cs m adds) (set cs' m' adds') v u (fields xs zs) h e f = none_same (fields xs zs) u v (some_parts e) f (λ q. false_true q)
   grow_lifted (set cs m adds) (set cs' m' adds') v u x h e f = itself _ v u x (some_parts e) refl f
   grow_lifted (group cs) (group cs') (fields ps qs) u (fields xs zs) h e f =
-      let a = both_parts_parts (grow_parts cs cs' ps) (Some qs) u e in
+      let a = both_parts_parts (carried_parts true cs cs' ps) (Some qs) u e in
       let q = and_parts _ _ (subst (λ u. same (fields xs zs) u ≡ true) (sym a.4) f) in
       let l = grow_parts_lifted false cs cs' ps a.0 xs h a.2 q.0 in
       (fields l.0 zs, both_parts_from _ _ xs zs l.1 refl, fields_lifted ps qs l.0 zs l.2 (subst (λ qs. same_parts zs qs ≡ true) (sym (some_parts a.3)) q.1))
-  grow_lifted (group cs) (group cs') (fields ps qs) u x h e f = let a = both_parts_parts (grow_parts cs cs' ps) (Some qs) u e in none_same x u (fields a.0 a.1) a.4 f (λ q. false_true q)
+  grow_lifted (group cs) (group cs') (fields ps qs) u x h e f = let a = both_parts_parts (carried_parts true cs cs' ps) (Some qs) u e in none_same x u (fields a.0 a.1) a.4 f (λ q. false_true q)
   grow_lifted (group cs) (group cs') v u (fields xs zs) h e f = none_same (fields xs zs) u v (some_parts e) f (λ q. false_true q)
   grow_lifted (group cs) (group cs') v u x h e f = itself _ v u x (some_parts e) refl f
   grow_lifted (choice roots m adds) (choice roots' m' adds') (chosen false i v) u (chosen b j x) h e f =
-      let a = map_parts (grow_alternative roots roots' i v) (λ w. chosen false i w) u e in
+      let a = map_parts (carried_alternative true roots roots' i v) (λ w. chosen false i w) u e in
       let q = chosen_apart false b i j a.0 x (subst (λ u. same (chosen b j x) u ≡ true) (sym a.2) f) in
       let l = grow_alternative_lifted false roots roots' i v a.0 x h.0 a.1 q.2 in
       (chosen false i l.0, ap (option_map (λ w. chosen false i w)) l.1 ∙ ap (λ k. Some (chosen false k x)) (sym q.1) ∙ ap (λ b. Some (chosen b j x)) (sym q.0), chosen_lifted false i i v l.0 refl l.2)
   grow_lifted (choice roots m adds) (choice roots' m' adds') (chosen true i v) u (chosen b j x) h e f =
-      let a = map_parts (grow_alternative adds adds' i v) (λ w. chosen true i w) u e in
+      let a = map_parts (carried_alternative true adds adds' i v) (λ w. chosen true i w) u e in
       let q = chosen_apart true b i j a.0 x (subst (λ u. same (chosen b j x) u ≡ true) (sym a.2) f) in
       let l = grow_alternative_lifted m adds adds' i v a.0 x h.2 a.1 q.2 in
       (chosen true i l.0, ap (option_map (λ w. chosen true i w)) l.1 ∙ ap (λ k. Some (chosen true k x)) (sym q.1) ∙ ap (λ b. Some (chosen b j x)) (sym q.0), chosen_lifted true i i v l.0 refl l.2)
-  grow_lifted (choice roots m adds) (choice roots' m' adds') (chosen false i v) u x h e f = let a = map_parts (grow_alternative roots roots' i v) (λ w. chosen false i w) u e in none_same x u (chosen false i a.0) a.2 f (λ q. false_true q)
-  grow_lifted (choice roots m adds) (choice roots' m' adds') (chosen true i v) u x h e f = let a = map_parts (grow_alternative adds adds' i v) (λ w. chosen true i w) u e in none_same x u (chosen true i a.0) a.2 f (λ q. false_true q)
+  grow_lifted (choice roots m adds) (choice roots' m' adds') (chosen false i v) u x h e f = let a = map_parts (carried_alternative true roots roots' i v) (λ w. chosen false i w) u e in none_same x u (chosen false i a.0) a.2 f (λ q. false_true q)
+  grow_lifted (choice roots m adds) (choice roots' m' adds') (chosen true i v) u x h e f = let a = map_parts (carried_alternative true adds adds' i v) (λ w. chosen true i w) u e in none_same x u (chosen true i a.0) a.2 f (λ q. false_true q)
   grow_lifted (choice roots m adds) (choice roots' m' adds') v u (chosen b j x) h e f = none_same (chosen b j x) u v (some_parts e) f (λ q. false_true q)
   grow_lifted (choice roots m adds) (choice roots' m' adds') v u x h e f = itself _ v u x (some_parts e) refl f
   grow_lifted cut s' v u x h e f = itself _ v u x (some_parts e) refl f
@@ -345,34 +345,34 @@ mutual
   grow_lifted (character_string k z a c) s' v u x h e f = itself _ v u x (some_parts e) refl f
   grow_lifted s s' v u x h e f = absurd h
 
-  grow_parts_lifted : (more : Bool) (cs cs' : Components) (ps us xs : Parts) → ExtendsEach more cs cs' → grow_parts cs cs' ps ≡ Some us → same_parts xs us ≡ true → PartsLifted (λ ps. grow_parts cs cs' ps) xs ps
+  grow_parts_lifted : (more : Bool) (cs cs' : Components) (ps us xs : Parts) → ExtendsEach more cs cs' → carried_parts true cs cs' ps ≡ Some us → same_parts xs us ≡ true → PartsLifted (λ ps. carried_parts true cs cs' ps) xs ps
   grow_parts_lifted more no_component cs' end us xs h e f = (end, e ∙ ap Some (sym (absent_equal cs' us xs e f)), refl)
   grow_parts_lifted more no_component cs' (absent ps) us xs h e f = cc
   grow_parts_lifted more no_component cs' (present v ps) us xs h e f = cc
   grow_parts_lifted more (component t o s cs) no_component ps us xs h e f = absurd h
   grow_parts_lifted more (component t o s cs) (component t' o' s' cs') end us xs h e f = cc
   grow_parts_lifted more (component t o s cs) (component t' o' s' cs') (absent ps) us (absent xs) h e f =
-      let a = map_parts (grow_parts cs cs' ps) absent us e in
+      let a = map_parts (carried_parts true cs cs' ps) absent us e in
       let l = grow_parts_lifted more cs cs' ps a.0 xs h.3 a.1 (subst (λ us. same_parts (absent xs) us ≡ true) (sym a.2) f) in
       (absent l.0, ap (option_map absent) l.1, l.2)
   grow_parts_lifted more (component t o s cs) (component t' o' s' cs') (absent ps) us xs h e f =
-      let a = map_parts (grow_parts cs cs' ps) absent us e in
+      let a = map_parts (carried_parts true cs cs' ps) absent us e in
       let q : same_parts xs (absent a.0) ≡ true = subst (λ us. same_parts xs us ≡ true) (sym a.2) f in
       false_true q
   grow_parts_lifted more (component t o s cs) (component t' o' s' cs') (present v ps) us (present x xs) h e f =
-      let d = chain_parts (grow s s' v) (λ w. option_map (λ rs. present w rs) (grow_parts cs cs' ps)) us e in
-      let a = map_parts (grow_parts cs cs' ps) (λ rs. present d.0 rs) us d.2 in
+      let d = chain_parts (grow s s' v) (λ w. option_map (λ rs. present w rs) (carried_parts true cs cs' ps)) us e in
+      let a = map_parts (carried_parts true cs cs' ps) (λ rs. present d.0 rs) us d.2 in
       let q = and_parts _ _ (subst (λ us. same_parts (present x xs) us ≡ true) (sym a.2) f) in
       let k = grow_lifted s s' v d.0 x h.2 d.1 q.0 in
       let l = grow_parts_lifted more cs cs' ps a.0 xs h.3 a.1 q.1 in
       (present k.0 l.0, put_part _ x _ xs k.1 l.1, and_from _ _ k.2 l.2)
   grow_parts_lifted more (component t o s cs) (component t' o' s' cs') (present v ps) us xs h e f =
-      let d = chain_parts (grow s s' v) (λ w. option_map (λ rs. present w rs) (grow_parts cs cs' ps)) us e in
-      let a = map_parts (grow_parts cs cs' ps) (λ rs. present d.0 rs) us d.2 in
+      let d = chain_parts (grow s s' v) (λ w. option_map (λ rs. present w rs) (carried_parts true cs cs' ps)) us e in
+      let a = map_parts (carried_parts true cs cs' ps) (λ rs. present d.0 rs) us d.2 in
       let q : same_parts xs (present d.0 a.0) ≡ true = subst (λ us. same_parts xs us ≡ true) (sym a.2) f in
       false_true q
 
-  grow_alternative_lifted : (more : Bool) (others others' : Alternatives) (i : ℕ) (v u x : Value) → ExtendsAlternatives more others others' → grow_alternative others others' i v ≡ Some u → same x u ≡ true → Lifted (λ v. grow_alternative others others' i v) x v
+  grow_alternative_lifted : (more : Bool) (others others' : Alternatives) (i : ℕ) (v u x : Value) → ExtendsAlternatives more others others' → carried_alternative true others others' i v ≡ Some u → same x u ≡ true → Lifted (λ v. carried_alternative true others others' i v) x v
   grow_alternative_lifted more no_alternative others' i v u x h e f = cc
   grow_alternative_lifted more (alternative t s others) no_alternative i v u x h e f = absurd h
   grow_alternative_lifted more (alternative t s others) (alternative t' s' others') zero v u x h e f = grow_lifted s s' v u x h.1 e f

@@ -6,7 +6,7 @@ use Rattle.asn1_model.specs.Schema.{Counts, Size, Schema, enumerated, sequence_o
 use Rattle.asn1_model.specs.Form.{Form, pick, arranged}
 use Rattle.std.specs.Prelude.{is_some}
 use Rattle.asn1_model.specs.Tables.{item_place}
-use Rattle.asn1_model.specs.Versions.{grow, lessen, grow_alternative, lessen_alternative, map_each}
+use Rattle.asn1_model.specs.Versions.{carried, grow, lessen, carried_alternative, map_each}
 use Rattle.asn1_model.proofs.Forms.{map_parts}
 use Rattle.asn1_laws_values.proofs.Arranged.{arranged_parts, some_parts}
 use Rattle.asn1_laws_values.proofs.Covers.{CoversEach}
@@ -59,11 +59,11 @@ each_there g (member v vs) h = there_chain (g v) _ h.0 (λ w. there_map (λ ws. 
 
 -- each member can be carried over
 pub members_carried : (m : Bool) (z z' : Size) (c c' : Counts) (s s' : Schema) (us vs : Values) → Each (λ v. There (lessen s s' v)) (listed vs) → (m ≡ true → Each (λ x. There (grow s s' x)) (listed us)) → Carried m (sequence_of z c s) (sequence_of z' c' s') (members us) (members vs)
-unfolding lessen grow
+unfolding carried
 members_carried m z z' c c' s s' us vs h k = (there_map members _ (each_there _ vs h), λ q. there_map members _ (each_there _ us (k q)))
 
 pub bags_carried : (m : Bool) (z z' : Size) (c c' : Counts) (s s' : Schema) (us vs : Values) → Each (λ v. There (lessen s s' v)) (listed vs) → (m ≡ true → Each (λ x. There (grow s s' x)) (listed us)) → Carried m (set_of z c s) (set_of z' c' s') (bag us) (bag vs)
-unfolding lessen grow
+unfolding carried
 bags_carried m z z' c c' s s' us vs h k = (there_map bag _ (each_there _ vs h), λ q. there_map bag _ (each_there _ us (k q)))
 
 -- ---- members of the older version and of the newer one, in one type
@@ -117,19 +117,19 @@ EachPairOf Q (alternative t s others) (alternative t' s' others') = Q s s' × Ea
 EachPairOf Q others others' = Unit {0}
 
 abbrev pub AlternativeCarried : Bool → Alternatives → Alternatives → ℕ → Value → Value → Type 0
-AlternativeCarried m others others' i x v = There (lessen_alternative others others' i v) × (m ≡ true → There (grow_alternative others others' i x))
+AlternativeCarried m others others' i x v = There (carried_alternative false others others' i v) × (m ≡ true → There (carried_alternative true others others' i x))
 
 -- ---- what is put together can be carried over
 pub fields_carried : (m : Bool) (cs cs' : Components) (e e' : Bool) (adds adds' : Components) (ps qs rs ss : Parts) → PartsCarried m cs cs' ps rs × PartsCarried m adds adds' qs ss → Carried m (sequence cs e adds) (sequence cs' e' adds') (fields ps qs) (fields rs ss)
-unfolding lessen grow
+unfolding carried
 fields_carried m cs cs' e e' adds adds' ps qs rs ss q = (there_both _ _ q.0.0 q.1.0, λ t. there_both _ _ (q.0.1 t) (q.1.1 t))
 
 pub set_carried : (m : Bool) (cs cs' : Components) (e e' : Bool) (adds adds' : Components) (ps qs rs ss : Parts) → PartsCarried m cs cs' ps rs × PartsCarried m adds adds' qs ss → Carried m (set cs e adds) (set cs' e' adds') (fields ps qs) (fields rs ss)
-unfolding lessen grow
+unfolding carried
 set_carried m cs cs' e e' adds adds' ps qs rs ss q = (there_both _ _ q.0.0 q.1.0, λ t. there_both _ _ (q.0.1 t) (q.1.1 t))
 
 pub group_carried : (m : Bool) (cs cs' : Components) (ps rs : Parts) → PartsCarried m cs cs' ps rs → Carried m (group cs) (group cs') (fields ps end) (fields rs end)
-unfolding lessen grow
+unfolding carried
 group_carried m cs cs' ps rs q = (there_both _ _ q.0 (end, refl), λ t. there_both _ _ (q.1 t) (end, refl))
 
 item_there : (b : Bool) (v : Value) → b ≡ true → There (cond b (Some v) None)
@@ -137,13 +137,13 @@ item_there true v e = (v, refl)
 item_there false v e = cc
 
 pub item_carried : (m : Bool) (roots adds adds' : List ℤ) (e : Bool) (n k : ℤ) → (is_some (item_place k roots) || is_some (item_place k adds)) ≡ true → Carried m (enumerated roots e adds) (enumerated roots e adds') (item n) (item k)
-unfolding lessen grow
+unfolding carried
 item_carried m roots adds adds' e n k h = (item_there _ (item k) h, λ q. (item n, refl))
 
 pub chosen_carried : (m : Bool) (roots roots' adds adds' : Alternatives) (e e' : Bool) (i j : ℕ) (x v : Value) → i ≡ j → AlternativeCarried m roots roots' i x v → Carried m (choice roots e adds) (choice roots' e' adds') (chosen false i x) (chosen false j v)
-unfolding lessen grow
-chosen_carried m roots roots' adds adds' e e' i j x v n q = (there_map (λ w. chosen false j w) _ (subst (λ k. There (lessen_alternative roots roots' k v)) n q.0), λ t. there_map (λ w. chosen false i w) _ (q.1 t))
+unfolding carried
+chosen_carried m roots roots' adds adds' e e' i j x v n q = (there_map (λ w. chosen false j w) _ (subst (λ k. There (carried_alternative false roots roots' k v)) n q.0), λ t. there_map (λ w. chosen false i w) _ (q.1 t))
 
 pub chosen_added_carried : (m : Bool) (roots roots' adds adds' : Alternatives) (e e' : Bool) (i j : ℕ) (x v : Value) → i ≡ j → AlternativeCarried m adds adds' i x v → Carried m (choice roots e adds) (choice roots' e' adds') (chosen true i x) (chosen true j v)
-unfolding lessen grow
-chosen_added_carried m roots roots' adds adds' e e' i j x v n q = (there_map (λ w. chosen true j w) _ (subst (λ k. There (lessen_alternative adds adds' k v)) n q.0), λ t. there_map (λ w. chosen true i w) _ (q.1 t))
+unfolding carried
+chosen_added_carried m roots roots' adds adds' e e' i j x v n q = (there_map (λ w. chosen true j w) _ (subst (λ k. There (carried_alternative false adds adds' k v)) n q.0), λ t. there_map (λ w. chosen true i w) _ (q.1 t))

@@ -4,7 +4,7 @@ use Rattle.asn1_model.specs.Value.{Value, members, bag, fields, chosen, Values, 
 use Rattle.asn1_model.specs.Schema.{Tag, Presence, required, optional, by_default, Schema, cut, boolean, null, integer, enumerated, bit_string, octet_string, character_string, object_identifier, sequence_of, set_of, sequence, set, group, choice, Components, no_component, component, Alternatives, no_alternative, alternative}
 use Rattle.asn1_model.specs.Normal.{normal, normal_parts, normal_alternative, is_empty_group, is_default_by, kept}
 use Rattle.asn1_model.specs.Tidy.{is_normal}
-use Rattle.asn1_model.specs.Versions.{grow, grow_parts, grow_alternative, all_absent, map_each, KeepsPresence, Extends, ExtendsEach, ExtendsAlternatives}
+use Rattle.asn1_model.specs.Versions.{carried, grow, carried_parts, carried_alternative, all_absent, map_each, KeepsPresence, Extends, ExtendsEach, ExtendsAlternatives}
 use Rattle.asn1_model.proofs.Forms.{chain_parts, map_parts}
 use Rattle.asn1_laws_values.proofs.Messages.{some_parts}
 use Rattle.asn1_laws_values.proofs.Normals.{normal_normal}
@@ -15,8 +15,8 @@ use Rattle.asn1_laws_versions.proofs.Extending.{both_parts_parts, both_parts_fro
 use Rattle.asn1_laws_versions.proofs.Grown.{each_of, each_again, same_grown}
 
 -- ---- groups
-absent_kept : (cs cs' : Components) (ps us : Parts) → ExtendsEach false cs cs' → grow_parts cs cs' ps ≡ Some us → are_absent us ≡ are_absent ps
-unfolding ExtendsEach grow_parts
+absent_kept : (cs cs' : Components) (ps us : Parts) → ExtendsEach false cs cs' → carried_parts true cs cs' ps ≡ Some us → are_absent us ≡ are_absent ps
+unfolding ExtendsEach carried_parts
 absent_kept no_component no_component end us h e = subst (λ us. are_absent us ≡ true) (some_parts e) refl
 absent_kept no_component no_component (absent ps) us h e = cc
 absent_kept no_component no_component (present v ps) us h e = cc
@@ -24,17 +24,17 @@ absent_kept no_component (component t' o' s' cs') ps us h e = absurd h
 absent_kept (component t o s cs) no_component ps us h e = absurd h
 absent_kept (component t o s cs) (component t' o' s' cs') end us h e = cc
 absent_kept (component t o s cs) (component t' o' s' cs') (absent ps) us h e =
-    let a = map_parts (grow_parts cs cs' ps) absent us e in
+    let a = map_parts (carried_parts true cs cs' ps) absent us e in
     subst (λ us. are_absent us ≡ are_absent ps) a.2 (absent_kept cs cs' ps a.0 h.3 a.1)
 absent_kept (component t o s cs) (component t' o' s' cs') (present v ps) us h e =
-    let d = chain_parts (grow s s' v) (λ w. option_map (λ rs. present w rs) (grow_parts cs cs' ps)) us e in
-    let a = map_parts (grow_parts cs cs' ps) (λ rs. present d.0 rs) us d.2 in
+    let d = chain_parts (grow s s' v) (λ w. option_map (λ rs. present w rs) (carried_parts true cs cs' ps)) us e in
+    let a = map_parts (carried_parts true cs cs' ps) (λ rs. present d.0 rs) us d.2 in
     subst (λ us. are_absent us ≡ false) a.2 refl
 
 empty_kept : (s s' : Schema) (v u : Value) → Extends s s' → grow s s' v ≡ Some u → is_empty_group s v ≡ is_empty_group s' u
-unfolding Extends grow
+unfolding Extends carried
 empty_kept (group cs) (group cs') (fields ps qs) u h e =
-    let a = both_parts_parts (grow_parts cs cs' ps) (Some qs) u e in
+    let a = both_parts_parts (carried_parts true cs cs' ps) (Some qs) u e in
     subst (λ u. are_absent ps ≡ is_empty_group (group cs') u) a.4 (sym (absent_kept cs cs' ps a.0 h a.2))
 empty_kept (group cs) (group cs') v u h e = subst (λ u. is_empty_group (group cs) v ≡ is_empty_group (group cs') u) (some_parts e) refl
 empty_kept (group cs) s' v u h e = absurd h
@@ -69,10 +69,10 @@ absent_stay (component t o s cs) us e = let a = absent_of o s t cs us e in subst
 put_part : (o : Option Value) (w : Value) (p : Option Parts) (q : Parts) → o ≡ Some w → p ≡ Some q → option_and_then (λ w. option_map (λ q. present w q) p) o ≡ Some (present w q)
 put_part o w p q e f = rw (e, f) refl
 
-part_kept : (t t' : List Tag) (o o' : Presence) (s s' : Schema) (cs cs' : Components) (b b' : Bool) (x y : Value) (ps qs : Parts) → b ≡ b' → grow s s' x ≡ Some y → grow_parts cs cs' ps ≡ Some qs → grow_parts (component t o s cs) (component t' o' s' cs') (kept b x ps) ≡ Some (kept b' y qs)
-unfolding grow_parts
+part_kept : (t t' : List Tag) (o o' : Presence) (s s' : Schema) (cs cs' : Components) (b b' : Bool) (x y : Value) (ps qs : Parts) → b ≡ b' → grow s s' x ≡ Some y → carried_parts true cs cs' ps ≡ Some qs → carried_parts true (component t o s cs) (component t' o' s' cs') (kept b x ps) ≡ Some (kept b' y qs)
+unfolding carried_parts
 part_kept t t' o o' s s' cs cs' true true x y ps qs h e f = ap (option_map absent) f
-part_kept t t' o o' s s' cs cs' false false x y ps qs h e f = put_part (grow s s' x) y (grow_parts cs cs' ps) qs e f
+part_kept t t' o o' s s' cs cs' false false x y ps qs h e f = put_part (grow s s' x) y (carried_parts true cs cs' ps) qs e f
 part_kept t t' o o' s s' cs cs' true false x y ps qs h e f = cc
 part_kept t t' o o' s s' cs cs' false true x y ps qs h e f = cc
 
@@ -84,7 +84,7 @@ left_alone : (f : Value → Option Value) (n : Value → Value) (v u : Value) �
 left_alone f n v u e h = subst (λ u. f v ≡ Some (n u)) h e
 
 mutual
-  unfolding normal normal_parts normal_alternative Extends ExtendsEach ExtendsAlternatives grow grow_parts grow_alternative
+  unfolding normal normal_parts normal_alternative Extends ExtendsEach ExtendsAlternatives carried carried_parts carried_alternative
 
   pub normal_grown : (s s' : Schema) (v u : Value) → Extends s s' → grow s s' v ≡ Some u → Carries s s' v u
   normal_grown (sequence_of z c s) (sequence_of z' c' s') (members vs) u h e =
@@ -96,22 +96,22 @@ mutual
       subst (λ u. Carries (set_of z c s) (set_of z' c' s') (bag vs) u) a.2 (ap (option_map bag) (members_carried (λ v. grow s s' v) (λ v. grow s s' v) (λ v. grow s s' v) (λ v. normal s v) (λ v. normal s' v) vs a.0 (λ v u i. normal_grown s s' v u h.2 i) a.1))
   normal_grown (set_of z c s) (set_of z' c' s') v u h e = left_alone (λ v. Some v) (λ v. normal (set_of z' c' s') v) v u refl (some_parts e)
   normal_grown (sequence cs m adds) (sequence cs' m' adds') (fields ps qs) u h e =
-      let a = both_parts_parts (grow_parts cs cs' ps) (grow_parts adds adds' qs) u e in
+      let a = both_parts_parts (carried_parts true cs cs' ps) (carried_parts true adds adds' qs) u e in
       subst (λ u. Carries (sequence cs m adds) (sequence cs' m' adds') (fields ps qs) u) a.4 (both_parts_from _ _ (normal_parts cs' a.0) (normal_parts adds' a.1) (parts_normal false cs cs' ps a.0 h.0 a.2) (parts_normal m adds adds' qs a.1 h.2 a.3))
   normal_grown (sequence cs m adds) (sequence cs' m' adds') v u h e = left_alone (λ v. Some v) (λ v. normal (sequence cs' m' adds') v) v u refl (some_parts e)
   normal_grown (set cs m adds) (set cs' m' adds') (fields ps qs) u h e =
-      let a = both_parts_parts (grow_parts cs cs' ps) (grow_parts adds adds' qs) u e in
+      let a = both_parts_parts (carried_parts true cs cs' ps) (carried_parts true adds adds' qs) u e in
       subst (λ u. Carries (set cs m adds) (set cs' m' adds') (fields ps qs) u) a.4 (both_parts_from _ _ (normal_parts cs' a.0) (normal_parts adds' a.1) (parts_normal false cs cs' ps a.0 h.0 a.2) (parts_normal m adds adds' qs a.1 h.2 a.3))
   normal_grown (set cs m adds) (set cs' m' adds') v u h e = left_alone (λ v. Some v) (λ v. normal (set cs' m' adds') v) v u refl (some_parts e)
   normal_grown (group cs) (group cs') (fields ps qs) u h e =
-      let a = both_parts_parts (grow_parts cs cs' ps) (Some qs) u e in
+      let a = both_parts_parts (carried_parts true cs cs' ps) (Some qs) u e in
       subst (λ u. Carries (group cs) (group cs') (fields ps qs) u) a.4 (both_parts_from _ _ (normal_parts cs' a.0) a.1 (parts_normal false cs cs' ps a.0 h a.2) a.3)
   normal_grown (group cs) (group cs') v u h e = left_alone (λ v. Some v) (λ v. normal (group cs') v) v u refl (some_parts e)
   normal_grown (choice roots m adds) (choice roots' m' adds') (chosen false i v) u h e =
-      let a = map_parts (grow_alternative roots roots' i v) (λ w. chosen false i w) u e in
+      let a = map_parts (carried_alternative true roots roots' i v) (λ w. chosen false i w) u e in
       subst (λ u. Carries (choice roots m adds) (choice roots' m' adds') (chosen false i v) u) a.2 (ap (option_map (λ w. chosen false i w)) (alternative_normal false roots roots' i v a.0 h.0 a.1))
   normal_grown (choice roots m adds) (choice roots' m' adds') (chosen true i v) u h e =
-      let a = map_parts (grow_alternative adds adds' i v) (λ w. chosen true i w) u e in
+      let a = map_parts (carried_alternative true adds adds' i v) (λ w. chosen true i w) u e in
       subst (λ u. Carries (choice roots m adds) (choice roots' m' adds') (chosen true i v) u) a.2 (ap (option_map (λ w. chosen true i w)) (alternative_normal m adds adds' i v a.0 h.2 a.1))
   normal_grown (choice roots m adds) (choice roots' m' adds') v u h e = left_alone (λ v. Some v) (λ v. normal (choice roots' m' adds') v) v u refl (some_parts e)
   normal_grown cut cut v u h e = e
@@ -125,23 +125,23 @@ mutual
   normal_grown (character_string k z a c) (character_string k' z' a' c') v u h e = e
   normal_grown s s' v u h e = absurd h
 
-  parts_normal : (more : Bool) (cs cs' : Components) (ps us : Parts) → ExtendsEach more cs cs' → grow_parts cs cs' ps ≡ Some us → grow_parts cs cs' (normal_parts cs ps) ≡ Some (normal_parts cs' us)
+  parts_normal : (more : Bool) (cs cs' : Components) (ps us : Parts) → ExtendsEach more cs cs' → carried_parts true cs cs' ps ≡ Some us → carried_parts true cs cs' (normal_parts cs ps) ≡ Some (normal_parts cs' us)
   parts_normal more no_component cs' end us h e = e ∙ ap Some (sym (absent_stay cs' us e))
   parts_normal more no_component cs' (absent ps) us h e = cc
   parts_normal more no_component cs' (present v ps) us h e = cc
   parts_normal more (component t o s cs) no_component ps us h e = absurd h
   parts_normal more (component t o s cs) (component t' o' s' cs') end us h e = cc
   parts_normal more (component t o s cs) (component t' o' s' cs') (absent ps) us h e =
-      let a = map_parts (grow_parts cs cs' ps) absent us e in
-      subst (λ us. grow_parts (component t o s cs) (component t' o' s' cs') (absent (normal_parts cs ps)) ≡ Some (normal_parts (component t' o' s' cs') us)) a.2 (ap (option_map absent) (parts_normal more cs cs' ps a.0 h.3 a.1))
+      let a = map_parts (carried_parts true cs cs' ps) absent us e in
+      subst (λ us. carried_parts true (component t o s cs) (component t' o' s' cs') (absent (normal_parts cs ps)) ≡ Some (normal_parts (component t' o' s' cs') us)) a.2 (ap (option_map absent) (parts_normal more cs cs' ps a.0 h.3 a.1))
   parts_normal more (component t o s cs) (component t' o' s' cs') (present v ps) us h e =
-      let d = chain_parts (grow s s' v) (λ w. option_map (λ rs. present w rs) (grow_parts cs cs' ps)) us e in
-      let a = map_parts (grow_parts cs cs' ps) (λ rs. present d.0 rs) us d.2 in
+      let d = chain_parts (grow s s' v) (λ w. option_map (λ rs. present w rs) (carried_parts true cs cs' ps)) us e in
+      let a = map_parts (carried_parts true cs cs' ps) (λ rs. present d.0 rs) us d.2 in
       let n : Carries s s' v d.0 = normal_grown s s' v d.0 h.2 d.1 in
       let tests = either_same _ _ _ _ (default_kept s s' o o' (normal s v) (normal s' d.0) h.2 h.1 n) (empty_kept s s' (normal s v) (normal s' d.0) h.2 n) in
-      subst (λ us. grow_parts (component t o s cs) (component t' o' s' cs') (normal_parts (component t o s cs) (present v ps)) ≡ Some (normal_parts (component t' o' s' cs') us)) a.2 (part_kept t t' o o' s s' cs cs' _ _ (normal s v) (normal s' d.0) (normal_parts cs ps) (normal_parts cs' a.0) tests n (parts_normal more cs cs' ps a.0 h.3 a.1))
+      subst (λ us. carried_parts true (component t o s cs) (component t' o' s' cs') (normal_parts (component t o s cs) (present v ps)) ≡ Some (normal_parts (component t' o' s' cs') us)) a.2 (part_kept t t' o o' s s' cs cs' _ _ (normal s v) (normal s' d.0) (normal_parts cs ps) (normal_parts cs' a.0) tests n (parts_normal more cs cs' ps a.0 h.3 a.1))
 
-  alternative_normal : (more : Bool) (others others' : Alternatives) (i : ℕ) (v u : Value) → ExtendsAlternatives more others others' → grow_alternative others others' i v ≡ Some u → grow_alternative others others' i (normal_alternative others i v) ≡ Some (normal_alternative others' i u)
+  alternative_normal : (more : Bool) (others others' : Alternatives) (i : ℕ) (v u : Value) → ExtendsAlternatives more others others' → carried_alternative true others others' i v ≡ Some u → carried_alternative true others others' i (normal_alternative others i v) ≡ Some (normal_alternative others' i u)
   alternative_normal more no_alternative others' i v u h e = cc
   alternative_normal more (alternative y s others) no_alternative i v u h e = absurd h
   alternative_normal more (alternative y s others) (alternative y' s' others') zero v u h e = normal_grown s s' v u h.1 e

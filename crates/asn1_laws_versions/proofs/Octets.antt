@@ -11,7 +11,7 @@ use Rattle.std.specs.Prelude.{is_some}
 use Rattle.std.specs.List.{list_all}
 use Rattle.asn1_model.specs.Tables.{presence_bits, item_place}
 use Rattle.asn1_model.specs.Oer
-use Rattle.asn1_model.specs.Versions.{grow, grow_alternative, lessen, lessen_alternative, Begins, Extends, ExtendsEach, ExtendsAlternatives}
+use Rattle.asn1_model.specs.Versions.{carried, grow, carried_alternative, lessen, Begins, Extends, ExtendsEach, ExtendsAlternatives}
 use Rattle.asn1_laws_values.proofs.Covers.{covers_same, covers_within}
 use Rattle.asn1_laws_values.proofs.Listed.{listed, each_is_map, order_map}
 use Rattle.asn1_laws_fronts.proofs.Fronts.{Pairwise, agree_with_refused, agree_map, agree_varied_right, agree_if_right, agree_turned}
@@ -218,7 +218,7 @@ module _ (free : Oer.Freedom → Bool) where
 
       -- alternatives of one table, told by their tags
       alternatives_way : (added more : Bool) (others others' : Alternatives) (i j : ℕ) (x v : Value) → ExtendsAlternatives more others others' → Others others others' → are_distinct tag_same (alternative_tags others') ≡ true → Met m (Oer.alternative_form added others i x) (Oer.alternative_form added others' j v) ((i ≡ j) × AlternativeCarried m others others' i x v)
-      unfolding Oer.alternative_form ExtendsAlternatives lessen_alternative grow_alternative
+      unfolding Oer.alternative_form ExtendsAlternatives carried_alternative
       alternatives_way true more no_alternative others' i j x v h k d = taken_refused free m _ _
       alternatives_way false more no_alternative others' i j x v h k d = taken_refused free m _ _
       alternatives_way added more (alternative t s others) no_alternative i j x v h k d = absurd h
@@ -251,7 +251,7 @@ module _ (free : Oer.Freedom → Bool) where
       kind_way s s' e l c x v = agree_map free (λ q. c x v) (subst (λ s'. Met m (Oer.form s x) (Oer.form s' v) (Unit {0})) e (taken_same free m _ _ _ (once s l x v)))
 
       mutual
-        unfolding Extends ExtendsEach ExtendsAlternatives is_lawful are_lawful are_lawful_alternatives lessen grow
+        unfolding Extends ExtendsEach ExtendsAlternatives is_lawful are_lawful are_lawful_alternatives carried
 
         pub way : (s s' : Schema) → Extends s s' → is_lawful s ≡ true → is_lawful s' ≡ true → Way s s'
         way boolean boolean h l l' = kind_way boolean boolean refl l (λ x v. ((v, refl), λ q. (x, refl)))

@@ -14,7 +14,7 @@ use Rattle.std.specs.List.{list_all}
 use Rattle.asn1_model.specs.Tables.{presence_bits, alternative_count, item_place}
 use Rattle.asn1_model.specs.Oer.{packed}
 use Rattle.asn1_model.specs.Per
-use Rattle.asn1_model.specs.Versions.{grow, grow_alternative, lessen, lessen_alternative, Begins, Extends, ExtendsEach, ExtendsAlternatives}
+use Rattle.asn1_model.specs.Versions.{carried, grow, carried_alternative, lessen, Begins, Extends, ExtendsEach, ExtendsAlternatives}
 use Rattle.asn1_laws_values.proofs.Covers.{covers_same, covers_within}
 use Rattle.asn1_laws_values.proofs.Octets.{eights_units}
 use Rattle.asn1_laws_values.proofs.Listed.{listed, each_is_map, order_map}
@@ -212,7 +212,7 @@ module _ (free : Per.Freedom → Bool) where
       Others others others' = EachPairOf (λ s s'. Way s s') others others'
 
       alternatives_way : (more : Bool) (others others' : Alternatives) (i : ℕ) (x v : Value) → ExtendsAlternatives more others others' → Others others others' → Met m (Per.alternative_form al others i x) (Per.alternative_form al others' i v) (AlternativeCarried m others others' i x v)
-      unfolding Per.alternative_form ExtendsAlternatives lessen_alternative grow_alternative
+      unfolding Per.alternative_form ExtendsAlternatives carried_alternative
       alternatives_way more no_alternative others' i x v h k = taken_refused free m _ _
       alternatives_way more (alternative t s others) no_alternative i x v h k = absurd h
       alternatives_way more (alternative t s others) (alternative t' s' others') zero x v h k = k.0 x v
@@ -267,7 +267,7 @@ module _ (free : Per.Freedom → Bool) where
       kind_way s s' e l c x v = agree_map free (λ q. c x v) (subst (λ s'. Met m (Per.form al s x) (Per.form al s' v) (Unit {0})) e (taken_same free m _ _ _ (once s l x v)))
 
       mutual
-        unfolding Extends ExtendsEach ExtendsAlternatives is_lawful are_lawful are_lawful_alternatives lessen grow
+        unfolding Extends ExtendsEach ExtendsAlternatives is_lawful are_lawful are_lawful_alternatives carried
 
         pub way : (s s' : Schema) → Extends s s' → is_lawful s ≡ true → is_lawful s' ≡ true → Way s s'
         way boolean boolean h l l' = kind_way boolean boolean refl l (λ x v. ((v, refl), λ q. (x, refl)))

@@ -6,7 +6,7 @@ use Rattle.asn1_model.specs.Schema.{Tag, Presence, required, optional, by_defaul
 use Rattle.asn1_model.specs.Form.{Form, refused, both, joined, Bitmap, is_any_present, present_ones, covered_by, own_bitmap}
 use Rattle.std.specs.Prelude.{is_some}
 use Rattle.asn1_model.specs.Tables.{presence_bits, is_required, presence_bit_unless}
-use Rattle.asn1_model.specs.Versions.{grow, grow_parts, lessen, lessen_parts, all_absent, both_parts, KeepsPresence, ExtendsEach}
+use Rattle.asn1_model.specs.Versions.{carried, grow, carried_parts, lessen, all_absent, both_parts, KeepsPresence, ExtendsEach}
 use Rattle.asn1_model.proofs.Forms.{map_parts}
 use Rattle.asn1_laws_fronts.proofs.Fronts.{Agree, agree_with_refused, agree_map, agree_both, agree_if_right, agree_nothing}
 use Rattle.asn1_laws_fronts.proofs.Additions as adding
@@ -35,18 +35,18 @@ abbrev pub Carried : Bool → Schema → Schema → Value → Value → Type 0
 Carried m s s' x v = There (lessen s s' v) × (m ≡ true → There (grow s s' x))
 
 abbrev pub PartsCarried : Bool → Components → Components → Parts → Parts → Type 0
-PartsCarried m cs cs' ps qs = There (lessen_parts cs cs' qs) × (m ≡ true → There (grow_parts cs cs' ps))
+PartsCarried m cs cs' ps qs = There (carried_parts false cs cs' qs) × (m ≡ true → There (carried_parts true cs cs' ps))
 
 present_carried : (m : Bool) (t t' : List Tag) (o o' : Presence) (s s' : Schema) (cs cs' : Components) (x v : Value) (ps qs : Parts) → Carried m s s' x v → PartsCarried m cs cs' ps qs → PartsCarried m (component t o s cs) (component t' o' s' cs') (present x ps) (present v qs)
-unfolding lessen_parts grow_parts
+unfolding carried_parts
 present_carried m t t' o o' s s' cs cs' x v ps qs h k = (there_chain (lessen s s' v) _ h.0 (λ w. there_map (λ rs. present w rs) _ k.0), λ q. there_chain (grow s s' x) _ (h.1 q) (λ w. there_map (λ rs. present w rs) _ (k.1 q)))
 
 absent_carried : (m : Bool) (t t' : List Tag) (o o' : Presence) (s s' : Schema) (cs cs' : Components) (ps qs : Parts) → PartsCarried m cs cs' ps qs → PartsCarried m (component t o s cs) (component t' o' s' cs') (absent ps) (absent qs)
-unfolding lessen_parts grow_parts
+unfolding carried_parts
 absent_carried m t t' o o' s s' cs cs' ps qs k = (there_map absent _ k.0, λ q. there_map absent _ (k.1 q))
 
 no_parts_carried : (m : Bool) → PartsCarried m no_component no_component end end
-unfolding lessen_parts grow_parts
+unfolding carried_parts
 no_parts_carried m = ((end, refl), λ q. (end, refl))
 
 -- ---- what an extension keeps
@@ -193,8 +193,8 @@ module _ (F : Type 0) (D : F → Type 0) (A : Type 0) (free : F → Bool) (m : B
         may_be_absent o t s cs _ ys f (absent_there cs qs b.0 b.1 (none_further ys b.0 b.2 i))
     absent_there (component t o s cs) (present v qs) ys f i = let b = present_added t o s cs v qs ys f in absurd (is_one _ ys b.0 b.2 i)
 
-    pub none_meet : (more : Bool) (cs cs' : Components) (ps qs : Parts) (xs ys : List (Option Forms)) → ExtendsEach more cs cs' → Added cs ps ≡ Some xs → Added cs' qs ≡ Some ys → No xs → No ys → There (lessen_parts cs cs' qs) × There (grow_parts cs cs' ps)
-    unfolding ExtendsEach lessen_parts grow_parts
+    pub none_meet : (more : Bool) (cs cs' : Components) (ps qs : Parts) (xs ys : List (Option Forms)) → ExtendsEach more cs cs' → Added cs ps ≡ Some xs → Added cs' qs ≡ Some ys → No xs → No ys → There (carried_parts false cs cs' qs) × There (carried_parts true cs cs' ps)
+    unfolding ExtendsEach carried_parts
     none_meet more no_component cs' end qs xs ys h e f i j = ((end, refl), absent_there cs' qs ys f j)
     none_meet more no_component cs' (absent ps) qs xs ys h e f i j = cc
     none_meet more no_component cs' (present x ps) qs xs ys h e f i j = cc
@@ -269,7 +269,7 @@ module _ (F : Type 0) (D : F → Type 0) (A : Type 0) (free : F → Bool) (m : B
         none_is_some n e = cc
 
     further_meet : (cs' : Components) (ps qs : Parts) (xs ys all others : List (Option Forms)) → Added no_component ps ≡ Some xs → Added cs' qs ≡ Some ys → Tells xs all → (m ≡ true → length all ≡ length xs) → Tells ys others → Flags all ≡ Flags others → Meets (joined (present_ones all)) (joined (present_ones others)) (PartsCarried m no_component cs' ps qs)
-    unfolding lessen_parts grow_parts
+    unfolding carried_parts
     further_meet cs' end qs xs ys all others e f t l u w =
         let a : [] ≡ xs = cc in
         let t' : Tells [] all = subst (λ l. Tells l all) (sym a) t in
@@ -278,7 +278,7 @@ module _ (F : Type 0) (D : F → Type 0) (A : Type 0) (free : F → Bool) (m : B
     further_meet cs' (absent ps) qs xs ys all others e f t l u w = cc
     further_meet cs' (present x ps) qs xs ys all others e f t l u w = cc
 
-    pub weaken : (more : Bool) (cs cs' : Components) (ps qs : Parts) → There (lessen_parts cs cs' qs) × There (grow_parts cs cs' ps) → PartsCarried m cs cs' ps qs
+    pub weaken : (more : Bool) (cs cs' : Components) (ps qs : Parts) → There (carried_parts false cs cs' qs) × There (carried_parts true cs cs' ps) → PartsCarried m cs cs' ps qs
     weaken more cs cs' ps qs h = (h.0, λ q. h.1)
 
     further_length : (x : Option Forms) (xs zs all : List (Option Forms)) → x ∷ zs ≡ xs → (m ≡ true → length all ≡ length xs) → m ≡ true → length all ≡ suc (length zs)

@@ -14,7 +14,7 @@ use Rattle.asn1_model.specs.Form.{exactly, refused, both, varied, written, Reads
 use Rattle.std.specs.Prelude.{is_some}
 use Rattle.asn1_model.specs.Oer.{packed}
 use Rattle.asn1_model.specs.Per
-use Rattle.asn1_model.specs.Versions.{grow, grow_parts, grow_alternative, all_absent, lessen, lessen_parts, lessen_alternative, map_each, both_parts, Begins, KeepsPresence, Extends, ExtendsEach, ExtendsAlternatives}
+use Rattle.asn1_model.specs.Versions.{carried, grow, carried_parts, carried_alternative, all_absent, lessen, map_each, both_parts, Begins, KeepsPresence, Extends, ExtendsEach, ExtendsAlternatives}
 use Rattle.asn1_model.proofs.Forms.{chain_parts, map_parts}
 use Rattle.asn1_laws_values.proofs.Covers.{Covers, CoversEach, covers_same, covers_eq, covers_refused, covers_both, covers_varied, covers_within, covers_if, covers_cond, covers_joined, each_length, each_take, each_drop}
 use Rattle.asn1_laws_values.proofs.Messages.{IsWhole, complete_whole, some_parts}
@@ -298,20 +298,20 @@ module _ (free : Per.Freedom → Bool) (wide : IsTrue (free Per.other_bitmap)) (
   presence_bits_absent t optional s cs ps = refl
   presence_bits_absent t (by_default d) s cs ps = refl
 
-  presence_bits_kept : (cs cs' : Components) (ps qs : Parts) → ExtendsEach false cs cs' → lessen_parts cs cs' ps ≡ Some qs → presence_bits cs' ps ≡ presence_bits cs qs
-  unfolding ExtendsEach lessen_parts
+  presence_bits_kept : (cs cs' : Components) (ps qs : Parts) → ExtendsEach false cs cs' → carried_parts false cs cs' ps ≡ Some qs → presence_bits cs' ps ≡ presence_bits cs qs
+  unfolding ExtendsEach carried_parts
   presence_bits_kept no_component no_component ps qs h e = refl
   presence_bits_kept no_component (component t' o' s' cs') ps qs h e = absurd h
   presence_bits_kept (component t o s cs) no_component ps qs h e = absurd h
   presence_bits_kept (component t o s cs) (component t' o' s' cs') end qs h e = cc
   presence_bits_kept (component t o s cs) (component t' o' s' cs') (present v ps) qs h e =
-      let a = chain_parts (lessen s s' v) (λ w. option_map (λ rs. present w rs) (lessen_parts cs cs' ps)) qs e in
-      let b = map_parts (lessen_parts cs cs' ps) (λ rs. present a.0 rs) qs a.2 in
+      let a = chain_parts (lessen s s' v) (λ w. option_map (λ rs. present w rs) (carried_parts false cs cs' ps)) qs e in
+      let b = map_parts (carried_parts false cs cs' ps) (λ rs. present a.0 rs) qs a.2 in
       let m = presence_bits_kept cs cs' ps b.0 h.3 b.1 in
       let r = kept_required s s' o o' h.1 in
       presence_bits_present t' o' s' cs' v ps ∙ ap (λ x. presence_bit_unless x true (presence_bits cs' ps)) r ∙ ap (λ l. presence_bit_unless (is_required o) true l) m ∙ sym (presence_bits_present t o s cs a.0 b.0) ∙ ap (λ l. presence_bits (component t o s cs) l) b.2
   presence_bits_kept (component t o s cs) (component t' o' s' cs') (absent ps) qs h e =
-      let b = map_parts (lessen_parts cs cs' ps) absent qs e in
+      let b = map_parts (carried_parts false cs cs' ps) absent qs e in
       let m = presence_bits_kept cs cs' ps b.0 h.3 b.1 in
       let r = kept_required s s' o o' h.1 in
       presence_bits_absent t' o' s' cs' ps ∙ ap (λ x. presence_bit_unless x false (presence_bits cs' ps)) r ∙ ap (λ l. presence_bit_unless (is_required o) false l) m ∙ sym (presence_bits_absent t o s cs b.0) ∙ ap (λ l. presence_bits (component t o s cs) l) b.2
@@ -458,7 +458,7 @@ module _ (free : Per.Freedom → Bool) (wide : IsTrue (free Per.other_bitmap)) (
       (None ∷ r.0, r.1, ap (Per.addition_forms al (component t o s cs)) (sym a) ∙ f, subst (λ l. AllCover (None ∷ (r.0 ++ unknowns al r.1)) l) b r.3)
 
   mutual
-    unfolding is_normal are_normal is_normal_alternative Extends ExtendsEach ExtendsAlternatives lessen lessen_parts lessen_alternative Per.form Per.component_forms Per.addition_forms Per.alternative_form
+    unfolding is_normal are_normal is_normal_alternative Extends ExtendsEach ExtendsAlternatives carried carried_parts carried_alternative Per.form Per.component_forms Per.addition_forms Per.alternative_form
 
     pub sim : (al : Bool) (s s' : Schema) (v u : Value) → Extends s s' → lessen s s' v ≡ Some u → Loose (is_normal s u) → Sim (Per.form al s' v) (Per.form al s u)
     sim al cut cut v u h e l = sim_refused _
@@ -482,67 +482,67 @@ module _ (free : Per.Freedom → Bool) (wide : IsTrue (free Per.other_bitmap)) (
         sim_between refl (sim_bag al z z' c c' _ _ h.0 h.1 k) (ap (λ v. Per.form al (set_of z c s) v) q.2)
     sim al (set_of z c s) (set_of z' c' s') v u h e l = sim_refused _
     sim al (sequence cs m adds) (sequence cs' m' adds') (fields ps qs) u h e l =
-        let b = both_parts_parts (lessen_parts cs cs' ps) (lessen_parts adds adds' qs) u e in
+        let b = both_parts_parts (carried_parts false cs cs' ps) (carried_parts false adds adds' qs) u e in
         let n : Loose (are_normal cs b.0 && are_normal adds b.1) = subst (λ u. Loose (is_normal (sequence cs m adds) u)) (sym b.4) l in
         sim_between refl (sim_fields al m m' cs cs' adds ps b.0 b.1 (Per.addition_forms al adds' qs) h.1 (presence_bits_kept cs cs' ps b.0 h.0 b.2) (sim_components al cs cs' ps b.0 h.0 b.2 (loose_first _ _ n)) (λ ys f. sim_additions al m adds adds' qs b.1 ys h.2 b.3 (loose_second _ _ n) f)) (ap (λ v. Per.form al (sequence cs m adds) v) b.4)
     sim al (sequence cs m adds) (sequence cs' m' adds') v u h e l = sim_refused _
     sim al (set cs m adds) (set cs' m' adds') (fields ps qs) u h e l =
-        let b = both_parts_parts (lessen_parts cs cs' ps) (lessen_parts adds adds' qs) u e in
+        let b = both_parts_parts (carried_parts false cs cs' ps) (carried_parts false adds adds' qs) u e in
         let n : Loose (are_normal cs b.0 && are_normal adds b.1) = subst (λ u. Loose (is_normal (set cs m adds) u)) (sym b.4) l in
         sim_between refl (sim_fields al m m' cs cs' adds ps b.0 b.1 (Per.addition_forms al adds' qs) h.1 (presence_bits_kept cs cs' ps b.0 h.0 b.2) (sim_components al cs cs' ps b.0 h.0 b.2 (loose_first _ _ n)) (λ ys f. sim_additions al m adds adds' qs b.1 ys h.2 b.3 (loose_second _ _ n) f)) (ap (λ v. Per.form al (set cs m adds) v) b.4)
     sim al (set cs m adds) (set cs' m' adds') v u h e l = sim_refused _
     sim al (group cs) (group cs') (fields ps end) u h e l =
-        let b = both_parts_parts (lessen_parts cs cs' ps) (Some end) u e in
+        let b = both_parts_parts (carried_parts false cs cs' ps) (Some end) u e in
         let a : end ≡ b.1 = some_parts b.3 in
         sim_between refl (sim_both (sim_same (ap (λ l. exactly l) (presence_bits_kept cs cs' ps b.0 h b.2))) (sim_components al cs cs' ps b.0 h b.2 (subst (λ u. Loose (is_normal (group cs) u)) (sym b.4) l))) (ap (λ q. Per.form al (group cs) (fields b.0 q)) a ∙ ap (λ v. Per.form al (group cs) v) b.4)
     sim al (group cs) (group cs') v u h e l = sim_refused _
     sim al (choice roots m adds) (choice roots' m' adds') (chosen false i v) u h e l =
-        let q = map_parts (lessen_alternative roots roots' i v) (λ w. chosen false i w) u e in
+        let q = map_parts (carried_alternative false roots roots' i v) (λ w. chosen false i w) u e in
         let extension_bit : Per.extension_bit_of m' false ≡ Per.extension_bit_of m false = ap (λ m. Per.extension_bit_of m false) (sym h.1) in
         let index : Per.constrained al (alternative_count roots' - 1) i ≡ Per.constrained al (alternative_count roots - 1) i = ap (λ n. Per.constrained al (n - 1) i) (alternatives_kept roots roots' h.0) in
         sim_between refl (sim_both (sim_same extension_bit) (sim_both (sim_same index) (sim_alternative al false roots roots' i v q.0 h.0 q.1 (subst (λ u. Loose (is_normal (choice roots m adds) u)) (sym q.2) l)))) (ap (λ v. Per.form al (choice roots m adds) v) q.2)
     sim al (choice roots m adds) (choice roots' false adds') (chosen true i v) u h e l = sim_refused _
     sim al (choice roots false adds) (choice roots' true adds') (chosen true i v) u h e l = let q = h.1 in cc
     sim al (choice roots true adds) (choice roots' true adds') (chosen true i v) u h e l =
-        let q = map_parts (lessen_alternative adds adds' i v) (λ w. chosen true i w) u e in
+        let q = map_parts (carried_alternative false adds adds' i v) (λ w. chosen true i w) u e in
         sim_between refl (sim_both (sim_itself _) (sim_both (sim_itself _) (sim_open al (sim_alternative al true adds adds' i v q.0 h.2 q.1 (subst (λ u. Loose (is_normal (choice roots true adds) u)) (sym q.2) l))))) (ap (λ v. Per.form al (choice roots true adds) v) q.2)
     sim al (choice roots m adds) (choice roots' m' adds') v u h e l = sim_refused _
     sim al s s' v u h e l = absurd h
 
-    sim_components : (al : Bool) (cs cs' : Components) (ps qs : Parts) → ExtendsEach false cs cs' → lessen_parts cs cs' ps ≡ Some qs → Loose (are_normal cs qs) → Sim (Per.component_forms al cs' ps) (Per.component_forms al cs qs)
+    sim_components : (al : Bool) (cs cs' : Components) (ps qs : Parts) → ExtendsEach false cs cs' → carried_parts false cs cs' ps ≡ Some qs → Loose (are_normal cs qs) → Sim (Per.component_forms al cs' ps) (Per.component_forms al cs qs)
     sim_components al no_component no_component end qs h e l = sim_same (ap (λ q. Per.component_forms al no_component q) (some_parts e))
     sim_components al no_component no_component ps qs h e l = sim_refused _
     sim_components al no_component (component t' o' s' cs') ps qs h e l = absurd h
     sim_components al (component t o s cs) no_component ps qs h e l = absurd h
     sim_components al (component t o s cs) (component t' o' s' cs') end qs h e l = cc
     sim_components al (component t o s cs) (component t' o' s' cs') (present v ps) qs h e l =
-        let a = chain_parts (lessen s s' v) (λ w. option_map (λ rs. present w rs) (lessen_parts cs cs' ps)) qs e in
-        let b = map_parts (lessen_parts cs cs' ps) (λ rs. present a.0 rs) qs a.2 in
+        let a = chain_parts (lessen s s' v) (λ w. option_map (λ rs. present w rs) (carried_parts false cs cs' ps)) qs e in
+        let b = map_parts (carried_parts false cs cs' ps) (λ rs. present a.0 rs) qs a.2 in
         let n = subst (λ q. Loose (are_normal (component t o s cs) q)) (sym b.2) l in
         sim_between refl (sim_both (sim_spelled_left o' s' v (sim_spelled_right o s a.0 (loose_spelled _ _ _ _ n) (sim al s s' v a.0 h.2 a.1 (loose_second _ _ (loose_first _ _ n))))) (sim_components al cs cs' ps b.0 h.3 b.1 (loose_second _ _ n))) (ap (λ q. Per.component_forms al (component t o s cs) q) b.2)
     sim_components al (component t o s cs) (component t' o' s' cs') (absent ps) qs h e l =
-        let b = map_parts (lessen_parts cs cs' ps) absent qs e in
+        let b = map_parts (carried_parts false cs cs' ps) absent qs e in
         sim_between (absent_component al t' o' s' cs' ps) (sim_absent (is_required o) (is_required o') _ _ (kept_required s s' o o' h.1) (sim_components al cs cs' ps b.0 h.3 b.1 (subst (λ q. Loose (are_normal (component t o s cs) q)) (sym b.2) l))) (sym (absent_component al t o s cs b.0) ∙ ap (λ q. Per.component_forms al (component t o s cs) q) b.2)
 
-    sim_additions : (al more : Bool) (cs cs' : Components) (ps qs : Parts) (ys : List (Option Per.BitForm)) → ExtendsEach more cs cs' → lessen_parts cs cs' ps ≡ Some qs → Loose (are_normal cs qs) → Per.addition_forms al cs' ps ≡ Some ys → Additions al cs qs ys
+    sim_additions : (al more : Bool) (cs cs' : Components) (ps qs : Parts) (ys : List (Option Per.BitForm)) → ExtendsEach more cs cs' → carried_parts false cs cs' ps ≡ Some qs → Loose (are_normal cs qs) → Per.addition_forms al cs' ps ≡ Some ys → Additions al cs qs ys
     sim_additions al more no_component cs' ps qs ys h e l f =
         let r = all_unknown al cs' ps ys f in
         ([], r.0, ap (λ q. Per.addition_forms al no_component q) (sym (some_parts e)), r.1)
     sim_additions al more (component t o s cs) no_component ps qs ys h e l f = absurd h
     sim_additions al more (component t o s cs) (component t' o' s' cs') end qs ys h e l f = cc
     sim_additions al more (component t o s cs) (component t' o' s' cs') (present v ps) qs ys h e l f =
-        let a = chain_parts (lessen s s' v) (λ w. option_map (λ rs. present w rs) (lessen_parts cs cs' ps)) qs e in
-        let b = map_parts (lessen_parts cs cs' ps) (λ rs. present a.0 rs) qs a.2 in
+        let a = chain_parts (lessen s s' v) (λ w. option_map (λ rs. present w rs) (carried_parts false cs cs' ps)) qs e in
+        let b = map_parts (carried_parts false cs cs' ps) (λ rs. present a.0 rs) qs a.2 in
         let c = map_parts (Per.addition_forms al cs' ps) (cons_some (Per.spelled o' s' v (Per.open_type al (Per.form al s' v)))) ys f in
         let n = subst (λ q. Loose (are_normal (component t o s cs) q)) (sym b.2) l in
         more_present al t o s cs a.0 b.0 qs _ c.0 ys (sim_spelled_left o' s' v (sim_spelled_right o s a.0 (loose_spelled _ _ _ _ n) (sim_open al (sim al s s' v a.0 h.2 a.1 (loose_second _ _ (loose_first _ _ n)))))) b.2 c.2 (sim_additions al more cs cs' ps b.0 c.0 h.3 b.1 (loose_second _ _ n) c.1)
     sim_additions al more (component t o s cs) (component t' o' s' cs') (absent ps) qs ys h e l f =
-        let b = map_parts (lessen_parts cs cs' ps) absent qs e in
+        let b = map_parts (carried_parts false cs cs' ps) absent qs e in
         let a = unless_required (is_required o') (option_map cons_none (Per.addition_forms al cs' ps)) ys (sym (absent_forms al t' o' s' cs' ps) ∙ f) in
         let c = map_parts (Per.addition_forms al cs' ps) cons_none ys a.1 in
         more_absent al t o s cs b.0 qs c.0 ys (sym (kept_required s s' o o' h.1) ∙ a.0) b.2 c.2 (sim_additions al more cs cs' ps b.0 c.0 h.3 b.1 (subst (λ q. Loose (are_normal (component t o s cs) q)) (sym b.2) l) c.1)
 
-    sim_alternative : (al more : Bool) (others others' : Alternatives) (i : ℕ) (v u : Value) → ExtendsAlternatives more others others' → lessen_alternative others others' i v ≡ Some u → Loose (is_normal_alternative others i u) → Sim (Per.alternative_form al others' i v) (Per.alternative_form al others i u)
+    sim_alternative : (al more : Bool) (others others' : Alternatives) (i : ℕ) (v u : Value) → ExtendsAlternatives more others others' → carried_alternative false others others' i v ≡ Some u → Loose (is_normal_alternative others i u) → Sim (Per.alternative_form al others' i v) (Per.alternative_form al others i u)
     sim_alternative al more no_alternative others' i v u h e l = cc
     sim_alternative al more (alternative t s others) no_alternative i v u h e l = absurd h
     sim_alternative al more (alternative t s others) (alternative t' s' others') zero v u h e l = sim al s s' v u h.1 e l
@@ -616,20 +616,20 @@ module _ (free : Per.Freedom → Bool) (wide : IsTrue (free Per.other_bitmap)) (
   grown_sequence al false ms r r' [] (y ∷ ys) h k n = let l = n refl in cc
   grown_sequence al true ms r r' xs ys h k n = grown_bitmapped al ms r r' xs ys h k (is_any_present xs) refl
 
-  presence_bits_grown : (cs cs' : Components) (ps qs : Parts) → ExtendsEach false cs cs' → grow_parts cs cs' ps ≡ Some qs → presence_bits cs ps ≡ presence_bits cs' qs
-  unfolding ExtendsEach grow_parts
+  presence_bits_grown : (cs cs' : Components) (ps qs : Parts) → ExtendsEach false cs cs' → carried_parts true cs cs' ps ≡ Some qs → presence_bits cs ps ≡ presence_bits cs' qs
+  unfolding ExtendsEach carried_parts
   presence_bits_grown no_component no_component ps qs h e = refl
   presence_bits_grown no_component (component t' o' s' cs') ps qs h e = absurd h
   presence_bits_grown (component t o s cs) no_component ps qs h e = absurd h
   presence_bits_grown (component t o s cs) (component t' o' s' cs') end qs h e = cc
   presence_bits_grown (component t o s cs) (component t' o' s' cs') (present v ps) qs h e =
-      let a = chain_parts (grow s s' v) (λ w. option_map (λ rs. present w rs) (grow_parts cs cs' ps)) qs e in
-      let b = map_parts (grow_parts cs cs' ps) (λ rs. present a.0 rs) qs a.2 in
+      let a = chain_parts (grow s s' v) (λ w. option_map (λ rs. present w rs) (carried_parts true cs cs' ps)) qs e in
+      let b = map_parts (carried_parts true cs cs' ps) (λ rs. present a.0 rs) qs a.2 in
       let m = presence_bits_grown cs cs' ps b.0 h.3 b.1 in
       let r = kept_required s s' o o' h.1 in
       ap (λ x. presence_bit_unless x true (presence_bits cs ps)) (sym r) ∙ ap (λ l. presence_bit_unless (is_required o') true l) m ∙ ap (λ l. presence_bits (component t' o' s' cs') l) b.2
   presence_bits_grown (component t o s cs) (component t' o' s' cs') (absent ps) qs h e =
-      let b = map_parts (grow_parts cs cs' ps) absent qs e in
+      let b = map_parts (carried_parts true cs cs' ps) absent qs e in
       let m = presence_bits_grown cs cs' ps b.0 h.3 b.1 in
       let r = kept_required s s' o o' h.1 in
       ap (λ x. presence_bit_unless x false (presence_bits cs ps)) (sym r) ∙ ap (λ l. presence_bit_unless (is_required o') false l) m ∙ ap (λ l. presence_bits (component t' o' s' cs') l) b.2
@@ -691,7 +691,7 @@ module _ (free : Per.Freedom → Bool) (wide : IsTrue (free Per.other_bitmap)) (
       sim_between refl (grown_item al m rs as_ as_' n (item_place n rs) refl h.2 (item_place n as_) refl) right
 
   mutual
-    unfolding is_normal are_normal is_normal_alternative Extends ExtendsEach ExtendsAlternatives grow grow_parts grow_alternative Per.form Per.component_forms Per.addition_forms Per.alternative_form
+    unfolding is_normal are_normal is_normal_alternative Extends ExtendsEach ExtendsAlternatives carried carried_parts carried_alternative Per.form Per.component_forms Per.addition_forms Per.alternative_form
 
     pub grown : (al : Bool) (s s' : Schema) (v u : Value) → Extends s s' → grow s s' v ≡ Some u → Loose (is_normal s' u) → Sim (Per.form al s v) (Per.form al s' u)
     grown al cut cut v u h e l = sim_refused _
@@ -715,49 +715,49 @@ module _ (free : Per.Freedom → Bool) (wide : IsTrue (free Per.other_bitmap)) (
         sim_between refl (sim_bag al z' z c' c _ _ (sym h.0) (sym h.1) k) (ap (λ v. Per.form al (set_of z' c' s') v) q.2)
     grown al (set_of z c s) (set_of z' c' s') v u h e l = sim_refused _
     grown al (sequence cs m adds) (sequence cs' m' adds') (fields ps qs) u h e l =
-        let b = both_parts_parts (grow_parts cs cs' ps) (grow_parts adds adds' qs) u e in
+        let b = both_parts_parts (carried_parts true cs cs' ps) (carried_parts true adds adds' qs) u e in
         let n : Loose (are_normal cs' b.0 && are_normal adds' b.1) = subst (λ u. Loose (is_normal (sequence cs' m' adds') u)) (sym b.4) l in
         sim_between refl (grown_fields al m m' cs cs' adds adds' ps b.0 qs b.1 h.1 (presence_bits_grown cs cs' ps b.0 h.0 b.2) (grown_components al cs cs' ps b.0 h.0 b.2 (loose_first _ _ n)) (λ xs f. grown_additions al m adds adds' qs b.1 xs h.2 b.3 (loose_second _ _ n) f)) (ap (λ v. Per.form al (sequence cs' m' adds') v) b.4)
     grown al (sequence cs m adds) (sequence cs' m' adds') v u h e l = sim_refused _
     grown al (set cs m adds) (set cs' m' adds') (fields ps qs) u h e l =
-        let b = both_parts_parts (grow_parts cs cs' ps) (grow_parts adds adds' qs) u e in
+        let b = both_parts_parts (carried_parts true cs cs' ps) (carried_parts true adds adds' qs) u e in
         let n : Loose (are_normal cs' b.0 && are_normal adds' b.1) = subst (λ u. Loose (is_normal (set cs' m' adds') u)) (sym b.4) l in
         sim_between refl (grown_fields al m m' cs cs' adds adds' ps b.0 qs b.1 h.1 (presence_bits_grown cs cs' ps b.0 h.0 b.2) (grown_components al cs cs' ps b.0 h.0 b.2 (loose_first _ _ n)) (λ xs f. grown_additions al m adds adds' qs b.1 xs h.2 b.3 (loose_second _ _ n) f)) (ap (λ v. Per.form al (set cs' m' adds') v) b.4)
     grown al (set cs m adds) (set cs' m' adds') v u h e l = sim_refused _
     grown al (group cs) (group cs') (fields ps end) u h e l =
-        let b = both_parts_parts (grow_parts cs cs' ps) (Some end) u e in
+        let b = both_parts_parts (carried_parts true cs cs' ps) (Some end) u e in
         let a : end ≡ b.1 = some_parts b.3 in
         sim_between refl (sim_both (sim_same (ap (λ l. exactly l) (presence_bits_grown cs cs' ps b.0 h b.2))) (grown_components al cs cs' ps b.0 h b.2 (subst (λ u. Loose (is_normal (group cs') u)) (sym b.4) l))) (ap (λ q. Per.form al (group cs') (fields b.0 q)) a ∙ ap (λ v. Per.form al (group cs') v) b.4)
     grown al (group cs) (group cs') v u h e l = sim_refused _
     grown al (choice roots m adds) (choice roots' m' adds') (chosen false i v) u h e l =
-        let q = map_parts (grow_alternative roots roots' i v) (λ w. chosen false i w) u e in
+        let q = map_parts (carried_alternative true roots roots' i v) (λ w. chosen false i w) u e in
         let extension_bit : Per.extension_bit_of m false ≡ Per.extension_bit_of m' false = ap (λ m. Per.extension_bit_of m false) h.1 in
         let index : Per.constrained al (alternative_count roots - 1) i ≡ Per.constrained al (alternative_count roots' - 1) i = ap (λ n. Per.constrained al (n - 1) i) (sym (alternatives_kept roots roots' h.0)) in
         sim_between refl (sim_both (sim_same extension_bit) (sim_both (sim_same index) (grown_alternative al false roots roots' i v q.0 h.0 q.1 (subst (λ u. Loose (is_normal (choice roots' m' adds') u)) (sym q.2) l)))) (ap (λ v. Per.form al (choice roots' m' adds') v) q.2)
     grown al (choice roots false adds) (choice roots' m' adds') (chosen true i v) u h e l = sim_refused _
     grown al (choice roots true adds) (choice roots' false adds') (chosen true i v) u h e l = let q = h.1 in cc
     grown al (choice roots true adds) (choice roots' true adds') (chosen true i v) u h e l =
-        let q = map_parts (grow_alternative adds adds' i v) (λ w. chosen true i w) u e in
+        let q = map_parts (carried_alternative true adds adds' i v) (λ w. chosen true i w) u e in
         sim_between refl (sim_both (sim_itself _) (sim_both (sim_itself _) (sim_open al (grown_alternative al true adds adds' i v q.0 h.2 q.1 (subst (λ u. Loose (is_normal (choice roots' true adds') u)) (sym q.2) l))))) (ap (λ v. Per.form al (choice roots' true adds') v) q.2)
     grown al (choice roots m adds) (choice roots' m' adds') v u h e l = sim_refused _
     grown al s s' v u h e l = absurd h
 
-    grown_components : (al : Bool) (cs cs' : Components) (ps qs : Parts) → ExtendsEach false cs cs' → grow_parts cs cs' ps ≡ Some qs → Loose (are_normal cs' qs) → Sim (Per.component_forms al cs ps) (Per.component_forms al cs' qs)
+    grown_components : (al : Bool) (cs cs' : Components) (ps qs : Parts) → ExtendsEach false cs cs' → carried_parts true cs cs' ps ≡ Some qs → Loose (are_normal cs' qs) → Sim (Per.component_forms al cs ps) (Per.component_forms al cs' qs)
     grown_components al no_component no_component end qs h e l = sim_same (ap (λ q. Per.component_forms al no_component q) (some_parts e))
     grown_components al no_component no_component ps qs h e l = sim_refused _
     grown_components al no_component (component t' o' s' cs') ps qs h e l = absurd h
     grown_components al (component t o s cs) no_component ps qs h e l = absurd h
     grown_components al (component t o s cs) (component t' o' s' cs') end qs h e l = cc
     grown_components al (component t o s cs) (component t' o' s' cs') (present v ps) qs h e l =
-        let a = chain_parts (grow s s' v) (λ w. option_map (λ rs. present w rs) (grow_parts cs cs' ps)) qs e in
-        let b = map_parts (grow_parts cs cs' ps) (λ rs. present a.0 rs) qs a.2 in
+        let a = chain_parts (grow s s' v) (λ w. option_map (λ rs. present w rs) (carried_parts true cs cs' ps)) qs e in
+        let b = map_parts (carried_parts true cs cs' ps) (λ rs. present a.0 rs) qs a.2 in
         let n = subst (λ q. Loose (are_normal (component t' o' s' cs') q)) (sym b.2) l in
         sim_between refl (sim_both (sim_spelled_left o s v (sim_spelled_right o' s' a.0 (loose_spelled _ _ _ _ n) (grown al s s' v a.0 h.2 a.1 (loose_second _ _ (loose_first _ _ n))))) (grown_components al cs cs' ps b.0 h.3 b.1 (loose_second _ _ n))) (ap (λ q. Per.component_forms al (component t' o' s' cs') q) b.2)
     grown_components al (component t o s cs) (component t' o' s' cs') (absent ps) qs h e l =
-        let b = map_parts (grow_parts cs cs' ps) absent qs e in
+        let b = map_parts (carried_parts true cs cs' ps) absent qs e in
         sim_between refl (sim_absent (is_required o') (is_required o) _ _ (sym (kept_required s s' o o' h.1)) (grown_components al cs cs' ps b.0 h.3 b.1 (subst (λ q. Loose (are_normal (component t' o' s' cs') q)) (sym b.2) l))) (ap (λ q. Per.component_forms al (component t' o' s' cs') q) b.2)
 
-    grown_additions : (al more : Bool) (cs cs' : Components) (ps qs : Parts) (xs : List (Option Per.BitForm)) → ExtendsEach more cs cs' → grow_parts cs cs' ps ≡ Some qs → Loose (are_normal cs' qs) → Per.addition_forms al cs ps ≡ Some xs → Grown al more cs' qs xs
+    grown_additions : (al more : Bool) (cs cs' : Components) (ps qs : Parts) (xs : List (Option Per.BitForm)) → ExtendsEach more cs cs' → carried_parts true cs cs' ps ≡ Some qs → Loose (are_normal cs' qs) → Per.addition_forms al cs ps ≡ Some xs → Grown al more cs' qs xs
     grown_additions al more no_component cs' (absent ps) qs xs h e l f = cc
     grown_additions al more no_component cs' (present v ps) qs xs h e l f = cc
     grown_additions al more no_component no_component end qs xs h e l f =
@@ -772,18 +772,18 @@ module _ (free : Per.Freedom → Bool) (wide : IsTrue (free Per.other_bitmap)) (
     grown_additions al more (component t o s cs) no_component ps qs xs h e l f = absurd h
     grown_additions al more (component t o s cs) (component t' o' s' cs') end qs xs h e l f = cc
     grown_additions al more (component t o s cs) (component t' o' s' cs') (present v ps) qs xs h e l f =
-        let a = chain_parts (grow s s' v) (λ w. option_map (λ rs. present w rs) (grow_parts cs cs' ps)) qs e in
-        let b = map_parts (grow_parts cs cs' ps) (λ rs. present a.0 rs) qs a.2 in
+        let a = chain_parts (grow s s' v) (λ w. option_map (λ rs. present w rs) (carried_parts true cs cs' ps)) qs e in
+        let b = map_parts (carried_parts true cs cs' ps) (λ rs. present a.0 rs) qs a.2 in
         let c = map_parts (Per.addition_forms al cs ps) (cons_some (Per.spelled o s v (Per.open_type al (Per.form al s v)))) xs f in
         let n = subst (λ q. Loose (are_normal (component t' o' s' cs') q)) (sym b.2) l in
         grown_present al more t' o' s' cs' a.0 b.0 qs _ c.0 xs (sim_spelled_left o s v (sim_spelled_right o' s' a.0 (loose_spelled _ _ _ _ n) (sim_open al (grown al s s' v a.0 h.2 a.1 (loose_second _ _ (loose_first _ _ n)))))) b.2 c.2 (grown_additions al more cs cs' ps b.0 c.0 h.3 b.1 (loose_second _ _ n) c.1)
     grown_additions al more (component t o s cs) (component t' o' s' cs') (absent ps) qs xs h e l f =
-        let b = map_parts (grow_parts cs cs' ps) absent qs e in
+        let b = map_parts (carried_parts true cs cs' ps) absent qs e in
         let a = unless_required (is_required o) (option_map cons_none (Per.addition_forms al cs ps)) xs f in
         let c = map_parts (Per.addition_forms al cs ps) cons_none xs a.1 in
         grown_absent al more t' o' s' cs' b.0 qs c.0 xs (kept_required s s' o o' h.1 ∙ a.0) b.2 c.2 (grown_additions al more cs cs' ps b.0 c.0 h.3 b.1 (subst (λ q. Loose (are_normal (component t' o' s' cs') q)) (sym b.2) l) c.1)
 
-    grown_alternative : (al more : Bool) (others others' : Alternatives) (i : ℕ) (v u : Value) → ExtendsAlternatives more others others' → grow_alternative others others' i v ≡ Some u → Loose (is_normal_alternative others' i u) → Sim (Per.alternative_form al others i v) (Per.alternative_form al others' i u)
+    grown_alternative : (al more : Bool) (others others' : Alternatives) (i : ℕ) (v u : Value) → ExtendsAlternatives more others others' → carried_alternative true others others' i v ≡ Some u → Loose (is_normal_alternative others' i u) → Sim (Per.alternative_form al others i v) (Per.alternative_form al others' i u)
     grown_alternative al more no_alternative others' i v u h e l = sim_refused _
     grown_alternative al more (alternative t s others) no_alternative i v u h e l = absurd h
     grown_alternative al more (alternative t s others) (alternative t' s' others') zero v u h e l = grown al s s' v u h.1 e l

@@ -26,65 +26,55 @@ abbrev pub both_parts : Option Parts → Option Parts → Option Value
 both_parts (Some ps) (Some qs) = Some (fields ps qs)
 both_parts ps qs = None
 
-unfoldable mutual
-  -- A value of the older version as one of the newer: the parts that only that has are absent. None where such a part
-  -- is required in a sequence or set that is there.
-  pub grow : Schema → Schema → Value → Option Value
-  grow (sequence_of z h s) (sequence_of z' h' s') (members vs) = option_map members (map_each (λ v. grow s s' v) vs)
-  grow (set_of z h s) (set_of z' h' s') (bag vs) = option_map bag (map_each (λ v. grow s s' v) vs)
-  grow (sequence cs e adds) (sequence cs' e' adds') (fields ps qs) =
-      both_parts (grow_parts cs cs' ps) (grow_parts adds adds' qs)
-  grow (set cs e adds) (set cs' e' adds') (fields ps qs) = both_parts (grow_parts cs cs' ps) (grow_parts adds adds' qs)
-  grow (group cs) (group cs') (fields ps qs) = both_parts (grow_parts cs cs' ps) (Some qs)
-  grow (choice roots e adds) (choice roots' e' adds') (chosen false i v) =
-      option_map (λ w. chosen false i w) (grow_alternative roots roots' i v)
-  grow (choice roots e adds) (choice roots' e' adds') (chosen true i v) =
-      option_map (λ w. chosen true i w) (grow_alternative adds adds' i v)
-  grow s s' v = Some v
-
-  pub grow_parts : Components → Components → Parts → Option Parts
-  grow_parts (component t o s cs) (component t' o' s' cs') (present v ps) =
-      option_and_then (λ w. option_map (λ qs. present w qs) (grow_parts cs cs' ps)) (grow s s' v)
-  grow_parts (component t o s cs) (component t' o' s' cs') (absent ps) = option_map absent (grow_parts cs cs' ps)
-  grow_parts no_component cs' end = all_absent cs'
-  grow_parts cs cs' ps = None
-
-  pub grow_alternative : Alternatives → Alternatives → ℕ → Value → Option Value
-  grow_alternative (alternative t s others) (alternative t' s' others') zero v = grow s s' v
-  grow_alternative (alternative t s others) (alternative t' s' others') (suc i) v = grow_alternative others others' i v
-  grow_alternative others others' i v = None
+-- What stands behind the components of the older version: nothing is left of it there, and in the newer version all that
+-- it adds is absent.
+abbrev pub behind : Bool → Components → Parts → Option Parts
+behind false cs ps = Some end
+behind true cs end = all_absent cs
+behind true cs ps = None
 
 unfoldable mutual
-  -- A value of the newer version without the parts that the older one lacks. None where it lacks an alternative or an
-  -- item that stands elsewhere.
-  pub lessen : Schema → Schema → Value → Option Value
-  lessen (enumerated roots e adds) (enumerated roots' e' adds') (item v) =
+  -- A value of one version as one of the other, of which the first is the older: to the newer one (true) or from it. None
+  -- where a part that only the newer one has is required in a sequence or set that is there, or the older one lacks an
+  -- alternative or an item that stands elsewhere.
+  pub carried : Bool → Schema → Schema → Value → Option Value
+  carried false (enumerated roots e adds) (enumerated roots' e' adds') (item v) =
       cond (is_some (item_place v roots) || is_some (item_place v adds)) (Some (item v)) None
-  lessen (sequence_of z h s) (sequence_of z' h' s') (members vs) = option_map members (map_each (λ v. lessen s s' v) vs)
-  lessen (set_of z h s) (set_of z' h' s') (bag vs) = option_map bag (map_each (λ v. lessen s s' v) vs)
-  lessen (sequence cs e adds) (sequence cs' e' adds') (fields ps qs) =
-      both_parts (lessen_parts cs cs' ps) (lessen_parts adds adds' qs)
-  lessen (set cs e adds) (set cs' e' adds') (fields ps qs) =
-      both_parts (lessen_parts cs cs' ps) (lessen_parts adds adds' qs)
-  lessen (group cs) (group cs') (fields ps qs) = both_parts (lessen_parts cs cs' ps) (Some qs)
-  lessen (choice roots e adds) (choice roots' e' adds') (chosen false i v) =
-      option_map (λ w. chosen false i w) (lessen_alternative roots roots' i v)
-  lessen (choice roots e adds) (choice roots' e' adds') (chosen true i v) =
-      option_map (λ w. chosen true i w) (lessen_alternative adds adds' i v)
-  lessen s s' v = Some v
+  carried newer (sequence_of z h s) (sequence_of z' h' s') (members vs) =
+      option_map members (map_each (λ v. carried newer s s' v) vs)
+  carried newer (set_of z h s) (set_of z' h' s') (bag vs) = option_map bag (map_each (λ v. carried newer s s' v) vs)
+  carried newer (sequence cs e adds) (sequence cs' e' adds') (fields ps qs) =
+      both_parts (carried_parts newer cs cs' ps) (carried_parts newer adds adds' qs)
+  carried newer (set cs e adds) (set cs' e' adds') (fields ps qs) =
+      both_parts (carried_parts newer cs cs' ps) (carried_parts newer adds adds' qs)
+  carried newer (group cs) (group cs') (fields ps qs) = both_parts (carried_parts newer cs cs' ps) (Some qs)
+  carried newer (choice roots e adds) (choice roots' e' adds') (chosen false i v) =
+      option_map (λ w. chosen false i w) (carried_alternative newer roots roots' i v)
+  carried newer (choice roots e adds) (choice roots' e' adds') (chosen true i v) =
+      option_map (λ w. chosen true i w) (carried_alternative newer adds adds' i v)
+  carried newer s s' v = Some v
 
-  pub lessen_parts : Components → Components → Parts → Option Parts
-  lessen_parts (component t o s cs) (component t' o' s' cs') (present v ps) =
-      option_and_then (λ w. option_map (λ qs. present w qs) (lessen_parts cs cs' ps)) (lessen s s' v)
-  lessen_parts (component t o s cs) (component t' o' s' cs') (absent ps) = option_map absent (lessen_parts cs cs' ps)
-  lessen_parts no_component cs' ps = Some end
-  lessen_parts cs cs' ps = None
+  pub carried_parts : Bool → Components → Components → Parts → Option Parts
+  carried_parts newer (component t o s cs) (component t' o' s' cs') (present v ps) =
+      option_and_then (λ w. option_map (λ qs. present w qs) (carried_parts newer cs cs' ps)) (carried newer s s' v)
+  carried_parts newer (component t o s cs) (component t' o' s' cs') (absent ps) =
+      option_map absent (carried_parts newer cs cs' ps)
+  carried_parts newer no_component cs' ps = behind newer cs' ps
+  carried_parts newer cs cs' ps = None
 
-  pub lessen_alternative : Alternatives → Alternatives → ℕ → Value → Option Value
-  lessen_alternative (alternative t s others) (alternative t' s' others') zero v = lessen s s' v
-  lessen_alternative (alternative t s others) (alternative t' s' others') (suc i) v =
-      lessen_alternative others others' i v
-  lessen_alternative others others' i v = None
+  pub carried_alternative : Bool → Alternatives → Alternatives → ℕ → Value → Option Value
+  carried_alternative newer (alternative t s others) (alternative t' s' others') zero v = carried newer s s' v
+  carried_alternative newer (alternative t s others) (alternative t' s' others') (suc i) v =
+      carried_alternative newer others others' i v
+  carried_alternative newer others others' i v = None
+
+-- A value of the older version as one of the newer.
+abbrev pub grow : Schema → Schema → Value → Option Value
+grow old new v = carried true old new v
+
+-- A value of the newer version without the parts that the older one lacks.
+abbrev pub lessen : Schema → Schema → Value → Option Value
+lessen old new v = carried false old new v
 
 -- The normal form of a value of the newer version, without the parts that the older one lacks.
 abbrev pub drop : Schema → Schema → Value → Option Value

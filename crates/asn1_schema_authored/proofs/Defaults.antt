@@ -4,7 +4,7 @@ use Rattle.std.proofs.lemmas.Bool.{and_parts}
 use Rattle.asn1_model.specs.Value.{Value, fields, Parts, end, absent, present, same}
 use Rattle.asn1_model.specs.Schema.{required, optional, by_default, Schema}
 use Rattle.asn1_model.specs.Typed.{is_of, are_of}
-use Rattle.asn1_model.specs.Versions.{KeepsPresence, grow, grow_parts, all_absent}
+use Rattle.asn1_model.specs.Versions.{carried, KeepsPresence, grow, carried_parts, all_absent}
 use Rattle.asn1_laws_values.proofs.Same.{same_self}
 use Rattle.asn1_laws_values.proofs.Itself.{grows, parts_grow}
 use Rattle.asn1_schema_presented.specs.Tables.{Fields, no_field, field, Table, components_at, scope, sequence_type}
@@ -29,8 +29,8 @@ all_left_out n (field t required s gs) e = let z : false ≡ true = e in cc
 all_left_out n (field t optional s gs) e = ap (option_map absent) (all_left_out n gs e)
 all_left_out n (field t (by_default d) s gs) e = ap (option_map absent) (all_left_out n gs e)
 
-additions_grow : (n : ℕ) (fs gs : Fields) (qs : Parts) → are_of (components_at n fs) qs ≡ true → are_of (components_at n (joined fs gs)) (with_absents gs qs) ≡ true → grow_parts (components_at n fs) (components_at n (joined fs gs)) qs ≡ Some (with_absents gs qs)
-unfolding components_at are_of grow_parts
+additions_grow : (n : ℕ) (fs gs : Fields) (qs : Parts) → are_of (components_at n fs) qs ≡ true → are_of (components_at n (joined fs gs)) (with_absents gs qs) ≡ true → carried_parts true (components_at n fs) (components_at n (joined fs gs)) qs ≡ Some (with_absents gs qs)
+unfolding components_at are_of carried_parts
 additions_grow n no_field gs end e f = all_left_out n gs f
 additions_grow n no_field gs (absent qs) e f = cc
 additions_grow n no_field gs (present v qs) e f = cc
@@ -43,7 +43,7 @@ additions_grow n (field t o s fs) gs (present v qs) e f =
 
 -- A default of a sequence with further additions: that of the older version, with these absent.
 pub default_gains : {k : ℕ} (t : Table) (gs : Fields) {ps qs : Parts} → IsDefault (sequence_type t) (fields ps qs) → IsDefault (sequence_type (with_additions gs t)) (fields ps (with_absents gs qs)) → KeepsPresenceFrom (suc k) (sequence_type t) (sequence_type (with_additions gs t)) (by_default (fields ps qs)) (by_default (fields ps (with_absents gs qs)))
-unfolding sequence_type scope is_of grow
+unfolding sequence_type scope is_of carried
 default_gains {k} t gs {ps} {qs} a b = record { unfolded = at }
   where
     d' : Value

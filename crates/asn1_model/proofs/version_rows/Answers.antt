@@ -5,7 +5,7 @@ use Rattle.asn1_model.specs.Schema.{Tag, Bounds, Schema}
 use Rattle.asn1_model.specs.Normal.{normal}
 use Rattle.asn1_model.specs.Types.{context, default_old}
 use Rattle.asn1_model.specs.VersionRows.{group_of}
-use Rattle.asn1_model.specs.Versions.{lessen, lessen_parts, lessen_alternative, grow, grow_parts, grow_alternative, Extends, ExtendsEach}
+use Rattle.asn1_model.specs.Versions.{carried, lessen, carried_parts, carried_alternative, grow, Extends, ExtendsEach}
 use Rattle.asn1_model.specs.Versions.{ExtendsAlternatives, KeepsTags}
 use Rattle.asn1_model.proofs.OnValues.{on_values}
 use Rattle.asn1_model.proofs.version_rows.Goals as goal
@@ -33,7 +33,7 @@ stays_apart : (s : Schema) (w : Value) → same (normal s w) w ≡ false → sam
 stays_apart s w f t e = let q : false ≡ true = sym f ∙ ap (λ v. same v w) e ∙ t in cc
 
 pub returns : goal.returns
-unfolding on_values lessen lessen_parts lessen_alternative grow grow_parts grow_alternative Extends ExtendsEach ExtendsAlternatives
+unfolding on_values carried carried_parts carried_alternative Extends ExtendsEach ExtendsAlternatives
 returns c = (
   ((own 0, tt, tt, tt), refl, tt),
   ((own 0, (_, refl, refl), ((own 0, tt, tt, tt), refl, tt), tt), refl, tt),
