@@ -78,12 +78,9 @@ pub data Presence : Type 0 where
 -- What the program's type for a value can hold is written beside it: numbers in a Range, lengths in Counts.
 mutual
   pub data Schema : Type 0 where
-    -- below the levels to which a recursive type is unfolded
-    cut : Schema
-    -- BOOLEAN (X.680 18)
-    boolean : Schema
-    -- NULL (X.680 24)
-    null : Schema
+    cut : Schema  -- below the levels to which a recursive type is unfolded
+    boolean : Schema  -- BOOLEAN (X.680 18)
+    null : Schema  -- NULL (X.680 24)
     -- INTEGER (X.680 19): its constraint, and the numbers that the program's type holds
     integer : Bounds → Range → Schema
     -- ENUMERATED (X.680 20): the numbers of the root items in ascending order, whether there is an extension marker,
@@ -91,16 +88,12 @@ mutual
     enumerated : List ℤ → Bool → List ℤ → Schema
     -- BIT STRING (X.680 22): its size in bits, and the lengths that the program's type holds
     bit_string : Size → Counts → Schema
-    -- OCTET STRING (X.680 23): the same in octets
-    octet_string : Size → Counts → Schema
+    octet_string : Size → Counts → Schema  -- OCTET STRING (X.680 23): the same in octets
     -- a restricted character string (X.680 41): the same in characters, or in octets where the value is a list of these
     character_string : StringKind → Size → Alphabet → Counts → Schema
-    -- OBJECT IDENTIFIER (X.680 32)
-    object_identifier : Schema
-    -- SEQUENCE OF (X.680 26)
-    sequence_of : Size → Counts → Schema → Schema
-    -- SET OF (X.680 28)
-    set_of : Size → Counts → Schema → Schema
+    object_identifier : Schema  -- OBJECT IDENTIFIER (X.680 32)
+    sequence_of : Size → Counts → Schema → Schema  -- SEQUENCE OF (X.680 26)
+    set_of : Size → Counts → Schema → Schema  -- SET OF (X.680 28)
     -- SEQUENCE (X.680 25): the root components, whether there is an extension marker, and the additions behind it in
     -- their declared order
     sequence : Components → Bool → Components → Schema
@@ -120,5 +113,4 @@ mutual
 
   pub data Alternatives : Type 0 where
     no_alternative : Alternatives
-    -- its tag, its type, and the further alternatives
-    alternative : Tag → Schema → Alternatives → Alternatives
+    alternative : Tag → Schema → Alternatives → Alternatives  -- its tag, its type, and the further alternatives

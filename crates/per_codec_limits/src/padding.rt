@@ -12,12 +12,13 @@ use asn1_schema_constraints::Bounded;
 pub fn string_has_padding(root: Bounded<usize>, unit: u32, count: usize) -> bool
     ensures { result ≡ Per.string_has_padding unit count (counts_of root) }
 {
-    let has_bits = count > 0 && unit > 0;
-    let Some(highest) = root.as_end() else {
-        return has_bits;
+    let size = root.minimum();
+    let is_fixed = match root.as_end() {
+        Some(highest) => *highest == size,
+        None => false,
     };
-    let most = (*highest as u128) * (unit as u128);
-    has_bits && (*highest != root.minimum() || most > 16)
+    let is_short = is_fixed && (size as u128) * (unit as u128) <= 16;
+    count > 0 && unit > 0 && !is_short
 }
 
 /// Whether padding stands in front of so many characters, each of so many bits: as in front of a string, but not where
