@@ -26,17 +26,17 @@ abbrev pub both_parts : Option Parts → Option Parts → Option Value
 both_parts (Some ps) (Some qs) = Some (fields ps qs)
 both_parts ps qs = None
 
--- What stands behind the components of the older version: nothing is left of it there, and in the newer version all that
--- it adds is absent.
+-- What becomes of the parts that only the newer version has: in the newer one they are absent (true), and in the older
+-- one there are none (false).
 abbrev pub behind : Bool → Components → Parts → Option Parts
 behind false cs ps = Some end
 behind true cs end = all_absent cs
 behind true cs ps = None
 
 unfoldable mutual
-  -- A value of one version as one of the other, of which the first is the older: to the newer one (true) or from it. None
-  -- where a part that only the newer one has is required in a sequence or set that is there, or the older one lacks an
-  -- alternative or an item that stands elsewhere.
+  -- A value of the older version as one of the newer (true), or of the newer one as one of the older (false). None where
+  -- a part that only the newer one has is required in a sequence or set that is there, and where the older one lacks an
+  -- alternative or an item that stands elsewhere than in such a part.
   pub carried : Bool → Schema → Schema → Value → Option Value
   carried false (enumerated roots e adds) (enumerated roots' e' adds') (item v) =
       cond (is_some (item_place v roots) || is_some (item_place v adds)) (Some (item v)) None
@@ -68,7 +68,7 @@ unfoldable mutual
       carried_alternative newer others others' i v
   carried_alternative newer others others' i v = None
 
--- A value of the older version as one of the newer.
+-- A value of the older version as one of the newer: the parts that only that has are absent.
 abbrev pub grow : Schema → Schema → Value → Option Value
 grow old new v = carried true old new v
 
