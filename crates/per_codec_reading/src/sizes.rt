@@ -1,6 +1,7 @@
 //! What stands in front of the items of a size (X.691 16, 17, 20, 22 and 30): an extension bit, where the size is
 //! extensible, and the first length determinant (X.691 11.9).
 ghost use Rattle.std.specs.Prelude.{◌≡◌, ◌≤◌, ◌<◌, IfOk, IfErr, IfSome, Some};
+ghost use Rattle.asn1_model.specs.Per;
 ghost use Rattle.asn1_schema_constraints.specs.Bounds.{counts_of, members_of};
 ghost use Rattle.asn1_schema_constraints.specs.Terms.{size_of};
 ghost use Rattle.per_codec_fronts.specs.Sizes as fronts_sizes;
@@ -48,12 +49,33 @@ fn highest_inside(root: Bounded<usize>, is_outside: bool) -> Option<usize>
     told_highest(root)
 }
 
+/// Reads a constrained whole number that tells how far a size is above the least one (X.691 11.9.4.1).
+///
+/// # Errors
+///
+/// `Incomplete` if the bits end early, and `SizeConstraintNotSatisfied` if the size is too large.
+#[inline(always)]
+fn read_size(cursor: &mut Cursor<'_>, variant: Variant, span: u128) -> Result<u128, DecodeError>
+    ensures ok { IfOk result (λ number. Front (freedoms variant)
+        (Per.constrained (fronts.is_aligned variant) span number) cursor.old cursor.new) }
+    ensures bound { IfOk result (λ number. number ≤ span) }
+    ensures only { IfErr result (Misses (freedoms variant)
+        (Per.constrained (fronts.is_aligned variant) span) cursor.old) }
+{
+    match read_constrained(cursor, variant, span) {
+        Ok(number) => Ok(number),
+        Err(DecodeError::ValueConstraintNotSatisfied) => Err(
+            DecodeError::SizeConstraintNotSatisfied,
+        ),
+        Err(refusal) => Err(refusal),
+    }
+}
+
 /// Reads a number from a lowest to a highest one (X.691 11.9.4.1).
 ///
 /// # Errors
 ///
-/// `Incomplete` if the bits end early, and `SizeConstraintNotSatisfied` or `ValueConstraintNotSatisfied` if there is no
-/// such number.
+/// `Incomplete` if the bits end early, and `SizeConstraintNotSatisfied` if there is no such number.
 fn read_told_count(
     cursor: &mut Cursor<'_>,
     variant: Variant,
@@ -69,7 +91,7 @@ fn read_told_count(
     if highest < lowest {
         return Err(DecodeError::SizeConstraintNotSatisfied);
     }
-    let number = read_constrained(cursor, variant, (highest - lowest) as u128)?;
+    let number = read_size(cursor, variant, (highest - lowest) as u128)?;
     Ok(lowest + number as usize)
 }
 
