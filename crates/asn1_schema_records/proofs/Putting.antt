@@ -1,4 +1,6 @@
 -- How a character string is kept.
+use Rattle.std.specs.Str.{is_utf8, chars}
+use Rattle.std.specs.Char.{encode_utf8}
 use Rattle.asn1_model.specs.Schema.{any_alphabet}
 use Rattle.std.proofs.Common.{◌≡◌, ℕ, true, false, List, [], ◌∷◌, ◌++◌, refl, sym, ◌∙◌, ap}
 use Rattle.asn1_model.specs.Schema.{Counts, Size, Alphabet, StringKind, utf8, visible, any_count}
@@ -9,6 +11,7 @@ use Rattle.asn1_values_alphabets.specs.Permitted.{permits_all}
 
 -- UTF8String has no alphabet of single octets
 pub kind_kept : (t : StringKind) → ((cs : List ℕ) → may_hold t cs ≡ permits_all t cs) → kept_kind t ≡ visible
+unfolding is_utf8 chars encode_utf8
 kind_kept utf8 law = let e : false ≡ true = law (195 ∷ []) in cc
 kind_kept t law = refl
 

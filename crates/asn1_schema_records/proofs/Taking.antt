@@ -1,4 +1,6 @@
 -- How a record that is asked for is taken from the front, and why none is.
+use Rattle.std.specs.Str.{is_utf8, chars}
+use Rattle.std.specs.Char.{encode_utf8}
 use Rattle.asn1_model.specs.Schema.{any_number}
 use Rattle.asn1_model.specs.Schema.{any_alphabet}
 use Rattle.std.proofs.Common.{◌≡◌, ℕ, ℤ, true, false, ◌||◌, List, [], ◌∷◌, Option, sym, ◌∙◌, subst, ap}
@@ -37,6 +39,7 @@ may_be_held utf8 law cs w = tt
 may_be_held t law cs w = law cs ∙ w
 
 held_permits : (t : StringKind) → ((cs : List ℕ) → may_hold t cs ≡ permits_all t cs) → (cs : List ℕ) → MayHold t cs → permits_all t cs ≡ true
+unfolding is_utf8 chars encode_utf8
 held_permits utf8 law cs w = let e : false ≡ true = law (195 ∷ []) in cc
 held_permits t law cs w = sym (law cs) ∙ w
 

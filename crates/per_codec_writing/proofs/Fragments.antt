@@ -1,7 +1,7 @@
 -- Units in fragments, the largest first (X.691 11.9.3.8), and octets behind their number.
-use Rattle.std.proofs.Common.{◌≡◌, ℕ, suc, ◌-◌, ◌*◌, ◌/◌, ◌%◌, ◌<◌, ◌≤◌, min, Bool, true, ◌&&◌, List, [], ◌∷◌, ◌++◌, replicate, inl, inr, refl, ap, sym, ◌∙◌, arith, get_or, Fits}
+use Rattle.std.proofs.Common.{◌≡◌, ℕ, suc, ◌-◌, ◌*◌, ◌/◌, ◌%◌, ◌<◌, ◌≤◌, ◌==◌, min, Bool, true, false, cond, not, ◌&&◌, List, [], ◌∷◌, ◌++◌, filter, replicate, inl, inr, refl, ap, sym, ◌∙◌, arith, get_or, Fits}
 use Rattle.std.specs.Int.{w8}
-use Rattle.std.proofs.lemmas.Bool.{cases_lt, lt-ltb}
+use Rattle.std.proofs.lemmas.Bool.{cases_lt, lt-ltb, eqb-true}
 use Rattle.asn1_model.specs.Strings.{is_octet}
 use Rattle.std.specs.List.{list_all}
 use Rattle.asn1_model.specs.Per
@@ -13,20 +13,28 @@ use Rattle.per_codec_writing.proofs.PaddingTexts.{adds_same, if_true}
 
 -- ---- how units are divided
 
+-- a fragment of so many times 16384, if there is one
+abbrev unless_zero : ℕ → List ℕ
+unless_zero r = filter (λ m. not (m == 0)) (r ∷ [])
+
 abbrev fragments_by : ℕ → ℕ → List ℕ
-fragments_by q r = replicate q 4 ++ Per.unless_zero r
+fragments_by q r = replicate q 4 ++ unless_zero r
 
 a_large_one : (q r k : ℕ) → q ≡ suc k → fragments_by q r ≡ 4 ∷ fragments_by k r
 a_large_one q r k e = ap (λ i. fragments_by i r) e
 
+one_fragment : (m : ℕ) (b : Bool) → (suc m == 0) ≡ b → unless_zero (suc m) ≡ suc m ∷ []
+one_fragment m true e = absurd (let z : suc m ≡ 0 = eqb-true (suc m) 0 e in omega arith)
+one_fragment m false e = ap (λ b. cond (not b) (suc m ∷ []) []) e
+
 a_last_one : (q r m : ℕ) → q ≡ 0 → r ≡ suc m → fragments_by q r ≡ suc m ∷ []
-a_last_one q r m e f = ap (λ i. fragments_by i r) e ∙ ap (λ i. Per.unless_zero i) f
+a_last_one q r m e f = ap (λ i. fragments_by i r) e ∙ ap (λ i. unless_zero i) f ∙ one_fragment m (suc m == 0) refl
 
 pub none_of_them : (n : ℕ) → n < 16384 → Per.largest_first n ≡ []
 none_of_them n h =
     let q : n / 65536 ≡ 0 = omega arith in
     let r : n / 16384 % 4 ≡ 0 = omega arith in
-    ap (λ i. fragments_by i (n / 16384 % 4)) q ∙ ap (λ i. Per.unless_zero i) r
+    ap (λ i. fragments_by i (n / 16384 % 4)) q ∙ ap (λ i. unless_zero i) r
 
 pub first_of_them : (n m : ℕ) → 16384 ≤ n → m ≡ min (n / 16384) 4 → Per.largest_first n ≡ m ∷ Per.largest_first (n - m * 16384)
 first_of_them n m h e = elim (cases_lt n 65536) [
