@@ -1,9 +1,9 @@
 -- Numbers read of a few octets at once.
 use Rattle.std.proofs.Common.{◌≡◌, ℕ, suc, ◌+◌, ◌-◌, ◌*◌, ◌/◌, ◌%◌, ◌^◌, ◌<◌, ◌≤◌, Bool, List, [], ◌∷◌, ◌++◌, length, take, drop, get_or, refl, ap, sym, ◌∙◌, arith, bit_or, bit_and, Fits, w8, zero, lit<}
 use Rattle.std.specs.Int.{from_be_bytes, w64}
-use Rattle.std.proofs.lemmas.Nat.{be_bytes_8, pow_pos, or_shifted, one_shl, and_mask, mod_below, shl_whole}
+use Rattle.std.proofs.lemmas.Nat.{be_bytes_8, pow_pos, or_shifted, and_mask, mod_below, shl_whole}
+use Rattle.std.proofs.lemmas.Nat.Bits.{ones_shr}
 use Rattle.std.proofs.lemmas.List.{take_at, drop_at, drop-drop, drop_more, drop-take, take-take}
-use Rattle.std.proofs.Math.Nat.{pow-le-pow_right}
 use Rattle.asn1_model.specs.Numbers.{binary, octet_bits}
 use Rattle.asn1_values_bits.proofs.Binary.{length-binary, binary_split, binary_join, binary_low}
 use Rattle.asn1_values_bits.proofs.Reading.{take_two, bits_within}
@@ -83,14 +83,13 @@ pub few_read : (os : List ℕ) (p s o c u past f : ℕ) → p ≡ s * 8 + o → 
 few_read os p s o c u past f e all h b = inside_read (octet_bits os) p s o c past (u * 8) f e all (b ∙ octets_at os s u h)
 
 -- the low digits of a number, masked off
-pub masked : (c n : ℕ) → c ≤ 64 → bit_and n (1 * 2 ^ c % 2 ^ 128 - 1) ≡ n % 2 ^ c
-masked c n h = ap (λ x. bit_and n (x - 1)) (one_shl c 128 (omega arith)) ∙ and_mask n c
+pub masked : (c n : ℕ) → c ≤ 64 → bit_and n ((2 ^ 64 - 1) / 2 ^ (64 - c)) ≡ n % 2 ^ c
+masked c n h =
+    let all : 64 - (64 - c) ≡ c = omega arith in
+    ap (bit_and n) (ones_shr 64 (64 - c) (omega arith) ∙ ap (λ k. 2 ^ k - 1) all) ∙ and_mask n c
 
-pub masked_small : (c n : ℕ) → c ≤ 64 → bit_and n (1 * 2 ^ c % 2 ^ 128 - 1) < 2 ^ c
+pub masked_small : (c n : ℕ) → c ≤ 64 → bit_and n ((2 ^ 64 - 1) / 2 ^ (64 - c)) < 2 ^ c
 masked_small c n h = rw (masked c n h) (mod_below n (2 ^ c) (pow_pos c))
 
-pub masked_short : (c n : ℕ) → c ≤ 64 → bit_and n (1 * 2 ^ c % 2 ^ 128 - 1) < 2 ^ 64
-masked_short c n h = let s = masked_small c n h in let m : 2 ^ c ≤ 2 ^ 64 = pow-le-pow_right {n = 2} (omega arith) h in omega arith
-
-pub masked_digits : (c n : ℕ) → c ≤ 64 → binary c (bit_and n (1 * 2 ^ c % 2 ^ 128 - 1)) ≡ binary c n
+pub masked_digits : (c n : ℕ) → c ≤ 64 → binary c (bit_and n ((2 ^ 64 - 1) / 2 ^ (64 - c))) ≡ binary c n
 masked_digits c n h = ap (binary c) (masked c n h) ∙ binary_low c n

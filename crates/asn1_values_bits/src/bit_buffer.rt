@@ -440,6 +440,23 @@ impl BitBuffer {
         requires within { at + width ≤ length self.old }
         ensures { self.new ≡ take at self.old ++ (binary width value ++ drop (at + width) self.old) }
     {
+        if width <= 64 {
+            self.put_word(at, (value % WORD) as u64, width);
+            return;
+        }
+        let len = self.len();
+        prove!(at <= len);
+        let high = width - 64;
+        self.put_word(at, (value / WORD) as u64, high);
+        self.put_word(at + high as usize, (value % WORD) as u64, 64);
+    }
+
+    // Writes the low `width` bits of a number, up to 64, over bits that are there.
+    fn put_word(&mut self, at: usize, value: u64, width: u32)
+        requires narrow { width ≤ 64 }
+        requires within { at + width ≤ length self.old }
+        ensures { self.new ≡ take at self.old ++ (binary width value ++ drop (at + width) self.old) }
+    {
         let len = self.len();
         prove!(at <= len);
         let mut place = at;

@@ -140,7 +140,7 @@ impl<'a> BitReader<'a> {
         if width <= self.window.width() {
             return self.window.first_bits(width);
         }
-        self.rest.first_number(width) as u64
+        self.rest.first_bits(width)
     }
 
     /// The number whose binary digits are the first bits, at most 128.

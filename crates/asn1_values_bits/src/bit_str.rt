@@ -1,7 +1,7 @@
 //! A view of bits in octets.
 ghost use Rattle.std.specs.Prelude.{◌≡◌, ◌+◌, ◌*◌, ◌%◌, ◌^◌, ◌<◌, ◌≤◌, length, IsTrue, ◌↔◌, ◌++◌, IsSome, IfSome};
 
-use crate::bits::{octets_from, read_wide, shift_octets};
+use crate::bits::{octets_from, read_bits, read_wide, shift_octets};
 
 /// Some of the bits that stand in octets, from any bit on.
 #[derive(Clone, Copy)]
@@ -122,6 +122,17 @@ impl<'a> BitStr<'a> {
         read_wide(self.octets, self.first, count)
     }
 
+    // The same number, at most 64 bits.
+    #[inline(always)]
+    pub(crate) fn first_bits(&self, count: u32) -> u64
+        requires narrow { count ≤ 64 }
+        requires within { count ≤ length (bits_of self.now) }
+        ensures digits { binary count result ≡ take count (bits_of self.now) }
+        ensures fits { result < 2 ^ count }
+    {
+        read_bits(self.octets, self.first, count)
+    }
+
     // Some of the first bits, and how many: at most 128, up to the end of an octet. They are the highest binary digits
     // of the number, which has 128.
     #[inline(always)]
@@ -129,6 +140,8 @@ impl<'a> BitStr<'a> {
         ensures narrow { result.1 ≤ 128 }
         ensures within { result.1 ≤ length (bits_of self.now) }
         ensures some { 0 < length (bits_of self.now) → 0 < result.1 }
+        ensures many { 128 ≤ length (bits_of self.now) → result.1 + offset_of self.now ≡ 128 }
+        ensures few { result.1 < 57 → result.1 ≡ length (bits_of self.now) }
         ensures bits { take result.1 (binary 128 result.0) ≡ take result.1 (bits_of self.now) }
     {
         if self.len == 0 {
@@ -147,7 +160,7 @@ impl<'a> BitStr<'a> {
         ensures fewer { length (bits_of result.1) < length (bits_of self.now) }
     {
         let few = self.len().min(8);
-        let octet = (self.first_number(few as u32) << (8 - few)) as u8;
+        let octet = (self.first_bits(few as u32) << (8 - few)) as u8;
         (octet, self.split_at(few).1)
     }
 

@@ -13,7 +13,7 @@ pub(crate) struct BitWindow {
 
 impl BitWindow {
     ghost use Rattle.asn1_model.specs.Numbers.{binary};
-    ghost use Rattle.asn1_values_bits.specs.BitStr.{bits_of};
+    ghost use Rattle.asn1_values_bits.specs.BitStr.{bits_of, offset_of};
     ghost use Rattle.asn1_values_bits.specs.BitWindow.{shown};
 
     /// No bits.
@@ -33,6 +33,8 @@ impl BitWindow {
         ensures front { shown result ≡ take result.width (bits_of bits.entry) }
         ensures within { result.width ≤ length (bits_of bits.entry) }
         ensures some { 0 < length (bits_of bits.entry) → 0 < result.width }
+        ensures many { 128 ≤ length (bits_of bits.entry) → result.width + offset_of bits.entry ≡ 128 }
+        ensures few { result.width < 57 → result.width ≡ length (bits_of bits.entry) }
     {
         let (number, width) = bits.first_octets();
         BitWindow { number, width }

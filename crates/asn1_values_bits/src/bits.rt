@@ -84,6 +84,9 @@ pub(crate) fn octets_from(octets: &[u8], start: usize) -> (u128, u32)
     requires { start < length octets.now }
     ensures some { 8 ≤ result.1 }
     ensures narrow { result.1 ≤ 128 }
+    ensures sixteen { start + 16 ≤ length octets.now → result.1 ≡ 128 }
+    ensures eight { start + 8 ≤ length octets.now → length octets.now < start + 16 → result.1 ≡ 64 }
+    ensures fewer { length octets.now < start + 8 → result.1 ≡ (length octets.now - start) * 8 }
     ensures bits { take result.1 (binary 128 result.0) ≡ take result.1 (drop (start * 8) (octet_bits octets.now)) }
 {
     let left = octets.len() - start;
@@ -131,6 +134,7 @@ fn read_of_nine(octets: &[u8], position: usize, count: u32) -> u64
 // The same as `read_bits`, where at most eight octets stand from the first bit's octet on. Those that hold the bits are
 // read as one number.
 fn read_of_few(octets: &[u8], position: usize, count: u32) -> u64
+    requires some { 0 < count }
     requires narrow { count ≤ 64 }
     requires within { position + count ≤ length octets.now * 8 }
     requires few { length octets.now ≤ position / 8 + 8 }
@@ -141,8 +145,7 @@ fn read_of_few(octets: &[u8], position: usize, count: u32) -> u64
     let offset = (position % 8) as u32;
     let used = (offset + count + 7) / 8;
     let all = few_octets(&octets[start..start + used as usize]);
-    let bits = ((all as u128) >> (used * 8 - offset - count)) & ((1u128 << count) - 1);
-    bits as u64
+    all >> (used * 8 - offset - count) & (u64::MAX >> (64 - count))
 }
 
 /// The number whose binary digits are `count` bits of the octets from bit `position` on.

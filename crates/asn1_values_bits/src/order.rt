@@ -14,8 +14,8 @@ pub(crate) fn compare(a: BitStr<'_>, b: BitStr<'_>) -> Ordering
     let mut right = b;
     while left.len() > 0 && right.len() > 0 {
         let few = left.len().min(right.len()).min(64);
-        let x = left.first_number(few as u32);
-        let y = right.first_number(few as u32);
+        let x = left.first_bits(few as u32);
+        let y = right.first_bits(few as u32);
         if x < y {
             return Ordering::Less;
         }

@@ -18,7 +18,7 @@ fn low_bits(value: u128, width: u32) -> u128 {
 /// Puts so many bits, then the low bits of a value, then three bits into a buffer.
 fn put(buffer: &mut BitBuffer, alignment: u32, value: u128, width: u32) -> Result<(), AllocError>
     requires narrow { width ≤ 128 }
-    requires few { alignment < 8 }
+    requires few { alignment ≤ 8 }
 {
     buffer.push_bits(0b1010_1010, alignment)?;
     buffer.push_bits(value, width)?;
@@ -28,7 +28,7 @@ fn put(buffer: &mut BitBuffer, alignment: u32, value: u128, width: u32) -> Resul
 /// Whether each bit of the value is where it was written.
 fn holds_bits(all: BitStr<'_>, alignment: u32, value: u128, width: u32) -> bool
     requires narrow { width ≤ 128 }
-    requires few { alignment < 8 }
+    requires few { alignment ≤ 8 }
 {
     for i in 0..width {
         let bit = value >> (width - 1 - i) & 1 == 1;
@@ -51,10 +51,80 @@ fn read_behind(mut reader: BitReader<'_>, alignment: u32, width: u32) -> Option<
     Some(field.first_u128(width))
 }
 
+/// Whether two readers of the same bits, of which one has the first of them in a window, say the same of these.
+fn say_the_same(filled: &BitReader<'_>, plain: &BitReader<'_>, width: u32) -> bool
+    requires narrow { width ≤ 128 }
+{
+    if filled.len() != plain.len() || plain.len() < width as usize {
+        return false;
+    }
+    filled.bits() == plain.bits()
+        && filled.first_u128(width) == plain.first_u128(width)
+        && (width > 64 || filled.first_bits(width) == plain.first_bits(width))
+        && (width == 0 || filled.first_bit() == plain.first_bit())
+}
+
+/// The number that is taken in two steps, of which the first takes at most 64 bits.
+fn taken(reader: &mut BitReader<'_>, width: u32) -> Option<u128>
+    requires narrow { width ≤ 128 }
+{
+    let few = width.min(64);
+    let high = reader.take_bits(few)?;
+    let low = reader.take_bits(width - few)?;
+    Some(u128::from(high) << (width - few) | u128::from(low))
+}
+
+/// Whether the value is taken as numbers from where it was written, and the bits behind it.
+fn is_taken(all: BitStr<'_>, alignment: u32, value: u128, width: u32) -> bool
+    requires narrow { width ≤ 128 }
+    requires few { alignment ≤ 8 }
+{
+    let mut reader = BitReader::new(all);
+    reader.take_bits(alignment).is_some()
+        && taken(&mut reader, width) == Some(low_bits(value, width))
+        && reader.take_bits(3) == Some(0b101)
+        && reader.take_bits(1).is_none()
+}
+
+/// Takes so many bits off both readers. Whether they say the same of these, which are taken as the value, and of those
+/// behind them.
+fn split_the_same(
+    filled: &mut BitReader<'_>,
+    plain: &mut BitReader<'_>,
+    value: u128,
+    width: u32,
+) -> bool
+    requires narrow { width ≤ 128 }
+{
+    let Ok(mut front) = filled.split(width as usize) else {
+        return false;
+    };
+    let Ok(same) = plain.split(width as usize) else {
+        return false;
+    };
+    say_the_same(&front, &same, width)
+        && say_the_same(filled, plain, 3)
+        && taken(&mut front, width) == Some(low_bits(value, width))
+        && front.take_bits(1).is_none()
+}
+
+/// Whether a window that is filled in front of the value changes nothing of what is read there.
+fn is_read_the_same(all: BitStr<'_>, alignment: u32, value: u128, width: u32) -> bool
+    requires narrow { width ≤ 128 }
+    requires few { alignment ≤ 8 }
+{
+    let mut filled = BitReader::new(all);
+    let mut plain = BitReader::new(all);
+    filled.take_bits(alignment).is_some()
+        && plain.split(alignment as usize).is_ok()
+        && say_the_same(&filled, &plain, width)
+        && split_the_same(&mut filled, &mut plain, value, width)
+}
+
 /// Whether the value stands where it was written, in no more octets than it takes, and is read from there.
 fn is_written_and_read(alloc: Global, alignment: u32, value: u128, width: u32) -> bool
     requires narrow { width ≤ 128 }
-    requires few { alignment < 8 }
+    requires few { alignment ≤ 8 }
 {
     let mut buffer = BitBuffer::new(alloc);
     if put(&mut buffer, alignment, value, width).is_err() {
@@ -65,12 +135,14 @@ fn is_written_and_read(alloc: Global, alignment: u32, value: u128, width: u32) -
     buffer.as_bytes().len() == total.div_ceil(8)
         && holds_bits(all, alignment, value, width)
         && read_behind(BitReader::new(all), alignment, width) == Some(low_bits(value, width))
+        && is_taken(all, alignment, value, width)
+        && is_read_the_same(all, alignment, value, width)
 }
 
 #[test]
 fn every_alignment_and_width(rt: HostRuntime) {
     let value = 0xb3a1_9c5d_7e2f_8046_1d3b_5f79_8ace_0247_u128;
-    for alignment in 0..8 {
+    for alignment in 0..9 {
         for width in 0..129 {
             assert!(rt; is_written_and_read(rt.alloc(), alignment, value, width));
         }

@@ -1,11 +1,8 @@
 use Rattle.std.proofs.Common.{◌≡◌, ◌+◌, ◌-◌, ◌*◌, ◌/◌, ◌%◌, ◌^◌, ◌≤◌, ℕ, List, length, take, drop, ap, sym, ◌∙◌, arith}
 use Rattle.std.proofs.lemmas.List.{length-drop, length-take-le}
 use Rattle.asn1_model.specs.Numbers.{binary, octet_bits}
-use Rattle.asn1_values_bits.proofs.Window.{few_read, masked_small, masked_short, masked_digits}
+use Rattle.asn1_values_bits.proofs.Window.{few_read, masked_small, masked_digits}
 use Rattle.asn1_values_bits.proofs.bits.read_of_few.Goals as goal
-
-pub overflow_cast-result : goal.overflow_cast-result
-overflow_cast-result c = record { fits = masked_short c.args.count _ c.requires.narrow }
 
 pub returns-clause-fits : goal.returns-clause-fits
 returns-clause-fits c = masked_small c.args.count _ c.requires.narrow

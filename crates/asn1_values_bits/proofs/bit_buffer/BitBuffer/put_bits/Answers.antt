@@ -1,30 +1,36 @@
-use Rattle.std.proofs.Common.{◌≡◌, ◌+◌, ◌-◌, ◌*◌, ◌/◌, ◌%◌, ◌^◌, ◌++◌, ℕ, bit_and, length, take, drop, ap, ◌∙◌, arith, length-append}
-use Rattle.std.proofs.lemmas.List.{length-take-le, length-drop}
-use Rattle.std.proofs.lemmas.Nat.{one_shl, and_mask}
+use Rattle.std.proofs.Common.{◌≡◌, ◌+◌, ◌-◌, ◌/◌, ◌%◌, ◌^◌, ◌++◌, ℕ, Bool, List, take, drop, ap, sym, ◌∙◌, arith, refl}
 use Rattle.asn1_model.specs.Numbers.{binary}
-use Rattle.asn1_values_bits.proofs.Binary.{length-binary, binary_low}
-use Rattle.asn1_values_bits.proofs.Putting.{put_on}
+use Rattle.asn1_values_bits.proofs.Binary.{length-binary, binary_below, binary_low}
+use Rattle.asn1_values_bits.proofs.Putting.{put_on, written_length}
 use Rattle.asn1_values_bits.proofs.bit_buffer.BitBuffer.put_bits.Goals as goal
 
-pub overflow_shr-value : goal.overflow_shr-value
-overflow_shr-value c = omega (arith, c.min-few.ensures)
+pub returns-then-width-le64 : goal.returns-then-width-le64
+returns-then-width-le64 c =
+    let old : List Bool = c.args.self.now in
+    let at : ℕ = c.args.at in
+    let w : ℕ = c.args.width in
+    let all : 64 - w + w ≡ 64 = omega arith in
+    c.put_word.ensures
+    ∙ ap (λ k. take at old ++ (k ++ drop (at + w) old)) (ap (λ k. binary w (c.args.value % 2 ^ k)) (sym all) ∙ binary_below w (64 - w) c.args.value)
 
-pub overflow_add-place : goal.overflow_add-place
-overflow_add-place c = record { fits = omega (arith, c.min-few.ensures) }
+pub put_word-requires-3-clause-within : goal.put_word-requires-3-clause-within
+put_word-requires-3-clause-within c =
+    let high : ℕ = c.args.width - 64 in
+    omega (arith, written_length c.args.self.now c.put_word-2.new.self (binary high (c.args.value / 2 ^ 64)) c.args.at high (omega arith) (length-binary high (c.args.value / 2 ^ 64)) c.put_word-2.ensures)
 
-pub loop-left-preserved : goal.loop-left-preserved
-loop-left-preserved c =
-    let few : ℕ = c.min-few.result in
-    let left : ℕ = c.loop-left.left in
-    let piece : ℕ = c.args.value / 2 ^ (left - few) in
-    let masked : binary few (bit_and piece (1 * 2 ^ few % 2 ^ 128 - 1)) ≡ binary few piece =
-    ap (λ k. binary few (bit_and piece (k - 1))) (one_shl few 128 (omega (arith, c.min-few.ensures))) ∙ ap (binary few) (and_mask piece few) ∙ binary_low few piece in
-    let new_is : c.put_few.new.self ≡ take c.loop-left.place c.loop-left.self ++ (binary few piece ++ drop (c.loop-left.place + few) c.loop-left.self) =
-    c.put_few.ensures ∙ ap (λ k. take c.loop-left.place c.loop-left.self ++ (k ++ drop (c.loop-left.place + few) c.loop-left.self)) masked in
-    record {
-      place_is = omega (arith, c.min-few.ensures);
-      part = omega arith;
-      size = ap length new_is ∙ length-append (take c.loop-left.place c.loop-left.self) (binary few piece ++ drop (c.loop-left.place + few) c.loop-left.self)
-          ∙ (omega (arith, c.min-few.ensures, length-append (binary few piece) (drop (c.loop-left.place + few) c.loop-left.self), length-binary few piece, length-drop (c.loop-left.place + few) c.loop-left.self, length-take-le c.loop-left.place c.loop-left.self (omega arith)));
-      written = put_on c.loop-left.self c.args.self.now c.put_few.new.self _ c.loop-left.place few left c.args.value (c.args.at + c.args.width) (omega (arith, c.min-few.ensures)) c.loop-left.invariant.place_is (omega arith) new_is c.loop-left.invariant.written;
-    }
+pub returns : goal.returns
+returns c =
+    let old : List Bool = c.args.self.now in
+    let mid : List Bool = c.put_word-2.new.self in
+    let at : ℕ = c.args.at in
+    let w : ℕ = c.args.width in
+    let v : ℕ = c.args.value in
+    let high : ℕ = w - 64 in
+    let low : 64 ≡ w - high = omega arith in
+    let end : at + high + 64 ≡ at + w = omega arith in
+    let first : mid ≡ take at old ++ (binary high (v / 2 ^ (w - high)) ++ drop (at + high) old) =
+    c.put_word-2.ensures ∙ ap (λ k. take at old ++ (binary high (v / 2 ^ k) ++ drop (at + high) old)) low in
+    c.put_word-3.ensures
+    ∙ ap (λ k. take (at + high) mid ++ (k ++ drop (at + high + 64) mid)) (binary_low 64 v ∙ ap (λ k. binary k v) low)
+    ∙ ap (λ k. take (at + high) mid ++ (binary (w - high) v ++ drop k mid)) end
+    ∙ put_on old old mid (take at old ++ (binary w v ++ drop (at + w) old)) at high w v (at + w) (omega arith) refl c.requires.within first refl

@@ -1,6 +1,6 @@
 use Rattle.std.proofs.Common.{◌≡◌, ◌≤◌, ◌+◌, ◌++◌, take, drop, length}
 use Rattle.asn1_model.specs.Numbers.{binary}
-use Rattle.asn1_values_bits.proofs.bit_buffer.BitBuffer.put_bits.Given as goal
+use Rattle.asn1_values_bits.proofs.bit_buffer.BitBuffer.put_word.Given as goal
 
 abbrev pub invariant-loop-left : goal.invariant-loop-left
 invariant-loop-left l = record {
