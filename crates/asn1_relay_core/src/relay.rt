@@ -78,10 +78,9 @@ impl<T: Encode + Decode> Relay<T> {
     /// # Errors
     ///
     /// `NoTarget` and `EmptyMessage` at a message that has no translation, or an empty one, or no octets itself;
-    /// `NoneWithinLimit` where more octets are
-    /// unread than a message may have, and none is in front; `Memory` for want of memory, which an empty piece behind
-    /// no unread octets does not need. All messages in front of that one are written. From then on each call answers
-    /// `AlreadyFailed` with the same number.
+    /// `NoneWithinLimit` where more octets are unread than a message may have, and none is in front; `Memory` for
+    /// want of memory, which an empty piece behind no unread octets does not need. All messages in front of that one
+    /// are written. From then on each call answers `AlreadyFailed` with the same number.
     pub fn feed(&mut self, piece: &[u8], out: &mut Vec<u8>) -> Result<(), RelayFault>
         ensures ok { OnOk result (IsFed (T.schema 128) self.old self.new piece.now out.old.items out.new.items) }
         ensures only { IfErr result (FaultOf (T.schema 128) self.old self.new piece.now out.old.items out.new.items) }

@@ -35,8 +35,8 @@ pub enum RunFault {
 /// # Errors
 ///
 /// `Read` where the reader failed, `Write` where the writer did, `Relay` where the relay stops or octets are left
-/// unread at the end, and `Memory` for want of
-/// memory. All whole messages in front of the fault are written first, and if that fails, the fault is `Write`.
+/// unread at the end, and `Memory` for want of memory. All whole messages in front of the fault are written first,
+/// and if that fails, the fault is `Write`.
 pub fn run<T: Encode + Decode, R: Source, W: Sink>(
     alloc: Global,
     reader: &mut R,

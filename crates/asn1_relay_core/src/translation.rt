@@ -74,8 +74,8 @@ pub fn detours_change_no_answer()
 /// # Errors
 ///
 /// `NotAnEncoding` where no octets in front are an encoding of a value that nests at most 128 levels, `Surplus` where
-/// octets stand behind one,
-/// `NoTarget` where the value has no encoding by the rules `to`, and `Memory` for want of memory.
+/// octets stand behind one, `NoTarget` where the value has no encoding by the rules `to`, and `Memory` for want of
+/// memory.
 pub fn recode<T: Encode + Decode>(
     alloc: Global,
     from: Codec,

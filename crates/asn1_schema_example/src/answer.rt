@@ -5,9 +5,9 @@ ghost use Rattle.asn1_schema.proofs.Author.{one_number_of, type_enumerated, valu
 
 use asn1_schema::{
     AsnType, Constraints, Decode, DecodeError, DecodeItems, Decoder, Described, Encode,
-    EncodeError, EncodeItems, Encoder, Enumerated, EnumeratedType, Identifier, Tag, TagTree,
+    EncodeError, EncodeItems, Encoder, Enumerated, EnumeratedType, Global, Identifier, Tag,
+    TagTree,
 };
-use std::alloc::Global;
 
 /// An answer.
 #[derive(Clone, Copy, Debug, PartialEq, Eq)]

@@ -4,10 +4,9 @@ ghost use Rattle.asn1_schema.specs.Author.{end, no_constraint, sequence_form};
 
 use asn1_schema::{
     AsnType, Constraints, Constructed, Decode, DecodeError, Decoder, Described, Encode,
-    EncodeError, EncodeSequence, Encoder, Field, Fields, Identifier, Tag, TagTree, field,
+    EncodeError, EncodeSequence, Encoder, Field, Fields, Global, Identifier, Tag, TagTree, field,
 };
 use asn1_values::Integer;
-use std::alloc::Global;
 
 /// A number, and perhaps others behind it.
 #[derive(Drop)]

@@ -5,10 +5,9 @@ ghost use Rattle.asn1_schema.proofs.Author.{one_name_of, one_number_of, type_enu
 
 use asn1_schema::{
     AsnType, Constraints, Decode, DecodeError, DecodeItems, Decoder, Described, Encode,
-    EncodeError, EncodeItems, Encoder, Enumerated, EnumeratedType, Identifier, NamedItems, Tag,
-    TagTree,
+    EncodeError, EncodeItems, Encoder, Enumerated, EnumeratedType, Global, Identifier, NamedItems,
+    Tag, TagTree,
 };
-use std::alloc::Global;
 
 /// A colour.
 #[derive(Clone, Copy, Debug, PartialEq, Eq)]

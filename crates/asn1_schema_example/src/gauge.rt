@@ -8,10 +8,9 @@ use crate::power::Power;
 use asn1_schema::{
     AsnType, ComponentsOf, Constraints, Constructed, Decode, DecodeComponents, DecodeError,
     DecodeSet, Decoder, Described, Encode, EncodeComponents, EncodeError, EncodeSet, Encoder, End,
-    Field, FieldPresence, Fields, Identifier, Implicit, Required, RequiredComponent, Tag, TagTree,
-    field, tag, tagged,
+    Field, FieldPresence, Fields, Global, Identifier, Implicit, Required, RequiredComponent, Tag,
+    TagTree, field, tag, tagged,
 };
-use std::alloc::Global;
 
 /// A number, and a choice without a tag of its own behind it.
 #[derive(Drop)]

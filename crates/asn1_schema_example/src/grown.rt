@@ -7,10 +7,9 @@ ghost use Rattle.asn1_schema.proofs.Author.{set_of, set_tag};
 use asn1_schema::{
     AddedOptional, AddedOptionalComponent, Components, ComponentsOf, DecodeComponents, DecodeError,
     Decoder, EncodeComponents, EncodeError, Encoder, ExtensibleComponents, ExtensionMarker, Field,
-    FieldTables, Fields, Heading, Identifier, Implicit, NoMore, Optional, OptionalComponent,
-    Required, RequiredComponent, Set, Tag, TwoAdditions, field, tag, tagged,
+    FieldTables, Fields, Global, Heading, Identifier, Implicit, NoMore, Optional,
+    OptionalComponent, Required, RequiredComponent, Set, Tag, TwoAdditions, field, tag, tagged,
 };
-use std::alloc::Global;
 
 /// A set that has grown by two components.
 pub type Grown = Set<GrownFields>;

@@ -7,10 +7,10 @@ use asn1_schema::{
     AsnType, ComponentsOf, Constraints, Constructed, Decode, DecodeComponents, DecodeConstructed,
     DecodeError, Decoder, DefaultOf, Defaulted, DefaultedComponent, Described, Encode,
     EncodeComponents, EncodeConstructed, EncodeError, Encoder, End, EqualByMeaning, Field, Fields,
-    Identifier, Optional, OptionalComponent, Tag, TagTree, field,
+    Global, Identifier, Optional, OptionalComponent, Tag, TagTree, field,
 };
 use asn1_values::Integer;
-use std::alloc::{AllocError, Global};
+use std::alloc::AllocError;
 use std::marker::PhantomData;
 
 /// A measure.

@@ -5,11 +5,10 @@ ghost use Rattle.asn1_schema.proofs.Author.{more_variants, no_variants, type_cho
 
 use asn1_schema::{
     Alternatives, AsnType, Choice, Chosen, Constraints, Decode, DecodeAlternatives, DecodeChoice,
-    DecodeError, Decoder, Described, Encode, EncodeChoice, EncodeError, Encoder, Identifier, Tag,
-    TagPlace, TagTree, place, read_alternative, tagged, write_alternative,
+    DecodeError, Decoder, Described, Encode, EncodeChoice, EncodeError, Encoder, Global,
+    Identifier, Tag, TagPlace, TagTree, place, read_alternative, tagged, write_alternative,
 };
 use asn1_values::Integer;
-use std::alloc::Global;
 
 /// A message.
 #[derive(Drop)]

@@ -6,10 +6,9 @@ ghost use Rattle.asn1_schema.proofs.Author.{type_choice, more_variants, no_varia
 
 use asn1_schema::{
     Alternatives, AsnType, Choice, Chosen, Constraints, Decode, DecodeAlternatives, DecodeChoice,
-    DecodeError, Decoder, Described, Encode, EncodeChoice, EncodeError, Encoder, Identifier, Tag,
-    TagPlace, TagTree, place, read_alternative, tagged, write_alternative,
+    DecodeError, Decoder, Described, Encode, EncodeChoice, EncodeError, Encoder, Global,
+    Identifier, Tag, TagPlace, TagTree, place, read_alternative, tagged, write_alternative,
 };
-use std::alloc::Global;
 
 /// Whether something runs.
 #[derive(Drop)]

@@ -5,10 +5,9 @@ ghost use Rattle.asn1_schema_example.specs.Tree.{branches_schema, tree_meaning};
 
 use asn1_schema::{
     AsnType, Bounded, Constraints, Constructed, Decode, DecodeError, Decoder, Described, Encode,
-    EncodeError, Encoder, Field, Fields, Identifier, Tag, TagTree, field,
+    EncodeError, Encoder, Field, Fields, Global, Identifier, Tag, TagTree, field,
 };
 use asn1_values::Integer;
-use std::alloc::Global;
 
 /// A number, and the trees that branch off.
 #[derive(Drop)]

@@ -47,8 +47,7 @@ fn finish_additions<'input>(
 /// # Errors
 ///
 /// `SurplusOctets` if octets are left in an open type in the canonical rules, the errors of unknown additions that
-/// are passed over, and
-/// `NotValidCanonicalEncoding` if the calls do not come in the order of the records.
+/// are passed over, and `NotValidCanonicalEncoding` if the calls do not come in the order of the records.
 #[inline(always)]
 pub(crate) fn finish<'input>(
     frame: Frame<'input>,

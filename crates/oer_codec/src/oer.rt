@@ -21,8 +21,7 @@ use std::alloc::Global;
 /// # Errors
 ///
 /// Want of memory aside, only where the value has no encoding: `ValueConstraintNotSatisfied`,
-/// `SizeConstraintNotSatisfied`, or
-/// `TooLongValue` for 2^60 octets and more and for nothing else.
+/// `SizeConstraintNotSatisfied`, or `TooLongValue` for 2^60 octets and more and for nothing else.
 pub fn encode<T: Encode>(alloc: Global, value: &T) -> Result<Vec<u8>, EncodeError>
     ensures ok { IfOk result (λ octets. IsEncoded T.schema (T.meaning value.now) octets.items) }
     ensures only { IfErr result (NotEncoded T.schema (T.meaning value.now)) }

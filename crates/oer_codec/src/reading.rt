@@ -18,8 +18,7 @@ use std::alloc::Global;
 /// # Errors
 ///
 /// `OutOfMemory` for want of memory. Any other only if no octets in front, fewer than 2^60, are an encoding of a
-/// value of the type that
-/// nests at most 128 levels.
+/// value of the type that nests at most 128 levels.
 #[inline(always)]
 pub fn decode<T: Decode>(
     alloc: Global,
@@ -63,8 +62,7 @@ pub fn decode_with_remainder<'input, T: Decode>(
 /// # Errors
 ///
 /// `OutOfMemory` for want of memory. Any other, if the type under these constraints is a lawful one, only if no
-/// octets in front, fewer than
-/// 2^60, are an encoding of a value of it that nests at most 128 levels.
+/// octets in front, fewer than 2^60, are an encoding of a value of it that nests at most 128 levels.
 pub fn decode_with_constraints<T: Decode>(
     alloc: Global,
     constraints: Constraints,
