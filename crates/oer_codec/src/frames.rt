@@ -54,7 +54,7 @@ impl<'input> Enclosing<'input> {
 
 /// Opens a frame inside all others.
 #[inline(always)]
-fn put<'input>(
+fn open_frame<'input>(
     innermost: &mut Option<Frame<'input>>,
     outer: &mut Vec<Frame<'input>>,
     frame: Frame<'input>,
@@ -78,7 +78,7 @@ fn put<'input>(
 /// Makes what encloses one value alone a frame inside all others. It is seldom called: where something begins in an
 /// open type or in an alternative.
 #[cold]
-fn put_enclosing<'input>(
+fn settle_enclosing<'input>(
     enclosing: &mut Option<Enclosing<'input>>,
     innermost: &mut Option<Frame<'input>>,
     outer: &mut Vec<Frame<'input>>,
@@ -90,12 +90,12 @@ fn put_enclosing<'input>(
     let Some(around) = enclosing.take() else {
         return Ok(());
     };
-    put(innermost, outer, around.frame())
+    open_frame(innermost, outer, around.frame())
 }
 
 /// The same where something encloses one value alone, and nothing where nothing does.
 #[inline(always)]
-fn settle_enclosing<'input>(
+fn settle<'input>(
     enclosing: &mut Option<Enclosing<'input>>,
     innermost: &mut Option<Frame<'input>>,
     outer: &mut Vec<Frame<'input>>,
@@ -107,7 +107,7 @@ fn settle_enclosing<'input>(
     if enclosing.is_none() {
         return Ok(());
     }
-    put_enclosing(enclosing, innermost, outer)
+    settle_enclosing(enclosing, innermost, outer)
 }
 
 /// Closes what encloses one value alone. An open type (X.696 30) ends.
@@ -208,8 +208,8 @@ impl<'input> Nested<'input> {
     pub(crate) fn open(&mut self, frame: Frame<'input>) -> Result<(), AllocError>
         ensures { OnOk result (self.new ≡ scope_of frame.entry ∷ self.old) }
     {
-        settle_enclosing(&mut self.enclosing, &mut self.innermost, &mut self.outer)?;
-        put(&mut self.innermost, &mut self.outer, frame)
+        settle(&mut self.enclosing, &mut self.innermost, &mut self.outer)?;
+        open_frame(&mut self.innermost, &mut self.outer, frame)
     }
 
     /// Opens inside all others what encloses one value alone.
@@ -217,7 +217,7 @@ impl<'input> Nested<'input> {
     pub(crate) fn enclose(&mut self, enclosing: Enclosing<'input>) -> Result<(), AllocError>
         ensures { OnOk result (self.new ≡ scope_of (frame_of enclosing.entry) ∷ self.old) }
     {
-        settle_enclosing(&mut self.enclosing, &mut self.innermost, &mut self.outer)?;
+        settle(&mut self.enclosing, &mut self.innermost, &mut self.outer)?;
         self.enclosing = Some(enclosing);
         Ok(())
     }

@@ -15,7 +15,7 @@ use Rattle.oer_codec_encoder.specs.declared.frame.Frame.TheVariants.{Bag}
 use Rattle.asn1_schema_faults.specs.declared.EncodeError.{EncodeError}
 use Rattle.oer_codec_encoder.specs.Frames.{NoEnd}
 use Rattle.oer_codec_encoder.specs.Holding.{NextOfBag, BagEnds, IsInBag, Holds, Does, Cannot}
-use Rattle.oer_codec_encoder.specs.Slots.{texts_joined}
+use Rattle.oer_codec_encoder.specs.Joined.{texts_joined}
 use Rattle.oer_codec_writing.specs.Writing.{Adds}
 use Rattle.oer_codec_encoder.proofs.Refusals.{cannot}
 use Rattle.oer_codec_encoder.proofs.Scopes.{on_top, put_back, appended}

@@ -8,7 +8,7 @@ pub mod EndScopes
 pub mod Going
 pub mod Refusals
 pub mod RoomTexts
-pub mod SlotTexts
+pub mod JoinedTexts
 pub mod Still
 pub mod Bridge
 pub mod StepAdditions

@@ -3,7 +3,7 @@ pub mod Laws
 pub mod Frames
 pub mod Fronts
 pub mod Holding
-pub mod Slots
+pub mod Joined
 pub mod Steps
 pub mod Ties
 pub mod Written

@@ -10,7 +10,7 @@ ghost use Rattle.asn1_schema_order.specs.Entries.{octets_of};
 ghost use Rattle.oer_codec_encoder.specs.Frames.{NoMember};
 ghost use Rattle.oer_codec_encoder.specs.Fronts.{Keeps};
 ghost use Rattle.oer_codec_encoder.specs.Holding.{NextOfBag, Does, Cannot};
-ghost use Rattle.oer_codec_encoder.specs.Slots.{texts_joined};
+ghost use Rattle.oer_codec_encoder.specs.Joined.{texts_joined};
 ghost use Rattle.oer_codec_writing.specs.Writing.{Adds};
 
 use crate::frame::{Bag, Frame};

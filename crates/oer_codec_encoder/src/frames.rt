@@ -70,7 +70,7 @@ impl Model for Frames {
 
 /// Opens a frame inside all others, where no small frame is innermost. If memory is refused, all is as it was.
 #[inline(always)]
-fn put(
+fn open_frame(
     innermost: &mut Option<Frame>,
     outer: &mut Vec<Frame>,
     frame: Frame,
@@ -108,7 +108,7 @@ fn settle_small(
     ensures kept { OnErr result
         (others_of innermost.new outer.new.items ≡ others_of innermost.old outer.old.items) }
 {
-    put(innermost, outer, small.frame())
+    open_frame(innermost, outer, small.frame())
 }
 
 /// Moves the small frame, if there is one, to the other frames. If memory is refused, all is as it was.
@@ -282,7 +282,7 @@ impl Frames {
         ensures kept { OnErr result (self.new ≡ self.old) }
     {
         settle(&mut self.small, &mut self.innermost, &mut self.outer)?;
-        put(&mut self.innermost, &mut self.outer, frame)
+        open_frame(&mut self.innermost, &mut self.outer, frame)
     }
 
     /// Opens a small frame inside all others. If memory is refused, all is as it was.

@@ -12,7 +12,7 @@ use Rattle.asn1_values_bits.specs.Octets.{padded}
 use Rattle.asn1_values_bits.proofs.Binary.{binary_join}
 use Rattle.per_codec_packing.specs.Texts.{text_at}
 use Rattle.per_codec_additions.specs.Additions.{as_open_types}
-use Rattle.per_codec_additions.specs.Slots.{complete_octets, first_bits_of_octets, kept_bits, is_there, IsKept, Keeps, all_bits, EachIsKept, AreKept}
+use Rattle.per_codec_additions.specs.Slots.{complete_octets, first_bits_of_octets, kept_bits, is_there, IsSlotOf, Keeps, all_bits, EachIsSlotOf, AreSlots}
 use Rattle.per_codec_writing.specs.Writing.{Packed, Adds, place}
 use Rattle.per_codec_additions.specs.declared.slots.Slot.{Slot}
 use Rattle.per_codec_additions.specs.declared.slots.Slot.TheVariants.{Absent, InPlace, Shared}
@@ -112,12 +112,12 @@ module _ (shared more : List ℕ) where
       let l = length-drop from shared in
       ap (λ ys. take (to - from) ys) (drop-append-le from shared more (omega arith)) ∙ take-append-le (to - from) (drop from shared) more (omega arith)
 
-  bits_kept : (s : Slot) → IsKept shared s → kept_bits (shared ++ more) s ≡ kept_bits shared s
+  bits_kept : (s : Slot) → IsSlotOf shared s → kept_bits (shared ++ more) s ≡ kept_bits shared s
   bits_kept Absent h = refl
   bits_kept (InPlace os count n) h = refl
   bits_kept (Shared from to n) h = ap (λ l. Some (first_bits_of_octets n l)) (range_kept from to h.ordered h.within)
 
-  still : (s : Slot) → IsKept shared s → IsKept (shared ++ more) s
+  still : (s : Slot) → IsSlotOf shared s → IsSlotOf (shared ++ more) s
   still Absent h = tt
   still (InPlace os count n) h = h
   still (Shared from to n) h = record {
@@ -126,17 +126,17 @@ module _ (shared more : List ℕ) where
     octets = subst (λ l. l ≡ complete_octets (first_bits_of_octets n l)) (sym (range_kept from to h.ordered h.within)) h.octets;
   }
 
-  all_bits_kept : (ss : List Slot) → EachIsKept shared ss → all_bits (shared ++ more) ss ≡ all_bits shared ss
+  all_bits_kept : (ss : List Slot) → EachIsSlotOf shared ss → all_bits (shared ++ more) ss ≡ all_bits shared ss
   all_bits_kept [] h = refl
   all_bits_kept (s ∷ ss) h = ap (λ o. o ∷ all_bits (shared ++ more) ss) (bits_kept s h.0) ∙ ap (λ os. kept_bits shared s ∷ os) (all_bits_kept ss h.1)
 
-  all_still : (ss : List Slot) → EachIsKept shared ss → EachIsKept (shared ++ more) ss
+  all_still : (ss : List Slot) → EachIsSlotOf shared ss → EachIsSlotOf (shared ++ more) ss
   all_still [] h = tt
   all_still (s ∷ ss) h = (still s h.0, all_still ss h.1)
 
 -- ---- one addition more
 
-one_behind : (shared : List ℕ) (ss : List Slot) (s : Slot) → EachIsKept shared ss → IsKept shared s → EachIsKept shared (ss ++ s ∷ [])
+one_behind : (shared : List ℕ) (ss : List Slot) (s : Slot) → EachIsSlotOf shared ss → IsSlotOf shared s → EachIsSlotOf shared (ss ++ s ∷ [])
 one_behind shared [] s h k = (k, tt)
 one_behind shared (r ∷ ss) s h k = (h.0, one_behind shared ss s h.1 k)
 
@@ -150,29 +150,29 @@ any_behind_some [] w = refl
 any_behind_some (None ∷ os) w = any_behind_some os w
 any_behind_some (Some v ∷ os) w = refl
 
-module _ (shared : List ℕ) (slots all : List Slot) (any : Bool) (h : AreKept shared slots any) where
+module _ (shared : List ℕ) (slots all : List Slot) (any : Bool) (h : AreSlots shared slots any) where
   pub absent_bits : all ≡ slots ++ Absent ∷ [] → all_bits shared all ≡ all_bits shared slots ++ None ∷ []
   absent_bits e = ap (all_bits shared) e ∙ map-append (kept_bits shared) slots (Absent ∷ [])
 
-  pub absent_kept : all ≡ slots ++ Absent ∷ [] → AreKept shared all any
+  pub absent_kept : all ≡ slots ++ Absent ∷ [] → AreSlots shared all any
   absent_kept e = record {
-    each = subst (EachIsKept shared) (sym e) (one_behind shared slots Absent h.each tt);
+    each = subst (EachIsSlotOf shared) (sym e) (one_behind shared slots Absent h.each tt);
     is_any = h.is_any ∙ sym (ap is_any_present (absent_bits e) ∙ any_behind_none (all_bits shared slots));
   }
 
-module _ (shared more grown : List ℕ) (slots all : List Slot) (any : Bool) (h : AreKept shared slots any) (e : grown ≡ shared ++ more) where
+module _ (shared more grown : List ℕ) (slots all : List Slot) (any : Bool) (h : AreSlots shared slots any) (e : grown ≡ shared ++ more) where
   same_slots : all_bits grown slots ≡ all_bits shared slots
   same_slots = ap (λ l. all_bits l slots) e ∙ all_bits_kept shared more slots h.each
 
-  each_still : EachIsKept grown slots
-  each_still = subst (λ l. EachIsKept l slots) (sym e) (all_still shared more slots h.each)
+  each_still : EachIsSlotOf grown slots
+  each_still = subst (λ l. EachIsSlotOf l slots) (sym e) (all_still shared more slots h.each)
 
   pub same_bits : all ≡ slots → all_bits grown all ≡ all_bits shared slots
   same_bits f = ap (all_bits grown) f ∙ same_slots
 
-  pub still_kept : all ≡ slots → AreKept grown all any
+  pub still_kept : all ≡ slots → AreSlots grown all any
   still_kept f = record {
-    each = subst (EachIsKept grown) (sym f) each_still;
+    each = subst (EachIsSlotOf grown) (sym f) each_still;
     is_any = h.is_any ∙ ap is_any_present (sym (same_bits f));
   }
 
@@ -182,17 +182,17 @@ module _ (shared more grown : List ℕ) (slots all : List Slot) (any : Bool) (h 
         ap (all_bits grown) f ∙ map-append (kept_bits grown) slots (s ∷ [])
         ∙ ap (λ os. os ++ kept_bits grown s ∷ []) same_slots ∙ ap (λ o. all_bits shared slots ++ o ∷ []) k.is
 
-    pub more_kept : AreKept grown all true
+    pub more_kept : AreSlots grown all true
     more_kept = record {
-      each = subst (EachIsKept grown) (sym f) (one_behind grown slots s each_still k.kept);
+      each = subst (EachIsSlotOf grown) (sym f) (one_behind grown slots s each_still k.kept);
       is_any = sym (ap is_any_present one_more ∙ any_behind_some (all_bits shared slots) w);
     }
 
 -- ---- one addition after another
 
-pub kept_at : (shared : List ℕ) (ss : List Slot) (i : ℕ) (s d : Slot) → EachIsKept shared ss → i < length ss → s ≡ get_or ss i d → IsKept shared s
+pub kept_at : (shared : List ℕ) (ss : List Slot) (i : ℕ) (s d : Slot) → EachIsSlotOf shared ss → i < length ss → s ≡ get_or ss i d → IsSlotOf shared s
 kept_at shared [] i s d h l e = absurd (omega (arith, l))
-kept_at shared (r ∷ ss) zero s d h l e = subst (IsKept shared) (sym e) h.0
+kept_at shared (r ∷ ss) zero s d h l e = subst (IsSlotOf shared) (sym e) h.0
 kept_at shared (r ∷ ss) (suc i) s d h l e = kept_at shared ss i s d h.1 (omega (arith, l)) e
 
 present_next : (al : Bool) (o : Option (List Bool)) (slots : List (Option (List Bool))) (old mid new : Packed) → ((w : List Bool) → o ≡ Some w → Adds (text_at (Per.open_type al (exactly w)) (place old)) old mid) → (o ≡ None → mid ≡ old) → Present al slots mid new → Present al (o ∷ slots) old new

@@ -40,27 +40,27 @@ pub record AreShared (shared : List ℕ) (from to n : ℕ) : Type 0 where
   pub within : to ≤ length shared
   pub octets : slice_range shared from to ≡ complete_octets (first_bits_of_octets n (slice_range shared from to))
 
--- An addition is kept so.
-abbrev pub IsKept : List ℕ → Slot → Type 0
-IsKept shared Absent = ⊤
-IsKept shared (InPlace os count n) = AreInPlace os count n
-IsKept shared (Shared from to n) = AreShared shared from to n
+-- The octets of an addition that is there, in place or among these, are the complete encoding of its bits.
+abbrev pub IsSlotOf : List ℕ → Slot → Type 0
+IsSlotOf shared Absent = ⊤
+IsSlotOf shared (InPlace os count n) = AreInPlace os count n
+IsSlotOf shared (Shared from to n) = AreShared shared from to n
 
--- It is kept so, by these bits.
+-- It is kept by such a slot, and these are its bits.
 pub record Keeps (shared : List ℕ) (slot : Slot) (bits : List Bool) : Type 0 where
-  pub kept : IsKept shared slot
+  pub kept : IsSlotOf shared slot
   pub is : kept_bits shared slot ≡ Some bits
 
 -- The bits of each addition that is there.
 abbrev pub all_bits : List ℕ → List Slot → List (Option (List Bool))
 all_bits shared slots = map (kept_bits shared) slots
 
--- Each addition is kept so.
-abbrev pub EachIsKept : List ℕ → List Slot → Type 0
-EachIsKept shared [] = ⊤
-EachIsKept shared (s ∷ ss) = IsKept shared s × EachIsKept shared ss
+-- Each addition is kept by such a slot.
+abbrev pub EachIsSlotOf : List ℕ → List Slot → Type 0
+EachIsSlotOf shared [] = ⊤
+EachIsSlotOf shared (s ∷ ss) = IsSlotOf shared s × EachIsSlotOf shared ss
 
--- All are kept so, and it is known whether one of them is there.
-pub record AreKept (shared : List ℕ) (slots : List Slot) (any : Bool) : Type 0 where
-  pub each : EachIsKept shared slots
+-- All are, and it is known whether one of them is there.
+pub record AreSlots (shared : List ℕ) (slots : List Slot) (any : Bool) : Type 0 where
+  pub each : EachIsSlotOf shared slots
   pub is_any : any ≡ is_any_present (all_bits shared slots)

@@ -6,7 +6,7 @@ ghost use Rattle.asn1_model.specs.Per.{additions, normally_few, bit_units};
 ghost use Rattle.per_codec_packing.specs.Texts.{as_text, text_at};
 ghost use Rattle.per_codec_writing.specs.Writing.{Adds, place, plus};
 ghost use Rattle.per_codec_additions.specs.Additions.{as_open_types};
-ghost use Rattle.per_codec_additions.specs.Slots.{all_bits, is_there, EachIsKept};
+ghost use Rattle.per_codec_additions.specs.Slots.{all_bits, is_there, EachIsSlotOf};
 ghost use Rattle.per_codec_limits.specs.Variants.{is_aligned};
 
 use crate::slots::{Slot, Slots};
@@ -107,7 +107,7 @@ fn push_present(
     slots: &[Slot],
     shared: &[u8],
 ) -> Result<(), EncodeError>
-    requires { EachIsKept shared.now slots.now }
+    requires { EachIsSlotOf shared.now slots.now }
     ensures { MatchResult result (λ _. Adds
         (text_at (joined (present_ones (as_open_types (is_aligned variant) (all_bits shared.now slots.now))))
         (place output.old)) output.old output.new)

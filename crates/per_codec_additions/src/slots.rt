@@ -4,7 +4,7 @@ ghost use Rattle.std.specs.Prelude.{MatchOption};
 ghost use Rattle.asn1_model.specs.Form.{exactly, is_any_present};
 ghost use Rattle.asn1_model.specs.Per.{open_type};
 ghost use Rattle.per_codec_packing.specs.Texts.{text_at};
-ghost use Rattle.per_codec_additions.specs.Slots.{complete_octets, is_there, kept_bits, IsKept, Keeps};
+ghost use Rattle.per_codec_additions.specs.Slots.{complete_octets, is_there, kept_bits, IsSlotOf, Keeps};
 ghost use Rattle.per_codec_writing.specs.Writing.{Adds, place};
 ghost use Rattle.per_codec_limits.specs.Variants.{is_aligned};
 
@@ -51,13 +51,13 @@ pub(crate) enum Slot {
 
 impl Model for Slots {
     ghost use Rattle.std.specs.Prelude.{Bool, List, Option};
-    ghost use Rattle.per_codec_additions.specs.Slots.{all_bits, AreKept};
+    ghost use Rattle.per_codec_additions.specs.Slots.{all_bits, AreSlots};
 
     ghost Value = { List (Option (List Bool)) };
 
     ghost view = { λ s. all_bits s.shared.items s.slots.items };
 
-    ghost invariant = { λ s. AreKept s.shared.items s.slots.items s.is_any_present };
+    ghost invariant = { λ s. AreSlots s.shared.items s.slots.items s.is_any_present };
 }
 
 /// Keeps an addition that is there, by its bits: in place where it has few, else behind the octets that are shared.
@@ -157,7 +157,7 @@ impl Slot {
     /// The octets of its complete encoding (X.691 11.1), if it is there, in place or from those that are shared.
     #[inline(always)]
     fn octets<'a>(&'a self, shared: &'a [u8]) -> Option<&'a [u8]>
-        requires { IsKept shared.now self.now }
+        requires { IsSlotOf shared.now self.now }
         ensures { MatchOption result (kept_bits shared.now self.now ≡ None) (λ octets. (bits : List Bool)
             × (kept_bits shared.now self.now ≡ Some bits) × (octets.now ≡ complete_octets bits)) }
     {
@@ -176,7 +176,7 @@ impl Slot {
         variant: Variant,
         shared: &[u8],
     ) -> Result<(), EncodeError>
-        requires { IsKept shared.now self.now }
+        requires { IsSlotOf shared.now self.now }
         ensures present { OnOk result ((bits : List Bool) → kept_bits shared.now self.now ≡ Some bits → Adds
             (text_at (open_type (is_aligned variant) (exactly bits)) (place output.old)) output.old output.new) }
         ensures absent { OnOk result (kept_bits shared.now self.now ≡ None → output.new ≡ output.old) }

@@ -15,12 +15,12 @@ use Rattle.asn1_schema_presented.specs.Tables.{IsValue}
 use Rattle.per_codec_packing.specs.Texts.{Text, as_text, plain, text_at}
 use Rattle.per_codec_encoder.specs.Steps.{State, Step}
 use Rattle.per_codec_encoder.specs.Ties.{octets_of}
-use Rattle.per_codec_encoder.specs.Written.{bits_of, WrittenByRecords, RefusedByRecords, IsWriter, packed_rules, WritesTheOctets, RefusesOnlyNone}
+use Rattle.per_codec_encoder.specs.Written.{canonical_bits, WrittenByRecords, RefusedByRecords, IsWriter, packed_rules, WritesTheOctets, RefusesOnlyNone}
 use Rattle.per_codec_packing.proofs.Formed.{known, plain_text}
 use Rattle.per_codec_encoder.proofs.Chains.{added}
 
 -- the bits of a value that is in its normal form
-as_it_is : (al : Bool) (s : Schema) (v : Value) → normal s v ≡ v → bits_of al s v ≡ written (Per.form al s v) 0
+as_it_is : (al : Bool) (s : Schema) (v : Value) → normal s v ≡ v → canonical_bits al s v ≡ written (Per.form al s v) 0
 as_it_is al s v e = ap (λ u. written (Per.form al s u) 0) e
 
 -- a text at the beginning is made of bits
@@ -31,13 +31,13 @@ to_bits x w e = go (written x 0) refl (sym (known x 0) ∙ e)
     go None f g = cc
     go (Some l) f g = (l, f, let q : w ≡ as_text l = cc in q)
 
-chain_to_bits : (al : Bool) (s : Schema) (v : Value) (new : State) → normal s v ≡ v → Chain (Step al) (presents s v) ([], []) new → (l : List Bool) × (bits_of al s v ≡ Some l) × (new ≡ (as_text l, []))
+chain_to_bits : (al : Bool) (s : Schema) (v : Value) (new : State) → normal s v ≡ v → Chain (Step al) (presents s v) ([], []) new → (l : List Bool) × (canonical_bits al s v ≡ Some l) × (new ≡ (as_text l, []))
 chain_to_bits al s v new e c =
     let t = (added al s v [] [] new).0 c in
     let b = to_bits (Per.form al s v) t.0 t.1 in
     (b.0, as_it_is al s v e ∙ b.1, t.2 ∙ ap (λ w. (w, [])) b.2)
 
-chain_by_bits : (al : Bool) (s : Schema) (v : Value) (l : List Bool) → normal s v ≡ v → bits_of al s v ≡ Some l → Chain (Step al) (presents s v) ([], []) (as_text l, [])
+chain_by_bits : (al : Bool) (s : Schema) (v : Value) (l : List Bool) → normal s v ≡ v → canonical_bits al s v ≡ Some l → Chain (Step al) (presents s v) ([], []) (as_text l, [])
 chain_by_bits al s v l e h = (added al s v [] [] (as_text l, [])).1 (as_text l, known (Per.form al s v) 0 ∙ ap (option_map as_text) (sym (as_it_is al s v e) ∙ h), refl)
 
 at_its_depth : (schema : ℕ → Schema) (v : Value) → IsValue schema v → Fits (schema (depth v)) v
@@ -58,10 +58,10 @@ written_by_records al schema v new h = (
 )
 
 -- no chain, no bits
-none_by_none : (al : Bool) (s : Schema) (v : Value) → normal s v ≡ v → ((new : State) → Chain (Step al) (presents s v) ([], []) new → ⊥) → bits_of al s v ≡ None
-none_by_none al s v e h = go (bits_of al s v) refl
+none_by_none : (al : Bool) (s : Schema) (v : Value) → normal s v ≡ v → ((new : State) → Chain (Step al) (presents s v) ([], []) new → ⊥) → canonical_bits al s v ≡ None
+none_by_none al s v e h = go (canonical_bits al s v) refl
   where
-    go : (o : Option (List Bool)) → bits_of al s v ≡ o → o ≡ None
+    go : (o : Option (List Bool)) → canonical_bits al s v ≡ o → o ≡ None
     go None f = refl
     go (Some l) f = absurd (h (as_text l, []) (chain_by_bits al s v l e f))
 
@@ -101,7 +101,7 @@ by_variant false s v = (refl, refl)
 padded_octets : Option (List Bool) → Option (List ℕ)
 padded_octets o = option_map packed (option_and_then (λ w. written (Per.padded w) 0) o)
 
-canonically : (al : Bool) (schema : ℕ → Schema) (v : Value) (o : Option (List Bool)) → ((n : ℕ) → Fits (schema n) v → bits_of al (schema n) v ≡ o) → IsWrittenIn (packed_rules al) schema v (option_and_then of_moderate_length (padded_octets o))
+canonically : (al : Bool) (schema : ℕ → Schema) (v : Value) (o : Option (List Bool)) → ((n : ℕ) → Fits (schema n) v → canonical_bits al (schema n) v ≡ o) → IsWrittenIn (packed_rules al) schema v (option_and_then of_moderate_length (padded_octets o))
 unfolding canonical per Per.message Per.complete written padded_octets
 canonically al schema v o h n f =
     let b = by_variant al (schema n) (normal (schema n) v) in

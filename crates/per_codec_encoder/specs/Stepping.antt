@@ -3,13 +3,13 @@ use Rattle.std.specs.Prelude.{◌≡◌, Bool, true, false, Some}
 use Rattle.asn1_schema_faults.specs.declared.CodecKind.{CodecKind}
 use Rattle.asn1_schema_faults.specs.declared.CodecKind.TheVariants.{Uper, Aper}
 use Rattle.asn1_schema_presented.specs.Records.{Record}
-use Rattle.per_codec_limits.specs.Variants.{is_aligned as variant_is_aligned}
+use Rattle.per_codec_limits.specs.declared.variant.Variant.{Variant}
 use Rattle.per_codec_encoder.specs.Steps.{State, run}
 use Rattle.per_codec_encoder.specs.declared.options.EncoderOptions.{EncoderOptions}
 
--- Whether the aligned variant is written.
-abbrev pub is_aligned : EncoderOptions → Bool
-is_aligned o = variant_is_aligned o.variant
+-- The variant that is written.
+abbrev pub variant_of : EncoderOptions → Variant
+variant_of o = o.variant
 
 -- The rules of a variant.
 abbrev pub rules_of : Bool → CodecKind

@@ -18,20 +18,21 @@ use Rattle.per_codec_encoder.specs.Steps.{State, Step}
 use Rattle.per_codec_encoder.specs.Ties.{octets_of}
 
 -- The canonical bits of a value from the beginning of a message on, before it is padded.
-abbrev pub bits_of : Bool → Schema → Value → Option (List Bool)
-bits_of al s v = written (Per.form al s (normal s v)) 0
+abbrev pub canonical_bits : Bool → Schema → Value → Option (List Bool)
+canonical_bits al s v = written (Per.form al s (normal s v)) 0
 
 -- From nothing the records of a value lead just to its bits, with no scope open.
 abbrev pub WrittenByRecords : Type 0
 WrittenByRecords = (al : Bool) (schema : ℕ → Schema) (v : Value) (new : State) → IsValue schema v
     → Writes (Step al) schema v ([], []) new
-    ↔ ((w : List Bool) × (new ≡ (as_text w, [])) × ((n : ℕ) → Fits (schema n) v → bits_of al (schema n) v ≡ Some w))
+    ↔ ((w : List Bool) × (new ≡ (as_text w, []))
+    × ((n : ℕ) → Fits (schema n) v → canonical_bits al (schema n) v ≡ Some w))
 
 -- They are refused for another reason than memory just where the value has no bits.
 abbrev pub RefusedByRecords : Type 0
 RefusedByRecords = (al : Bool) (schema : ℕ → Schema) (v : Value) (x : EncodeError) → IsValue schema v
     → ¬ (x ≡ OutOfMemory) → CannotWrite (Step al) schema v ([], []) x
-    ↔ ((n : ℕ) → Fits (schema n) v → bits_of al (schema n) v ≡ None)
+    ↔ ((n : ℕ) → Fits (schema n) v → canonical_bits al (schema n) v ≡ None)
 
 -- A writer by its variant and by what it holds: where it takes a record, so goes the step, and where it is ready it
 -- takes each record behind which a state stands.

@@ -5,7 +5,8 @@ ghost use Rattle.asn1_schema_encode.specs.Writes.{Refused};
 ghost use Rattle.asn1_schema_presented.specs.Records.{one_of};
 ghost use Rattle.per_codec_packing.specs.Texts.{as_text};
 ghost use Rattle.per_codec_encoder.specs.Ties.{octets_of};
-ghost use Rattle.per_codec_encoder.specs.Stepping.{Puts, is_aligned as are_aligned};
+ghost use Rattle.per_codec_encoder.specs.Stepping.{Puts, variant_of};
+ghost use Rattle.per_codec_limits.specs.Variants.{is_aligned};
 
 use crate::additions::{encode_addition, end_addition};
 use crate::alternatives::begin_alternative;
@@ -80,7 +81,7 @@ fn message(bits: BitBuffer) -> Result<Vec<u8>, EncodeError>
 impl Encoder {
     /// An encoder that holds nothing. It takes no memory before it is handed something.
     pub fn new(alloc: Global, options: EncoderOptions) -> Self
-        ensures { result ≡ record { state = ([], []); aligned = are_aligned options; failed = false } }
+        ensures { result ≡ record { state = ([], []); aligned = is_aligned (variant_of options); failed = false } }
     {
         Encoder {
             output: Packing::new(alloc),
@@ -94,7 +95,7 @@ impl Encoder {
     /// An encoder that holds nothing, and writes into the room of these octets, which are cleared.
     #[inline(always)]
     pub fn new_with_output(alloc: Global, options: EncoderOptions, output: Vec<u8>) -> Self
-        ensures { result ≡ record { state = ([], []); aligned = are_aligned options; failed = false } }
+        ensures { result ≡ record { state = ([], []); aligned = is_aligned (variant_of options); failed = false } }
     {
         Encoder {
             output: Packing::from_octets(output),

@@ -1,5 +1,5 @@
 //! Options of encoders.
-ghost use Rattle.std.specs.Prelude.{◌≡◌, true, false};
+ghost use Rattle.std.specs.Prelude.{◌≡◌};
 
 use per_codec_limits::Variant;
 
@@ -10,12 +10,12 @@ pub struct EncoderOptions {
 }
 
 impl EncoderOptions {
-    ghost use Rattle.per_codec_encoder.specs.Stepping.{is_aligned};
-    ghost use Rattle.per_codec_limits.specs.Variants.{is_aligned as variant_is_aligned};
+    ghost use Rattle.per_codec_encoder.specs.Stepping.{variant_of};
+    ghost use Rattle.per_codec_limits.specs.Variants.{is_aligned};
 
     /// The aligned variant, APER.
     pub fn aligned() -> Self
-        ensures { is_aligned result ≡ true }
+        ensures { variant_of result ≡ Variant.Aligned }
     {
         EncoderOptions {
             variant: Variant::Aligned,
@@ -24,7 +24,7 @@ impl EncoderOptions {
 
     /// The unaligned variant, UPER.
     pub fn unaligned() -> Self
-        ensures { is_aligned result ≡ false }
+        ensures { variant_of result ≡ Variant.Unaligned }
     {
         EncoderOptions {
             variant: Variant::Unaligned,
@@ -33,14 +33,14 @@ impl EncoderOptions {
 
     /// Whether it is the aligned variant.
     pub fn is_aligned(&self) -> bool
-        ensures { result ≡ is_aligned self.now }
+        ensures { result ≡ is_aligned (variant_of self.now) }
     {
         self.variant.is_aligned()
     }
 
     /// The variant.
     pub(crate) fn variant(&self) -> Variant
-        ensures { variant_is_aligned result ≡ is_aligned self.now }
+        ensures { result ≡ variant_of self.now }
     {
         self.variant
     }

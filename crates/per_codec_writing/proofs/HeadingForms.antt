@@ -217,7 +217,7 @@ unfolding Per.sized
 not_held al z h has_padding us q e = if_false (is_count_within h (length us)) (of_size al z has_padding us) q e
 
 -- no more members than 64 bits count are more than the program's type holds where no bound is given
-members_counted : (b : Bounded ℕ) (n : ℕ) → n < 2 ^ 64 → is_count_within (members_of b) n ≡ is_count_within (counts_of b) n
+pub members_counted : (b : Bounded ℕ) (n : ℕ) → n < 2 ^ 64 → is_count_within (members_of b) n ≡ is_count_within (counts_of b) n
 members_counted b n h = ap (λ t. leb (unwrap_or (lower b) 0) n && t) (go (upper b))
   where
     go : (u : Option ℕ) → is_count_to (Some (unwrap_or u (2 ^ 64 - 1))) n ≡ is_count_to u n

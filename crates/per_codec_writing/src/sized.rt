@@ -38,7 +38,7 @@ pub fn push_sized<U: Units>(
         (U.forms units.now)) (place output.old))) }
 {
     let count = units.count();
-    if !held.contains(&count) {
+    if !held.holds(count) {
         return Err(EncodeError::SizeConstraintNotSatisfied);
     }
     let due = push_heading(output, variant, sizes, has_padding, count)?;

@@ -1,4 +1,4 @@
-use Rattle.oer_codec_encoder.proofs.SlotTexts.{text_next}
+use Rattle.oer_codec_encoder.proofs.JoinedTexts.{text_next}
 use Rattle.asn1_values_bits.proofs.Refused.{though_refused}
 use Rattle.asn1_values_identifiers.proofs.Begins.{begins_behind, begins_same}
 use Rattle.oer_codec_encoder.proofs.bags.push_each.Goals as goal

@@ -1,6 +1,6 @@
 use Rattle.std.proofs.Common.{[], ◌∷◌, ◌++◌, map, ap, ◌∙◌, subst, refl}
 use Rattle.asn1_schema_order.specs.Entries.{octets_of, AreInOrder}
-use Rattle.oer_codec_encoder.specs.Slots.{texts_joined}
+use Rattle.oer_codec_encoder.specs.Joined.{texts_joined}
 use Rattle.oer_codec_encoder.proofs.BagScopes.{adds_one, adds_ordered}
 use Rattle.asn1_values_bits.proofs.Refused.{though_refused}
 use Rattle.asn1_values_identifiers.proofs.Begins.{begins_same}

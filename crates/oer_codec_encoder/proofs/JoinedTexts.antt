@@ -3,7 +3,7 @@ use Rattle.std.proofs.Common.{◌≡◌, ℕ, ◌+◌, ◌<◌, List, [], ◌∷
 use Rattle.std.proofs.lemmas.List.{take_more, append-nil}
 use Rattle.asn1_schema_order.specs.declared.encodings.Entry.{Entry}
 use Rattle.asn1_schema_order.specs.Entries.{octets_of}
-use Rattle.oer_codec_encoder.specs.Slots.{texts_joined}
+use Rattle.oer_codec_encoder.specs.Joined.{texts_joined}
 
 -- ---- texts one behind the other
 

@@ -1,4 +1,4 @@
--- What the end of a bag adds.
+-- Octets one behind the other, as the end of a bag adds those of its members.
 use Rattle.std.specs.Prelude.{ℕ, List, [], ◌∷◌, ◌++◌}
 
 -- The octets of some texts, one behind the other.
