@@ -9,5 +9,6 @@ pub mod Passing
 pub mod Steps
 pub mod CharacterFronts
 pub mod CharacterOctetFronts
+pub mod OctetCodeFronts
 pub mod Inside
 pub mod CodesAhead
