@@ -146,15 +146,18 @@ fn string_in_run<S: StaticPermittedAlphabet>(
         return Err(DecodeError::OutOfMemory);
     };
     let mut unread = UnreadCodes::new(codes);
-    for place in 0..count {
-        let (code, others) = unread.next_code(width, count - place);
-        let Some(character) = character_in_run::<S>(run, code) else {
-            return Err(DecodeError::PermittedAlphabet);
-        };
-        let Ok(()) = octets.push(character as u8) else {
-            return Err(DecodeError::OutOfMemory);
-        };
-        unread = others;
+    'numbers: while octets.len() < count {
+        unread = unread.filled(width, count - octets.len());
+        'codes: for _ in 0..unread.due {
+            let (code, others) = unread.split_code(width);
+            let Some(character) = character_in_run::<S>(run, code) else {
+                return Err(DecodeError::PermittedAlphabet);
+            };
+            let Ok(()) = octets.push(character as u8) else {
+                return Err(DecodeError::OutOfMemory);
+            };
+            unread = others;
+        }
     }
     let Ok(string) = S::from_octet_vec(octets) else {
         return Err(DecodeError::OutOfMemory);
