@@ -11,7 +11,7 @@ ghost use Rattle.per_codec_reading_values.specs.Spelled.{Spells, Stuck, IsFittin
 
 use crate::unread::UnreadCodes;
 use asn1_schema_faults::DecodeError;
-use asn1_values_alphabets::StaticPermittedAlphabet;
+use asn1_values_alphabets::{PermittedAlphabetError, StaticPermittedAlphabet};
 use asn1_values_bits::BitStr;
 use per_codec_alphabets::{CodedRun, EffectiveAlphabet};
 use std::alloc::Global;
@@ -150,7 +150,7 @@ fn string_in_run<S: StaticPermittedAlphabet>(
         unread = unread.filled(width, count - octets.len());
         'codes: for _ in 0..unread.due {
             let (code, others) = unread.split_code(width);
-            let Some(character) = character_in_run::<S>(run, code) else {
+            let Some(character) = run.character(code) else {
                 return Err(DecodeError::PermittedAlphabet);
             };
             let Ok(()) = octets.push(character as u8) else {
@@ -159,10 +159,13 @@ fn string_in_run<S: StaticPermittedAlphabet>(
             unread = others;
         }
     }
-    let Ok(string) = S::from_octet_vec(octets) else {
-        return Err(DecodeError::OutOfMemory);
-    };
-    Ok(string)
+    match S::from_octet_vec(octets) {
+        Ok(string) => Ok(string),
+        Err(PermittedAlphabetError::InvalidRestrictedString(_)) => {
+            Err(DecodeError::PermittedAlphabet)
+        }
+        Err(_) => Err(DecodeError::OutOfMemory),
+    }
 }
 
 /// The string of so many characters, whose codes stand one behind the other from any bit on.
