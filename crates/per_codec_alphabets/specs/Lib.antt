@@ -1,3 +1,4 @@
 pub mod Codes
 pub mod Held
 pub mod Listed
+pub mod Octets

@@ -4,9 +4,11 @@
 
 mod alphabet;
 mod few;
+mod octets;
 mod runs;
 mod single;
 
 pub use alphabet::EffectiveAlphabet;
+pub use octets::is_encoded_as_octets;
 pub use runs::is_of_octets;
 pub use single::CodedRun;

@@ -7,7 +7,9 @@ pub mod FieldFronts
 pub mod Moving
 pub mod Passing
 pub mod Steps
+pub mod RunSteps
 pub mod CharacterFronts
 pub mod CharacterOctetFronts
+pub mod OctetCodeFronts
 pub mod Inside
 pub mod CodesAhead

@@ -1,7 +1,10 @@
 //! Character strings (X.691 30).
-ghost use Rattle.std.specs.Prelude.{◌≡◌, ◌*◌, ◌≤◌, ◌⊎◌, true, false, length, IfOk, IfErr};
+ghost use Rattle.std.specs.Prelude.{◌≡◌, ◌*◌, ◌≤◌, ◌⊎◌, true, false, length, IfOk, OnOk, IfErr};
 ghost use Rattle.std.specs.Cow.{cow_slice_items};
 ghost use Rattle.asn1_model.specs.Strings.{is_of_octets as holds_octets};
+ghost use Rattle.asn1_values_alphabets.specs.Permitted.{permits_all};
+ghost use Rattle.per_codec_alphabets.specs.Octets.{is_encoded_as_octets as as_octets};
+ghost use Rattle.per_codec_limits.specs.Variants.{is_aligned};
 ghost use Rattle.per_codec_reading_values.specs.Spelled.{Spells, IsRefused};
 ghost use Rattle.per_codec_reading_values.specs.Texts.{Stands, MissesString};
 ghost use Rattle.per_codec_reading.specs.Fronts.{IsFresh};
@@ -10,8 +13,8 @@ ghost use Rattle.per_codec_reading.specs.Runs.{bits_in};
 use crate::codes::string_of;
 use asn1_schema_constraints::{Bounded, Constraints};
 use asn1_schema_faults::DecodeError;
-use asn1_values_alphabets::StaticPermittedAlphabet;
-use per_codec_alphabets::{EffectiveAlphabet, is_of_octets};
+use asn1_values_alphabets::{PermittedAlphabetError, StaticPermittedAlphabet};
+use per_codec_alphabets::{EffectiveAlphabet, is_encoded_as_octets, is_of_octets};
 use per_codec_reading::{Contents, Cursor, Run, RunBits, Variant, read_counted_octets, read_sized};
 use std::alloc::Global;
 
@@ -44,6 +47,43 @@ fn read_octets<S: StaticPermittedAlphabet>(
     match string_of_octets(alloc, octets.as_slice()) {
         Ok(string) => Ok(string),
         Err(_) => Err(DecodeError::OutOfMemory),
+    }
+}
+
+/// The string of these octets, if each of them is a character that it may hold.
+fn string_of_characters<S: StaticPermittedAlphabet>(
+    alloc: Global,
+    octets: &[u8],
+) -> Result<S, DecodeError>
+    ensures characters { IfOk result (λ s. S.characters s ≡ octets.now) }
+    ensures permitted { OnOk result (permits_all S.kind octets.now ≡ true) }
+    ensures refused { IfErr result (λ e. (e ≡ DecodeError.OutOfMemory) ⊎ (permits_all S.kind octets.now ≡ false)) }
+    ensures fresh { IfErr result IsFresh }
+{
+    match S::from_octets(alloc, octets) {
+        Ok(string) => Ok(string),
+        Err(PermittedAlphabetError::InvalidRestrictedString(_)) => {
+            Err(DecodeError::PermittedAlphabet)
+        }
+        Err(_) => Err(DecodeError::OutOfMemory),
+    }
+}
+
+/// Reads a string that is encoded as the octets that its characters are, behind their number (X.691 30.5).
+fn read_octet_codes<S: StaticPermittedAlphabet>(
+    alloc: Global,
+    cursor: &mut Cursor<'_>,
+    variant: Variant,
+    _constraints: Constraints,
+) -> Result<S, DecodeError>
+    requires codes { as_octets (is_aligned variant) S.kind _constraints.size _constraints.permitted_alphabet ≡ true }
+    ensures ok { IfOk result (λ s. Stands variant S.kind _constraints.entry (S.characters s) cursor.old cursor.new) }
+    ensures only { IfErr result (MissesString variant S.kind _constraints.entry cursor.old) }
+{
+    let octets = read_counted_octets(alloc, cursor, variant)?;
+    match string_of_characters(alloc, octets.as_slice()) {
+        Ok(string) => Ok(string),
+        Err(error) => Err(error),
     }
 }
 
@@ -117,6 +157,9 @@ pub fn read_characters<S: StaticPermittedAlphabet>(
 {
     if is_of_octets::<S>() {
         return read_octets(alloc, cursor, variant, constraints);
+    }
+    if is_encoded_as_octets::<S>(variant, constraints) {
+        return read_octet_codes(alloc, cursor, variant, constraints);
     }
     read_codes(alloc, cursor, variant, constraints)
 }

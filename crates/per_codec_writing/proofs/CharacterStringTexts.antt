@@ -9,6 +9,13 @@ use Rattle.std.specs.List.{list_all}
 use Rattle.asn1_model.specs.Schema.{any_count}
 use Rattle.asn1_model.specs.Value.{text}
 use Rattle.asn1_model.specs.Per
+use Rattle.asn1_schema_constraints.specs.Terms.{alphabet_of, sizes_of}
+use Rattle.asn1_schema_constraints.specs.declared.extensions.Extensible.{Extensible}
+use Rattle.asn1_schema_constraints.specs.declared.extensions.PermittedAlphabet.{PermittedAlphabet}
+use Rattle.asn1_schema_constraints.specs.declared.parts.Size.{Size as SizeOf}
+use Rattle.asn1_values_alphabets.specs.Permitted.{permits_all}
+use Rattle.per_codec_alphabets.specs.Octets.{is_encoded_as_octets}
+use Rattle.per_codec_alphabets.proofs.OctetCodes.{as_octets, has_codes}
 use Rattle.per_codec_alphabets.specs.Codes.{Coded, SameCharacters, has_code}
 use Rattle.per_codec_packing.specs.Texts.{text_at}
 use Rattle.per_codec_writing.proofs.PaddingTexts.{if_true, cond_true, cond_false}
@@ -43,3 +50,6 @@ module _ (al : Bool) (k : StringKind) (z : Size) (l : Alphabet) (cs : List ℕ) 
   pub string_of_codes : is_of_octets k ≡ false → text_at (Per.form al (character_string k z l any_count) (text cs)) p ≡ text_at (Per.characters al z any_count (permitted k l) cs) p
   unfolding Per.form Per.string_form
   string_of_codes o = if_true (may_hold k cs) _ p m ∙ cond_false (is_of_octets k) (only_if (is_count_within any_count (length cs)) (Per.counted_octets al cs)) (Per.characters al z any_count (permitted k l) cs) p o
+
+pub string_as_octets : (al : Bool) (k : StringKind) (z : Option (Extensible SizeOf)) (l : Option (Extensible PermittedAlphabet)) (cs : List ℕ) (p : Option ℕ) → is_encoded_as_octets al k z l ≡ true → may_hold k cs ≡ true → permits_all k cs ≡ true → text_at (Per.form al (character_string k (sizes_of z) (alphabet_of l) any_count) (text cs)) p ≡ text_at (Per.counted_octets al cs) p
+string_as_octets al k z l cs p e m h = string_of_codes al k (sizes_of z) (alphabet_of l) cs p m (has_codes al k z l e) ∙ ap (λ x. text_at x p) (as_octets al k z l cs e h)

@@ -17,11 +17,11 @@ ghost use Rattle.per_codec_limits.specs.Variants.{is_aligned};
 
 use crate::character_units::CharacterUnits;
 use crate::number_units::NumberUnits;
-use crate::{push_counted, push_sized};
+use crate::{push_counted, push_counted_octets, push_sized};
 use asn1_schema_constraints::{Bounded, Constraints, Extensible, PermittedAlphabet, Sizes};
 use asn1_schema_faults::EncodeError;
 use asn1_values_alphabets::StaticPermittedAlphabet;
-use per_codec_alphabets::{EffectiveAlphabet, is_of_octets};
+use per_codec_alphabets::{EffectiveAlphabet, is_encoded_as_octets, is_of_octets};
 use per_codec_limits::{Variant, characters_have_padding};
 use per_codec_packing::Packing;
 use std::alloc::Global;
@@ -195,6 +195,12 @@ pub fn push_characters<S: StaticPermittedAlphabet>(
     if is_of_octets::<S>() {
         push_octets(output, variant, alloc, value)?;
         return Ok(());
+    }
+    if is_encoded_as_octets::<S>(variant, constraints) {
+        if let Some(octets) = value.char_octets() {
+            push_counted_octets(output, variant, octets)?;
+            return Ok(());
+        }
     }
     push_codes(output, variant, alloc, constraints, value)?;
     Ok(())

@@ -1,11 +1,13 @@
-use Rattle.std.proofs.Common.{◌≡◌, true, sym, ◌∙◌}
+use Rattle.std.proofs.Common.{◌≡◌, true, sym, ap, ◌∙◌}
 use Rattle.std.proofs.lemmas.Result.{err_from_is_err_and}
+use Rattle.asn1_model.specs.Per
 use Rattle.asn1_model.specs.Strings.{may_hold}
 use Rattle.asn1_schema_constraints.specs.Terms.{sizes_of, alphabet_of}
+use Rattle.per_codec_packing.specs.Texts.{text_at}
 use Rattle.per_codec_writing.specs.Writing.{place}
 use Rattle.per_codec_writing.proofs.PaddingTexts.{adds_same}
 use Rattle.per_codec_writing.proofs.Adding.{refuses_also}
-use Rattle.per_codec_writing.proofs.CharacterStringTexts.{string_of_octets, string_of_codes}
+use Rattle.per_codec_writing.proofs.CharacterStringTexts.{string_of_octets, string_of_codes, string_as_octets}
 use Rattle.per_codec_limits.specs.Variants.{is_aligned}
 use Rattle.per_codec_writing.proofs.characters.push_characters.Goals as goal
 
@@ -16,6 +18,16 @@ returns-then-is_of_octets g c =
     let holds : may_hold k cs ≡ true = g.met.S.StaticPermittedAlphabet.holds cs ∙ c.char_count-count.ensures.permitted in
     let same = string_of_octets (is_aligned c.args.variant) k (sizes_of c.args.constraints.size) (alphabet_of c.args.constraints.permitted_alphabet) cs (place c.args.output.now) holds (sym c.if-is_of_octets.ensures) in
     adds_same _ _ c.args.output.now c.push_octets.new.output same c.in_ok-push_octets.ensures
+
+pub returns-in-Some : goal.returns-in-Some
+returns-in-Some g c =
+    let k = g.S.StaticPermittedAlphabet.kind in
+    let cs = g.S.StaticPermittedAlphabet.characters c.args.value.now in
+    let permitted = c.char_count-count.ensures.permitted in
+    let holds : may_hold k cs ≡ true = g.met.S.StaticPermittedAlphabet.holds cs ∙ permitted in
+    let al = is_aligned c.args.variant in
+    let same = string_as_octets al k c.args.constraints.size c.args.constraints.permitted_alphabet cs (place c.args.output.now) (sym c.if-is_encoded_as_octets.ensures) holds permitted in
+    adds_same _ _ c.args.output.now c.push_counted_octets.new.output (same ∙ ap (λ os. text_at (Per.counted_octets al os) (place c.args.output.now)) (sym c.in-Some.ensures)) c.in_ok-push_counted_octets.ensures
 
 pub returns-in_err-push_codes : goal.returns-in_err-push_codes
 returns-in_err-push_codes g c =

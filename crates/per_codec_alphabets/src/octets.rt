@@ -1,0 +1,46 @@
+//! Strings that are encoded as the octets that their characters are.
+ghost use Rattle.std.specs.Prelude.{◌≡◌};
+ghost use Rattle.per_codec_alphabets.specs.Octets.{have_octet_codes as are_own_codes, is_encoded_as_octets as as_octets};
+ghost use Rattle.per_codec_alphabets.specs.Octets.{leaves_out as counts};
+ghost use Rattle.per_codec_limits.specs.Variants.{is_aligned};
+
+use asn1_schema_constraints::{Constraints, Extensible, PermittedAlphabet};
+use asn1_values_alphabets::StaticPermittedAlphabet;
+use per_codec_limits::Variant;
+
+/// Whether the characters of a type of strings have codes, which in the aligned variant are the octets that are their
+/// numbers, where no constraint leaves out any of them (X.691 30.5.2 and 30.5.4).
+#[inline(always)]
+fn have_octet_codes<S: StaticPermittedAlphabet>() -> bool
+    ensures { result ≡ are_own_codes S.kind }
+{
+    S::contains_char(65) && !S::contains_char(0x80)
+}
+
+/// Whether a permitted alphabet counts: one with an extension marker does not.
+#[inline(always)]
+fn leaves_out(alphabet: Option<Extensible<PermittedAlphabet>>) -> bool
+    ensures { result ≡ counts alphabet.entry }
+{
+    match alphabet {
+        Some(narrower) => narrower.extensible.is_none(),
+        None => false,
+    }
+}
+
+/// Whether a string of the type `S` under these constraints is encoded as the octets that its characters are, behind
+/// their number in the general form: in the aligned variant, where neither a size nor a permitted alphabet counts
+/// (X.691 30.5).
+#[inline(always)]
+pub fn is_encoded_as_octets<S: StaticPermittedAlphabet>(
+    variant: Variant,
+    constraints: Constraints,
+) -> bool
+    ensures { result ≡ as_octets (is_aligned variant) S.kind constraints.entry.size
+        constraints.entry.permitted_alphabet }
+{
+    variant.is_aligned()
+        && have_octet_codes::<S>()
+        && constraints.size.is_none()
+        && !leaves_out(constraints.permitted_alphabet)
+}
