@@ -46,10 +46,10 @@ smallest-append t (x ∷ xs) ys =
     [ true ↦ smallest-append x xs ys | false ↦ smallest-append t xs ys ]
 
 -- a test of each element of two lists joined
-each_is-append : {X : Type 0} (p : X → Bool) (xs ys : List X) → list_all p (xs ++ ys) ≡ (list_all p xs && list_all p ys)
-each_is-append p [] ys = refl
-each_is-append p (x ∷ xs) ys = elim (p x) as (λ b. (b && list_all p (xs ++ ys)) ≡ ((b && list_all p xs) && list_all p ys))
-    [ true ↦ each_is-append p xs ys | false ↦ refl ]
+list_all-append : {X : Type 0} (p : X → Bool) (xs ys : List X) → list_all p (xs ++ ys) ≡ (list_all p xs && list_all p ys)
+list_all-append p [] ys = refl
+list_all-append p (x ∷ xs) ys = elim (p x) as (λ b. (b && list_all p (xs ++ ys)) ≡ ((b && list_all p xs) && list_all p ys))
+    [ true ↦ list_all-append p xs ys | false ↦ refl ]
 
 -- no element passes exactly if none is found
 each_is_not : {X : Type 0} (p : X → Bool) (xs : List X) → list_all (λ y. not (p y)) xs ≡ not (list_any p xs)
@@ -68,7 +68,7 @@ regroup false b c d e = refl
 pub are_unique-append : (xs ys : List ModelTag) → are_unique (xs ++ ys) ≡ (are_unique xs && (not (share_a_tag xs ys) && are_unique ys))
 are_unique-append [] ys = refl
 are_unique-append (x ∷ xs) ys =
-    ap (λ b. b && are_unique (xs ++ ys)) (each_is-append (λ y. not (tag_same x y)) xs ys ∙ ap (λ b. list_all (λ y. not (tag_same x y)) xs && b) (each_is_not (tag_same x) ys))
+    ap (λ b. b && are_unique (xs ++ ys)) (list_all-append (λ y. not (tag_same x y)) xs ys ∙ ap (λ b. list_all (λ y. not (tag_same x y)) xs && b) (each_is_not (tag_same x) ys))
     ∙ (ap (λ b. (list_all (λ y. not (tag_same x y)) xs && not (is_among ys x)) && b) (are_unique-append xs ys)
     ∙ regroup (list_all (λ y. not (tag_same x y)) xs) (is_among ys x) (are_unique xs) (share_a_tag xs ys) (are_unique ys))
 

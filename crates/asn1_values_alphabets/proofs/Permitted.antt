@@ -14,26 +14,26 @@ use Rattle.asn1_values_alphabets.specs.declared.error.PermittedAlphabetError.The
 use Rattle.asn1_values_alphabets.specs.Permitted.{permits, permits_all, first_refused, IsRefusalOf, IsOutside}
 
 -- a character at the end
-pub each_is-push : (p : ℕ → Bool) (cs : List ℕ) (c : ℕ) → list_all p cs ≡ true → p c ≡ true → list_all p (cs ++ c ∷ []) ≡ true
-each_is-push p [] c h k = rw k refl
-each_is-push p (x ∷ cs) c h k = by_test (p x) h (λ i. each_is-push p cs c i k)
+pub list_all-push : (p : ℕ → Bool) (cs : List ℕ) (c : ℕ) → list_all p cs ≡ true → p c ≡ true → list_all p (cs ++ c ∷ []) ≡ true
+list_all-push p [] c h k = rw k refl
+list_all-push p (x ∷ cs) c h k = by_test (p x) h (λ i. list_all-push p cs c i k)
   where
     by_test : (t : Bool) → t && list_all p cs ≡ true → (list_all p cs ≡ true → list_all p (cs ++ c ∷ []) ≡ true) → t && list_all p (cs ++ c ∷ []) ≡ true
     by_test true i r = r i
     by_test false i r = cc
 
 -- none is refused where all are permitted, and the other way round
-pub each_is-find : (p : ℕ → Bool) (cs : List ℕ) → find (λ c. not (p c)) cs ≡ None → list_all p cs ≡ true
-each_is-find p [] h = refl
-each_is-find p (x ∷ cs) h = by_test (p x) h (λ i. each_is-find p cs i)
+pub list_all-find : (p : ℕ → Bool) (cs : List ℕ) → find (λ c. not (p c)) cs ≡ None → list_all p cs ≡ true
+list_all-find p [] h = refl
+list_all-find p (x ∷ cs) h = by_test (p x) h (λ i. list_all-find p cs i)
   where
     by_test : (t : Bool) → cond (not t) (Some x) (find (λ c. not (p c)) cs) ≡ None → (find (λ c. not (p c)) cs ≡ None → list_all p cs ≡ true) → t && list_all p cs ≡ true
     by_test true i r = r i
     by_test false i r = cc
 
-pub find-each_is : (p : ℕ → Bool) (cs : List ℕ) → list_all p cs ≡ true → find (λ c. not (p c)) cs ≡ None
-find-each_is p [] h = refl
-find-each_is p (x ∷ cs) h = by_test (p x) h (λ i. find-each_is p cs i)
+pub find-list_all : (p : ℕ → Bool) (cs : List ℕ) → list_all p cs ≡ true → find (λ c. not (p c)) cs ≡ None
+find-list_all p [] h = refl
+find-list_all p (x ∷ cs) h = by_test (p x) h (λ i. find-list_all p cs i)
   where
     by_test : (t : Bool) → t && list_all p cs ≡ true → (list_all p cs ≡ true → find (λ c. not (p c)) cs ≡ None) → cond (not t) (Some x) (find (λ c. not (p c)) cs) ≡ None
     by_test true i r = r i

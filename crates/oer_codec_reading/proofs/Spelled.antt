@@ -7,7 +7,7 @@ use Rattle.asn1_model.specs.Schema.{StringKind, bmp}
 use Rattle.asn1_model.specs.Strings.{is_octet}
 use Rattle.std.specs.List.{list_all}
 use Rattle.asn1_values_alphabets.specs.Permitted.{permits, permits_all}
-use Rattle.asn1_values_alphabets.proofs.Permitted.{each_is-push}
+use Rattle.asn1_values_alphabets.proofs.Permitted.{list_all-push}
 use Rattle.oer_codec_reading.specs.Characters.{width, spelled, pairs, characters_in}
 
 -- ---- octets as characters
@@ -50,7 +50,7 @@ one_more wide os old new k i c e l h g n =
 pub permits_more : (t : StringKind) (wide : Bool) (os : List ℕ) (k i c : ℕ) → k ≡ width wide → i < length os / k → permits_all t (take i (characters_in wide os)) ≡ true → c ≡ get_or (characters_in wide os) i 0 → permits t c ≡ true → permits_all t (take (i + 1) (characters_in wide os)) ≡ true
 permits_more t wide os k i c e l h g p =
     let cs = characters_in wide os in
-    subst (λ xs. permits_all t xs ≡ true) (sym (take_more cs i 0 (within wide os k i e l))) (each_is-push (permits t) (take i cs) (get_or cs i 0) h (ap (permits t) (sym g) ∙ p))
+    subst (λ xs. permits_all t xs ≡ true) (sym (take_more cs i 0 (within wide os k i e l))) (list_all-push (permits t) (take i cs) (get_or cs i 0) h (ap (permits t) (sym g) ∙ p))
 
 permits-at : (t : StringKind) (cs : List ℕ) (i : ℕ) → i < length cs → permits_all t cs ≡ true → permits t (get_or cs i 0) ≡ true
 permits-at t [] i l h = absurd (omega (arith, l))

@@ -7,7 +7,8 @@ use Rattle.asn1_model.specs.Numbers as Numbers
 use Rattle.asn1_model.specs.Numbers.{binary, is_count_within}
 use Rattle.asn1_model.specs.Per
 use Rattle.asn1_model.specs.Schema.{Counts, StringKind, numeric, printable, visible, ia5, bmp, general, graphic, teletex, utf8, any_count, any_size}
-use Rattle.asn1_model.specs.Strings.{Run, characters_of, each_is, is_among, is_in_run, is_octet, is_of_octets, largest, permitted, place_of}
+use Rattle.asn1_model.specs.Strings.{Run, characters_of, is_among, is_in_run, is_octet, is_of_octets, largest, permitted, place_of}
+use Rattle.std.specs.List.{list_all}
 use Rattle.asn1_schema_constraints.specs.Terms.{alphabet_of, sizes_of}
 use Rattle.asn1_schema_constraints.specs.declared.extensions.Extensible.{Extensible}
 use Rattle.asn1_schema_constraints.specs.declared.extensions.PermittedAlphabet.{PermittedAlphabet}
@@ -52,7 +53,7 @@ by_number teletex e = refl
 by_number utf8 e = refl
 
 abbrev end_below : ℕ → List Run → Bool
-end_below n rs = each_is (λ r. ltb r.last n) rs
+end_below n rs = list_all (λ r. ltb r.last n) rs
 
 ends : (k : StringKind) → have_octet_codes k ≡ true → end_below 256 (characters_of k) ≡ true
 unfolding Numbers.places_up_to
@@ -76,9 +77,9 @@ among_below n c (r ∷ rs) e h = by_test (ltb r.last n) (leb r.first c) (leb c r
     by_test true false v p q e h f = f e h
     by_test true true false p q e h f = f e h
 
-are_octets : (rs : List Run) (cs : List ℕ) → end_below 256 rs ≡ true → each_is (is_among rs) cs ≡ true → each_is is_octet cs ≡ true
+are_octets : (rs : List Run) (cs : List ℕ) → end_below 256 rs ≡ true → list_all (is_among rs) cs ≡ true → list_all is_octet cs ≡ true
 are_octets rs [] e h = refl
-are_octets rs (c ∷ cs) e h = let p = and_parts _ _ h in ap (λ b. b && each_is is_octet cs) (lt-ltb c 256 (among_below 256 c rs e p.0)) ∙ are_octets rs cs e p.1
+are_octets rs (c ∷ cs) e h = let p = and_parts _ _ h in ap (λ b. b && list_all is_octet cs) (lt-ltb c 256 (among_below 256 c rs e p.0)) ∙ are_octets rs cs e p.1
 
 -- ---- their forms
 placed : (c : ℕ) (rs : List Run) → is_among rs c ≡ true → is_some (place_of c rs) ≡ true
@@ -105,7 +106,7 @@ own_form b c rs t h = go (place_of c rs) (ltb (largest rs) (2 ^ b)) (placed c rs
     go (Some i) true e f = refl
     go (Some i) false e f = cc
 
-own_forms : (rs : List Run) (cs : List ℕ) → ltb (largest rs) (2 ^ 8) ≡ true → each_is (is_among rs) cs ≡ true → map (Per.character 8 rs) cs ≡ Per.octet_units cs
+own_forms : (rs : List Run) (cs : List ℕ) → ltb (largest rs) (2 ^ 8) ≡ true → list_all (is_among rs) cs ≡ true → map (Per.character 8 rs) cs ≡ Per.octet_units cs
 own_forms rs [] t h = refl
 own_forms rs (c ∷ cs) t h = let p = and_parts _ _ h in ap (λ x. x ∷ map (Per.character 8 rs) cs) (own_form 8 c rs t p.0) ∙ ap (λ l. exactly (binary 8 c) ∷ l) (own_forms rs cs t p.1)
 
@@ -158,7 +159,7 @@ pub has_codes : (al : Bool) (k : StringKind) (z : Option (Extensible Size)) (a :
 has_codes al k z a e = without k (asked al k z a e).codes
 
 -- Characters of the kind are encoded as the octets that they are, behind their number.
-pub as_octets : (al : Bool) (k : StringKind) (z : Option (Extensible Size)) (a : Option (Extensible PermittedAlphabet)) (cs : List ℕ) → is_encoded_as_octets al k z a ≡ true → each_is (is_among (characters_of k)) cs ≡ true → Per.characters al (sizes_of z) any_count (permitted k (alphabet_of a)) cs ≡ Per.counted_octets al cs
+pub as_octets : (al : Bool) (k : StringKind) (z : Option (Extensible Size)) (a : Option (Extensible PermittedAlphabet)) (cs : List ℕ) → is_encoded_as_octets al k z a ≡ true → list_all (is_among (characters_of k)) cs ≡ true → Per.characters al (sizes_of z) any_count (permitted k (alphabet_of a)) cs ≡ Per.counted_octets al cs
 unfolding Per.characters Per.counted_octets
 as_octets al k z a cs e h =
     let q = asked al k z a e in

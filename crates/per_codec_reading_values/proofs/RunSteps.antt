@@ -4,7 +4,7 @@ use Rattle.std.specs.Prelude.{flat_map, is_some, unwrap_or}
 use Rattle.std.proofs.lemmas.Bool.{and_parts, and_from, leb-true, le-leb, false≢true}
 use Rattle.asn1_model.specs.Numbers.{binary}
 use Rattle.asn1_model.specs.Schema.{StringKind, general}
-use Rattle.asn1_model.specs.Strings.{each_is}
+use Rattle.std.specs.List.{list_all}
 use Rattle.asn1_laws_fronts.proofs.PerNumbers.{binary_equal, length-binary}
 use Rattle.asn1_values_alphabets.specs.Permitted.{permits, permits_all}
 use Rattle.per_codec_alphabets.specs.Codes.{Coded, code_in, code_of, has_code, text_of}
@@ -34,7 +34,7 @@ module _ (a : Coded) (r : CodedRun) (codes : (c : ℕ) → code_of a c ≡ code_
       go true false q e = cc
       go false y q e = cc
 
-  are_octets : (cs : List ℕ) → each_is (has_code a) cs ≡ true → permits_all general cs ≡ true
+  are_octets : (cs : List ℕ) → list_all (has_code a) cs ≡ true → permits_all general cs ≡ true
   are_octets [] h = refl
   are_octets (c ∷ cs) h = let p = and_parts _ _ h in and_from _ _ (any_octet c (is_octet c p.0)) (are_octets cs p.1)
 
@@ -56,7 +56,7 @@ module _ (a : Coded) (r : CodedRun) (codes : (c : ℕ) → code_of a c ≡ code_
       let q = number d n f in
       omega (arith, p.0, p.1, q.0, q.1)
 
-  same_characters : IsFitting a → (cs ds : List ℕ) → each_is (has_code a) cs ≡ true → each_is (has_code a) ds ≡ true → length cs ≡ length ds → flat_map (text_of a) cs ≡ flat_map (text_of a) ds → cs ≡ ds
+  same_characters : IsFitting a → (cs ds : List ℕ) → list_all (has_code a) cs ≡ true → list_all (has_code a) ds ≡ true → length cs ≡ length ds → flat_map (text_of a) cs ≡ flat_map (text_of a) ds → cs ≡ ds
   same_characters fit [] [] h j l e = refl
   same_characters fit [] (d ∷ ds) h j l e = absurd (omega arith)
   same_characters fit (c ∷ cs) [] h j l e = absurd (omega arith)

@@ -5,7 +5,7 @@ use Rattle.std.proofs.lemmas.Iterator.Consumers.{YieldsList-turn, YieldsList-end
 use Rattle.std.proofs.lemmas.List.{at_drop_all, length_push}
 use Rattle.std.proofs.lemmas.Result.{err_from_is_err_and}
 use Rattle.asn1_values_alphabets.specs.Permitted.{first_refused, permits, permits_all, IsRefusalOf}
-use Rattle.asn1_values_alphabets.proofs.Permitted.{each_is-find, first_refused-permitted, refused_by_first, turn_of_text}
+use Rattle.asn1_values_alphabets.proofs.Permitted.{list_all-find, first_refused-permitted, refused_by_first, turn_of_text}
 use Rattle.asn1_values_alphabets.proofs.static_alphabet.string_of_text.Goals as goal
 
 pub loop-character-preserved : goal.loop-character-preserved
@@ -40,4 +40,4 @@ pub returns-clause-permitted : goal.returns-clause-permitted
 returns-clause-permitted g c =
     let t = YieldsList-end (YieldsList-from_chars c.args.text.now c.utf8.text cc) c.loop-character.yielded _ c.loop-character.yielded_by _ _ c.in-None.is c.next.ensures.steps in
     let past = at_drop_all (first_refused g.S.StaticPermittedAlphabet.kind) (chars c.args.text.now) (length c.loop-character.yielded) (omega (arith, t.1)) in
-    each_is-find (permits g.S.StaticPermittedAlphabet.kind) (chars c.args.text.now) (sym c.loop-character.invariant.first ∙ past)
+    list_all-find (permits g.S.StaticPermittedAlphabet.kind) (chars c.args.text.now) (sym c.loop-character.invariant.first ∙ past)
