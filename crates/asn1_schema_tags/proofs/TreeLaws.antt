@@ -52,10 +52,10 @@ list_all-append p (x ∷ xs) ys = elim (p x) as (λ b. (b && list_all p (xs ++ y
     [ true ↦ list_all-append p xs ys | false ↦ refl ]
 
 -- no element passes exactly if none is found
-each_is_not : {X : Type 0} (p : X → Bool) (xs : List X) → list_all (λ y. not (p y)) xs ≡ not (list_any p xs)
-each_is_not p [] = refl
-each_is_not p (x ∷ xs) = elim (p x) as (λ b. (not b && list_all (λ y. not (p y)) xs) ≡ not (b || list_any p xs))
-    [ true ↦ refl | false ↦ each_is_not p xs ]
+list_all_not : {X : Type 0} (p : X → Bool) (xs : List X) → list_all (λ y. not (p y)) xs ≡ not (list_any p xs)
+list_all_not p [] = refl
+list_all_not p (x ∷ xs) = elim (p x) as (λ b. (not b && list_all (λ y. not (p y)) xs) ≡ not (b || list_any p xs))
+    [ true ↦ refl | false ↦ list_all_not p xs ]
 
 -- the truth values in the step of the next lemma
 regroup : (a b c d e : Bool) → ((a && not b) && (c && (not d && e))) ≡ ((a && c) && (not (b || d) && e))
@@ -68,7 +68,7 @@ regroup false b c d e = refl
 pub are_unique-append : (xs ys : List ModelTag) → are_unique (xs ++ ys) ≡ (are_unique xs && (not (share_a_tag xs ys) && are_unique ys))
 are_unique-append [] ys = refl
 are_unique-append (x ∷ xs) ys =
-    ap (λ b. b && are_unique (xs ++ ys)) (list_all-append (λ y. not (tag_same x y)) xs ys ∙ ap (λ b. list_all (λ y. not (tag_same x y)) xs && b) (each_is_not (tag_same x) ys))
+    ap (λ b. b && are_unique (xs ++ ys)) (list_all-append (λ y. not (tag_same x y)) xs ys ∙ ap (λ b. list_all (λ y. not (tag_same x y)) xs && b) (list_all_not (tag_same x) ys))
     ∙ (ap (λ b. (list_all (λ y. not (tag_same x y)) xs && not (is_among ys x)) && b) (are_unique-append xs ys)
     ∙ regroup (list_all (λ y. not (tag_same x y)) xs) (is_among ys x) (are_unique xs) (share_a_tag xs ys) (are_unique ys))
 
