@@ -70,8 +70,8 @@ impl BitWindow {
         ensures digits { binary width result ≡ take width (shown self.now) }
         ensures fits { result < 2 ^ width }
     {
-        if width == 0 {
-            return 0;
+        if width <= 64 {
+            return self.first_bits(width) as u128;
         }
         self.number >> (128 - width)
     }
