@@ -36,6 +36,7 @@ pub trait AdditionsOf {
     /// The parts are of these types.
     ghost valued: { HaveDefaults additions → (x : Self) → AreAdditionValues additions (parts x) };
 
+    /// Does nothing: what stands in front of it is data and no law (see `Described::described`).
     fn described(&self) {}
 }
 
@@ -60,6 +61,7 @@ impl AdditionsOf for NoMore {
 /// That there are no more additions than `usize` counts: a marker type of the program's implements it for the
 /// additions of a type.
 pub trait CountOf<A: AdditionsOf> {
+    /// Does nothing: what stands behind it is a law (see `Described::described`).
     fn described(&self) {}
 
     /// There are no more of them.

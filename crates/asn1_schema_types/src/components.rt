@@ -31,6 +31,7 @@ pub trait ComponentsOf {
     /// The parts are of these types.
     ghost valued: { AreDefaults table → (x : Self) → AreValues table (root x) (added x) };
 
+    /// Does nothing: what stands in front of it is data and no law (see `Described::described`).
     fn described(&self) {}
 }
 

@@ -32,11 +32,14 @@ pub trait Described {
     /// The type is a lawful one.
     ghost typed: { IsType tags schema };
 
-    /// Each value is one of the type, whatever constraints it has.
+    /// Each value is one of the type.
     ghost valued: { (x : Self) → IsValue schema (meaning x) };
 
+    /// Each value is one of the type, whatever constraints it has: what they admit is asked when a value is written.
     ghost valued_under: { (c : Meant) (x : Self) → IsValue (under c) (meaning x) };
 
+    /// Does nothing. What stands in front of a trait's last function is data, which clauses may name; what stands
+    /// behind it is a law, which they may not.
     fn described(&self) {}
 }
 

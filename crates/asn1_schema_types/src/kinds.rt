@@ -14,6 +14,7 @@ pub trait TaggedKind: CharacterKind {
     /// The tag of its strings.
     const TAG: Tag;
 
+    /// The same tag, as clauses name it.
     ghost TAG: { Tag };
 
     /// The name of its strings.
@@ -22,6 +23,7 @@ pub trait TaggedKind: CharacterKind {
     /// The number of the tag, which is of the universal class.
     ghost number: { ℕ };
 
+    /// Does nothing: what stands in front of it is data, and what stands behind it a law (see `Described::described`).
     fn tagged(&self) {}
 
     /// The tag has this number.
