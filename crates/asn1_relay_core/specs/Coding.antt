@@ -24,10 +24,11 @@ kind_of Aper = Kind.Aper
 kind_of Oer = Kind.Oer
 kind_of Coer = Kind.Coer
 
--- This is the canonical encoding of a value, or there is none, in whatever depth its type is unfolded.
+-- This is the canonical encoding of a value, or there is none, in whatever depth its type is unfolded: `IsWrittenIn`
+-- for these rules alone.
 abbrev pub IsWritten : Rules → (ℕ → Schema) → Value → Option (List ℕ) → Type 0
 IsWritten r schema v w = IsWrittenIn (r ∷ []) schema v w
 
--- Why it is not written.
+-- Why it is not written: `NotWrittenIn` for the same.
 abbrev pub NotWritten : Rules → (ℕ → Schema) → Value → EncodeError → Type 0
 NotWritten r schema v e = NotWrittenIn (r ∷ []) schema v e

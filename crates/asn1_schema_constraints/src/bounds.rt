@@ -364,6 +364,7 @@ impl Bounded<usize> {
     }
 
     /// Whether a type of the program with these bounds holds so many members (X.680 51.5).
+    #[inline(always)]
     pub fn holds(&self, count: usize) -> bool
         ensures { result ≡ is_count_within (members_of self.now) count }
     {

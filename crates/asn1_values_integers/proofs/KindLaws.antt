@@ -5,7 +5,7 @@ use Rattle.std.proofs.lemmas.Bool.Decides.{nat_tests}
 use Rattle.std.proofs.Math.Nat.{pow-suc, mul-le-mul_right}
 use Rattle.asn1_model.specs.Numbers.{digits, width, signed_octets, octet_width, least_octets}
 use Rattle.asn1_values_natives.specs.Octets.{is_below_zero, is_negative, signed_from_plain, unsigned_number, signed_number, signed_by, sign_free, plain, is_padded, plain_octets, signed_octets_of, unsigned_octets_of}
-use Rattle.asn1_values_integers.specs.Kinds.{AreKept}
+use Rattle.asn1_values_integers.specs.Kinds.{AreFewest}
 use Rattle.asn1_values_natives.proofs.OctetLaws.{AreOctets, sign_free-false, unsigned-lt, signed-low, signed-high, digits-unsigned}
 use Rattle.asn1_values_natives.proofs.Widths.{Octets, octets-same, octet_width-octets, bits-same, width-bits}
 use Rattle.asn1_values_natives.proofs.TwosComplement.{signed-parts, written-kept, written-signed, written-fewest, signed-back, plain-signed_by, octets-complement, plain-small}
@@ -21,7 +21,7 @@ short-written b m os l h e = e ∙ written-signed b m 17 (width-128 m l h)
 pub short-number : (b : Bool) (m : ℕ) (os : List ℕ) → 2 ^ 127 ≤ m → m < 2 ^ 128 → os ≡ map (sign_free b) (digits 256 17 m) → signed_number os ≡ signed_by b m
 short-number b m os l h e = ap signed_number (short-written b m os l h e) ∙ signed-back (signed_by b m)
 
-pub short-kept : (b : Bool) (m : ℕ) (os : List ℕ) → 2 ^ 127 ≤ m → m < 2 ^ 128 → os ≡ map (sign_free b) (digits 256 17 m) → AreKept (2 ^ 127) os
+pub short-kept : (b : Bool) (m : ℕ) (os : List ℕ) → 2 ^ 127 ≤ m → m < 2 ^ 128 → os ≡ map (sign_free b) (digits 256 17 m) → AreFewest (2 ^ 127) os
 short-kept b m os l h e = record {
   fewest = ap is_padded (short-written b m os l h e) ∙ written-fewest (signed_by b m);
   large = let p = ap plain (short-number b m os l h e) ∙ plain-signed_by b m in omega arith;
@@ -32,11 +32,11 @@ some-octet : (os : List ℕ) (least : ℕ) → 1 ≤ least → least ≤ plain (
 some-octet [] least l h = omega arith
 some-octet (o ∷ os) least l h = omega arith
 
-pub kept-written : (os : List ℕ) (least : ℕ) → 1 ≤ least → AreKept least os → os ≡ signed_octets_of (signed_number os)
+pub kept-written : (os : List ℕ) (least : ℕ) → 1 ≤ least → AreFewest least os → os ≡ signed_octets_of (signed_number os)
 kept-written os least l h = written-kept os h.octets h.fewest (some-octet os least l h.large)
 
 -- what is shown of kept octets
-pub kept-signed : (least : ℕ) (os shown : List ℕ) (z : ℤ) → 2 ^ 127 ≤ least → AreKept least os → signed_number os ≡ z → shown ≡ os → shown ≡ signed_octets_of z
+pub kept-signed : (least : ℕ) (os shown : List ℕ) (z : ℤ) → 2 ^ 127 ≤ least → AreFewest least os → signed_number os ≡ z → shown ≡ os → shown ≡ signed_octets_of z
 kept-signed least os shown z l h v s = s ∙ kept-written os least (omega arith) h ∙ ap signed_octets_of v
 
 -- ---- octets with no sign
@@ -81,12 +81,12 @@ plain-written (o ∷ p ∷ os) h e l = at_cases (cases_lt o 128)
         let v : o ∷ p ∷ os ≡ unsigned_octets_of (signed_number (o ∷ p ∷ os)) = w ∙ ap signed_octets_of n ∙ sym (ap unsigned_octets_of n) in
         rw t v
 
-many : (os : List ℕ) (least : ℕ) → 2 ^ 127 ≤ least → AreKept least os → 1 < length os
+many : (os : List ℕ) (least : ℕ) → 2 ^ 127 ≤ least → AreFewest least os → 1 < length os
 many [] least l h = let p = h.large in omega arith
 many (o ∷ []) least l h = let p = h.large in let q = plain-small o [] h.octets in absurd (omega arith)
 many (o ∷ p ∷ os) least l h = omega arith
 
-pub kept-unsigned : (least : ℕ) (os shown : List ℕ) (z : ℤ) → 2 ^ 127 ≤ least → AreKept least os → signed_number os ≡ z → shown ≡ plain_octets os → shown ≡ unsigned_octets_of z
+pub kept-unsigned : (least : ℕ) (os shown : List ℕ) (z : ℤ) → 2 ^ 127 ≤ least → AreFewest least os → signed_number os ≡ z → shown ≡ plain_octets os → shown ≡ unsigned_octets_of z
 kept-unsigned least os shown z l h v s = s ∙ plain-written os h.octets h.fewest (many os least l h) ∙ ap unsigned_octets_of v
 
 -- ---- the sign
@@ -95,7 +95,7 @@ sign-signed_by : (b : Bool) (m : ℕ) → b ≡ is_below_zero (signed_by b m)
 sign-signed_by true m = refl
 sign-signed_by false m = refl
 
-pub kept-sign : (least : ℕ) (os : List ℕ) (z : ℤ) (b : Bool) → AreKept least os → signed_number os ≡ z → b ≡ is_negative os → b ≡ is_below_zero z
+pub kept-sign : (least : ℕ) (os : List ℕ) (z : ℤ) (b : Bool) → AreFewest least os → signed_number os ≡ z → b ≡ is_negative os → b ≡ is_below_zero z
 kept-sign least os z b h v e =
     e ∙ sign-signed_by (is_negative os) (unsigned_number (map (sign_free (is_negative os)) os))
     ∙ ap is_below_zero (sym (signed-parts os h.octets)) ∙ ap is_below_zero v

@@ -5,7 +5,7 @@ use Rattle.std.proofs.lemmas.Nat.{pow-add}
 use Rattle.std.proofs.Math.Nat.{add-mul-mod_self_right, mod-eq_of_lt, pow-le-pow_right}
 use Rattle.asn1_values_natives.specs.Octets.{unsigned_number, signed_number, signed_by, sign_free, is_negative}
 use Rattle.asn1_values_natives.specs.Ranges.{remainder}
-use Rattle.asn1_values_integers.specs.Kinds.{AreKept}
+use Rattle.asn1_values_integers.specs.Kinds.{AreFewest}
 use Rattle.asn1_values_natives.proofs.OctetLaws.{AreOctets, unsigned-lt, unsigned-turned, octets-sign_free, length-sign_free, sign_free-false}
 use Rattle.asn1_values_natives.proofs.TwosComplement.{signed-parts, octets-all, plain-small}
 
@@ -48,7 +48,7 @@ low-bits os n h l e =
     ∙ sym (by_sign (is_negative os) (length os - 16) os a (omega arith))
     ∙ ap (λ z. remainder z (2 ^ 128)) (sym (signed-parts os a))
 
-pub kept-many : (least : ℕ) (os : List ℕ) → 2 ^ 127 ≤ least → AreKept least os → 16 < length os
+pub kept-many : (least : ℕ) (os : List ℕ) → 2 ^ 127 ≤ least → AreFewest least os → 16 < length os
 kept-many least [] l h = let p = h.large in absurd (omega arith)
 kept-many least (o ∷ os) l h = at_cases (cases_lt (length os) 16)
   where

@@ -11,14 +11,15 @@ kept_number (Primitive z) = z
 kept_number (Short os) = signed_number os
 kept_number (Long os) = signed_number os.items
 
--- octets that are kept: the fewest of a number that isn't small
-pub record AreKept (least : ℕ) (os : List ℕ) : Type 0 where
+-- the fewest octets of a number that isn't small
+pub record AreFewest (least : ℕ) (os : List ℕ) : Type 0 where
   pub fewest : is_padded os ≡ false
   pub large : least ≤ plain (signed_number os)
   pub octets : AllByRecursion (λ o. o < 256) os
 
--- octets are kept of numbers outside 128 bits alone, and in a vector of those outside -2^128 to 2^128 - 1
-abbrev pub IsKept : IntegerKind → Type 0
-IsKept (Primitive z) = Unit {0}
-IsKept (Short os) = AreKept (2 ^ 127) os
-IsKept (Long os) = AreKept (2 ^ 128) os.items
+-- no smaller kind would do: octets are kept of numbers outside 128 bits alone, and in a vector of those outside -2^128
+-- to 2^128 - 1
+abbrev pub IsSmallest : IntegerKind → Type 0
+IsSmallest (Primitive z) = Unit {0}
+IsSmallest (Short os) = AreFewest (2 ^ 127) os
+IsSmallest (Long os) = AreFewest (2 ^ 128) os.items

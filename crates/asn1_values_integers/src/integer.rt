@@ -34,11 +34,11 @@ impl Model for Integer {
 
     ghost Value = { ℤ };
 
-    ghost use Rattle.asn1_values_integers.specs.Kinds.{kept_number, IsKept};
+    ghost use Rattle.asn1_values_integers.specs.Kinds.{kept_number, IsSmallest};
 
     ghost view = { λ a. kept_number a.kind };
 
-    ghost invariant = { λ a. IsKept a.kind };
+    ghost invariant = { λ a. IsSmallest a.kind };
 }
 
 impl Integer {

@@ -8,7 +8,7 @@ use Rattle.asn1_schema_faults.specs.declared.EncodeError.{EncodeError}
 use Rattle.asn1_schema_faults.specs.declared.EncodeError.TheVariants.{OutOfMemory}
 use Rattle.asn1_schema_faults.proofs.Passing.{PassedOn, never_long, no_memory_before}
 use Rattle.asn1_schema_encode.specs.Writes.{Writes, CannotWrite}
-use Rattle.asn1_schema_encode.specs.Written.{IsWrittenIn, HasTextIn}
+use Rattle.asn1_schema_encode.specs.Written.{IsWrittenIn, HasTextIn, NotWrittenIn}
 use Rattle.asn1_schema_presented.specs.Records.{Record}
 use Rattle.asn1_schema_presented.specs.Presents.{presents, Fits}
 use Rattle.asn1_schema_presented.specs.Chains.{Chain}
@@ -19,7 +19,6 @@ use Rattle.per_codec_encoder.specs.Ties.{octets_of}
 use Rattle.per_codec_encoder.specs.Written.{IsWriter, packed_rules}
 use Rattle.per_codec_encoder.proofs.Chains.{messages}
 use Rattle.per_codec_encoder.proofs.Written.{writes_the_octets, refuses_only_none}
-use Rattle.per_codec.specs.Encoded.{NotEncoded}
 
 -- the encoder is a writer
 held : Written → State
@@ -97,7 +96,7 @@ written_all al schema v start new e i w =
     (still_ready _ (nothing_held al) new (x.chain (depth v) (i.fits (depth v) (omega arith))) refl, t.0, t.1, text_written al schema v new i x)
 
 -- a value whose records are refused has none
-pub refused_all : (al : Bool) (schema : ℕ → Schema) (v : Value) (start : Written) (x e : EncodeError) → start ≡ nothing_held al → IsValue schema v → CannotWrite Puts schema v start x → PassedOn x e → NotEncoded al schema v e
+pub refused_all : (al : Bool) (schema : ℕ → Schema) (v : Value) (start : Written) (x e : EncodeError) → start ≡ nothing_held al → IsValue schema v → CannotWrite Puts schema v start x → PassedOn x e → NotWrittenIn (packed_rules al) schema v e
 unfolding held aligned Ready
 refused_all al schema v start x e k i c p =
     let y : CannotWrite Puts schema v (nothing_held al) x = subst (λ s. CannotWrite Puts schema v s x) k c in

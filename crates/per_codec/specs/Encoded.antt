@@ -1,16 +1,18 @@
 -- What the calls that write answer.
-use Rattle.std.specs.Prelude.{ℕ, Bool, List, Some}
+use Rattle.std.specs.Prelude.{ℕ, List, Some}
 use Rattle.asn1_model.specs.Schema.{Schema}
 use Rattle.asn1_model.specs.Value.{Value}
 use Rattle.asn1_schema_faults.specs.declared.EncodeError.{EncodeError}
 use Rattle.asn1_schema_encode.specs.Written.{IsWrittenIn, NotWrittenIn}
 use Rattle.per_codec_encoder.specs.Written.{packed_rules}
+use Rattle.per_codec_limits.specs.Variants.{is_aligned}
+use Rattle.per_codec_limits.specs.declared.variant.Variant.{Variant}
 
--- These octets are the canonical encoding of the value (X.691), in the aligned variant or in the other, in whatever
--- depth its type is unfolded.
-abbrev pub IsEncoded : Bool → (ℕ → Schema) → Value → List ℕ → Type 0
-IsEncoded al schema v w = IsWrittenIn (packed_rules al) schema v (Some w)
+-- These octets are the canonical encoding of the value (X.691) in this variant, in whatever depth its type is unfolded:
+-- `IsWrittenIn` for the rules of the variant.
+abbrev pub IsEncoded : Variant → (ℕ → Schema) → Value → List ℕ → Type 0
+IsEncoded variant schema v w = IsWrittenIn (packed_rules (is_aligned variant)) schema v (Some w)
 
--- Why it is not written in that variant.
-abbrev pub NotEncoded : Bool → (ℕ → Schema) → Value → EncodeError → Type 0
-NotEncoded al schema v e = NotWrittenIn (packed_rules al) schema v e
+-- Why it is not written in that variant: `NotWrittenIn` for the same rules.
+abbrev pub NotEncoded : Variant → (ℕ → Schema) → Value → EncodeError → Type 0
+NotEncoded variant schema v e = NotWrittenIn (packed_rules (is_aligned variant)) schema v e

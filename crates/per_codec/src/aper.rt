@@ -1,5 +1,5 @@
 //! The aligned packed encoding rules (X.691): values are written and read.
-ghost use Rattle.std.specs.Prelude.{◌≡◌, [], ℕ, List, OnOk, OnErr, IfOk, IfErr, true};
+ghost use Rattle.std.specs.Prelude.{◌≡◌, [], ℕ, List, OnOk, OnErr, IfOk, IfErr};
 ghost use Rattle.asn1_model.specs.Lawful.{IsLawful};
 ghost use Rattle.asn1_model.specs.Rules.{aper};
 ghost use Rattle.asn1_schema_constraints.specs.Terms.{meant};
@@ -23,8 +23,8 @@ use std::alloc::Global;
 /// `SizeConstraintNotSatisfied`, `AlphabetConstraintNotSatisfied`, or `TooLongValue` for 2^60 octets and more and
 /// for nothing else.
 pub fn encode<T: Encode>(alloc: Global, value: &T) -> Result<Vec<u8>, EncodeError>
-    ensures ok { IfOk result (λ octets. IsEncoded true T.schema (T.meaning value.now) octets.items) }
-    ensures only { IfErr result (NotEncoded true T.schema (T.meaning value.now)) }
+    ensures ok { IfOk result (λ octets. IsEncoded Variant.Aligned T.schema (T.meaning value.now) octets.items) }
+    ensures only { IfErr result (NotEncoded Variant.Aligned T.schema (T.meaning value.now)) }
     ensures fresh { IfErr result (λ e. e ≡ EncodeError.AlreadyFailed → ⊥) }
     ensures fits { IfErr result (λ e. e ≡ EncodeError.LengthExceedsPlatformSize → ⊥) }
     ensures in_place { IfErr result (λ e. e ≡ EncodeError.CallOutOfPlace → ⊥) }
@@ -43,8 +43,8 @@ pub fn encode_buf<T: Encode>(
     value: &T,
     buffer: &mut Vec<u8>,
 ) -> Result<(), EncodeError>
-    ensures ok { OnOk result (IsEncoded true T.schema (T.meaning value.now) buffer.new.items) }
-    ensures only { IfErr result (NotEncoded true T.schema (T.meaning value.now)) }
+    ensures ok { OnOk result (IsEncoded Variant.Aligned T.schema (T.meaning value.now) buffer.new.items) }
+    ensures only { IfErr result (NotEncoded Variant.Aligned T.schema (T.meaning value.now)) }
     ensures fresh { IfErr result (λ e. e ≡ EncodeError.AlreadyFailed → ⊥) }
     ensures fits { IfErr result (λ e. e ≡ EncodeError.LengthExceedsPlatformSize → ⊥) }
     ensures in_place { IfErr result (λ e. e ≡ EncodeError.CallOutOfPlace → ⊥) }
@@ -65,8 +65,9 @@ pub fn encode_with_constraints<T: Encode>(
     value: &T,
 ) -> Result<Vec<u8>, EncodeError>
     ensures ok { IfOk result
-        (λ octets. IsEncoded true (T.under (meant constraints.entry)) (T.meaning value.now) octets.items) }
-    ensures only { IfErr result (NotEncoded true (T.under (meant constraints.entry)) (T.meaning value.now)) }
+        (λ octets. IsEncoded Variant.Aligned (T.under (meant constraints.entry)) (T.meaning value.now) octets.items) }
+    ensures only { IfErr result
+        (NotEncoded Variant.Aligned (T.under (meant constraints.entry)) (T.meaning value.now)) }
     ensures fresh { IfErr result (λ e. e ≡ EncodeError.AlreadyFailed → ⊥) }
     ensures fits { IfErr result (λ e. e ≡ EncodeError.LengthExceedsPlatformSize → ⊥) }
     ensures in_place { IfErr result (λ e. e ≡ EncodeError.CallOutOfPlace → ⊥) }

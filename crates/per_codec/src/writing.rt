@@ -1,6 +1,6 @@
 //! A value is written.
 ghost use Rattle.std.specs.Prelude.{◌≡◌, [], length, OnOk, OnErr, IfOk, IfErr, MatchResult, ◌<◌, ◌≤◌, ◌^◌};
-ghost use Rattle.per_codec_encoder.specs.Stepping.{is_aligned};
+ghost use Rattle.per_codec_encoder.specs.Stepping.{variant_of};
 ghost use Rattle.asn1_schema_constraints.specs.Terms.{meant};
 ghost use Rattle.per_codec.specs.Encoded.{IsEncoded, NotEncoded};
 
@@ -34,8 +34,8 @@ pub fn encode<T: Encode>(
     options: EncoderOptions,
     value: &T,
 ) -> Result<Vec<u8>, EncodeError>
-    ensures ok { IfOk result (λ octets. IsEncoded (is_aligned options) T.schema (T.meaning value.now) octets.items) }
-    ensures only { IfErr result (NotEncoded (is_aligned options) T.schema (T.meaning value.now)) }
+    ensures ok { IfOk result (λ octets. IsEncoded (variant_of options) T.schema (T.meaning value.now) octets.items) }
+    ensures only { IfErr result (NotEncoded (variant_of options) T.schema (T.meaning value.now)) }
     ensures fresh { IfErr result (λ e. e ≡ EncodeError.AlreadyFailed → ⊥) }
     ensures fits { IfErr result (λ e. e ≡ EncodeError.LengthExceedsPlatformSize → ⊥) }
     ensures in_place { IfErr result (λ e. e ≡ EncodeError.CallOutOfPlace → ⊥) }
@@ -52,8 +52,8 @@ fn encode_into<T: Encode>(
     value: &T,
     room: Vec<u8>,
 ) -> Result<Vec<u8>, EncodeError>
-    ensures ok { IfOk result (λ octets. IsEncoded (is_aligned options) T.schema (T.meaning value.now) octets.items) }
-    ensures only { IfErr result (NotEncoded (is_aligned options) T.schema (T.meaning value.now)) }
+    ensures ok { IfOk result (λ octets. IsEncoded (variant_of options) T.schema (T.meaning value.now) octets.items) }
+    ensures only { IfErr result (NotEncoded (variant_of options) T.schema (T.meaning value.now)) }
     ensures fresh { IfErr result (λ e. e ≡ EncodeError.AlreadyFailed → ⊥) }
     ensures fits { IfErr result (λ e. e ≡ EncodeError.LengthExceedsPlatformSize → ⊥) }
     ensures in_place { IfErr result (λ e. e ≡ EncodeError.CallOutOfPlace → ⊥) }
@@ -80,10 +80,10 @@ pub fn encode_with_constraints<T: Encode>(
     value: &T,
 ) -> Result<Vec<u8>, EncodeError>
     ensures ok { IfOk result
-        (λ octets. IsEncoded (is_aligned options) (T.under (meant constraints.entry))
+        (λ octets. IsEncoded (variant_of options) (T.under (meant constraints.entry))
         (T.meaning value.now) octets.items) }
     ensures only { IfErr result
-        (NotEncoded (is_aligned options) (T.under (meant constraints.entry)) (T.meaning value.now)) }
+        (NotEncoded (variant_of options) (T.under (meant constraints.entry)) (T.meaning value.now)) }
     ensures fresh { IfErr result (λ e. e ≡ EncodeError.AlreadyFailed → ⊥) }
     ensures fits { IfErr result (λ e. e ≡ EncodeError.LengthExceedsPlatformSize → ⊥) }
     ensures in_place { IfErr result (λ e. e ≡ EncodeError.CallOutOfPlace → ⊥) }
@@ -110,8 +110,8 @@ pub fn encode_buf<T: Encode>(
     value: &T,
     buffer: &mut Vec<u8>,
 ) -> Result<(), EncodeError>
-    ensures ok { OnOk result (IsEncoded (is_aligned options) T.schema (T.meaning value.now) buffer.new.items) }
-    ensures only { IfErr result (NotEncoded (is_aligned options) T.schema (T.meaning value.now)) }
+    ensures ok { OnOk result (IsEncoded (variant_of options) T.schema (T.meaning value.now) buffer.new.items) }
+    ensures only { IfErr result (NotEncoded (variant_of options) T.schema (T.meaning value.now)) }
     ensures fresh { IfErr result (λ e. e ≡ EncodeError.AlreadyFailed → ⊥) }
     ensures fits { IfErr result (λ e. e ≡ EncodeError.LengthExceedsPlatformSize → ⊥) }
     ensures in_place { IfErr result (λ e. e ≡ EncodeError.CallOutOfPlace → ⊥) }

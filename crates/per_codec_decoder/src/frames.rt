@@ -81,7 +81,7 @@ impl<'input> Enclosing<'input> {
 
 /// Opens a scope inside those of the frames.
 #[inline(always)]
-fn put<'input>(
+fn open_frame<'input>(
     innermost: &mut Option<Frame<'input>>,
     outer: &mut Vec<Frame<'input>>,
     frame: Frame<'input>,
@@ -119,7 +119,7 @@ fn settle<'input>(
         ≡ behind_of enclosing.old innermost.old outer.old.items) }
 {
     if let Some(around) = enclosing.take() {
-        put(innermost, outer, around.frame())?;
+        open_frame(innermost, outer, around.frame())?;
     }
     Ok(())
 }
@@ -180,10 +180,10 @@ impl<'input> Scopes<'input> {
         ensures behind { OnOk result (self.new.behind ≡ behind_frame frame.entry self.old.behind) }
     {
         if self.enclosing.is_none() {
-            return put(&mut self.innermost, &mut self.outer, frame);
+            return open_frame(&mut self.innermost, &mut self.outer, frame);
         }
         settle(&mut self.enclosing, &mut self.innermost, &mut self.outer)?;
-        put(&mut self.innermost, &mut self.outer, frame)
+        open_frame(&mut self.innermost, &mut self.outer, frame)
     }
 
     /// Opens a scope inside all others that encloses one value alone.

@@ -1,19 +1,19 @@
 use Rattle.std.proofs.Common.{◌^◌, arith, ap, sym, subst, ◌∙◌}
 use Rattle.asn1_values_integers.specs.declared.integer.IntegerKind.{IntegerKind}
-use Rattle.asn1_values_integers.specs.Kinds.{IsKept, kept_number}
+use Rattle.asn1_values_integers.specs.Kinds.{IsSmallest, kept_number}
 use Rattle.asn1_values_natives.specs.Octets.{plain_octets}
 use Rattle.asn1_values_integers.proofs.KindLaws.{kept-unsigned}
 use Rattle.asn1_values_integers.proofs.integer.Integer.to_unsigned_bytes_be.Goals as goal
 
-abbrev Kept : IntegerKind → Type 0
-Kept = IsKept
+abbrev Smallest : IntegerKind → Type 0
+Smallest = IsSmallest
 
 pub returns-in-Short : goal.returns-in-Short
 returns-in-Short c =
-    kept-unsigned (2 ^ 127) c.in-Short.octets c.lent.result c.args.self.now (omega arith) (subst Kept c.in-Short.is c.self.invariant)
+    kept-unsigned (2 ^ 127) c.in-Short.octets c.lent.result c.args.self.now (omega arith) (subst Smallest c.in-Short.is c.self.invariant)
     (sym (ap kept_number c.in-Short.is) ∙ c.self.view_is) (c.lent.ensures ∙ c.without_zero.ensures)
 
 pub returns-in-Long : goal.returns-in-Long
 returns-in-Long c =
-    kept-unsigned (2 ^ 128) c.in-Long.octets.items c.lent-in-Long.result c.args.self.now (omega arith) (subst Kept c.in-Long.is c.self.invariant)
+    kept-unsigned (2 ^ 128) c.in-Long.octets.items c.lent-in-Long.result c.args.self.now (omega arith) (subst Smallest c.in-Long.is c.self.invariant)
     (sym (ap kept_number c.in-Long.is) ∙ c.self.view_is) (c.lent-in-Long.ensures ∙ c.without_zero-in-Long.ensures ∙ ap plain_octets c.deref.ensures.value)
