@@ -1,6 +1,5 @@
-use Rattle.std.proofs.Common.{◌∙◌, sym, subst}
+use Rattle.std.proofs.Common.{sym, subst}
 use Rattle.std.proofs.lemmas.Result.{err_from_is_err_and}
-use Rattle.std.specs.Cow.{cow_slice_items}
 use Rattle.asn1_model.specs.Per
 use Rattle.asn1_model.specs.Schema.{any_count, character_string}
 use Rattle.asn1_model.specs.Value.{text}
