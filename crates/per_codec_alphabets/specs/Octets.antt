@@ -20,7 +20,8 @@ leaves_out None = false
 leaves_out (Some c) = not (has_additions c)
 
 -- Whether a string of a kind under these constraints is encoded as the octets that its characters are, behind their
--- number in the general form: in the aligned variant, where neither a size nor a permitted alphabet counts (X.691 30.5).
+-- number in the general form: in the aligned variant, where neither a size nor a permitted alphabet counts (X.691
+-- 30.5).
 abbrev pub is_encoded_as_octets : Bool → StringKind → Option (Extensible Size) → Option (Extensible PermittedAlphabet)
     → Bool
 is_encoded_as_octets al k size alphabet = al && have_octet_codes k && not (is_some size) && not (leaves_out alphabet)

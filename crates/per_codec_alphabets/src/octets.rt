@@ -1,7 +1,7 @@
 //! Strings that are encoded as the octets that their characters are.
 ghost use Rattle.std.specs.Prelude.{◌≡◌};
-ghost use Rattle.per_codec_alphabets.specs.Octets.{have_octet_codes as are_own_codes, is_encoded_as_octets as as_octets};
-ghost use Rattle.per_codec_alphabets.specs.Octets.{leaves_out as counts};
+ghost use Rattle.per_codec_alphabets.specs.Octets.{have_octet_codes as are_own_codes, leaves_out as counts};
+ghost use Rattle.per_codec_alphabets.specs.Octets.{is_encoded_as_octets as as_octets};
 ghost use Rattle.per_codec_limits.specs.Variants.{is_aligned};
 
 use asn1_schema_constraints::{Constraints, Extensible, PermittedAlphabet};

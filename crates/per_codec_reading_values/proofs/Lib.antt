@@ -7,7 +7,6 @@ pub mod FieldFronts
 pub mod Moving
 pub mod Passing
 pub mod Steps
-pub mod RunSteps
 pub mod CharacterFronts
 pub mod CharacterOctetFronts
 pub mod OctetCodeFronts

@@ -11,7 +11,7 @@ ghost use Rattle.per_codec_reading_values.specs.Spelled.{Spells, Stuck, IsFittin
 
 use crate::unread::UnreadCodes;
 use asn1_schema_faults::DecodeError;
-use asn1_values_alphabets::{PermittedAlphabetError, StaticPermittedAlphabet};
+use asn1_values_alphabets::StaticPermittedAlphabet;
 use asn1_values_bits::BitStr;
 use per_codec_alphabets::{CodedRun, EffectiveAlphabet};
 use std::alloc::Global;
@@ -146,26 +146,20 @@ fn string_in_run<S: StaticPermittedAlphabet>(
         return Err(DecodeError::OutOfMemory);
     };
     let mut unread = UnreadCodes::new(codes);
-    'numbers: while octets.len() < count {
-        unread = unread.filled(width, count - octets.len());
-        'codes: for _ in 0..unread.due {
-            let (code, others) = unread.split_code(width);
-            let Some(character) = run.character(code) else {
-                return Err(DecodeError::PermittedAlphabet);
-            };
-            let Ok(()) = octets.push(character as u8) else {
-                return Err(DecodeError::OutOfMemory);
-            };
-            unread = others;
-        }
+    for place in 0..count {
+        let (code, others) = unread.next_code(width, count - place);
+        let Some(character) = character_in_run::<S>(run, code) else {
+            return Err(DecodeError::PermittedAlphabet);
+        };
+        let Ok(()) = octets.push(character as u8) else {
+            return Err(DecodeError::OutOfMemory);
+        };
+        unread = others;
     }
-    match S::from_octet_vec(octets) {
-        Ok(string) => Ok(string),
-        Err(PermittedAlphabetError::InvalidRestrictedString(_)) => {
-            Err(DecodeError::PermittedAlphabet)
-        }
-        Err(_) => Err(DecodeError::OutOfMemory),
-    }
+    let Ok(string) = S::from_octet_vec(octets) else {
+        return Err(DecodeError::OutOfMemory);
+    };
+    Ok(string)
 }
 
 /// The string of so many characters, whose codes stand one behind the other from any bit on.

@@ -1,5 +1,5 @@
 //! Codes of one width, several of which are read at a time.
-ghost use Rattle.std.specs.Prelude.{◌≡◌, ◌-◌, ◌*◌, ◌<◌, ◌≤◌, ◌^◌, ℕ, length, take, drop};
+ghost use Rattle.std.specs.Prelude.{◌≡◌, ◌*◌, ◌<◌, ◌≤◌, ◌^◌, ℕ, length, take, drop};
 ghost use Rattle.asn1_model.specs.Numbers.{binary};
 ghost use Rattle.asn1_values_bits.specs.BitStr.{bits_of};
 ghost use Rattle.per_codec_reading_values.specs.Unread.{code_bits};
@@ -19,7 +19,7 @@ impl<'a> UnreadCodes<'a> {
     #[inline(always)]
     pub(crate) fn new(codes: BitStr<'a>) -> Self
         ensures codes { (width : ℕ) → code_bits width result ≡ bits_of codes.entry }
-        ensures none { result.due ≡ 0 }
+        ensures few { result.due ≤ 8 }
     {
         UnreadCodes {
             number: 0,
@@ -28,17 +28,20 @@ impl<'a> UnreadCodes<'a> {
         }
     }
 
-    /// The same codes, of which `left` are due and none stands in the number: the next ones in it, up to eight.
+    /// The same codes, of which there are `left`, the next one in the number.
     #[inline(always)]
-    pub(crate) fn filled(self, width: u32, left: usize) -> Self
+    fn filled(self, width: u32, left: usize) -> Self
         requires narrow { width ≤ 8 }
-        requires none { self.due ≡ 0 }
+        requires some { 0 < left }
+        requires few { self.due ≤ 8 }
         requires enough { left * width ≤ length (code_bits width self) }
         ensures same { code_bits width result ≡ code_bits width self.entry }
-        ensures due { 0 < left → 0 < result.due }
-        ensures within { result.due ≤ left }
+        ensures due { 0 < result.due }
         ensures few { result.due ≤ 8 }
     {
+        if self.due > 0 {
+            return self;
+        }
         let due = left.min(8) as u32;
         let count = due * width;
         UnreadCodes {
@@ -50,14 +53,14 @@ impl<'a> UnreadCodes<'a> {
 
     /// The next code, which stands in the number, and those behind it.
     #[inline(always)]
-    pub(crate) fn split_code(self, width: u32) -> (u32, Self)
+    fn split_code(self, width: u32) -> (u32, Self)
         requires narrow { width ≤ 8 }
         requires due { 0 < self.due }
         requires few { self.due ≤ 8 }
         ensures digits { binary width result.0 ≡ take width (code_bits width self.entry) }
         ensures fits { result.0 < 2 ^ width }
         ensures rest { code_bits width result.1 ≡ drop width (code_bits width self.entry) }
-        ensures due { result.1.due ≡ self.entry.due - 1 }
+        ensures few { result.1.due ≤ 8 }
     {
         let due = self.due - 1;
         let code = self.number >> (due * width) & ((1 << width) - 1);
@@ -67,5 +70,20 @@ impl<'a> UnreadCodes<'a> {
             rest: self.rest,
         };
         (code as u32, others)
+    }
+
+    /// The next code of so many bits, and those behind it. There are `left` of them.
+    #[inline(always)]
+    pub(crate) fn next_code(self, width: u32, left: usize) -> (u32, Self)
+        requires narrow { width ≤ 8 }
+        requires some { 0 < left }
+        requires few { self.due ≤ 8 }
+        requires enough { left * width ≤ length (code_bits width self) }
+        ensures digits { binary width result.0 ≡ take width (code_bits width self.entry) }
+        ensures fits { result.0 < 2 ^ width }
+        ensures rest { code_bits width result.1 ≡ drop width (code_bits width self.entry) }
+        ensures few { result.1.due ≤ 8 }
+    {
+        self.filled(width, left).split_code(width)
     }
 }

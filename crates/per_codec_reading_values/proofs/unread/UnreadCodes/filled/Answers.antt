@@ -1,4 +1,4 @@
-use Rattle.std.proofs.Common.{◌*◌, ◌≤◌, ℕ, ◌++◌, refl, ap, sym, ◌∙◌, arith}
+use Rattle.std.proofs.Common.{◌≡◌, ◌*◌, ◌≤◌, ℕ, ◌++◌, refl, ap, ◌∙◌, arith}
 use Rattle.asn1_model.specs.Numbers.{binary}
 use Rattle.asn1_values_bits.specs.BitStr.{bits_of}
 use Rattle.per_codec_reading_values.proofs.CodesAhead.{few_bits, refilled}
@@ -12,5 +12,6 @@ overflow_cast-result c =
 pub returns-clause-same : goal.returns-clause-same
 returns-clause-same c =
     let w : ℕ = c.args.width in
+    let none : 0 ≡ c.args.self.due = omega (arith, c.if-self-gt0.false) in
     refilled w c.min-due.result (c.min-due.result * w) c.first_number.result c.args.self.number (bits_of c.args.self.rest) (bits_of c.split_at.result.1) refl c.first_number.ensures.digits c.split_at.ensures.rest
-    ∙ ap (λ k. binary (k * w) c.args.self.number ++ bits_of c.args.self.rest) (sym c.requires.none)
+    ∙ ap (λ k. binary (k * w) c.args.self.number ++ bits_of c.args.self.rest) none
