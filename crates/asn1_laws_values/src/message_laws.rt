@@ -34,12 +34,12 @@ pub fn canonical_is_read()
     ensures { CanonicalIsRead }
 {}
 
-/// The normal form of a normal form is itself, and is normal.
+/// The normal form of a normal form is itself, and passes the test of normal forms (`is_normal`).
 pub fn normal_forms()
     ensures { NormalForms }
 {}
 
-/// What a strict reader takes is normal: nothing at its default is spelled out, and no group is empty.
+/// What a strict reader takes is its own normal form: nothing at its default is spelled out, and no group is empty.
 pub fn strict_reads_normal()
     ensures { StrictReadsNormal }
 {}

@@ -21,7 +21,7 @@ abbrev pub MayBeRead : Rules → Schema → Value → Type 0
 MayBeRead r s v = is_strict r ≡ true → normal s v ≡ v
 
 -- A value is what the older version can see of one of the newer, up to the order of bags, and in the strict rules it is
--- normal.
+-- in normal form.
 abbrev pub IsLeft : Rules → Schema → Schema → Value → Value → Type 0
 IsLeft r old new v x = (u : Value) × (drop old new v ≡ Some u) × (same x u ≡ true) × MayBeRead r old x
 
@@ -30,7 +30,8 @@ abbrev pub IsGrown : Schema → Schema → Value → Value → Type 0
 IsGrown old new u x = (v : Value) × (grow old new (normal old u) ≡ Some v) × (same x v ≡ true)
 
 -- What the newer version writes, the older one reads as a value exactly if this is the one without what the older
--- version lacks, and in the strict rules normal: it reads all of it, and no other beginning, whatever stands behind.
+-- version lacks, and in the strict rules in normal form: it reads all of it, and no other beginning, whatever stands
+-- behind.
 abbrev pub OlderReadsExactly : Type 0
 OlderReadsExactly =
     (r : Rules) (old new : Schema) (v x : Value) (w : List ℕ)

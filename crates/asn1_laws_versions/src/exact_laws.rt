@@ -3,7 +3,8 @@
 ghost use Rattle.asn1_laws_versions.specs.ExactLaws.{OlderReadsExactly, NewerReadsExactly};
 
 /// What the newer version writes, the older one reads as a value exactly if this is the one without what the older
-/// version lacks, and in the strict rules normal: it reads all of it, and no other beginning, whatever stands behind.
+/// version lacks, and in the strict rules in normal form: it reads all of it, and no other beginning, whatever stands
+/// behind.
 pub fn older_reads_exactly()
     ensures { OlderReadsExactly }
 {}

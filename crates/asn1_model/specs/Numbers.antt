@@ -1,4 +1,4 @@
--- Numbers as digits, as octets of two's complement and as bits; and the order of whole numbers.
+-- Numbers as digits, as octets of two's complement and as bits; the order of whole numbers; ranges and sizes.
 use Rattle.std.specs.Prelude.{ℕ, zero, suc, ◌+◌, ◌-◌, ◌*◌, ◌/◌, ◌%◌, ◌^◌, ◌==◌, leb, max, ℤ, pos, negsuc, ◌-ℤ◌, Bool}
 use Rattle.std.specs.Prelude.{true, false, cond, ◌&&◌, ◌||◌, List, [], ◌∷◌, map, flat_map, Option, Some, None}
 use Rattle.asn1_model.specs.Schema.{Range, Counts, Size}

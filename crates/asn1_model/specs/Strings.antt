@@ -74,7 +74,7 @@ is_of_octets utf8 = true
 is_of_octets k = false
 
 -- Whether a value of the kind may hold these: of UTF8String octets that are well-formed UTF-8 (ISO/IEC 10646 annex D),
--- as the library of the language has it.
+-- as std has it.
 abbrev pub may_hold : StringKind → List ℕ → Bool
 may_hold utf8 os = is_utf8 os
 may_hold k cs = list_all (is_among (characters_of k)) cs

@@ -34,9 +34,9 @@ behind true cs end = all_absent cs
 behind true cs ps = None
 
 unfoldable mutual
-  -- A value of the older version as one of the newer (true), or of the newer one as one of the older (false). None
-  -- where a part that only the newer one has is required in a sequence or set that is there, and where the older one
-  -- lacks an alternative or an item that stands elsewhere than in such a part.
+  -- A value of the older version as one of the newer (true), or of the newer one as one of the older (false). To the
+  -- newer one: None where a part that only that has is required in a sequence or set that is there. To the older one:
+  -- None where it lacks an alternative or an item that is not inside a part that is left out.
   pub carried : Bool → Schema → Schema → Value → Option Value
   carried false (enumerated roots e adds) (enumerated roots' e' adds') (item v) =
       cond (is_some (item_place v roots) || is_some (item_place v adds)) (Some (item v)) None

@@ -381,8 +381,7 @@ fn order_in(alloc: Global, matches: &ArgMatches<'_>) -> Result<Option<Order>, Al
 }
 
 /// Reads a command line, whose first word is the name of the program. An error's `Display` is the text for the user;
-/// its kind is
-/// `OutOfMemory` where no memory was left.
+/// its kind is `OutOfMemory` where no memory was left.
 ///
 /// # Errors
 ///

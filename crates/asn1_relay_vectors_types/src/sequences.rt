@@ -108,8 +108,8 @@ impl Listed for OffsetForm {
     }
 }
 
-/// SEQUENCE {number INTEGER, middle SEQUENCE {number INTEGER, inner SEQUENCE {number INTEGER,
-/// last [0] INTEGER OPTIONAL} OPTIONAL}}.
+/// SEQUENCE {number INTEGER, middle SEQUENCE {number INTEGER, inner SEQUENCE {number INTEGER, last [0] INTEGER
+/// OPTIONAL} OPTIONAL}}.
 pub type Outer = Sequence<OuterForm>;
 
 type OuterForm = RequiredComponent<Integer, RequiredComponent<Sequence<MiddleForm>, End>>;

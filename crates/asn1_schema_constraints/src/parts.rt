@@ -24,8 +24,7 @@ impl Value {
         Value { value }
     }
 
-    /// Whether numbers under the constraint are written with a sign (X.696 10), as
-    /// [`Bounded::range_in_bytes`] tells.
+    /// Whether numbers under the constraint are written with a sign (X.696 10), as [`Bounded::range_in_bytes`] tells.
     pub fn get_sign(&self) -> bool
         ensures { result ≡ has_sign (lower self.now.value) }
     {

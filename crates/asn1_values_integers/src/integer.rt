@@ -144,8 +144,8 @@ impl Integer {
         }
     }
 
-    /// The number that octets without a sign stand for. Leading zeros are taken and not kept.
-    /// Refuses no octets, and takes memory for numbers from 2^128 on alone.
+    /// The number that octets without a sign stand for. Leading zeros are taken and not kept. Refuses no octets, and
+    /// takes memory for numbers from 2^128 on alone.
     ///
     /// # Errors
     ///

@@ -51,8 +51,8 @@ pub trait IntegerType: Sized {
     // The greatest number of the range in which it adds.
     ghost greatest: { ℕ };
 
-    /// The number that octets stand for, with a sign if the type has one (X.690 8.3).
-    /// Refuses no octets and numbers that the type does not hold; only `Integer` takes memory.
+    /// The number that octets stand for, with a sign if the type has one (X.690 8.3). Refuses no octets and numbers
+    /// that the type does not hold; only `Integer` takes memory.
     fn try_from_bytes(alloc: Global, input: &[u8]) -> Result<Self, IntegerError>
         ensures number { IfOk result (λ x. value x ≡ own_number signed input.now) }
         ensures empty { IsErrOf result IntegerError.Empty ↔ (length input.now ≡ 0) }
@@ -60,8 +60,8 @@ pub trait IntegerType: Sized {
             ↔ ((0 < length input.now) × (is_within held (own_number signed input.now) ≡ false)) }
         ensures memory { IsErrOf result IntegerError.Memory → 2 ^ 128 ≤ plain (own_number signed input.now) };
 
-    /// The number that octets of two's complement stand for (X.690 8.3.3). Octets that only
-    /// repeat the sign are taken. Refuses no octets and numbers that the type does not hold.
+    /// The number that octets of two's complement stand for (X.690 8.3.3). Octets that only repeat the sign are taken.
+    /// Refuses no octets and numbers that the type does not hold.
     fn try_from_signed_bytes(alloc: Global, input: &[u8]) -> Result<Self, IntegerError>
         ensures number { IfOk result (λ x. value x ≡ signed_number input.now) }
         ensures empty { IsErrOf result IntegerError.Empty ↔ (length input.now ≡ 0) }
@@ -69,8 +69,8 @@ pub trait IntegerType: Sized {
             ↔ ((0 < length input.now) × (is_within held (signed_number input.now) ≡ false)) }
         ensures memory { IsErrOf result IntegerError.Memory → 2 ^ 128 ≤ plain (signed_number input.now) };
 
-    /// The number that octets without a sign stand for. Leading zeros are taken. Refuses no
-    /// octets and numbers that the type does not hold.
+    /// The number that octets without a sign stand for. Leading zeros are taken. Refuses no octets and numbers that the
+    /// type does not hold.
     fn try_from_unsigned_bytes(alloc: Global, input: &[u8]) -> Result<Self, IntegerError>
         ensures number { IfOk result (λ x. value x ≡ pos (unsigned_number input.now)) }
         ensures empty { IsErrOf result IntegerError.Empty ↔ (length input.now ≡ 0) }
@@ -83,14 +83,12 @@ pub trait IntegerType: Sized {
         ensures octets { result ≡ signed_octets_of (value self.now) }
         ensures within { is_within held (value self.now) ≡ true };
 
-    /// The fewest octets without a sign, at least one; of a number below zero those of two's
-    /// complement.
+    /// The fewest octets without a sign, at least one; of a number below zero those of two's complement.
     fn to_unsigned_bytes_be(&self) -> IntegerBytes<'_>
         ensures octets { result ≡ unsigned_octets_of (value self.now) }
         ensures within { is_within held (value self.now) ≡ true };
 
-    /// The sum, or what differs from it by a multiple of two to the type's bits; an `Integer`
-    /// adds in 128 bits.
+    /// The sum, or what differs from it by a multiple of two to the type's bits; an `Integer` adds in 128 bits.
     fn wrapping_unsigned_add(self, other: Self::UnsignedPair) -> Self
         ensures { value result ≡ wrapped signed greatest (value self +ℤ unsigned_value other) };
 

@@ -12,8 +12,8 @@ pub fn octets_stand_for_their_number()
         → complement (length os) (signed_number os) ≡ os }
 {}
 
-/// No list of octets is shorter than the fewest octets of the number that it stands for, and a
-/// list has these exactly if its first nine bits are not alike (X.690 8.3.2).
+/// No list of octets is shorter than the fewest octets of the number that it stands for, and a list has these exactly
+/// if its first nine bits are not alike (X.690 8.3.2).
 pub fn octets_are_fewest()
     ensures fewest { (os : List ℕ) → AllByRecursion (λ o. o < 256) os → 0 < length os
         → length (signed_octets_of (signed_number os)) ≤ length os }

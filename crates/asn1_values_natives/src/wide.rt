@@ -34,8 +34,8 @@ impl Wide {
         }
     }
 
-    /// The number that octets of two's complement stand for (X.690 8.3.3), if it is within the
-    /// range; no octets stand for zero.
+    /// The number that octets of two's complement stand for (X.690 8.3.3), if it is within the range; no octets stand
+    /// for zero.
     pub fn from_signed_octets(octets: &[u8]) -> Option<Wide>
         ensures value { IfSome result (λ w. signed_by w.negative w.magnitude ≡ signed_number octets.now) }
         ensures fits { is_some result ≡ nat_lt (plain (signed_number octets.now)) (2 ^ 128) }

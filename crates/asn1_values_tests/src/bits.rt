@@ -549,8 +549,7 @@ fn adds_nineteen_bits(buffer: &mut BitBuffer, granted: &mut bool) -> bool {
 }
 
 /// Grows a buffer by one call. A call that is refused leaves the bits as they were, and the same call goes on from
-/// there; then
-/// `granted` is false. Whether the buffer is grown at last.
+/// there; then `granted` is false. Whether the buffer is grown at last.
 fn is_grown(buffer: &mut BitBuffer, other: &BitBuffer, step: u32, granted: &mut bool) -> bool {
     let len = buffer.len();
     let hash = hash_of(&*buffer);

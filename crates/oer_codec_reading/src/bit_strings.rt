@@ -86,9 +86,8 @@ pub(crate) fn bit_count(length: usize, unused: u8) -> Option<usize>
 /// # Errors
 ///
 /// `Incomplete` if the octets end early, `InvalidBitString` if there are more than seven unused bits, or unused bits
-/// and no octet,
-/// `NotValidCanonicalEncoding` if an unused bit is set or the length is zero in the canonical rules, and the errors
-/// of a length.
+/// and no octet, `NotValidCanonicalEncoding` if an unused bit is set or the length is zero in the canonical rules, and
+/// the errors of a length.
 fn read_varying<'input>(
     cursor: &mut Cursor<'input>,
     rules: EncodingRules,
@@ -140,10 +139,9 @@ fn read_sized_bits<'input>(
 /// # Errors
 ///
 /// `SizeConstraintNotSatisfied` if the size or the program's type does not admit as many, `Incomplete` if the octets
-/// end early,
-/// `InvalidBitString` if there are more than seven unused bits, or unused bits and no octet,
-/// `NotValidCanonicalEncoding` if an unused bit is
-/// set or the length is zero in the canonical rules, the errors of a length, and `OutOfMemory`.
+/// end early, `InvalidBitString` if there are more than seven unused bits, or unused bits and no octet,
+/// `NotValidCanonicalEncoding` if an unused bit is set or the length is zero in the canonical rules, the errors of a
+/// length, and `OutOfMemory`.
 pub fn read_bit_string(
     alloc: Global,
     cursor: &mut Cursor<'_>,

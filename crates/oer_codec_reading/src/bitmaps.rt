@@ -38,9 +38,9 @@ pub fn are_zero(bits: BitStr<'_>) -> bool
 ///
 /// # Errors
 ///
-/// `InvalidExtensionHeader` if its length is zero or it has more unused bits than seven or than there are,
-/// `Incomplete` if the octets end
-/// early, `NotValidCanonicalEncoding` if an unused bit is set in the canonical rules, and the errors of a length.
+/// `InvalidExtensionHeader` if its length is zero or it has more unused bits than seven or than there are, `Incomplete`
+/// if the octets end early, `NotValidCanonicalEncoding` if an unused bit is set in the canonical rules, and the errors
+/// of a length.
 #[inline]
 pub fn read_bitmap<'input>(
     cursor: &mut Cursor<'input>,

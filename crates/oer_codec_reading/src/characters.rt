@@ -99,10 +99,8 @@ fn string_of<S: StaticPermittedAlphabet>(
 /// # Errors
 ///
 /// `StringConversionFailed` if the octets of a BMPString are odd in number, `SizeConstraintNotSatisfied` if the size
-/// does not admit as many
-/// characters, `PermittedAlphabet` if the type does not hold one of them, `Incomplete` if the octets end early, the
-/// errors of a length, and
-/// `OutOfMemory`.
+/// does not admit as many characters, `PermittedAlphabet` if the type does not hold one of them, `Incomplete` if the
+/// octets end early, the errors of a length, and `OutOfMemory`.
 #[inline(always)]
 pub fn read_characters<S: StaticPermittedAlphabet>(
     alloc: Global,

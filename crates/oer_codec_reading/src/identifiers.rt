@@ -15,8 +15,7 @@ use std::alloc::Global;
 /// # Errors
 ///
 /// `InvalidObjectIdentifier` if the contents are empty or truncated, a subidentifier is padded or an arc is past 32
-/// bits, `Incomplete` if the
-/// octets end early, the errors of a length, and `OutOfMemory`.
+/// bits, `Incomplete` if the octets end early, the errors of a length, and `OutOfMemory`.
 pub fn read_object_identifier(
     alloc: Global,
     cursor: &mut Cursor<'_>,

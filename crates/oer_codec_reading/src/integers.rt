@@ -165,9 +165,8 @@ fn admitted_value<I: IntegerType>(
 /// # Errors
 ///
 /// `Incomplete` if the octets end early, `ZeroLengthOfLength` if there are none, `NotValidCanonicalEncoding` if there
-/// is one more than needed
-/// in the canonical rules, `ValueConstraintNotSatisfied` if the constraint does not admit the number,
-/// `IntegerOverflow` if the program's type does not hold it, the errors of a length, and `OutOfMemory`.
+/// is one more than needed in the canonical rules, `ValueConstraintNotSatisfied` if the constraint does not admit the
+/// number, `IntegerOverflow` if the program's type does not hold it, the errors of a length, and `OutOfMemory`.
 #[inline(always)]
 pub fn read_integer<I: IntegerType>(
     alloc: Global,

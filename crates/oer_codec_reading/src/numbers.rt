@@ -40,8 +40,7 @@ fn is_taken(rules: EncodingRules, signed: bool, width: Option<usize>, octets: &[
 /// # Errors
 ///
 /// `Incomplete` if the octets end early, `ZeroLengthOfLength` if there are none, `NotValidCanonicalEncoding` if there
-/// is one more than needed
-/// in the canonical rules, and the errors of a length.
+/// is one more than needed in the canonical rules, and the errors of a length.
 #[inline(always)]
 pub fn read_number<'input>(
     cursor: &mut Cursor<'input>,

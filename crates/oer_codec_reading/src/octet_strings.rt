@@ -44,8 +44,7 @@ pub fn read_sized<'input>(
 /// # Errors
 ///
 /// `SizeConstraintNotSatisfied` if the size or the program's type does not admit as many, `Incomplete` if they end
-/// early, and the errors of
-/// a length.
+/// early, and the errors of a length.
 #[inline(always)]
 pub fn read_octet_string<'input>(
     cursor: &mut Cursor<'input>,

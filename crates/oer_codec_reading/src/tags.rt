@@ -38,8 +38,7 @@ fn read_groups(cursor: &mut Cursor<'_>, begun: u32) -> Result<u32, DecodeError>
 /// # Errors
 ///
 /// `Incomplete` if the octets end early, `InvalidTagNumberOnChoice` if the number has a leading zero group or 32 bits
-/// do not hold it, and
-/// `NotValidCanonicalEncoding` if a number below 63 has the long form in the canonical rules.
+/// do not hold it, and `NotValidCanonicalEncoding` if a number below 63 has the long form in the canonical rules.
 #[inline(always)]
 pub fn read_tag(cursor: &mut Cursor<'_>, rules: EncodingRules) -> Result<Tag, DecodeError>
     ensures ok { IfOk result (λ t. Stands (freedoms rules) (tag_form (tag_of t)) cursor.old cursor.new) }

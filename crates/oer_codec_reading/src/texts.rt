@@ -18,8 +18,7 @@ use std::alloc::Global;
 /// # Errors
 ///
 /// `SizeConstraintNotSatisfied` if the size does not admit as many, `StringConversionFailed` if the octets are not
-/// UTF-8, `Incomplete` if
-/// they end early, the errors of a length, and `OutOfMemory`.
+/// UTF-8, `Incomplete` if they end early, the errors of a length, and `OutOfMemory`.
 pub fn read_utf8_string(
     alloc: Global,
     cursor: &mut Cursor<'_>,

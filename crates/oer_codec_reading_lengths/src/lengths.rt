@@ -80,8 +80,8 @@ fn read_further_length(
 /// # Errors
 ///
 /// `Incomplete` if the octets end early, `ZeroLengthOfLength` if there are none behind their number,
-/// `LengthExceedsPlatformWidth` if 64 bits
-/// do not hold the length, and `NotValidCanonicalEncoding` if it has a shorter form in the canonical rules.
+/// `LengthExceedsPlatformWidth` if 64 bits do not hold the length, and `NotValidCanonicalEncoding` if it has a shorter
+/// form in the canonical rules.
 #[inline(always)]
 pub fn read_length(cursor: &mut Cursor<'_>, rules: EncodingRules) -> Result<usize, DecodeError>
     ensures ok { IfOk result (λ n. Stands (freedoms rules) (length_form n) cursor.old cursor.new) }

@@ -13,7 +13,7 @@ use Rattle.asn1_schema_constraints.specs.Terms.{alphabet_of, sizes_of}
 use Rattle.asn1_schema_constraints.specs.declared.extensions.Extensible.{Extensible}
 use Rattle.asn1_schema_constraints.specs.declared.extensions.PermittedAlphabet.{PermittedAlphabet}
 use Rattle.asn1_schema_constraints.specs.declared.parts.Size.{Size}
-use Rattle.per_codec_alphabets.specs.Octets.{have_octet_codes, is_encoded_as_octets, leaves_out}
+use Rattle.per_codec_alphabets.specs.Octets.{have_octet_codes, is_encoded_as_octets, alphabet_counts}
 
 -- Two characters tell the kinds whose characters are octets that are their own codes.
 pub by_two : (k : StringKind) → (is_among (characters_of k) 65 && not (is_among (characters_of k) 128)) ≡ have_octet_codes k
@@ -118,7 +118,7 @@ unfolding Per.sized Per.with_extension_bit Per.sized_root
 of_any_size al has_padding us = ap (λ t. only_if t (only_if t (Per.counted al us))) (any_held (length us))
 
 -- ---- all that is asked
-all_characters : (k : StringKind) (a : Option (Extensible PermittedAlphabet)) → not (leaves_out a) ≡ true → permitted k (alphabet_of a) ≡ characters_of k
+all_characters : (k : StringKind) (a : Option (Extensible PermittedAlphabet)) → not (alphabet_counts a) ≡ true → permitted k (alphabet_of a) ≡ characters_of k
 all_characters k None e = refl
 all_characters k (Some c) e = go (is_some c.extensible) e
   where
@@ -145,11 +145,11 @@ record Asked (al : Bool) (k : StringKind) (z : Option (Extensible Size)) (a : Op
   aligned : al ≡ true
   codes : have_octet_codes k ≡ true
   size : not (is_some z) ≡ true
-  alphabet : not (leaves_out a) ≡ true
+  alphabet : not (alphabet_counts a) ≡ true
 
 asked : (al : Bool) (k : StringKind) (z : Option (Extensible Size)) (a : Option (Extensible PermittedAlphabet)) → is_encoded_as_octets al k z a ≡ true → Asked al k z a
 asked al k z a e =
-    let p = and_parts (al && have_octet_codes k && not (is_some z)) (not (leaves_out a)) e in
+    let p = and_parts (al && have_octet_codes k && not (is_some z)) (not (alphabet_counts a)) e in
     let q = and_parts (al && have_octet_codes k) (not (is_some z)) p.0 in
     let r = and_parts al (have_octet_codes k) q.0 in
     record { aligned = r.0; codes = r.1; size = q.1; alphabet = p.1 }

@@ -8,20 +8,20 @@ use Rattle.asn1_schema_constraints.specs.declared.extensions.Extensible.{Extensi
 use Rattle.asn1_schema_constraints.specs.declared.extensions.PermittedAlphabet.{PermittedAlphabet}
 use Rattle.asn1_schema_constraints.specs.declared.parts.Size.{Size}
 
--- Whether the characters of a kind of string have codes, which in the aligned variant are the octets that are their
--- numbers, where no constraint leaves out any of them (X.691 30.5.2 and 30.5.4).
+-- Whether each character of a kind has one octet as its code in the aligned variant: its own number, where no
+-- constraint counts (X.691 30.5.2 and 30.5.4).
 abbrev pub have_octet_codes : StringKind → Bool
 have_octet_codes k = not (is_of_octets k) && character_bits true (characters_of k) == 8
     && ltb (largest (characters_of k)) 256
 
 -- Whether a permitted alphabet counts: there is one, and it has no extension marker.
-abbrev pub leaves_out : Option (Extensible PermittedAlphabet) → Bool
-leaves_out None = false
-leaves_out (Some c) = not (has_additions c)
+abbrev pub alphabet_counts : Option (Extensible PermittedAlphabet) → Bool
+alphabet_counts None = false
+alphabet_counts (Some c) = not (has_additions c)
 
--- Whether a string of a kind under these constraints is encoded as the octets that its characters are, behind their
--- number in the general form: in the aligned variant, where neither a size nor a permitted alphabet counts (X.691
--- 30.5).
+-- In the aligned variant, where there is no size constraint and no permitted alphabet counts: then a string of such a
+-- kind is encoded as the octets that its characters are, behind their number in the general form (X.691 30.5). Some
+-- other strings are encoded so too, as VisibleString (FROM ("A".."Z" | "a".."z")): this does not tell them.
 abbrev pub is_encoded_as_octets : Bool → StringKind → Option (Extensible Size) → Option (Extensible PermittedAlphabet)
     → Bool
-is_encoded_as_octets al k size alphabet = al && have_octet_codes k && not (is_some size) && not (leaves_out alphabet)
+is_encoded_as_octets al k size alphabet = al && have_octet_codes k && not (is_some size) && not (alphabet_counts alphabet)

@@ -1,6 +1,6 @@
 //! Strings that are encoded as the octets that their characters are.
 ghost use Rattle.std.specs.Prelude.{◌≡◌};
-ghost use Rattle.per_codec_alphabets.specs.Octets.{have_octet_codes as are_own_codes, leaves_out as counts};
+ghost use Rattle.per_codec_alphabets.specs.Octets.{have_octet_codes as are_own_codes, alphabet_counts as counts};
 ghost use Rattle.per_codec_alphabets.specs.Octets.{is_encoded_as_octets as as_octets};
 ghost use Rattle.per_codec_limits.specs.Variants.{is_aligned};
 
@@ -8,8 +8,8 @@ use asn1_schema_constraints::{Constraints, Extensible, PermittedAlphabet};
 use asn1_values_alphabets::StaticPermittedAlphabet;
 use per_codec_limits::Variant;
 
-/// Whether the characters of a type of strings have codes, which in the aligned variant are the octets that are their
-/// numbers, where no constraint leaves out any of them (X.691 30.5.2 and 30.5.4).
+/// Whether each character of a type of strings has one octet as its code in the aligned variant: its own number, where
+/// no constraint counts (X.691 30.5.2 and 30.5.4).
 #[inline(always)]
 fn have_octet_codes<S: StaticPermittedAlphabet>() -> bool
     ensures { result ≡ are_own_codes S.kind }
@@ -19,7 +19,7 @@ fn have_octet_codes<S: StaticPermittedAlphabet>() -> bool
 
 /// Whether a permitted alphabet counts: one with an extension marker does not.
 #[inline(always)]
-fn leaves_out(alphabet: Option<Extensible<PermittedAlphabet>>) -> bool
+fn alphabet_counts(alphabet: Option<Extensible<PermittedAlphabet>>) -> bool
     ensures { result ≡ counts alphabet.entry }
 {
     match alphabet {
@@ -28,9 +28,10 @@ fn leaves_out(alphabet: Option<Extensible<PermittedAlphabet>>) -> bool
     }
 }
 
-/// Whether a string of the type `S` under these constraints is encoded as the octets that its characters are, behind
-/// their number in the general form: in the aligned variant, where neither a size nor a permitted alphabet counts
-/// (X.691 30.5).
+/// Whether the variant is the aligned one, the type `S` has such codes, there is no size constraint, and no permitted
+/// alphabet counts: then a string is encoded as the octets that its characters are, behind their number in the general
+/// form (X.691 30.5). Some other strings are encoded so too, as VisibleString (FROM ("A".."Z" | "a".."z")); this does not
+/// tell them.
 #[inline(always)]
 pub fn is_encoded_as_octets<S: StaticPermittedAlphabet>(
     variant: Variant,
@@ -42,5 +43,5 @@ pub fn is_encoded_as_octets<S: StaticPermittedAlphabet>(
     variant.is_aligned()
         && have_octet_codes::<S>()
         && constraints.size.is_none()
-        && !leaves_out(constraints.permitted_alphabet)
+        && !alphabet_counts(constraints.permitted_alphabet)
 }
