@@ -24,4 +24,5 @@ alphabet_counts (Some c) = not (has_additions c)
 -- other strings are encoded so too, as VisibleString (FROM ("A".."Z" | "a".."z")): this does not tell them.
 abbrev pub is_encoded_as_octets : Bool → StringKind → Option (Extensible Size) → Option (Extensible PermittedAlphabet)
     → Bool
-is_encoded_as_octets al k size alphabet = al && have_octet_codes k && not (is_some size) && not (alphabet_counts alphabet)
+is_encoded_as_octets al k size alphabet =
+    al && have_octet_codes k && not (is_some size) && not (alphabet_counts alphabet)

@@ -30,8 +30,8 @@ fn alphabet_counts(alphabet: Option<Extensible<PermittedAlphabet>>) -> bool
 
 /// Whether the variant is the aligned one, the type `S` has such codes, there is no size constraint, and no permitted
 /// alphabet counts: then a string is encoded as the octets that its characters are, behind their number in the general
-/// form (X.691 30.5). Some other strings are encoded so too, as VisibleString (FROM ("A".."Z" | "a".."z")); this does not
-/// tell them.
+/// form (X.691 30.5). Some other strings are encoded so too, as VisibleString (FROM ("A".."Z" | "a".."z")); this does
+/// not tell them.
 #[inline(always)]
 pub fn is_encoded_as_octets<S: StaticPermittedAlphabet>(
     variant: Variant,
