@@ -13,6 +13,7 @@ use Rattle.asn1_laws_across.proofs.OerGives as octets
 use Rattle.asn1_laws_across.proofs.PerGives as packed
 use Rattle.asn1_laws_across.proofs.AsWritten.{ReadsAsWritten}
 use Rattle.asn1_laws_across.proofs.Strictly.{as_written}
+use Rattle.std.specs.Prelude.{false}
 
 -- ---- bags
 each_value : {X : Type 0} (f : Value → X) (us : List Value) → each f (values_of us) ≡ map f us
@@ -46,12 +47,12 @@ read_octets_in : (free : Oer.Freedom → Bool) (xs ys : List Oer.OctetForm) (f :
 unfolding written Oer.in_any_order ReadsAsWritten
 read_octets_in free xs ys f is p w h e t r = (Some is, inr (h, ap (λ o. written (given o f) p) e ∙ as_written free (f ys) p w r ∙ sym t), subst (λ o. ReadsAsWritten free (given o f) p w) (sym e) r)
 
-pub packed_bags : (free : Per.Freedom → Bool) (al : Bool) (z : Size) (held : Counts) (s : Schema) (vs : Values) (is : List ℕ) (ys : List Per.BitForm) (p : ℕ) (w : List Bool) → IsTrue (free Per.other_order) → is_lawful (set_of z held s) ≡ true → arranged is (each (λ v. Per.form al s v) vs) ≡ Some ys → ascending (λ x. written (Per.complete x) 0) (stands_before Per.bit_less) ys ≡ Some ys → ReadsAsWritten free (Per.sized al z held Per.never ys) p w → ReadsAsWritten free (Per.form al (set_of z held s) (bag vs)) p w
+pub packed_bags : (free : Per.Freedom → Bool) (al : Bool) (z : Size) (held : Counts) (s : Schema) (vs : Values) (is : List ℕ) (ys : List Per.BitForm) (p : ℕ) (w : List Bool) → IsTrue (free Per.other_order) → is_lawful (set_of z held s) ≡ true → arranged is (each (λ v. Per.form al s v) vs) ≡ Some ys → ascending (λ x. written (Per.complete x) 0) (stands_before Per.bit_less) ys ≡ Some ys → ReadsAsWritten free (Per.sized al z held (λ c. false) ys) p w → ReadsAsWritten free (Per.form al (set_of z held s) (bag vs)) p w
 unfolding Per.form
 packed_bags free al z held s vs is ys p w h l e a r =
     let q = in_that_order (λ v. Per.form al s v) is vs ys e in
-    let t = own_order al _ ys (Per.sized al z held Per.never) p w q.1 a (as_written free _ p w r) in
-    read_in free (each (λ v. Per.form al s v) vs) ys (Per.sized al z held Per.never) is p w h e ((packed.one_text al (set_of z held s) l (bag (values_of q.0)) (bag vs) q.2).texts p w t) r
+    let t = own_order al _ ys (Per.sized al z held (λ c. false)) p w q.1 a (as_written free _ p w r) in
+    read_in free (each (λ v. Per.form al s v) vs) ys (Per.sized al z held (λ c. false)) is p w h e ((packed.one_text al (set_of z held s) l (bag (values_of q.0)) (bag vs) q.2).texts p w t) r
 
 pub octets_bags : (free : Oer.Freedom → Bool) (z : Size) (held : Counts) (s : Schema) (vs : Values) (is : List ℕ) (ys : List Oer.OctetForm) (p : ℕ) (w : List ℕ) → IsTrue (free Oer.other_order) → is_lawful (set_of z held s) ≡ true → arranged is (each (λ v. Oer.form s v) vs) ≡ Some ys → ascending (λ x. written x 0) (stands_before ltb) ys ≡ Some ys → ReadsAsWritten free (Oer.members_form held ys) p w → ReadsAsWritten free (Oer.form (set_of z held s) (bag vs)) p w
 unfolding Oer.form

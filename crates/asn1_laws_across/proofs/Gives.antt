@@ -5,7 +5,7 @@ use Rattle.asn1_model.specs.Value.{Value, Parts, end, absent, present, same, sam
 use Rattle.asn1_model.specs.Schema.{Presence, Schema, Components, no_component, component}
 use Rattle.asn1_model.specs.Form.{Form, exactly, refused, both, placed, varied, within, written, only_if, given, joined, Bitmap, is_any_present, present_ones, covered_by, own_bitmap}
 use Rattle.std.specs.Prelude.{is_some}
-use Rattle.asn1_model.specs.Tables.{presence_bits, is_required, presence_bit_unless}
+use Rattle.asn1_model.specs.Normal.{presence_bits, is_required, presence_bit_unless}
 use Rattle.asn1_model.proofs.Forms.{chain_parts, map_parts}
 use Rattle.asn1_laws_values.proofs.Listed.{EachComponent}
 use Rattle.asn1_laws_fronts.proofs.Fronts.{Agree}

@@ -8,7 +8,7 @@ use Rattle.asn1_model.specs.Types.{any_size, any_count, bag_of, bag_with, num}
 use Rattle.asn1_model.specs.Types.{whole as integers}
 use Rattle.asn1_model.proofs.OnValues.{on_values}
 use Rattle.asn1_model.specs.Normal.{normal}
-use Rattle.asn1_model.specs.Form.{Form, exactly, refused, both, placed, varied, within, Reads, canonically}
+use Rattle.asn1_model.specs.Form.{Form, exactly, refused, both, placed, varied, within, Reads}
 use Rattle.asn1_model.specs.Strings.{is_octet}
 use Rattle.std.specs.List.{list_all}
 use Rattle.asn1_model.specs.Rules.{Rules, uper, aper, uper_strict, aper_strict, oer, coer, octet_bits, strict_per, strict_oer, canonical, encoding, per, octet_encoding, of_moderate_length}
@@ -20,6 +20,7 @@ use Rattle.asn1_laws_across.specs.InOrder.{ReadsWith, HasAscendingBag, HasAscend
 use Rattle.asn1_laws_across.proofs.AsWritten.{ReadsAsWritten, IsEncodingAsWritten}
 use Rattle.asn1_laws_across.proofs.Strictly.{strictly}
 use Rattle.asn1_laws_across.proofs.Ascending.{packed_bags, octets_bags}
+use Rattle.asn1_laws_values.specs.MessageLaws.{canonically}
 
 module _ {F : Type 0} {D : F → Type 0} {A : Type 0} (free : F → Bool) (may : Form F D A → Form F D A → Type 0) where
   -- where what may stand for a form is read as it is written, all is

@@ -6,9 +6,9 @@ use Rattle.asn1_model.specs.Schema.{Counts, Presence, Schema, sequence_of, set_o
 use Rattle.asn1_model.specs.Lawful.{is_lawful, are_lawful, are_lawful_alternatives}
 use Rattle.asn1_model.specs.Normal.{normal, is_at_default, is_group_left_out}
 use Rattle.asn1_model.specs.Numbers.{is_count_within}
-use Rattle.asn1_model.specs.Form.{refused, both, varied, written, canonically, only_if, given, Bitmap, own_bitmap, stands_before}
+use Rattle.asn1_model.specs.Form.{refused, both, varied, written, only_if, given, Bitmap, own_bitmap, stands_before}
 use Rattle.std.specs.Prelude.{is_some}
-use Rattle.asn1_model.specs.Tables.{presence_bits, is_required}
+use Rattle.asn1_model.specs.Normal.{presence_bits, is_required}
 use Rattle.asn1_model.specs.Oer
 use Rattle.asn1_model.proofs.Forms.{reads_written}
 use Rattle.asn1_laws_values.proofs.Listed.{EachComponent, EachAlternative, component_map, listed, each_is_map, order_map, arranged_maps}
@@ -22,6 +22,7 @@ use Rattle.asn1_laws_across.proofs.Orders.{lists_ordered, numbers_ordered, sorte
 use Rattle.asn1_laws_across.proofs.Bags.{arranged_keys}
 use Rattle.asn1_laws_across.proofs.Gives as giving
 use Rattle.asn1_laws_across.proofs.Gives.{Gives, gives_same, gives_equal, gives_refused, gives_both, gives_placed, gives_varied, gives_within, gives_if, gives_cond, gives_given, EachGives, each_length, gives_joined, each_take, each_drop, EachSlot, slots_flags, slots_own, presence_bits_same, components_give, additions_give, bitmapped_gives}
+use Rattle.asn1_laws_values.specs.MessageLaws.{canonically}
 
 abbrev Same : Oer.OctetForm → Oer.OctetForm → Type 0
 Same x y = Gives {F = Oer.Freedom} {D = Oer.Detail} {A = ℕ} x y

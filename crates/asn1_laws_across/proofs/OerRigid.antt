@@ -11,7 +11,7 @@ use Rattle.asn1_model.specs.Form.{exactly, refused, only_if}
 use Rattle.std.specs.Prelude.{is_some}
 use Rattle.asn1_model.specs.Strings.{may_hold, is_identifier, is_octet}
 use Rattle.std.specs.List.{list_all}
-use Rattle.asn1_model.specs.Tables.{is_bounded, item_place, is_required, presence_bits}
+use Rattle.asn1_model.specs.Normal.{is_bounded, item_place, is_required, presence_bits}
 use Rattle.asn1_model.specs.Rules.{strict_oer}
 use Rattle.asn1_model.specs.Oer
 use Rattle.asn1_laws_across.specs.Rigid.{is_rigid, are_rigid, are_rigid_alternatives}

@@ -6,9 +6,9 @@ use Rattle.asn1_model.specs.Schema.{Counts, Size, Presence, Schema, sequence_of,
 use Rattle.asn1_model.specs.Lawful.{is_lawful, are_lawful, are_lawful_alternatives}
 use Rattle.asn1_model.specs.Normal.{normal, is_at_default, is_group_left_out}
 use Rattle.asn1_model.specs.Numbers.{binary, is_count_within}
-use Rattle.asn1_model.specs.Form.{exactly, refused, both, varied, written, canonically, only_if, given, Bitmap, own_bitmap, stands_before}
+use Rattle.asn1_model.specs.Form.{exactly, refused, both, varied, written, only_if, given, Bitmap, own_bitmap, stands_before}
 use Rattle.std.specs.Prelude.{is_some}
-use Rattle.asn1_model.specs.Tables.{presence_bits, is_required, alternative_count}
+use Rattle.asn1_model.specs.Normal.{presence_bits, is_required, alternative_count}
 use Rattle.asn1_model.specs.Per
 use Rattle.asn1_model.proofs.Forms.{reads_written}
 use Rattle.asn1_laws_values.proofs.Listed.{EachComponent, EachAlternative, component_map, listed, each_is_map, order_map, arranged_maps}
@@ -23,6 +23,7 @@ use Rattle.asn1_laws_across.proofs.Orders.{lists_ordered, bits_ordered, sorted, 
 use Rattle.asn1_laws_across.proofs.Bags.{arranged_keys}
 use Rattle.asn1_laws_across.proofs.Gives as giving
 use Rattle.asn1_laws_across.proofs.Gives.{Gives, gives_same, gives_equal, gives_refused, gives_both, gives_placed, gives_varied, gives_within, gives_if, gives_cond, gives_given, EachGives, each_length, gives_joined, each_take, each_drop, EachSlot, slots_flags, slots_own, presence_bits_same, components_give, additions_give, bitmapped_gives}
+use Rattle.asn1_laws_values.specs.MessageLaws.{canonically}
 
 abbrev Same : Per.BitForm → Per.BitForm → Type 0
 Same x y = Gives {F = Per.Freedom} {D = Per.Detail} {A = Bool} x y
@@ -114,7 +115,7 @@ module _ (al : Bool) where
       let q = (complete_alike canonically _ _ _ (one_way canonically al s l v w)).fronts 0 k.0.0 k.0.0 [] [] (reads_written _ 0 k.0.0 a) (reads_written _ 0 k.0.0 b) refl in
       (h v w q.1, one_key s l h vs ws k.1)
 
-  bag_gives : (z : Size) (held : Counts) (s : Schema) → is_lawful s ≡ true → OneText s → (vs ws : Values) → same_bag vs ws ≡ true → Same (Per.in_any_order (each (λ v. Per.form al s v) vs) (Per.sized al z held Per.never)) (Per.in_any_order (each (λ v. Per.form al s v) ws) (Per.sized al z held Per.never))
+  bag_gives : (z : Size) (held : Counts) (s : Schema) → is_lawful s ≡ true → OneText s → (vs ws : Values) → same_bag vs ws ≡ true → Same (Per.in_any_order (each (λ v. Per.form al s v) vs) (Per.sized al z held (λ c. false))) (Per.in_any_order (each (λ v. Per.form al s v) ws) (Per.sized al z held (λ c. false)))
   unfolding Per.in_any_order key
   bag_gives z held s l h vs ws e =
       let f : Value → Per.BitForm = λ v. Per.form al s v in
@@ -129,7 +130,7 @@ module _ (al : Bool) where
       let d = order_map f key (stands_before Per.bit_less) None (listed ws) t.0 t.1 in
       let n : OneKey (map f c.1) (map f d.1) = subst (λ x. OneKey x (map f d.1)) (sym c.3) (subst (λ x. OneKey us x) (sym d.3) t.2) in
       let o : EachGives us t.0 = subst (λ x. EachGives x t.0) c.3 (subst (λ x. EachGives (map f c.1) x) d.3 (one_key s l h c.1 d.1 n)) in
-      (t.0, t.1, sized_gives al z held Per.never us t.0 o))))
+      (t.0, t.1, sized_gives al z held (λ c. false) us t.0 o))))
 
   -- ---- components and additions
   shown : Presence → Schema → Value → Per.BitForm
@@ -264,7 +265,7 @@ module _ (al : Bool) where
     one_text s l (octet_list a) (octet_list b) e = equal_gives s _ _ (ap octet_list (naturals_equal a b e))
     one_text s l (text a) (text b) e = equal_gives s _ _ (ap text (naturals_equal a b e))
     one_text s l (arcs a) (arcs b) e = equal_gives s _ _ (ap arcs (naturals_equal a b e))
-    one_text (sequence_of z held s) l (members vs) (members ws) e = sized_gives al z held Per.never _ _ (each_gives s (one_text s ((and_parts _ _ l).1)) vs ws e)
+    one_text (sequence_of z held s) l (members vs) (members ws) e = sized_gives al z held (λ c. false) _ _ (each_gives s (one_text s ((and_parts _ _ l).1)) vs ws e)
     one_text s l (members vs) (members ws) e = gives_refused _
     one_text (set_of z held s) l (bag vs) (bag ws) e = bag_gives z held s ((and_parts _ _ l).1) (one_text s ((and_parts _ _ l).1)) vs ws e
     one_text s l (bag vs) (bag ws) e = gives_refused _

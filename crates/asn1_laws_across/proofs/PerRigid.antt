@@ -9,7 +9,7 @@ use Rattle.asn1_model.specs.Normal.{is_at_default, is_group_left_out}
 use Rattle.asn1_model.specs.Form.{exactly, refused}
 use Rattle.asn1_model.specs.Strings.{Run, permitted, place_of, may_hold, is_of_octets, is_identifier, is_octet}
 use Rattle.std.specs.List.{list_all}
-use Rattle.asn1_model.specs.Tables.{is_bounded, item_place, is_required, presence_bits, alternative_count}
+use Rattle.asn1_model.specs.Normal.{is_bounded, item_place, is_required, presence_bits, alternative_count}
 use Rattle.asn1_model.specs.Rules.{strict_per}
 use Rattle.asn1_model.specs.Per
 use Rattle.asn1_laws_across.specs.Rigid.{is_rigid, are_rigid, are_rigid_alternatives}
@@ -124,16 +124,12 @@ extension_bit_rigid : (e m : Bool) → RigidBits (Per.extension_bit_of e m)
 extension_bit_rigid false m = bits _
 extension_bit_rigid true m = bits _
 
-added_rigid : (al e : Bool) (j : Option ℕ) → RigidBits (Per.added_item al e j)
-unfolding Per.added_item
-added_rigid al true (Some j) = rigid_both strict_per (bits _) (small_rigid al j)
-added_rigid al true None = no_bits
-added_rigid al false j = no_bits
-
 item_rigid : (al : Bool) (roots : ℕ) (e : Bool) (i j : Option ℕ) → RigidBits (Per.item_form al roots e i j)
 unfolding Per.item_form
 item_rigid al roots e (Some i) j = rigid_both strict_per (extension_bit_rigid e false) (constrained_rigid al (roots - 1) i)
-item_rigid al roots e None j = added_rigid al e j
+item_rigid al roots true None (Some j) = rigid_both strict_per (bits _) (small_rigid al j)
+item_rigid al roots true None None = no_bits
+item_rigid al roots false None j = no_bits
 
 -- ---- complete encodings, open types and components
 padded_rigid : (w : List Bool) → RigidBits (Per.padded w)

@@ -4,7 +4,7 @@ use Rattle.std.proofs.lemmas.Bool.{ltb-true, lt-ltb, and_parts}
 use Rattle.asn1_model.specs.Value.{Value}
 use Rattle.asn1_model.specs.Schema.{Schema}
 use Rattle.asn1_model.specs.Normal.{normal}
-use Rattle.asn1_model.specs.Form.{Form, exactly, refused, both, placed, varied, within, Reads, canonically, written}
+use Rattle.asn1_model.specs.Form.{Form, exactly, refused, both, placed, varied, within, Reads, written}
 use Rattle.asn1_model.specs.Numbers.{packed, binary}
 use Rattle.asn1_model.specs.Rules.{Rules, uper, aper, uper_strict, aper_strict, oer, coer, octet_bits, strict_per, strict_oer, canonical, encoding, per, octet_encoding, of_moderate_length, lenient, IsEncoding}
 use Rattle.asn1_model.specs.Strings.{is_octet}
@@ -19,6 +19,7 @@ use Rattle.asn1_laws_values.proofs.Normal.{normal_stays}
 use Rattle.asn1_laws_fronts.proofs.PerNumbers.{binary_equal}
 use Rattle.asn1_laws_fronts.proofs.Complete.{bits_length}
 use Rattle.asn1_laws_across.proofs.AsWritten.{ReadsAsWritten, IsEncodingAsWritten}
+use Rattle.asn1_laws_values.specs.MessageLaws.{canonically}
 
 -- what is read as it is written is read, and is what is written
 pub as_read : {F : Type 0} {D : F → Type 0} {A : Type 0} (free : F → Bool) (x : Form F D A) (p : ℕ) (w : List A) → ReadsAsWritten free x p w → Reads free x p w

@@ -4,9 +4,9 @@ use Rattle.std.proofs.Common.{◌≡◌, ℕ, zero, suc, ◌+◌, ◌≤◌, ◌
 use Rattle.std.proofs.lemmas.Bool.{and_parts, and_from, or_cases, ltb-true, eqb-true}
 use Rattle.asn1_model.specs.Value.{Value, Parts, end, absent, present, same, same_parts}
 use Rattle.asn1_model.specs.Schema.{Presence, Schema, Components, no_component, component}
-use Rattle.asn1_model.specs.Form.{Form, refused, both, nothing_more, only_if, given, joined, Bitmap, is_any_present, present_ones, covered_by}
+use Rattle.asn1_model.specs.Form.{Form, refused, both, only_if, given, joined, Bitmap, is_any_present, present_ones, covered_by, exactly}
 use Rattle.std.specs.Prelude.{is_some}
-use Rattle.asn1_model.specs.Tables.{presence_bits, is_required, presence_bit_unless}
+use Rattle.asn1_model.specs.Normal.{presence_bits, is_required, presence_bit_unless}
 use Rattle.asn1_model.proofs.Forms.{map_parts}
 use Rattle.asn1_laws_fronts.proofs.Fronts.{Agree, agree_refused, agree_with_refused, agree_map, agree_both, agree_both_apart, agree_given, agree_if, agree_if_left, agree_if_right, agree_nothing}
 use Rattle.asn1_laws_values.proofs.Listed.{EachComponent}
@@ -48,7 +48,7 @@ module _ (F : Type 0) (D : F → Type 0) (A : Type 0) (free : F → Bool) where
     AlikeShown o s = (v w : Value) → AlikeHere (shown o s v) (shown o s w) (same v w ≡ true)
 
     abbrev pub components_of : Components → Parts → Form F D A
-    components_of no_component end = nothing_more
+    components_of no_component end = exactly []
     components_of (component t o s cs) (present v ps) = both (shown o s v) (components_of cs ps)
     components_of (component t o s cs) (absent ps) = cond (is_required o) refused (components_of cs ps)
     components_of cs ps = refused

@@ -10,7 +10,7 @@ use Rattle.asn1_model.specs.Numbers.{binary}
 use Rattle.asn1_model.specs.Rules.{uper, aper, uper_strict, aper_strict, lenient, strict_per, IsEncoding}
 use Rattle.asn1_model.specs.Strings.{is_octet, is_identifier, identifier_octets}
 use Rattle.std.specs.List.{list_all}
-use Rattle.asn1_model.specs.Tables.{presence_bits, is_required, alternative_count}
+use Rattle.asn1_model.specs.Normal.{presence_bits, is_required, alternative_count}
 use Rattle.asn1_model.specs.Per
 use Rattle.asn1_laws_values.proofs.Same.{same_self}
 use Rattle.asn1_laws_values.proofs.Bags.{EachSame, bags_same}
@@ -47,13 +47,13 @@ module _ (free : Per.Freedom → Bool) (al : Bool) where
   octets_alike z held os ps h k = agree_map free (λ q. octets_again os ps h k q) (sized_alike free ℕ same_bits (λ o. exactly (binary 8 o)) (λ o p. agree_exactly free _ _ refl) al z held (Per.string_has_padding 8 (length os)) (Per.string_has_padding 8 (length ps)) os ps (λ l. ap (λ n. Per.string_has_padding 8 n z.counts) l))
 
   -- ---- lists and bags
-  list_alike : (z : Size) (held : Counts) (s : Schema) → OneWay s → (vs ws : Values) → Alike free (Per.sized al z held Per.never (each (λ v. Per.form al s v) vs)) (Per.sized al z held Per.never (each (λ v. Per.form al s v) ws)) (same_members vs ws ≡ true)
-  list_alike z held s h vs ws = rw (each_is_map (λ v. Per.form al s v) vs, each_is_map (λ v. Per.form al s v) ws) (agree_map free (λ q. members_same vs ws q) (sized_alike free Value (λ v w. same v w ≡ true) (λ v. Per.form al s v) h al z held Per.never Per.never (listed vs) (listed ws) (λ l. refl)))
+  list_alike : (z : Size) (held : Counts) (s : Schema) → OneWay s → (vs ws : Values) → Alike free (Per.sized al z held (λ c. false) (each (λ v. Per.form al s v) vs)) (Per.sized al z held (λ c. false) (each (λ v. Per.form al s v) ws)) (same_members vs ws ≡ true)
+  list_alike z held s h vs ws = rw (each_is_map (λ v. Per.form al s v) vs, each_is_map (λ v. Per.form al s v) ws) (agree_map free (λ q. members_same vs ws q) (sized_alike free Value (λ v w. same v w ≡ true) (λ v. Per.form al s v) h al z held (λ c. false) (λ c. false) (listed vs) (listed ws) (λ l. refl)))
 
   abbrev Sized : Size → Counts → List Per.BitForm → Per.BitForm
-  Sized z held us = Per.sized al z held Per.never us
+  Sized z held us = Per.sized al z held (λ c. false) us
 
-  bag_alike : (z : Size) (held : Counts) (s : Schema) → OneWay s → (vs ws : Values) → Alike free (Per.in_any_order (each (λ v. Per.form al s v) vs) (Per.sized al z held Per.never)) (Per.in_any_order (each (λ v. Per.form al s v) ws) (Per.sized al z held Per.never)) (same (bag vs) (bag ws) ≡ true)
+  bag_alike : (z : Size) (held : Counts) (s : Schema) → OneWay s → (vs ws : Values) → Alike free (Per.in_any_order (each (λ v. Per.form al s v) vs) (Per.sized al z held (λ c. false))) (Per.in_any_order (each (λ v. Per.form al s v) ws) (Per.sized al z held (λ c. false))) (same (bag vs) (bag ws) ≡ true)
   unfolding Per.in_any_order
   bag_alike z held s h vs ws =
       let f : Value → Per.BitForm = λ v. Per.form al s v in
@@ -62,7 +62,7 @@ module _ (free : Per.Freedom → Bool) (al : Bool) where
       let a = order_map f key (stands_before Per.bit_less) o (listed vs) us e in
       let b = order_map f key (stands_before Per.bit_less) q (listed ws) zs g in
       let done : Pairwise (λ v w. same v w ≡ true) a.1 b.1 → same (bag vs) (bag ws) ≡ true = λ p. subst (λ x. same (bag x) (bag ws) ≡ true) (listed_again vs) (subst (λ x. same (bag (values_of (listed vs))) (bag x) ≡ true) (listed_again ws) (bags_same a.0 b.0 (listed vs) (listed ws) a.1 b.1 a.2 b.2 (pairs_same a.1 b.1 p))) in
-      subst (λ l. Alike free (Sized z held l) (Sized z held zs) (same (bag vs) (bag ws) ≡ true)) a.3 (subst (λ l. Alike free (Sized z held (map f a.1)) (Sized z held l) (same (bag vs) (bag ws) ≡ true)) b.3 (agree_map free done (sized_alike free Value (λ v w. same v w ≡ true) f h al z held Per.never Per.never a.1 b.1 (λ l. refl)))))))
+      subst (λ l. Alike free (Sized z held l) (Sized z held zs) (same (bag vs) (bag ws) ≡ true)) a.3 (subst (λ l. Alike free (Sized z held (map f a.1)) (Sized z held l) (same (bag vs) (bag ws) ≡ true)) b.3 (agree_map free done (sized_alike free Value (λ v w. same v w ≡ true) f h al z held (λ c. false) (λ c. false) a.1 b.1 (λ l. refl)))))))
 
   -- ---- components and additions
   unfoldable pub shown : Presence → Schema → Value → Per.BitForm

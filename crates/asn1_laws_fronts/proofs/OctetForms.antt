@@ -9,7 +9,7 @@ use Rattle.asn1_model.specs.Form.{refused, both, varied, only_if, given, Bitmap,
 use Rattle.std.specs.Prelude.{is_some}
 use Rattle.asn1_model.specs.Rules.{oer, coer, lenient, strict_oer, IsEncoding}
 use Rattle.asn1_model.specs.Strings.{is_identifier, identifier_octets, may_hold}
-use Rattle.asn1_model.specs.Tables.{presence_bits, is_required, item_place}
+use Rattle.asn1_model.specs.Normal.{presence_bits, is_required, item_place}
 use Rattle.asn1_model.specs.Oer
 use Rattle.asn1_laws_values.proofs.Same.{same_self}
 use Rattle.asn1_laws_values.proofs.Bags.{EachSame, bags_same}

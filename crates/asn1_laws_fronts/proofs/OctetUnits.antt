@@ -4,7 +4,7 @@ use Rattle.std.proofs.Common.{◌≡◌, ℕ, suc, ◌+◌, ◌/◌, ◌<◌, �
 use Rattle.std.proofs.lemmas.Bool.{ltb-true, leb-true, eqb-true, and_parts, or_cases}
 use Rattle.asn1_model.specs.Numbers.{admits, is_fixed_at}
 use Rattle.asn1_model.specs.Schema.{Counts, Size, StringKind, numeric, printable, visible, ia5, bmp, general, graphic, teletex, utf8}
-use Rattle.asn1_model.specs.Numbers.{digits, signed_octets, complement, is_count_to, is_count_within}
+use Rattle.asn1_model.specs.Numbers.{digits, signed_octets, complement, is_count_within}
 use Rattle.asn1_model.specs.Form.{both, only_if, joined, Reads}
 use Rattle.asn1_model.specs.Strings.{is_octet, may_hold, characters_of, is_among}
 use Rattle.std.specs.List.{list_all}
@@ -14,6 +14,7 @@ use Rattle.asn1_laws_fronts.proofs.Fronts.{Pairwise, fronts_equal, agree_exactly
 use Rattle.asn1_laws_fronts.proofs.PerNumbers.{length_of_map}
 use Rattle.asn1_laws_fronts.proofs.OerNumbers.{OctetsAlike, complements_same, length_alike, counted_alike, unsigned_alike}
 use Rattle.asn1_laws_fronts.proofs.OerBits.{bits_alike, counted_bits_alike}
+use Rattle.std.specs.Option.{option_map_or}
 
 same_count : (k j : ℕ) → 128 + k ≡ 128 + j → k ≡ j
 same_count k j e = omega arith
@@ -95,7 +96,7 @@ module _ (free : Oer.Freedom → Bool) where
   octets_alike false os ps h = counted_alike free os ps
 
 -- what has one size has one length
-at_one : (c : Counts) (high : Option ℕ) (n m : ℕ) → is_fixed_at c high ≡ true → (leb c.low n && is_count_to high n) ≡ true → (leb c.low m && is_count_to high m) ≡ true → n ≡ m
+at_one : (c : Counts) (high : Option ℕ) (n m : ℕ) → is_fixed_at c high ≡ true → (leb c.low n && (option_map_or (λ x. leb n x) high true)) ≡ true → (leb c.low m && (option_map_or (λ x. leb m x) high true)) ≡ true → n ≡ m
 at_one c None n m e f g = cc
 at_one c (Some top) n m e f g =
     let a : top ≡ c.low = eqb-true _ _ e in

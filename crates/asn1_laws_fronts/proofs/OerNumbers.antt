@@ -3,14 +3,15 @@ use Rattle.std.specs.Prelude.{ℤ, pos, negsuc, max}
 use Rattle.std.proofs.Common.{◌≡◌, ℕ, ◌+◌, ◌^◌, ◌<◌, ◌≤◌, ltb, leb, not, lit<, Bool, true, false, cond, ◌&&◌, ◌||◌, List, [], ◌∷◌, length, Option, Some, None, refl, ap, sym, ◌∙◌, subst, arith}
 use Rattle.std.proofs.lemmas.Bool.{ltb-true, leb-true, and_parts}
 use Rattle.asn1_model.specs.Schema.{Range, Bounds}
-use Rattle.asn1_model.specs.Numbers.{digits, octet_width, least_octets, signed_octets, complement, is_at_most, is_from, is_to, is_within, fits_128}
+use Rattle.asn1_model.specs.Numbers.{digits, octet_width, least_octets, signed_octets, complement, is_at_most, is_within, fits_128}
 use Rattle.asn1_model.specs.Form.{exactly, only_if}
-use Rattle.asn1_model.specs.Tables.{is_bounded}
+use Rattle.asn1_model.specs.Normal.{is_bounded}
 use Rattle.asn1_model.specs.Strings.{is_octet}
 use Rattle.std.specs.List.{list_all}
 use Rattle.asn1_model.specs.Oer
 use Rattle.asn1_laws_values.proofs.Numbers.{FitsIn, length-digits, length-complement, digits_equal, complement_equal, octets_hold, signed_hold, at_most_pos, at_most_negsuc, not_below}
 use Rattle.asn1_laws_fronts.proofs.Fronts.{Agree, agree_exactly, agree_refused, agree_with_refused, agree_map, agree_both, agree_varied, agree_if, agree_if_left, agree_if_right, agree_first, agree_nothing}
+use Rattle.std.specs.Option.{option_map_or}
 
 abbrev pub OctetsAlike : (Oer.Freedom → Bool) → Oer.OctetForm → Oer.OctetForm → Type 0 → Type 0
 OctetsAlike free x y P = Agree {F = Oer.Freedom} {D = Oer.Detail} {A = ℕ} free x y P
@@ -126,7 +127,7 @@ module _ (free : Oer.Freedom → Bool) where
   signed_form_alike (Some k) low high v w h i j l m = fixed_signed k low high v w (h k refl) i j l m
   signed_form_alike None low high v w h i j l m = signed_alike v w
 
-  bounded_alike : (low high : Option ℤ) (v w : ℤ) → is_from low v ≡ true → is_to high v ≡ true → is_from low w ≡ true → is_to high w ≡ true → OctetsAlike free (Oer.bounded low high v) (Oer.bounded low high w) (v ≡ w)
+  bounded_alike : (low high : Option ℤ) (v w : ℤ) → option_map_or (λ x. is_at_most x v) low true ≡ true → option_map_or (λ x. is_at_most v x) high true ≡ true → option_map_or (λ x. is_at_most x w) low true ≡ true → option_map_or (λ x. is_at_most w x) high true ≡ true → OctetsAlike free (Oer.bounded low high v) (Oer.bounded low high w) (v ≡ w)
   unfolding Oer.bounded
   bounded_alike (Some (pos low)) (Some (pos high)) v w h i j k = natural_alike high (Oer.fixed_octets (octet_width high)) v w (λ n e. fixed_hold _ n e) i k
   bounded_alike (Some (pos low)) (Some (negsuc high)) v w h i j k = unbounded_alike v w

@@ -8,7 +8,7 @@ use Rattle.std.proofs.lemmas.Bool.{ltb-true, leb-true, eqb-true, and_parts}
 use Rattle.asn1_model.specs.Schema.{Range, Bounds}
 use Rattle.asn1_model.specs.Numbers.{digits, binary, width, octet_width, least_octets, signed_octets, complement, above, is_at_most, is_within, fits_128}
 use Rattle.asn1_model.specs.Form.{exactly, both, varied, only_if, joined}
-use Rattle.asn1_model.specs.Tables.{is_bounded}
+use Rattle.asn1_model.specs.Normal.{is_bounded}
 use Rattle.asn1_model.specs.Strings.{is_octet}
 use Rattle.std.specs.List.{list_all}
 use Rattle.asn1_model.specs.Per

@@ -4,7 +4,7 @@ use Rattle.asn1_model.specs.Value.{Value, Parts, end, absent, present}
 use Rattle.asn1_model.specs.Schema.{Presence, Schema, Components, no_component, component}
 use Rattle.asn1_model.specs.Form.{varied, only_if}
 use Rattle.asn1_model.specs.Normal.{is_at_default, is_group_left_out}
-use Rattle.asn1_model.specs.Tables.{presence_bits, is_required, presence_bit_unless}
+use Rattle.asn1_model.specs.Normal.{presence_bits, is_required, presence_bit_unless}
 use Rattle.asn1_model.specs.Per
 use Rattle.asn1_model.specs.Oer
 use Rattle.asn1_laws_fronts.proofs.Fronts.{agree_varied_left, agree_varied_right, agree_if_left, agree_if_right}

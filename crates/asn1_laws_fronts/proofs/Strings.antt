@@ -6,7 +6,7 @@ use Rattle.asn1_model.specs.Schema.{Alphabet, Counts, Size, StringKind, numeric,
 use Rattle.asn1_model.specs.Lawful.{are_ascending}
 use Rattle.asn1_model.specs.Numbers.{binary, width, is_count_within}
 use Rattle.asn1_model.specs.Form.{exactly, only_if}
-use Rattle.asn1_model.specs.Strings.{Run, run, is_in_run, characters_of, how_many, largest, place_of, is_among, put_in, sorted, permitted_in, permitted, is_of_octets, may_hold}
+use Rattle.asn1_model.specs.Strings.{Run, run, is_in_run, characters_of, how_many, largest, place_of, is_among, put_in, sorted, permitted, is_of_octets, may_hold}
 use Rattle.std.specs.List.{list_all}
 use Rattle.asn1_model.specs.Per
 use Rattle.asn1_model.proofs.Forms.{map_parts}
@@ -186,7 +186,7 @@ own_singles graphic cs h = cc
 own_singles teletex cs h = cc
 own_singles utf8 cs h = cc
 
-pub permitted_orderly : (k : StringKind) (extensible : Bool) (cs : Option (List ℕ)) → is_of_octets k ≡ false → Orderly (permitted_in k extensible cs)
+pub permitted_orderly : (k : StringKind) (extensible : Bool) (cs : Option (List ℕ)) → is_of_octets k ≡ false → Orderly (permitted k (record { characters = cs; extensible = extensible }))
 permitted_orderly k false (Some cs) h = own_singles k cs h
 permitted_orderly k false None h = own_orderly k h
 permitted_orderly k true cs h = own_orderly k h

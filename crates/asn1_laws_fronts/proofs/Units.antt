@@ -10,7 +10,7 @@ use Rattle.std.specs.Prelude.{is_some}
 use Rattle.asn1_model.specs.Rules.{octet_bits}
 use Rattle.asn1_model.specs.Strings.{is_octet}
 use Rattle.std.specs.List.{list_all}
-use Rattle.asn1_model.specs.Tables.{item_place}
+use Rattle.asn1_model.specs.Normal.{item_place}
 use Rattle.asn1_model.specs.Oer.{packed}
 use Rattle.asn1_model.specs.Per
 use Rattle.asn1_model.proofs.Forms.{map_parts}
@@ -156,7 +156,7 @@ module _ (free : Per.Freedom → Bool) where
   Place ds v o = item_place v ds ≡ o
 
   item_cases : (al : Bool) (roots adds : List ℤ) (v w : ℤ) (e : Bool) (i j k l : Option ℕ) → Place roots v i → Place adds v j → Place roots w k → Place adds w l → Alike free (Per.item_form al (length roots) e i j) (Per.item_form al (length roots) e k l) (v ≡ w)
-  unfolding Per.item_form Per.added_item
+  unfolding Per.item_form
   item_cases al roots adds v w e (Some i) j (Some k) l p q r s = agree_map free (λ h. items_equal roots v w i p (r ∙ ap Some (sym h))) (behind_extension_bit e false _ _ _ (constrained_alike free al (length roots - 1) i k))
   item_cases al roots adds v w false (Some i) j None l p q r s = agree_with_refused free _ _
   item_cases al roots adds v w true (Some i) j None None p q r s = agree_with_refused free _ _
@@ -197,7 +197,7 @@ module _ (free : Per.Freedom → Bool) where
   unfolding Per.complete Reads
   complete_whole x a p r = padded_whole r.0 a p r.2
 
-  eights_alike : (al : Bool) (v w : List Bool) (k j : ℕ) → length v ≡ 8 * k → length w ≡ 8 * j → Alike free (Per.counted_eights al v) (Per.counted_eights al w) (v ≡ w)
+  eights_alike : (al : Bool) (v w : List Bool) (k j : ℕ) → length v ≡ 8 * k → length w ≡ 8 * j → Alike free (Per.counted al (map (λ o. exactly o) (by_eights v))) (Per.counted al (map (λ o. exactly o) (by_eights w))) (v ≡ w)
   eights_alike al v w k j h i =
       let e : map (λ o. exactly o) (by_eights v) ≡ Per.octet_units (packed v) = eights_units k v h in
       let f : map (λ o. exactly o) (by_eights w) ≡ Per.octet_units (packed w) = eights_units j w i in

@@ -4,7 +4,7 @@ use Rattle.std.proofs.Common.{◌≡◌, ℕ, zero, suc, ◌+◌, ◌-◌, ◌*�
 use Rattle.std.proofs.lemmas.Bool.{ltb-true, lt-ltb, and_parts, and_from}
 use Rattle.std.proofs.lemmas.Nat.{mod_below}
 use Rattle.std.proofs.Math.Nat.{mod-eq_of_lt, pow-suc}
-use Rattle.asn1_model.specs.Numbers.{digits, number_after, places, width, octet_width, least_octets, signed_octets, complement, binary, packed, octet_bits}
+use Rattle.asn1_model.specs.Numbers.{digits, places, width, octet_width, least_octets, signed_octets, complement, binary, packed, octet_bits}
 use Rattle.asn1_model.specs.Strings.{is_octet}
 use Rattle.std.specs.List.{list_all}
 use Rattle.asn1_laws_values.proofs.Places.{places_hold, places_fewest}
@@ -12,12 +12,13 @@ use Rattle.asn1_laws_values.proofs.Numbers.{number_of_digits, length-digits, len
 use Rattle.asn1_laws_values.proofs.Octets.{packed_back, packed_octets}
 use Rattle.asn1_laws_fronts.proofs.PerNumbers.{binary_equal}
 use Rattle.asn1_laws_fronts.proofs.Complete.{bits_length}
+use Rattle.std.specs.Int.Digits.{number_from_digits_after}
 
 digits_small : (base w n : ℕ) → 0 < base → list_all (λ d. ltb d base) (digits base w n) ≡ true
 digits_small base zero n h = refl
 digits_small base (suc w) n h = and_from _ _ (lt-ltb _ _ (mod_below (n / base ^ w) base h)) (digits_small base w n h)
 
-pub digits_sum : (base w n : ℕ) → 0 < base → n < base ^ w → (number_after base 0 (digits base w n) ≡ n) × (length (digits base w n) ≡ w) × (list_all (λ d. ltb d base) (digits base w n) ≡ true)
+pub digits_sum : (base w n : ℕ) → 0 < base → n < base ^ w → (number_from_digits_after base 0 (digits base w n) ≡ n) × (length (digits base w n) ≡ w) × (list_all (λ d. ltb d base) (digits base w n) ≡ true)
 digits_sum base w n h k =
     let a = number_of_digits base w 0 n h in
     let b : n % base ^ w ≡ n = mod-eq_of_lt k in
@@ -31,7 +32,7 @@ half k h =
     let s : 8 * k ≡ suc (8 * k - 1) = omega arith in
     octets_are_bits k ∙ ap (λ x. 2 ^ x) s ∙ pow-suc 2 (8 * k - 1) ∙ omega arith
 
-pub complement_sum : (k n : ℕ) → 0 < k → n < 2 ^ (8 * k - 1) → (number_after 256 0 (complement k (pos n)) ≡ n) × (number_after 256 0 (complement k (negsuc n)) + (n + 1) ≡ 256 ^ k) × (length (complement k (pos n)) ≡ k) × (length (complement k (negsuc n)) ≡ k)
+pub complement_sum : (k n : ℕ) → 0 < k → n < 2 ^ (8 * k - 1) → (number_from_digits_after 256 0 (complement k (pos n)) ≡ n) × (number_from_digits_after 256 0 (complement k (negsuc n)) + (n + 1) ≡ 256 ^ k) × (length (complement k (pos n)) ≡ k) × (length (complement k (negsuc n)) ≡ k)
 complement_sum k n h l =
     let e = half k h in
     let a = digits_sum 256 k n (lit< tt) (omega arith) in

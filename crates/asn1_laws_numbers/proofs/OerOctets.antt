@@ -11,7 +11,7 @@ use Rattle.asn1_model.specs.Normal.{is_at_default, is_group_left_out}
 use Rattle.asn1_model.specs.Numbers.{missing, digits, octet_width, least_octets, signed_octets, complement, packed, is_within, is_count_within, fits_128, places}
 use Rattle.asn1_model.specs.Strings.{is_octet, may_hold, is_identifier, identifier_octets, groups_of_seven, with_top_bits}
 use Rattle.std.specs.List.{list_all}
-use Rattle.asn1_model.specs.Tables.{is_required, presence_bits, item_place, is_bounded}
+use Rattle.asn1_model.specs.Normal.{is_required, presence_bits, item_place, is_bounded}
 use Rattle.asn1_model.specs.Form.{Form, exactly, refused, both, varied, within, Reads, only_if, given, joined, written, stands_before, pick, arranged, in_order, ascending, Bitmap, is_any_present, present_ones, covered_by}
 use Rattle.std.specs.Prelude.{is_some}
 use Rattle.asn1_model.specs.Lawful.{is_tag, is_lawful, are_lawful, are_lawful_alternatives}

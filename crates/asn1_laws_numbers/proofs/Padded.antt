@@ -3,7 +3,7 @@ use Rattle.std.specs.Prelude.{ℤ, pos, negsuc, leb}
 use Rattle.std.proofs.Common.{◌≡◌, ℕ, suc, ◌+◌, ◌-◌, ◌*◌, ◌^◌, ◌<◌, ◌≤◌, inr, lit<, Bool, true, false, List, [], ◌∷◌, length, refl, ap, sym, ◌∙◌, subst, arith}
 use Rattle.std.proofs.lemmas.Bool.{false≢true, ltb-true, le-leb, leb-true, and_parts}
 use Rattle.std.proofs.Math.Nat.{pow-succ', mul-le-mul_right}
-use Rattle.asn1_model.specs.Numbers.{digits, number_after, least_octets, signed_octets, complement}
+use Rattle.asn1_model.specs.Numbers.{digits, least_octets, signed_octets, complement}
 use Rattle.asn1_model.specs.Strings.{is_octet}
 use Rattle.std.specs.List.{list_all}
 use Rattle.asn1_model.specs.Form.{Form, Reads, only_if}
@@ -12,9 +12,10 @@ use Rattle.asn1_model.specs.Oer
 use Rattle.asn1_laws_values.proofs.Numbers.{length-complement, least_hold, signed_hold}
 use Rattle.asn1_laws_numbers.specs.Padded.{StandsFor, IsReadAsAny}
 use Rattle.asn1_laws_numbers.proofs.Numbers.{digits_sum, complement_sum, fewest_octets}
+use Rattle.std.specs.Int.Digits.{number_from_digits_after}
 
 -- ---- octets are the digits of their sum
-number_below : (m : ℕ) (os : List ℕ) → list_all is_octet os ≡ true → number_after 256 m os < (m + 1) * 256 ^ length os
+number_below : (m : ℕ) (os : List ℕ) → list_all is_octet os ≡ true → number_from_digits_after 256 m os < (m + 1) * 256 ^ length os
 number_below m [] h = omega arith
 number_below m (o ∷ os) h =
     let p = and_parts (is_octet o) (list_all is_octet os) h in
@@ -24,7 +25,7 @@ number_below m (o ∷ os) h =
     let e : 256 ^ suc (length os) ≡ 256 * 256 ^ length os = pow-succ' 256 (length os) in
     rw e (omega arith)
 
-same_octets : (m n : ℕ) (os ps : List ℕ) → list_all is_octet os ≡ true → list_all is_octet ps ≡ true → length os ≡ length ps → number_after 256 m os ≡ number_after 256 n ps → (m ≡ n) × (os ≡ ps)
+same_octets : (m n : ℕ) (os ps : List ℕ) → list_all is_octet os ≡ true → list_all is_octet ps ≡ true → length os ≡ length ps → number_from_digits_after 256 m os ≡ number_from_digits_after 256 n ps → (m ≡ n) × (os ≡ ps)
 same_octets m n [] [] h i l e = (e, refl)
 same_octets m n [] (p ∷ ps) h i l e = absurd (omega arith)
 same_octets m n (o ∷ os) [] h i l e = absurd (omega arith)
@@ -38,7 +39,7 @@ same_octets m n (o ∷ os) (p ∷ ps) h i l e =
     let c : o ≡ p = omega arith in
     (omega arith, ap (λ y. y ∷ os) c ∙ ap (λ y. p ∷ y) q.1)
 
-pub digits_back : (n : ℕ) (os : List ℕ) → list_all is_octet os ≡ true → number_after 256 0 os ≡ n → (n < 256 ^ length os) × (digits 256 (length os) n ≡ os)
+pub digits_back : (n : ℕ) (os : List ℕ) → list_all is_octet os ≡ true → number_from_digits_after 256 0 os ≡ n → (n < 256 ^ length os) × (digits 256 (length os) n ≡ os)
 digits_back n os h e =
     let a = number_below 0 os h in
     let b : n < 256 ^ length os = omega arith in
@@ -80,7 +81,7 @@ module _ (free : Oer.Freedom → Bool) (longer : free Oer.longer_number ≡ true
   unfolding Oer.counted
   octets_counted os r = (read_if free p w _ _ r).0
 
-  unsigned_sum : (n : ℕ) → Reads free (Oer.unsigned n) p w → (os : List ℕ) × (0 < length os) × (number_after 256 0 os ≡ n) × Reads free (Oer.counted os) p w
+  unsigned_sum : (n : ℕ) → Reads free (Oer.unsigned n) p w → (os : List ℕ) × (0 < length os) × (number_from_digits_after 256 0 os ≡ n) × Reads free (Oer.counted os) p w
   unfolding Oer.unsigned Reads
   unsigned_sum n r =
       let k = r.0 in
@@ -90,7 +91,7 @@ module _ (free : Oer.Freedom → Bool) (longer : free Oer.longer_number ≡ true
       let e = d.1 in
       (digits 256 k n, omega arith, d.0, q.1)
 
-  sum_unsigned : (n : ℕ) (os : List ℕ) → 0 < length os → number_after 256 0 os ≡ n → Reads free (Oer.counted os) p w → Reads free (Oer.unsigned n) p w
+  sum_unsigned : (n : ℕ) (os : List ℕ) → 0 < length os → number_from_digits_after 256 0 os ≡ n → Reads free (Oer.counted os) p w → Reads free (Oer.unsigned n) p w
   unfolding Oer.unsigned Reads
   sum_unsigned n os h e r =
       let b = digits_back n os (octets_counted os r) e in
@@ -113,7 +114,7 @@ module _ (free : Oer.Freedom → Bool) (longer : free Oer.longer_number ≡ true
       let b = complement_back v os (octets_counted os r) h s in
       (length os, inr longer, if_read free p w _ (Oer.counted (complement (length os) v)) (le-leb _ _ b.0) (subst (λ x. Reads free (Oer.counted x) p w) (sym b.1) r))
 
-pub oer_numbers : (free : Oer.Freedom → Bool) → free Oer.longer_number ≡ true → ((n : ℕ) → IsReadAsAny free (Oer.unsigned n) Oer.counted (λ os. number_after 256 0 os ≡ n)) × ((v : ℤ) → IsReadAsAny free (Oer.signed v) Oer.counted (λ os. StandsFor os v))
+pub oer_numbers : (free : Oer.Freedom → Bool) → free Oer.longer_number ≡ true → ((n : ℕ) → IsReadAsAny free (Oer.unsigned n) Oer.counted (λ os. number_from_digits_after 256 0 os ≡ n)) × ((v : ℤ) → IsReadAsAny free (Oer.signed v) Oer.counted (λ os. StandsFor os v))
 oer_numbers free h = (λ n p w. (unsigned_sum free h p w n, sum_unsigned free h p w n), λ v p w. (signed_sum free h p w v, sum_signed free h p w v))
 
 module _ (free : Per.Freedom → Bool) (al : Bool) (longer : free Per.longer_number ≡ true) (p : ℕ) (w : List Bool) where
@@ -121,7 +122,7 @@ module _ (free : Per.Freedom → Bool) (al : Bool) (longer : free Per.longer_num
   unfolding Per.counted_octets
   bits_counted os r = (read_if free p w _ _ r).0
 
-  above_sum : (n : ℕ) → Reads free (Per.semi_constrained al n) p w → (os : List ℕ) × (0 < length os) × (number_after 256 0 os ≡ n) × Reads free (Per.counted_octets al os) p w
+  above_sum : (n : ℕ) → Reads free (Per.semi_constrained al n) p w → (os : List ℕ) × (0 < length os) × (number_from_digits_after 256 0 os ≡ n) × Reads free (Per.counted_octets al os) p w
   unfolding Per.semi_constrained Reads
   above_sum n r =
       let k = r.0 in
@@ -131,7 +132,7 @@ module _ (free : Per.Freedom → Bool) (al : Bool) (longer : free Per.longer_num
       let e = d.1 in
       (digits 256 k n, omega arith, d.0, q.1)
 
-  sum_above : (n : ℕ) (os : List ℕ) → 0 < length os → number_after 256 0 os ≡ n → Reads free (Per.counted_octets al os) p w → Reads free (Per.semi_constrained al n) p w
+  sum_above : (n : ℕ) (os : List ℕ) → 0 < length os → number_from_digits_after 256 0 os ≡ n → Reads free (Per.counted_octets al os) p w → Reads free (Per.semi_constrained al n) p w
   unfolding Per.semi_constrained Reads
   sum_above n os h e r =
       let b = digits_back n os (bits_counted os r) e in
@@ -154,5 +155,5 @@ module _ (free : Per.Freedom → Bool) (al : Bool) (longer : free Per.longer_num
       let b = complement_back v os (bits_counted os r) h s in
       (length os, inr longer, if_read free p w _ (Per.counted_octets al (complement (length os) v)) (le-leb _ _ b.0) (subst (λ x. Reads free (Per.counted_octets al x) p w) (sym b.1) r))
 
-pub per_numbers : (free : Per.Freedom → Bool) (al : Bool) → free Per.longer_number ≡ true → ((n : ℕ) → IsReadAsAny free (Per.semi_constrained al n) (Per.counted_octets al) (λ os. number_after 256 0 os ≡ n)) × ((v : ℤ) → IsReadAsAny free (Per.unconstrained al v) (Per.counted_octets al) (λ os. StandsFor os v))
+pub per_numbers : (free : Per.Freedom → Bool) (al : Bool) → free Per.longer_number ≡ true → ((n : ℕ) → IsReadAsAny free (Per.semi_constrained al n) (Per.counted_octets al) (λ os. number_from_digits_after 256 0 os ≡ n)) × ((v : ℤ) → IsReadAsAny free (Per.unconstrained al v) (Per.counted_octets al) (λ os. StandsFor os v))
 per_numbers free al h = (λ n p w. (above_sum free al h p w n, sum_above free al h p w n), λ v p w. (free_sum free al h p w v, sum_free free al h p w v))

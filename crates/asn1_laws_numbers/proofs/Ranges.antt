@@ -2,7 +2,7 @@
 use Rattle.std.specs.Prelude.{leb, ltb, not}
 use Rattle.std.proofs.Common.{◌≡◌, ℕ, zero, suc, ◌-◌, ◌*◌, ◌^◌, ◌<◌, ◌≤◌, ◌==◌, inr, lit<, Bool, true, false, cond, ◌&&◌, ◌||◌, List, length, flat_map, refl, ap, sym, ◌∙◌, subst, arith}
 use Rattle.std.proofs.lemmas.Bool.{ltb-true, ltb-false, le-leb, leb-true, eqb-true, and_parts}
-use Rattle.asn1_model.specs.Numbers.{digits, binary, width, number_after, octet_width, least_octets}
+use Rattle.asn1_model.specs.Numbers.{digits, binary, width, octet_width, least_octets}
 use Rattle.asn1_model.specs.Strings.{is_octet}
 use Rattle.std.specs.List.{list_all}
 use Rattle.asn1_model.specs.Form.{Reads, exactly, both, varied, only_if}
@@ -12,6 +12,7 @@ use Rattle.asn1_laws_values.proofs.Numbers.{least_hold}
 use Rattle.asn1_laws_numbers.specs.Padded.{IsReadAsAny, behind_their_number}
 use Rattle.asn1_laws_numbers.proofs.Numbers.{digits_sum, fewest_octets}
 use Rattle.asn1_laws_numbers.proofs.Padded.{digits_back, read_if, if_read}
+use Rattle.std.specs.Int.Digits.{number_from_digits_after}
 
 pointwise : {X Y : Type 0} {f g : X → Y} → ((x : X) → f x ≡ g x) → f ≡ g
 pointwise h = λ i x. h x i
@@ -78,7 +79,7 @@ module _ (free : Per.Freedom → Bool) (longer : free Per.longer_number ≡ true
   abbrev told_and_octets : ℕ → ℕ → List ℕ → Per.BitForm
   told_and_octets span k os = both (Per.constrained true (octet_width span - 1) (k - 1)) (Per.at_octet true (exactly (flat_map (binary 8) os)))
 
-  range_sum : (span d : ℕ) → 65536 ≤ span → Reads free (Per.constrained true span d) p w → (os : List ℕ) × (0 < length os) × (number_after 256 0 os ≡ d) × Reads free (behind_their_number span os) p w
+  range_sum : (span d : ℕ) → 65536 ≤ span → Reads free (Per.constrained true span d) p w → (os : List ℕ) × (0 < length os) × (number_from_digits_after 256 0 os ≡ d) × Reads free (behind_their_number span os) p w
   unfolding Per.in_octets_of Reads
   range_sum span d h r =
       let r' = subst (λ x. Reads free x p w) (behind_octets span d h) r in
@@ -98,7 +99,7 @@ module _ (free : Per.Freedom → Bool) (longer : free Per.longer_number ≡ true
       two true false e f = f
       two false b e f = e
 
-  sum_range : (span d : ℕ) → 65536 ≤ span → d ≤ span → (os : List ℕ) → 0 < length os → number_after 256 0 os ≡ d → Reads free (behind_their_number span os) p w → Reads free (Per.constrained true span d) p w
+  sum_range : (span d : ℕ) → 65536 ≤ span → d ≤ span → (os : List ℕ) → 0 < length os → number_from_digits_after 256 0 os ≡ d → Reads free (behind_their_number span os) p w → Reads free (Per.constrained true span d) p w
   unfolding Per.in_octets_of Reads
   sum_range span d h i os j e r =
       let q = read_if free p w (list_all is_octet os && leb (length os) (octet_width span)) (told_and_octets span (length os) os) r in
@@ -112,5 +113,5 @@ module _ (free : Per.Freedom → Bool) (longer : free Per.longer_number ≡ true
       let v = if_read free p w (leb d span) (varied Per.longer_number (least_octets d) (λ k. Per.in_octets_of (λ s c. Per.constrained true s c) true span d k)) (le-leb _ _ i) (length os, inr longer, t) in
       subst (λ x. Reads free x p w) (sym (behind_octets span d h)) v
 
-pub per_ranges : (free : Per.Freedom → Bool) → free Per.longer_number ≡ true → (span d : ℕ) → 65536 ≤ span → d ≤ span → IsReadAsAny free (Per.constrained true span d) (behind_their_number span) (λ os. number_after 256 0 os ≡ d)
+pub per_ranges : (free : Per.Freedom → Bool) → free Per.longer_number ≡ true → (span d : ℕ) → 65536 ≤ span → d ≤ span → IsReadAsAny free (Per.constrained true span d) (behind_their_number span) (λ os. number_from_digits_after 256 0 os ≡ d)
 per_ranges free l span d h i p w = (range_sum free l p w span d h, sum_range free l p w span d h i)

@@ -7,7 +7,7 @@ use Rattle.asn1_model.specs.Normal.{normal}
 use Rattle.asn1_model.specs.Numbers.{packed}
 use Rattle.asn1_model.specs.Strings.{is_octet}
 use Rattle.std.specs.List.{list_all}
-use Rattle.asn1_model.specs.Form.{Reads, canonically, written}
+use Rattle.asn1_model.specs.Form.{Reads, written}
 use Rattle.asn1_model.specs.Lawful.{is_lawful}
 use Rattle.asn1_model.specs.Rules.{Rules, uper, aper, uper_strict, aper_strict, oer, coer, octet_bits, per, octet_encoding, of_moderate_length, encoding, canonical, IsEncoding}
 use Rattle.asn1_model.specs.Per
@@ -18,6 +18,7 @@ use Rattle.asn1_laws_values.proofs.Octets.{packed_octets}
 use Rattle.asn1_laws_numbers.proofs.Numbers.{octets_and_bits}
 use Rattle.asn1_laws_numbers.specs.OctetLaws.{IsEncodingWithNoFreedom}
 use Rattle.asn1_laws_numbers.proofs.OerOctets.{oer_octets}
+use Rattle.asn1_laws_values.specs.MessageLaws.{canonically}
 
 moderate : (w : List ℕ) → length w < 2 ^ 60 → of_moderate_length w ≡ Some w
 moderate w h = let e = lt-ltb (length w) (2 ^ 60) h in rw e refl

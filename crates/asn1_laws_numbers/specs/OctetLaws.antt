@@ -5,12 +5,13 @@ use Rattle.asn1_model.specs.Schema.{Schema}
 use Rattle.asn1_model.specs.Normal.{normal}
 use Rattle.asn1_model.specs.Strings.{is_octet}
 use Rattle.std.specs.List.{list_all}
-use Rattle.asn1_model.specs.Form.{Reads, canonically}
+use Rattle.asn1_model.specs.Form.{Reads}
 use Rattle.asn1_model.specs.Lawful.{IsLawful}
 use Rattle.asn1_model.specs.Rules.{Rules, uper, aper, uper_strict, aper_strict, oer, coer, octet_bits, canonical}
 use Rattle.asn1_model.specs.Rules.{IsEncoding}
 use Rattle.asn1_model.specs.Per
 use Rattle.asn1_model.specs.Oer
+use Rattle.asn1_laws_values.specs.MessageLaws.{canonically}
 
 -- All that is written are octets.
 abbrev pub WrittenAreOctets : Type 0

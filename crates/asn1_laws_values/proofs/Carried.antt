@@ -3,10 +3,11 @@ use Rattle.std.proofs.Common.{◌≡◌, ℕ, zero, suc, Bool, true, false, Some
 use Rattle.asn1_model.specs.Value.{Value, members, bag, fields, chosen, Parts, end, absent, present, same, depth}
 use Rattle.asn1_model.specs.Schema.{Presence, required, optional, by_default, Schema, cut, boolean, null, integer, enumerated, bit_string, octet_string, character_string, object_identifier, sequence_of, set_of, sequence, set, group, choice, Components, no_component, component, Alternatives, no_alternative, alternative}
 use Rattle.asn1_model.specs.Normal.{normal}
-use Rattle.asn1_model.specs.Versions.{carried, map_each, both_parts, all_absent, grow, carried_parts, carried_alternative, lessen, drop, KeepsTags, KeepsPresence, Extends, ExtendsEach, ExtendsAlternatives}
+use Rattle.asn1_model.specs.Versions.{carried, map_each, both_parts, all_absent, grow, carried_parts, carried_alternative, drop, KeepsPresence, Extends, ExtendsEach, ExtendsAlternatives}
 use Rattle.asn1_laws_values.proofs.Normals.{normal_again}
 use Rattle.asn1_laws_values.specs.Tidied.{changed_default, tidied, tidied_each, tidied_alternatives}
 use Rattle.asn1_laws_values.proofs.Tidied.{tidied_alike}
+use Rattle.std.specs.Prelude.{All, Contains}
 
 -- ---- values
 tidied_absent : (cs : Components) → all_absent (tidied_each cs) ≡ all_absent cs
@@ -43,7 +44,7 @@ mutual
 mutual
   unfolding tidied tidied_each tidied_alternatives carried carried_parts carried_alternative
 
-  pub tidied_lessens : (s s' : Schema) (v : Value) → lessen (tidied s) (tidied s') v ≡ lessen s s' v
+  pub tidied_lessens : (s s' : Schema) (v : Value) → carried false (tidied s) (tidied s') v ≡ carried false s s' v
   tidied_lessens (sequence_of z h s) (sequence_of z' h' s') (members vs) = λ i. option_map members (map_each (λ v. tidied_lessens s s' v i) vs)
   tidied_lessens (set_of z h s) (set_of z' h' s') (bag vs) = λ i. option_map bag (map_each (λ v. tidied_lessens s s' v i) vs)
   tidied_lessens (sequence cs e adds) (sequence cs' e' adds') (fields ps qs) = λ i. both_parts (tidied_parts_lessen cs cs' ps i) (tidied_parts_lessen adds adds' qs i)
@@ -68,7 +69,7 @@ pub tidied_normal : (s : Schema) (v : Value) → normal (tidied s) v ≡ normal 
 tidied_normal s v = sym ((tidied_alike (depth v) s).normal_is v (omega arith))
 
 pub tidied_drops : (s s' : Schema) (v : Value) → drop (tidied s) (tidied s') v ≡ drop s s' v
-tidied_drops s s' v = ap (lessen (tidied s) (tidied s')) (tidied_normal s' v) ∙ tidied_lessens s s' (normal s' v)
+tidied_drops s s' v = ap (carried false (tidied s) (tidied s')) (tidied_normal s' v) ∙ tidied_lessens s s' (normal s' v)
 
 -- ---- versions
 default_again : (s : Schema) (d : Value) → normal (tidied s) (normal s d) ≡ normal s d
@@ -105,7 +106,7 @@ mutual
   tidied_extends s s' = refl
 
   tidied_each_extends : (more : Bool) (cs cs' : Components) → ExtendsEach more (tidied_each cs) (tidied_each cs') ≡ ExtendsEach more cs cs'
-  tidied_each_extends more (component t o s cs) (component t' o' s' cs') = λ i. KeepsTags t t' × tidied_presence s s' o o' i × tidied_extends s s' i × tidied_each_extends more cs cs' i
+  tidied_each_extends more (component t o s cs) (component t' o' s' cs') = λ i. (All (Contains t') t) × tidied_presence s s' o o' i × tidied_extends s s' i × tidied_each_extends more cs cs' i
   tidied_each_extends more no_component no_component = refl
   tidied_each_extends true no_component (component t' o' s' cs') = refl
   tidied_each_extends false no_component (component t' o' s' cs') = refl

@@ -1,7 +1,8 @@
 -- Bags by how many of their members pass each test.
 use Rattle.std.proofs.Common.{◌≡◌, ℕ, ◌+◌, ◌<◌, ◌≤◌, Bool, true, false, cond, Option, Some, None, option_map, refl, ap, sym, subst, arith}
-use Rattle.asn1_model.specs.Value.{Value, Values, no_more, member, same, same_bag, taken_out, with_rest, depth, depth_of_members}
+use Rattle.asn1_model.specs.Value.{Value, Values, no_more, member, same, same_bag, taken_out, depth, depth_of_members}
 use Rattle.asn1_model.proofs.Forms.{map_parts}
+use Rattle.std.specs.Option.{option_map_or}
 
 -- one if it passes
 abbrev pub one_if : Bool → ℕ
@@ -75,7 +76,7 @@ both_true false false h k = refl
 pub tests_alike : {n : ℕ} (q : EquivalentBelow n) (t v w : Value) → depth t < n → depth v < n → depth w < n → same v w ≡ true → same t v ≡ same t w
 tests_alike q t v w h i j e = both_true (same t v) (same t w) (λ f. q.chained t v w h i j f e) (λ f. q.chained t w v h j i f (q.turned v w i j e))
 
-pub rest_parts : (o : Option Values) (f : Values → Bool) → with_rest o f ≡ true → (vs : Values) × (o ≡ Some vs) × (f vs ≡ true)
+pub rest_parts : (o : Option Values) (f : Values → Bool) → option_map_or f o false ≡ true → (vs : Values) × (o ≡ Some vs) × (f vs ≡ true)
 rest_parts None f e = cc
 rest_parts (Some vs) f e = (vs, refl, e)
 

@@ -1,7 +1,8 @@
 -- What one form writes, another reads: the rules by which such facts are put together.
 use Rattle.std.proofs.Common.{◌≡◌, ℕ, zero, suc, ◌+◌, Bool, true, false, cond, IsTrue, List, [], ◌∷◌, ◌++◌, length, take, drop, Some, option_map, refl, ap, subst, ◌⊎◌}
-use Rattle.asn1_model.specs.Form.{Form, refused, both, placed, varied, within, written, Reads, canonically, only_if, joined}
+use Rattle.asn1_model.specs.Form.{Form, refused, both, placed, varied, within, written, Reads, only_if, joined}
 use Rattle.asn1_model.proofs.Forms.{widens, reads_written, chain_parts, map_parts}
+use Rattle.asn1_laws_values.specs.MessageLaws.{canonically}
 
 pub record Covers {F : Type 0} {D : F → Type 0} {A : Type 0} (free : F → Bool) (x y : Form F D A) : Type 0 where
   pub reads : (p : ℕ) (w : List A) → written x p ≡ Some w → Reads free y p w

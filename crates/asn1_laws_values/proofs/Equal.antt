@@ -1,11 +1,12 @@
 -- Values of a type are equal exactly if their normal forms are the same.
 use Rattle.std.proofs.Common.{◌≡◌, ℕ, zero, suc, ◌==◌, Bool, true, false, cond, ◌&&◌, ◌||◌, Option, Some, None, option_map, refl, ap, sym, ◌∙◌}
 use Rattle.std.proofs.lemmas.Bool.{eqb-true}
-use Rattle.asn1_model.specs.Value.{Value, members, bag, fields, chosen, Values, no_more, member, Parts, end, absent, present, map_members, taken_out, with_rest, are_absent, same, same_members, same_bag, same_parts}
+use Rattle.asn1_model.specs.Value.{Value, members, bag, fields, chosen, Values, no_more, member, Parts, end, absent, present, map_members, taken_out, are_absent, same, same_members, same_bag, same_parts}
 use Rattle.asn1_model.specs.Schema.{Presence, required, optional, by_default, Schema, sequence_of, set_of, sequence, set, group, choice, Components, no_component, component, Alternatives, no_alternative, alternative}
-use Rattle.asn1_model.specs.Normal.{normal, normal_parts, normal_alternative, kept, is_default_by, is_empty_group}
+use Rattle.asn1_model.specs.Normal.{normal, normal_parts, normal_alternative, is_default_by, is_empty_group}
 use Rattle.asn1_laws_values.proofs.Normal.{default_tests, group_tests}
 use Rattle.asn1_laws_values.specs.Equal.{equal_members, equal_bags, is_the_default, are_equal, equal_parts, equal_alternatives, has_nothing, are_nothing}
+use Rattle.std.specs.Option.{option_map_or}
 
 -- ---- lists and bags
 module _ (f : Value → Value) (equal : Value → Value → Bool) (h : (v w : Value) → equal v w ≡ same (f v) (f w)) where
@@ -28,7 +29,7 @@ module _ (f : Value → Value) (equal : Value → Value → Bool) (h : (v w : Va
       ∙ ap (λ b. cond b (Some (map_members f ws)) (option_map (λ vs. member (f w) vs) (option_map (map_members f) (taken_out (λ w. equal v w) ws)))) (h v w)
       ∙ ap (λ o. cond (same (f v) (f w)) (Some (map_members f ws)) (option_map (λ vs. member (f w) vs) o)) (taken_mapped v ws)
 
-  rest_mapped : (test also : Values → Bool) → ((ws : Values) → test ws ≡ also (map_members f ws)) → (o : Option Values) → with_rest o test ≡ with_rest (option_map (map_members f) o) also
+  rest_mapped : (test also : Values → Bool) → ((ws : Values) → test ws ≡ also (map_members f ws)) → (o : Option Values) → option_map_or test o false ≡ option_map_or also (option_map (map_members f) o) false
   rest_mapped test also k None = refl
   rest_mapped test also k (Some ws) = k ws
 
@@ -38,7 +39,7 @@ module _ (f : Value → Value) (equal : Value → Value → Bool) (h : (v w : Va
   bags_equal no_more (member w ws) = refl
   bags_equal (member v vs) ws =
       rest_mapped (λ rest. equal_bags equal vs rest) (λ rest. same_bag (map_members f vs) rest) (λ rest. bags_equal vs rest) (taken_out (λ w. equal v w) ws)
-      ∙ ap (λ o. with_rest o (λ rest. same_bag (map_members f vs) rest)) (taken_mapped v ws)
+      ∙ ap (λ o. (option_map_or (λ rest. same_bag (map_members f vs) rest) o false)) (taken_mapped v ws)
 
   default_is : (o : Presence) (s : Schema) (v : Value) → is_the_default equal o v ≡ is_default_by f o (f v)
   default_is required s v = refl
@@ -46,12 +47,12 @@ module _ (f : Value → Value) (equal : Value → Value → Bool) (h : (v w : Va
   default_is (by_default d) s v = h v d
 
 -- ---- parts
-kept_absent : (b : Bool) (v : Value) (ps : Parts) → are_absent (kept b v ps) ≡ (b && are_absent ps)
+kept_absent : (b : Bool) (v : Value) (ps : Parts) → are_absent (cond b (absent ps) (present v ps)) ≡ (b && are_absent ps)
 kept_absent true v ps = refl
 kept_absent false v ps = refl
 
 -- a and b tell whether the parts are left out, e whether they are equal
-both_there : (a b e : Bool) (v w : Value) (ps qs : Parts) → e ≡ same v w → (same v w ≡ true → a ≡ b) → ((e || (a && b)) && same_parts ps qs) ≡ same_parts (kept a v ps) (kept b w qs)
+both_there : (a b e : Bool) (v w : Value) (ps qs : Parts) → e ≡ same v w → (same v w ≡ true → a ≡ b) → ((e || (a && b)) && same_parts ps qs) ≡ same_parts (cond a (absent ps) (present v ps)) (cond b (absent qs) (present w qs))
 unfolding same_parts
 both_there true true true v w ps qs h k = refl
 both_there true true false v w ps qs h k = refl
@@ -62,22 +63,22 @@ both_there false true false v w ps qs h k = refl
 both_there false false true v w ps qs h k = ap (λ x. x && same_parts ps qs) h
 both_there false false false v w ps qs h k = ap (λ x. x && same_parts ps qs) h
 
-first_there : (a : Bool) (v : Value) (ps qs : Parts) → (a && same_parts ps qs) ≡ same_parts (kept a v ps) (absent qs)
+first_there : (a : Bool) (v : Value) (ps qs : Parts) → (a && same_parts ps qs) ≡ same_parts (cond a (absent ps) (present v ps)) (absent qs)
 unfolding same_parts
 first_there true v ps qs = refl
 first_there false v ps qs = refl
 
-second_there : (a : Bool) (w : Value) (ps qs : Parts) → (a && same_parts ps qs) ≡ same_parts (absent ps) (kept a w qs)
+second_there : (a : Bool) (w : Value) (ps qs : Parts) → (a && same_parts ps qs) ≡ same_parts (absent ps) (cond a (absent qs) (present w qs))
 unfolding same_parts
 second_there true w ps qs = refl
 second_there false w ps qs = refl
 
-first_only : (a : Bool) (v : Value) (ps : Parts) → false ≡ same_parts (kept a v ps) end
+first_only : (a : Bool) (v : Value) (ps : Parts) → false ≡ same_parts (cond a (absent ps) (present v ps)) end
 unfolding same_parts
 first_only true v ps = refl
 first_only false v ps = refl
 
-second_only : (a : Bool) (w : Value) (qs : Parts) → false ≡ same_parts end (kept a w qs)
+second_only : (a : Bool) (w : Value) (qs : Parts) → false ≡ same_parts end (cond a (absent qs) (present w qs))
 unfolding same_parts
 second_only true w qs = refl
 second_only false w qs = refl

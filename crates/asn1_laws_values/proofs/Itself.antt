@@ -7,8 +7,8 @@ use Rattle.asn1_model.specs.Value.{Value, members, bag, fields, chosen, Values, 
 use Rattle.asn1_model.specs.Schema.{Presence, required, optional, by_default, Schema, cut, boolean, null, integer, enumerated, bit_string, octet_string, character_string, object_identifier, sequence_of, set_of, sequence, set, group, choice, Components, no_component, component, Alternatives, no_alternative, alternative}
 use Rattle.asn1_model.specs.Normal.{normal}
 use Rattle.asn1_model.specs.Value.{are_all}
-use Rattle.asn1_model.specs.Typed.{is_of, are_of, is_of_alternative, member_count}
-use Rattle.asn1_model.specs.Tables.{is_required}
+use Rattle.asn1_model.specs.Lawful.{is_of, are_of, is_of_alternative, member_count}
+use Rattle.asn1_model.specs.Normal.{is_required}
 use Rattle.asn1_model.specs.Numbers.{is_count_within}
 use Rattle.asn1_model.specs.Lawful.{is_lawful, are_lawful, are_lawful_alternatives, has_typed_default}
 use Rattle.asn1_model.specs.Versions.{carried, map_each, both_parts, grow, carried_parts, carried_alternative, Begins, KeepsPresence, Extends, ExtendsEach, ExtendsAlternatives}

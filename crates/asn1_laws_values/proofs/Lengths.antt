@@ -5,7 +5,7 @@ use Rattle.asn1_model.specs.Form.{pick, arranged, in_order, ascending}
 use Rattle.std.specs.Prelude.{is_some}
 use Rattle.asn1_model.proofs.Forms.{map_parts}
 use Rattle.asn1_laws_values.proofs.Arranged.{arranged_parts, ascending_code, some_parts}
-use Rattle.asn1_model.specs.Typed.{member_count}
+use Rattle.asn1_model.specs.Lawful.{member_count}
 
 picked_length : {X : Type 0} (i : ℕ) (xs : List X) (x : X) (rest : List X) → pick i xs ≡ Some (x, rest) → length xs ≡ suc (length rest)
 picked_length i [] x rest e = cc

@@ -6,12 +6,13 @@ use borrow.Author.Tests.{ltb-true}
 use Rattle.asn1_model.specs.Value.{Value}
 use Rattle.asn1_model.specs.Schema.{Schema}
 use Rattle.asn1_model.specs.Normal.{normal}
-use Rattle.asn1_model.specs.Form.{exactly, written, Reads, canonically, only_if}
+use Rattle.asn1_model.specs.Form.{exactly, written, Reads, only_if}
 use Rattle.asn1_model.specs.Per
 use Rattle.asn1_model.specs.Oer
 use Rattle.asn1_model.specs.Rules.{Rules, uper, aper, uper_strict, aper_strict, oer, coer, canonical, encoding, per, octet_encoding, octet_bits, of_moderate_length, IsEncoding}
 use Rattle.asn1_model.proofs.Forms.{widens, reads_written, chain_parts, map_parts}
 use Rattle.asn1_laws_values.proofs.Octets.{packed_back}
+use Rattle.asn1_laws_values.specs.MessageLaws.{canonically}
 
 -- whole octets
 abbrev pub IsWhole : List Bool → Type 0

@@ -3,13 +3,14 @@ use Rattle.std.proofs.Common.{◌≡◌, ℕ, zero, suc, ◌≤◌, ◌==◌, ma
 use Rattle.std.proofs.lemmas.Bool.{and_parts, and_from, eqb-true, eq-eqb}
 use Rattle.asn1_model.specs.Value.{Value, members, bag, fields, chosen, Values, no_more, member, Parts, end, absent, present, map_members, values_of, are_absent, same, same_truth, same_members, same_bag, same_parts, depth, depth_of_members, depth_of_parts}
 use Rattle.asn1_model.specs.Schema.{Presence, required, optional, by_default, Schema, sequence_of, set_of, sequence, set, group, choice, Components, no_component, component, Alternatives, no_alternative, alternative}
-use Rattle.asn1_model.specs.Normal.{normal, normal_parts, normal_alternative, kept, is_default_by, is_empty_group, is_at_default, is_group_left_out}
+use Rattle.asn1_model.specs.Normal.{normal, normal_parts, normal_alternative, is_default_by, is_empty_group, is_at_default, is_group_left_out}
 use Rattle.asn1_model.specs.Value.{are_all}
 use Rattle.asn1_model.specs.Tidy.{is_normal, are_normal, is_normal_alternative}
 use Rattle.asn1_laws_values.proofs.Listed.{listed, listed_again, arranged_maps}
 use Rattle.asn1_laws_values.proofs.Counts.{both_true}
 use Rattle.asn1_laws_values.proofs.Same.{same_turned, same_chained}
 use Rattle.asn1_laws_values.proofs.Bags.{EachSame, bag_matched, matched_same}
+use Rattle.std.specs.Prelude.{cond}
 
 -- ---- tests that do not tell apart what is the same
 pub same_tests : (v w d : Value) → same v w ≡ true → same v d ≡ same w d
@@ -40,7 +41,7 @@ group_tests (group cs) v (fields rs ss) e = cc
 group_tests (group cs) v w e = refl
 group_tests s v w e = refl
 
-kept_same : (a b : Bool) (v w : Value) (ps qs : Parts) → a ≡ b → same v w ≡ true → same_parts ps qs ≡ true → same_parts (kept a v ps) (kept b w qs) ≡ true
+kept_same : (a b : Bool) (v w : Value) (ps qs : Parts) → a ≡ b → same v w ≡ true → same_parts ps qs ≡ true → same_parts (cond a (absent ps) (present v ps)) (cond b (absent qs) (present w qs)) ≡ true
 unfolding same_parts
 kept_same true true v w ps qs e f g = g
 kept_same true false v w ps qs e f g = cc
@@ -127,7 +128,7 @@ mutual
   normal_alternative_same (alternative t s others) (suc i) (suc j) v w e f = let g = eqb-true (suc i) (suc j) e in normal_alternative_same others i j v w (eq-eqb i j (omega arith)) f
 
 -- ---- how deep they nest
-kept_depth : (a : Bool) (v : Value) (ps : Parts) → depth_of_parts (kept a v ps) ≤ max (depth v) (depth_of_parts ps)
+kept_depth : (a : Bool) (v : Value) (ps : Parts) → depth_of_parts (cond a (absent ps) (present v ps)) ≤ max (depth v) (depth_of_parts ps)
 unfolding depth_of_parts
 kept_depth true v ps = omega arith
 kept_depth false v ps = omega arith
@@ -180,7 +181,7 @@ not_true : (b : Bool) → not b ≡ true → b ≡ false
 not_true true e = sym e
 not_true false e = refl
 
-kept_stays : (a b : Bool) (v w : Value) (ps qs : Parts) → not a ≡ true → not b ≡ true → v ≡ w → ps ≡ qs → kept (a || b) v ps ≡ present w qs
+kept_stays : (a b : Bool) (v w : Value) (ps qs : Parts) → not a ≡ true → not b ≡ true → v ≡ w → ps ≡ qs → (cond (a || b) (absent ps) (present v ps)) ≡ present w qs
 kept_stays true b v w ps qs e f g h = let k : false ≡ true = e in cc
 kept_stays false true v w ps qs e f g h = let k : false ≡ true = f in cc
 kept_stays false false v w ps qs e f g h = cc

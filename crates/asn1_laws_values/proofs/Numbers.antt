@@ -1,15 +1,16 @@
 -- Digits as positional sums, and the octets in which numbers fit.
-use Rattle.std.specs.Prelude.{ℤ, pos, negsuc, ◌-ℤ◌}
+use Rattle.std.specs.Prelude.{ℤ, pos, negsuc, ◌-ℤ◌, None}
 use Rattle.std.proofs.Common.{◌≡◌, ℕ, zero, suc, ◌+◌, ◌-◌, ◌*◌, ◌/◌, ◌%◌, ◌^◌, ◌<◌, ◌≤◌, lit<, true, false, length, Some, refl, ap, sym, ◌∙◌, arith}
 use Rattle.std.proofs.lemmas.Int.{ints}
 use Rattle.std.proofs.Math.Nat.{mod-eq_of_lt, pow-suc, pow-zero, pow-le-pow_right, mul_comm, one-le-pow}
 use Rattle.std.proofs.Math.IntN.{◌+ℤ◌, -ℤ-+ℤ_cancel}
 use Rattle.std.proofs.Math.Arith.{mod-mul}
-use Rattle.asn1_model.specs.Numbers.{digits, number_after, width, octet_width, least_octets, signed_octets, complement, natural, above, is_at_most}
+use Rattle.asn1_model.specs.Numbers.{digits, width, octet_width, least_octets, signed_octets, complement, above, is_at_most}
 use Rattle.asn1_laws_values.proofs.Places.{places_hold}
+use Rattle.std.specs.Int.Digits.{number_from_digits_after}
 
 -- ---- digits are a positional sum
-pub number_of_digits : (base w m n : ℕ) → 0 < base → number_after base m (digits base w n) ≡ m * base ^ w + n % base ^ w
+pub number_of_digits : (base w m n : ℕ) → 0 < base → number_from_digits_after base m (digits base w n) ≡ m * base ^ w + n % base ^ w
 number_of_digits base zero m n h = rw pow-zero (omega arith)
 number_of_digits base (suc w) m n h =
     let i = number_of_digits base w (m * base + n / base ^ w % base) n h in
@@ -26,7 +27,7 @@ pub digits_equal : (base w n m : ℕ) → 0 < base → n < base ^ w → m < base
 digits_equal base w n m h k l e =
     let a = number_of_digits base w 0 n h in
     let b = number_of_digits base w 0 m h in
-    let c : number_after base 0 (digits base w n) ≡ number_after base 0 (digits base w m) = ap (number_after base 0) e in
+    let c : number_from_digits_after base 0 (digits base w n) ≡ number_from_digits_after base 0 (digits base w m) = ap (number_from_digits_after base 0) e in
     let d : n % base ^ w ≡ n = mod-eq_of_lt k in
     let f : m % base ^ w ≡ m = mod-eq_of_lt l in
     omega arith
@@ -88,7 +89,7 @@ complement_equal k (negsuc m) (negsuc n) h i j e =
     ap negsuc (omega arith)
 
 -- ---- whole numbers above a bound
-natural_some : (z : ℤ) (d : ℕ) → natural z ≡ Some d → z ≡ pos d
+natural_some : (z : ℤ) (d : ℕ) → elim z [ pos n ↦ Some n | negsuc n ↦ None ] ≡ Some d → z ≡ pos d
 natural_some (pos n) d e = cc
 natural_some (negsuc n) d e = cc
 
@@ -98,7 +99,7 @@ above_equal low v w d e f =
     let b = natural_some (w -ℤ low) d f in
     sym (-ℤ-+ℤ_cancel v low) ∙ ap (λ x. x +ℤ low) (a ∙ sym b) ∙ -ℤ-+ℤ_cancel w low
 
-natural_test : (z : ℤ) → (elim z [ pos n ↦ true | negsuc n ↦ false ]) ≡ true → (n : ℕ) × (z ≡ pos n)
+natural_test : (z : ℤ) → elim z [ pos n ↦ true | negsuc n ↦ false ] ≡ true → (n : ℕ) × (z ≡ pos n)
 natural_test (pos n) e = (n, refl)
 natural_test (negsuc n) e = cc
 

@@ -1,14 +1,16 @@
 -- Bits as octets, and back.
 use Rattle.std.proofs.Common.{◌≡◌, ℕ, zero, suc, ◌*◌, Bool, true, false, cond, ◌&&◌, List, [], ◌∷◌, ◌++◌, length, map, refl, ap, sym, ◌∙◌, arith}
 use Rattle.std.proofs.lemmas.Bool.{and_parts}
-use Rattle.asn1_model.specs.Value.{same_truth, same_list}
-use Rattle.asn1_model.specs.Numbers.{binary, number_after}
+use Rattle.asn1_model.specs.Value.{same_truth}
+use Rattle.asn1_model.specs.Numbers.{binary}
 use Rattle.asn1_model.specs.Form.{exactly}
 use Rattle.asn1_model.specs.Per
 use Rattle.asn1_model.specs.Strings.{is_octet}
 use Rattle.std.specs.List.{list_all}
 use Rattle.asn1_model.specs.Oer.{packed}
 use Rattle.asn1_model.specs.Rules.{octet_bits}
+use Rattle.std.specs.Int.Digits.{number_from_digits_after}
+use lib.Pointwise.{pointwise}
 
 same_truth-eq : (a b : Bool) → same_truth a b ≡ true → a ≡ b
 same_truth-eq true true e = refl
@@ -16,11 +18,11 @@ same_truth-eq true false e = cc
 same_truth-eq false true e = cc
 same_truth-eq false false e = refl
 
-same_list-eq : (xs ys : List Bool) → same_list same_truth xs ys ≡ true → xs ≡ ys
-same_list-eq [] [] e = refl
-same_list-eq [] (y ∷ ys) e = cc
-same_list-eq (x ∷ xs) [] e = cc
-same_list-eq (x ∷ xs) (y ∷ ys) e = let p = and_parts _ _ e in let h = same_truth-eq x y p.0 in let t = same_list-eq xs ys p.1 in cc
+pointwise-eq : (xs ys : List Bool) → pointwise same_truth xs ys ≡ true → xs ≡ ys
+pointwise-eq [] [] e = refl
+pointwise-eq [] (y ∷ ys) e = cc
+pointwise-eq (x ∷ xs) [] e = cc
+pointwise-eq (x ∷ xs) (y ∷ ys) e = let p = and_parts _ _ e in let h = same_truth-eq x y p.0 in let t = pointwise-eq xs ys p.1 in cc
 
 -- whether all lists of a length pass a test
 abbrev every : ℕ → (List Bool → Bool) → Bool
@@ -35,16 +37,16 @@ every_one (suc n) test e (true ∷ l) h = every_one n (λ k. test (true ∷ k)) 
 every_one (suc n) test e (false ∷ l) h = every_one n (λ k. test (false ∷ k)) ((and_parts _ _ e).1) l (omega arith)
 
 abbrev octet : List Bool → ℕ
-octet o = number_after 2 0 (map (λ b. cond b 1 0) o)
+octet o = number_from_digits_after 2 0 (map (λ b. cond b 1 0) o)
 
-octets_back : every 8 (λ l. same_list same_truth (binary 8 (octet l)) l) ≡ true
+octets_back : every 8 (λ l. pointwise same_truth (binary 8 (octet l)) l) ≡ true
 octets_back = refl
 
 octets_small : every 8 (λ l. is_octet (octet l)) ≡ true
 octets_small = refl
 
 octet_back : (l : List Bool) → length l ≡ 8 → binary 8 (octet l) ≡ l
-octet_back l h = same_list-eq _ _ (every_one 8 (λ k. same_list same_truth (binary 8 (octet k)) k) octets_back l h)
+octet_back l h = pointwise-eq _ _ (every_one 8 (λ k. pointwise same_truth (binary 8 (octet k)) k) octets_back l h)
 
 pub packed_back : (k : ℕ) (w : List Bool) → length w ≡ 8 * k → octet_bits (packed w) ≡ w
 packed_back zero [] h = refl

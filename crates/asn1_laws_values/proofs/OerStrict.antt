@@ -5,7 +5,7 @@ use Rattle.asn1_model.specs.Schema.{Counts, Presence, Schema, sequence_of, set_o
 use Rattle.asn1_model.specs.Normal.{is_at_default, is_group_left_out}
 use Rattle.asn1_model.specs.Value.{are_all}
 use Rattle.asn1_model.specs.Tidy.{is_normal, are_normal, is_normal_alternative}
-use Rattle.asn1_model.specs.Tables.{is_required, presence_bits}
+use Rattle.asn1_model.specs.Normal.{is_required, presence_bits}
 use Rattle.asn1_model.specs.Form.{Form, refused, varied, Reads, only_if, written, stands_before, in_order, ascending, present_ones}
 use Rattle.asn1_model.specs.Rules.{strict_oer}
 use Rattle.asn1_model.specs.Oer

@@ -9,14 +9,14 @@ use Rattle.asn1_model.specs.Value.{are_all}
 use Rattle.asn1_model.specs.Numbers.{is_within, is_count_within, fits_128}
 use Rattle.asn1_model.specs.Strings.{is_octet, may_hold, is_of_octets, is_identifier}
 use Rattle.std.specs.List.{list_all}
-use Rattle.asn1_model.specs.Tables.{is_required, presence_bits, item_place, is_bounded}
+use Rattle.asn1_model.specs.Normal.{is_required, presence_bits, item_place, is_bounded}
 use Rattle.asn1_model.specs.Form.{Form, refused, varied, Reads, only_if, written, stands_before, in_order, ascending, present_ones}
 use Rattle.std.specs.Prelude.{is_some}
 use Rattle.asn1_model.specs.Oer
 use Rattle.asn1_model.specs.Numbers.{admits}
 use Rattle.asn1_model.proofs.Forms.{map_parts}
 use Rattle.asn1_laws_values.proofs.Readable.{IsRead, read_refused, read_both, read_varied, read_if, read_given, AllRead, read_joined, all_in_order}
-use Rattle.asn1_model.specs.Typed.{is_of, are_of, is_of_alternative}
+use Rattle.asn1_model.specs.Lawful.{is_of, are_of, is_of_alternative}
 use Rattle.asn1_laws_values.proofs.Lengths.{order_length, each_length, two_true, or_second, unless}
 use Rattle.asn1_laws_values.proofs.OerRead.{open_read, sequence_read}
 

@@ -5,7 +5,7 @@ use Rattle.asn1_model.specs.Schema.{Presence, Schema, sequence_of, set_of, seque
 use Rattle.asn1_model.specs.Normal.{is_at_default, is_group_left_out}
 use Rattle.asn1_model.specs.Value.{are_all}
 use Rattle.asn1_model.specs.Tidy.{is_normal, are_normal, is_normal_alternative}
-use Rattle.asn1_model.specs.Tables.{is_required, presence_bits}
+use Rattle.asn1_model.specs.Normal.{is_required, presence_bits}
 use Rattle.asn1_model.specs.Form.{Form, refused, varied, Reads, only_if, written, stands_before, in_order, ascending, present_ones}
 use Rattle.asn1_model.specs.Rules.{strict_per}
 use Rattle.asn1_model.specs.Per
@@ -56,9 +56,9 @@ module _ (free : Per.Freedom → Bool) (no_default : IsTrue (free Per.default_sp
     unfolding is_normal are_normal is_normal_alternative Per.form Per.component_forms Per.addition_forms Per.alternative_form
 
     pub read_normal : (al : Bool) (s : Schema) (v : Value) → Read (Per.form al s v) → is_normal s v ≡ true
-    read_normal al (sequence_of z c s) (members vs) r = values_normal (λ v. Per.form al s v) (λ v. is_normal s v) vs (λ v r. read_normal al s v r) (sized_read free al z c Per.never _ r)
+    read_normal al (sequence_of z c s) (members vs) r = values_normal (λ v. Per.form al s v) (λ v. is_normal s v) vs (λ v r. read_normal al s v r) (sized_read free al z c (λ c. false) _ r)
     read_normal al (sequence_of z c s) v r = refl
-    read_normal al (set_of z c s) (bag vs) r = values_normal (λ v. Per.form al s v) (λ v. is_normal s v) vs (λ v r. read_normal al s v r) (order_read _ (Per.sized al z c Per.never) (λ us r. sized_read free al z c Per.never us r) r)
+    read_normal al (set_of z c s) (bag vs) r = values_normal (λ v. Per.form al s v) (λ v. is_normal s v) vs (λ v r. read_normal al s v r) (order_read _ (Per.sized al z c (λ c. false)) (λ us r. sized_read free al z c (λ c. false) us r) r)
     read_normal al (set_of z c s) v r = refl
     read_normal al (sequence cs e adds) (fields ps qs) r =
         let q = read_given free (Per.addition_forms al adds qs) r in

@@ -10,14 +10,14 @@ use Rattle.asn1_model.specs.Value.{are_all}
 use Rattle.asn1_model.specs.Numbers.{is_within, is_count_within, fits_128}
 use Rattle.asn1_model.specs.Strings.{is_octet, may_hold, is_of_octets, is_identifier, permitted}
 use Rattle.std.specs.List.{list_all}
-use Rattle.asn1_model.specs.Tables.{is_required, presence_bits, item_place, is_bounded}
+use Rattle.asn1_model.specs.Normal.{is_required, presence_bits, item_place, is_bounded}
 use Rattle.asn1_model.specs.Form.{Form, refused, varied, Reads, only_if, written, stands_before, in_order, ascending, present_ones}
 use Rattle.std.specs.Prelude.{is_some}
 use Rattle.asn1_model.specs.Per
 use Rattle.asn1_model.specs.Numbers.{admits}
 use Rattle.asn1_model.proofs.Forms.{map_parts}
 use Rattle.asn1_laws_values.proofs.Readable.{IsRead, read_refused, read_both, read_varied, read_within, read_if, read_given, AllRead, all_in_order}
-use Rattle.asn1_model.specs.Typed.{is_of, are_of, is_of_alternative}
+use Rattle.asn1_model.specs.Lawful.{is_of, are_of, is_of_alternative}
 use Rattle.asn1_laws_values.proofs.Lengths.{order_length, each_length, two_true, unless}
 use Rattle.asn1_laws_values.proofs.PerRead.{open_read, sequence_read, sized_read}
 
@@ -79,17 +79,12 @@ module _ (free : Per.Freedom → Bool) where
       let q = read_if free (is_within held v && (not (is_bounded b) || fits_128 v)) r in
       two_true _ _ ((and_parts (is_within held v) (not (is_bounded b) || fits_128 v) q.0).0) (with_extension_bit_in b.extensible (is_within b.range v) _ _ q.1)
 
-  added_of : (al : Bool) (e : Bool) (j : Option ℕ) → Read (Per.added_item al e j) → (e && is_some j) ≡ true
-  unfolding Per.added_item
-  added_of al true (Some j) r = refl
-  added_of al true None r = absurd (read_refused free r)
-  added_of al false (Some j) r = absurd (read_refused free r)
-  added_of al false None r = absurd (read_refused free r)
-
   item_of : (al : Bool) (n : ℕ) (e : Bool) (i j : Option ℕ) → Read (Per.item_form al n e i j) → (is_some i || (e && is_some j)) ≡ true
   unfolding Per.item_form
   item_of al n e (Some i) j r = refl
-  item_of al n e None j r = added_of al e j r
+  item_of al n true None (Some j) r = refl
+  item_of al n true None None r = absurd (read_refused free r)
+  item_of al n false None j r = absurd (read_refused free r)
 
   bits_of : (al : Bool) (z : Size) (held : Counts) (bs : List Bool) → Read (Per.sized al z held (Per.string_has_padding 1 (length bs)) (Per.bit_units bs)) → admits z held (length bs) ≡ true
   bits_of al z held bs r = subst (λ n. admits z held n ≡ true) (length-map bs _) (sized_admits al z held _ _ r)
@@ -125,12 +120,12 @@ module _ (free : Per.Freedom → Bool) where
     read_of al (character_string k z a held) (text cs) r = string_of al k z a held cs r
     read_of al object_identifier (arcs ns) r = (read_if free (is_identifier ns) r).0
     read_of al (sequence_of z held s) (members vs) r =
-        let n = subst (λ n. is_count_within held n ≡ true) (each_length (λ v. Per.form al s v) vs) (sized_held al z held Per.never _ r) in
-        two_true _ _ n (values_of (λ v. Per.form al s v) (λ v. is_of s v) vs (λ v r. read_of al s v r) (sized_read free al z held Per.never _ r))
+        let n = subst (λ n. is_count_within held n ≡ true) (each_length (λ v. Per.form al s v) vs) (sized_held al z held (λ c. false) _ r) in
+        two_true _ _ n (values_of (λ v. Per.form al s v) (λ v. is_of s v) vs (λ v r. read_of al s v r) (sized_read free al z held (λ c. false) _ r))
     read_of al (set_of z held s) (bag vs) r =
-        let q = order_read (each (λ v. Per.form al s v) vs) (Per.sized al z held Per.never) r in
-        let n = subst (λ n. is_count_within held n ≡ true) (q.1 ∙ each_length (λ v. Per.form al s v) vs) (sized_held al z held Per.never q.0 q.2) in
-        two_true _ _ n (values_of (λ v. Per.form al s v) (λ v. is_of s v) vs (λ v r. read_of al s v r) (q.3 (sized_read free al z held Per.never q.0 q.2)))
+        let q = order_read (each (λ v. Per.form al s v) vs) (Per.sized al z held (λ c. false)) r in
+        let n = subst (λ n. is_count_within held n ≡ true) (q.1 ∙ each_length (λ v. Per.form al s v) vs) (sized_held al z held (λ c. false) q.0 q.2) in
+        two_true _ _ n (values_of (λ v. Per.form al s v) (λ v. is_of s v) vs (λ v r. read_of al s v r) (q.3 (sized_read free al z held (λ c. false) q.0 q.2)))
     read_of al (sequence cs e adds) (fields ps qs) r =
         let q = read_given free (Per.addition_forms al adds qs) r in
         let p = sequence_read free al e (presence_bits cs ps) (Per.component_forms al cs ps) q.0 q.2 in

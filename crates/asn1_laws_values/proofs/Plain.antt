@@ -7,7 +7,7 @@ use Rattle.std.proofs.lemmas.Int.{ints}
 use Rattle.asn1_model.specs.Value.{Value, truth, number, fields, Parts, end, present}
 use Rattle.asn1_model.specs.Schema.{required, Schema, boolean, integer, group, sequence, Components, no_component, component}
 use Rattle.asn1_model.specs.Normal.{normal, is_empty_group}
-use Rattle.asn1_model.specs.Numbers.{digits, binary, width, octet_width, least_octets, signed_octets, complement, above, natural, is_at_most, is_from, is_to, is_within, fits_128, packed}
+use Rattle.asn1_model.specs.Numbers.{digits, binary, width, octet_width, least_octets, signed_octets, complement, above, is_at_most, is_within, fits_128, packed}
 use Rattle.asn1_model.specs.Form.{exactly, varied, only_if}
 use Rattle.std.specs.Prelude.{is_some}
 use Rattle.asn1_model.specs.Rules.{Rules, uper, aper, uper_strict, aper_strict, oer, coer, encoding, per, octet_encoding}
@@ -19,6 +19,7 @@ use Rattle.asn1_laws_values.specs.Plain.{is_plain, are_plain, fits, each_fits}
 use Rattle.asn1_laws_values.proofs.Places.{places_fewest}
 use Rattle.asn1_laws_values.proofs.Numbers.{length-digits, length-complement, not_below, octets_hold, signed_hold}
 use Rattle.asn1_laws_values.proofs.Written.{Written, written_exactly, written_refused, written_as, written_both, written_placed, written_varied, written_within, written_if, written_when}
+use Rattle.std.specs.Option.{option_map_or}
 
 -- ---- numbers
 octet_width_least : (n k : ℕ) → n < 256 ^ k → octet_width n ≤ k
@@ -32,7 +33,7 @@ complement_is_octets : (k : ℕ) (v : ℤ) → list_all is_octet (complement k v
 complement_is_octets k (pos m) = digits_are_octets k m
 complement_is_octets k (negsuc m) = digits_are_octets k _
 
-natural_there : (z : ℤ) → (elim z [ pos n ↦ true | negsuc n ↦ false ]) ≡ true → (d : ℕ) × (natural z ≡ Some d) × (z ≡ pos d)
+natural_there : (z : ℤ) → elim z [ pos n ↦ true | negsuc n ↦ false ] ≡ true → (d : ℕ) × ((elim z [ pos n ↦ Some n | negsuc n ↦ None ]) ≡ Some d) × (z ≡ pos d)
 natural_there (pos n) e = (n, refl, refl)
 natural_there (negsuc n) e = cc
 
@@ -44,7 +45,7 @@ span_there low high v h i =
     let a = natural_there (v -ℤ low) h in
     let b = natural_there (high -ℤ v) i in
     let c = sum_of_parts low high v a.0 b.0 a.2 b.2 in
-    (a.0, b.0, a.1, ap natural c)
+    (a.0, b.0, a.1, ap (λ z. elim z [ pos n ↦ Some n | negsuc n ↦ None ]) c)
 
 -- ---- the packed rules
 abbrev Bits : Per.BitForm → Bool → Type 0
@@ -121,7 +122,7 @@ three true true false = refl
 three true false w = refl
 three false f w = refl
 
-packed_number : (al : Bool) (low high : Option ℤ) (e t : Bool) (v : ℤ) → (is_some low && is_some high && not e) ≡ true → Bits (only_if (t && (not (is_some low || is_some high || e) || fits_128 v)) (Per.with_extension_bit e (is_from low v && is_to high v) (Per.whole_number al low high v) (Per.unconstrained al v))) (t && fits_128 v && (is_from low v && is_to high v))
+packed_number : (al : Bool) (low high : Option ℤ) (e t : Bool) (v : ℤ) → (is_some low && is_some high && not e) ≡ true → Bits (only_if (t && (not (is_some low || is_some high || e) || fits_128 v)) (Per.with_extension_bit e ((option_map_or (λ x. is_at_most x v) low true) && (option_map_or (λ x. is_at_most v x) high true)) (Per.whole_number al low high v) (Per.unconstrained al v))) (t && fits_128 v && ((option_map_or (λ x. is_at_most x v) low true) && (option_map_or (λ x. is_at_most v x) high true)))
 unfolding Per.with_extension_bit
 packed_number al (Some low) (Some high) false t v h = written_as (three t (fits_128 v) (is_at_most low v && is_at_most v high)) (written_if (t && fits_128 v) _ ((is_at_most low v && is_at_most v high) && true) (λ e. written_if (is_at_most low v && is_at_most v high) _ true (λ k. let k' = and_parts _ _ k in whole_written al low high v k'.0 k'.1)))
 packed_number al (Some low) (Some high) true t v h = cc
@@ -224,7 +225,7 @@ bounded_written (pos low) (negsuc high) (pos n) f h i = absurd (not_below n high
 bounded_written (pos low) high (negsuc n) f h i = absurd (not_below low n h)
 bounded_written (negsuc low) high v f h i = signed_form_written (Oer.fixed_octets (max (signed_octets (negsuc low)) (signed_octets high))) v f
 
-octets_number : (low high : Option ℤ) (e t : Bool) (v : ℤ) → (is_some low && is_some high && not e) ≡ true → Octets (only_if (t && (not (is_some low || is_some high || e) || fits_128 v)) (cond e (Oer.signed v) (only_if (is_from low v && is_to high v) (Oer.bounded low high v)))) (t && fits_128 v && (is_from low v && is_to high v))
+octets_number : (low high : Option ℤ) (e t : Bool) (v : ℤ) → (is_some low && is_some high && not e) ≡ true → Octets (only_if (t && (not (is_some low || is_some high || e) || fits_128 v)) (cond e (Oer.signed v) (only_if ((option_map_or (λ x. is_at_most x v) low true) && (option_map_or (λ x. is_at_most v x) high true)) (Oer.bounded low high v)))) (t && fits_128 v && ((option_map_or (λ x. is_at_most x v) low true) && (option_map_or (λ x. is_at_most v x) high true)))
 octets_number (Some low) (Some high) false t v h = written_as (three t (fits_128 v) (is_at_most low v && is_at_most v high)) (written_if (t && fits_128 v) _ ((is_at_most low v && is_at_most v high) && true) (λ e. written_if (is_at_most low v && is_at_most v high) _ true (λ k. let k' = and_parts _ _ k in bounded_written low high v ((and_parts t _ e).1) k'.0 k'.1)))
 octets_number (Some low) (Some high) true t v h = cc
 octets_number (Some low) None e t v h = cc

@@ -1,17 +1,18 @@
 -- A lawful type is lawful with each default in its normal form, and has the same values.
 use Rattle.std.proofs.Common.{◌≡◌, ℕ, zero, suc, Bool, true, false, not, ◌&&◌, ◌||◌, List, [], ◌∷◌, ◌++◌, refl, ap, sym, ◌∙◌}
 use Rattle.std.proofs.lemmas.Bool.{and_parts, and_from}
-use Rattle.asn1_model.specs.Value.{Value, same_list, members, bag, fields, chosen, Parts, end, absent, present}
+use Rattle.asn1_model.specs.Value.{Value, members, bag, fields, chosen, Parts, end, absent, present}
 use Rattle.asn1_model.specs.Schema.{Tag, Presence, required, optional, by_default, Schema, sequence_of, set_of, sequence, set, group, choice, Components, no_component, component, Alternatives, no_alternative, alternative}
 use Rattle.asn1_model.specs.Normal.{normal}
 use Rattle.asn1_model.specs.Value.{are_all}
 use Rattle.asn1_model.specs.Numbers.{is_count_within}
-use Rattle.asn1_model.specs.Tables.{is_required}
-use Rattle.asn1_model.specs.Typed.{member_count, is_of, are_of, is_of_alternative}
-use Rattle.asn1_model.specs.Lawful.{tag_less, tag_same, are_distinct, are_ascending, component_tags, component_places, smallest, alternative_tags, are_no_components, is_empty, is_group, is_optional, has_no_group, has_optional_groups, is_sequence_table, begins_with, has_typed_default, is_lawful, are_lawful, are_lawful_alternatives}
+use Rattle.asn1_model.specs.Normal.{is_required}
+use Rattle.asn1_model.specs.Lawful.{member_count, is_of, are_of, is_of_alternative, are_groups_in_place}
+use Rattle.asn1_model.specs.Lawful.{tag_less, tag_same, are_distinct, are_ascending, component_tags, component_places, smallest, alternative_tags, are_no_components, is_empty, is_group, is_optional, is_sequence_table, begins_with, has_typed_default, is_lawful, are_lawful, are_lawful_alternatives}
 use Rattle.asn1_laws_values.proofs.Typed.{normal_is_of}
 use Rattle.asn1_laws_values.specs.Tidied.{changed_default, tidied, tidied_each, tidied_alternatives}
 use Rattle.asn1_laws_values.proofs.Carried.{tidied_normal}
+use lib.Pointwise.{pointwise}
 
 -- ---- values of the type
 required_still : (f : Value → Value) (o : Presence) → is_required (changed_default f o) ≡ is_required o
@@ -80,12 +81,12 @@ unfolding tidied_alternatives
 alternative_tags_still no_alternative = refl
 alternative_tags_still (alternative t s os) = ap (λ l. t ∷ l) (alternative_tags_still os)
 
-no_group_still : (cs : Components) → has_no_group (tidied_each cs) ≡ has_no_group cs
+no_group_still : (cs : Components) → are_groups_in_place false (tidied_each cs) ≡ are_groups_in_place false cs
 unfolding tidied_each
 no_group_still no_component = refl
 no_group_still (component t o s cs) = λ i. not (group_still s i) && no_group_still cs i
 
-groups_still : (cs : Components) → has_optional_groups (tidied_each cs) ≡ has_optional_groups cs
+groups_still : (cs : Components) → are_groups_in_place true (tidied_each cs) ≡ are_groups_in_place true cs
 unfolding tidied_each
 groups_still no_component = refl
 groups_still (component t o s cs) = λ i. (not (group_still s i) || optional_still (λ d. normal s d) o i) && groups_still cs i
@@ -93,10 +94,10 @@ groups_still (component t o s cs) = λ i. (not (group_still s i) || optional_sti
 -- with which tags a type begins
 begins_still : (ts : List Tag) (s : Schema) → begins_with ts (tidied s) ≡ begins_with ts s
 unfolding tidied
-begins_still ts (group cs) = ap (same_list tag_same ts) (tags_still cs)
+begins_still ts (group cs) = ap (pointwise tag_same ts) (tags_still cs)
 begins_still (t ∷ []) s = refl
-begins_still [] (choice roots e adds) = λ i. same_list tag_same [] (alternative_tags_still roots i ++ alternative_tags_still adds i)
-begins_still (t ∷ u ∷ ts) (choice roots e adds) = λ i. same_list tag_same (t ∷ u ∷ ts) (alternative_tags_still roots i ++ alternative_tags_still adds i)
+begins_still [] (choice roots e adds) = λ i. pointwise tag_same [] (alternative_tags_still roots i ++ alternative_tags_still adds i)
+begins_still (t ∷ u ∷ ts) (choice roots e adds) = λ i. pointwise tag_same (t ∷ u ∷ ts) (alternative_tags_still roots i ++ alternative_tags_still adds i)
 begins_still ts s = refl
 
 table_still : (cs : Components) (e : Bool) (adds : Components) → is_sequence_table (tidied_each cs) e (tidied_each adds) ≡ is_sequence_table cs e adds

@@ -3,12 +3,13 @@ use Rattle.std.proofs.Common.{◌≡◌, ℕ, zero, suc, Bool, true, false, not,
 use Rattle.std.proofs.lemmas.Bool.{and_parts, and_from, false≢true}
 use Rattle.asn1_model.specs.Value.{Value, members, bag, fields, chosen, Values, no_more, member, Parts, end, absent, present, map_members}
 use Rattle.asn1_model.specs.Schema.{Tag, Presence, required, optional, by_default, Schema, sequence_of, set_of, sequence, set, group, choice, Components, no_component, component, Alternatives, no_alternative, alternative}
-use Rattle.asn1_model.specs.Normal.{normal, normal_parts, normal_alternative, kept, is_default_by, is_empty_group}
+use Rattle.asn1_model.specs.Normal.{normal, normal_parts, normal_alternative, is_default_by, is_empty_group}
 use Rattle.asn1_model.specs.Value.{are_all}
 use Rattle.asn1_model.specs.Numbers.{is_count_within}
-use Rattle.asn1_model.specs.Tables.{is_required}
-use Rattle.asn1_model.specs.Lawful.{is_lawful, are_lawful, are_lawful_alternatives, is_group, is_optional, has_no_group, has_optional_groups}
-use Rattle.asn1_model.specs.Typed.{member_count, is_of, are_of, is_of_alternative}
+use Rattle.asn1_model.specs.Normal.{is_required}
+use Rattle.asn1_model.specs.Lawful.{is_lawful, are_lawful, are_lawful_alternatives, is_group, is_optional, are_groups_in_place}
+use Rattle.asn1_model.specs.Lawful.{member_count, is_of, are_of, is_of_alternative}
+use Rattle.std.specs.Prelude.{cond}
 
 -- ---- members
 all_mapped : (f : Value → Value) (test : Value → Bool) → ((v : Value) → test v ≡ true → test (f v) ≡ true) → (vs : Values) → are_all test vs ≡ true → are_all test (map_members f vs) ≡ true
@@ -20,9 +21,9 @@ as_many f no_more = refl
 as_many f (member v vs) = ap suc (as_many f vs)
 
 -- ---- what is left out may be absent
-no_groups : (cs : Components) → has_no_group cs ≡ true → has_optional_groups cs ≡ true
+no_groups : (cs : Components) → are_groups_in_place false cs ≡ true → are_groups_in_place true cs ≡ true
 no_groups no_component h = refl
-no_groups (component t o s cs) h = let p = and_parts (not (is_group s)) (has_no_group cs) h in and_from _ _ (ap (λ b. b || is_optional o) p.0) (no_groups cs p.1)
+no_groups (component t o s cs) h = let p = and_parts (not (is_group s)) (are_groups_in_place false cs) h in and_from _ _ (ap (λ b. b || is_optional o) p.0) (no_groups cs p.1)
 
 empty_is_group : (s : Schema) (v : Value) → is_empty_group s v ≡ true → is_group s ≡ true
 empty_is_group (group cs) v h = refl
@@ -41,7 +42,7 @@ may_be_absent form required s v h e = absurd (false≢true (group_optional (is_g
 may_be_absent form optional s v h e = refl
 may_be_absent form (by_default d) s v h e = refl
 
-kept_of : (a : Bool) (t : List Tag) (o : Presence) (s : Schema) (cs : Components) (v : Value) (ps : Parts) → (a ≡ true → not (is_required o) ≡ true) → is_of s v ≡ true → are_of cs ps ≡ true → are_of (component t o s cs) (kept a v ps) ≡ true
+kept_of : (a : Bool) (t : List Tag) (o : Presence) (s : Schema) (cs : Components) (v : Value) (ps : Parts) → (a ≡ true → not (is_required o) ≡ true) → is_of s v ≡ true → are_of cs ps ≡ true → are_of (component t o s cs) (cond a (absent ps) (present v ps)) ≡ true
 unfolding are_of
 kept_of true t o s cs v ps m h k = and_from _ _ (m refl) k
 kept_of false t o s cs v ps m h k = and_from _ _ h k
@@ -79,17 +80,17 @@ mutual
   normal_is_of (choice roots e adds) v l h = h
   normal_is_of s v l h = h
 
-  normal_are_of : (cs : Components) (ps : Parts) → has_optional_groups cs ≡ true → are_lawful cs ≡ true → are_of cs ps ≡ true → are_of cs (normal_parts cs ps) ≡ true
+  normal_are_of : (cs : Components) (ps : Parts) → are_groups_in_place true cs ≡ true → are_lawful cs ≡ true → are_of cs ps ≡ true → are_of cs (normal_parts cs ps) ≡ true
   normal_are_of no_component ps g l h = h
   normal_are_of (component t o s cs) (present v ps) g l h =
       let p = and_parts (is_of s v) (are_of cs ps) h in
-      let q = and_parts (not (is_group s) || is_optional o) (has_optional_groups cs) g in
+      let q = and_parts (not (is_group s) || is_optional o) (are_groups_in_place true cs) g in
       let w = normal_is_of s v ((and_parts _ _ ((and_parts _ _ l).0)).1) p.0 in
       let r = normal_are_of cs ps q.1 ((and_parts _ _ l).1) p.1 in
       kept_of (is_default_by (λ d. normal s d) o (normal s v) || is_empty_group s (normal s v)) t o s cs (normal s v) (normal_parts cs ps) (may_be_absent (λ d. normal s d) o s (normal s v) q.0) w r
   normal_are_of (component t o s cs) (absent ps) g l h =
       let p = and_parts (not (is_required o)) (are_of cs ps) h in
-      let q = and_parts (not (is_group s) || is_optional o) (has_optional_groups cs) g in
+      let q = and_parts (not (is_group s) || is_optional o) (are_groups_in_place true cs) g in
       and_from _ _ p.0 (normal_are_of cs ps q.1 ((and_parts _ _ l).1) p.1)
   normal_are_of (component t o s cs) end g l h = h
 

@@ -6,7 +6,7 @@ use Rattle.asn1_model.specs.Schema.{Tag, Size, Counts, Presence, required, optio
 use Rattle.asn1_model.specs.Normal.{normal, normal_parts, normal_alternative, is_empty_group, is_default_by, is_at_default, is_group_left_out}
 use Rattle.asn1_model.specs.Tidy.{has_normal_default, is_tidy, are_tidy, are_tidy_alternatives}
 use Rattle.asn1_model.specs.Form.{refused, both, given}
-use Rattle.asn1_model.specs.Tables.{presence_bits, is_required, alternative_count}
+use Rattle.asn1_model.specs.Normal.{presence_bits, is_required, alternative_count}
 use Rattle.asn1_model.specs.Rules.{Rules, uper, aper, uper_strict, aper_strict, oer, coer, canonical, encoding, per, octet_encoding, IsEncoding}
 use Rattle.asn1_model.specs.Per
 use Rattle.asn1_model.specs.Oer
@@ -120,7 +120,7 @@ module _ (n : ℕ) (z : Size) (held : Counts) (s s' : Schema) (a : AlikeTo n s s
 
   list_packed : (al : Bool) (v : Value) → depth v ≤ suc n → Per.form al (sequence_of z held s) v ≡ Per.form al (sequence_of z held s') v
   unfolding Per.form depth
-  list_packed al (members vs) d = ap (Per.sized al z held Per.never) (each_alike n (λ v. Per.form al s v) (λ v. Per.form al s' v) (λ v h. a.packed_is al v h) vs (omega arith))
+  list_packed al (members vs) d = ap (Per.sized al z held (λ c. false)) (each_alike n (λ v. Per.form al s v) (λ v. Per.form al s' v) (λ v h. a.packed_is al v h) vs (omega arith))
   list_packed al v d = refl
 
   list_octets : (v : Value) → depth v ≤ suc n → Oer.form (sequence_of z held s) v ≡ Oer.form (sequence_of z held s') v
@@ -138,7 +138,7 @@ module _ (n : ℕ) (z : Size) (held : Counts) (s s' : Schema) (a : AlikeTo n s s
 
   bag_packed : (al : Bool) (v : Value) → depth v ≤ suc n → Per.form al (set_of z held s) v ≡ Per.form al (set_of z held s') v
   unfolding Per.form depth
-  bag_packed al (bag vs) d = ap (λ xs. Per.in_any_order xs (Per.sized al z held Per.never)) (each_alike n (λ v. Per.form al s v) (λ v. Per.form al s' v) (λ v h. a.packed_is al v h) vs (omega arith))
+  bag_packed al (bag vs) d = ap (λ xs. Per.in_any_order xs (Per.sized al z held (λ c. false))) (each_alike n (λ v. Per.form al s v) (λ v. Per.form al s' v) (λ v h. a.packed_is al v h) vs (omega arith))
   bag_packed al v d = refl
 
   bag_octets : (v : Value) → depth v ≤ suc n → Oer.form (set_of z held s) v ≡ Oer.form (set_of z held s') v

@@ -2,9 +2,10 @@
 -- of additions that is absent to one in which nothing is there, and the order of a bag means nothing (X.680 28).
 use Rattle.std.specs.Prelude.{ℕ, zero, suc, ◌==◌, Bool, true, false, ◌&&◌, ◌||◌}
 use Rattle.asn1_model.specs.Value.{Value, members, bag, fields, chosen, Values, no_more, member, Parts, absent, present}
-use Rattle.asn1_model.specs.Value.{same, same_parts, are_absent, with_rest, taken_out}
+use Rattle.asn1_model.specs.Value.{same, same_parts, are_absent, taken_out}
 use Rattle.asn1_model.specs.Schema.{Presence, by_default, Schema, sequence_of, set_of, sequence, set, group, choice}
 use Rattle.asn1_model.specs.Schema.{Components, component, Alternatives, no_alternative, alternative}
+use Rattle.std.specs.Option.{option_map_or}
 
 -- Equal lists, by what makes their members equal.
 abbrev pub equal_members : (Value → Value → Bool) → Values → Values → Bool
@@ -15,7 +16,7 @@ equal_members equal vs ws = false
 -- Equal bags: each member of the one has its own equal one in the other.
 abbrev pub equal_bags : (Value → Value → Bool) → Values → Values → Bool
 equal_bags equal no_more no_more = true
-equal_bags equal (member v vs) ws = with_rest (taken_out (λ w. equal v w) ws) (λ rest. equal_bags equal vs rest)
+equal_bags equal (member v vs) ws = option_map_or (λ rest. equal_bags equal vs rest) (taken_out (λ w. equal v w) ws) false
 equal_bags equal vs ws = false
 
 -- Whether a value is equal to the default.

@@ -1,10 +1,10 @@
 -- Laws of the definitions.
-use Rattle.std.specs.Prelude.{◌≡◌, ℕ, Bool, true, IsTrue, List, Some}
+use Rattle.std.specs.Prelude.{◌≡◌, ℕ, Bool, true, false, IsTrue, List, Some}
 use Rattle.asn1_model.specs.Value.{Value}
 use Rattle.asn1_model.specs.Schema.{Schema}
 use Rattle.asn1_model.specs.Normal.{normal}
 use Rattle.asn1_model.specs.Tidy.{is_normal}
-use Rattle.asn1_model.specs.Form.{written, Reads, canonically}
+use Rattle.asn1_model.specs.Form.{written, Reads}
 use Rattle.asn1_model.specs.Rules.{Rules, uper, aper, uper_strict, aper_strict, oer, coer, canonical, IsEncoding}
 use Rattle.asn1_model.specs.Per
 use Rattle.asn1_model.specs.Oer
@@ -23,6 +23,10 @@ abbrev pub OerWidens : Type 0
 OerWidens =
     (few more : Oer.Freedom → Bool) (x : Oer.OctetForm) (p : ℕ) (w : List ℕ)
     → ((c : Oer.Freedom) → IsTrue (few c) → IsTrue (more c)) → Reads few x p w → Reads more x p w
+
+-- No freedom.
+abbrev pub canonically : {F : Type 0} → F → Bool
+canonically c = false
 
 -- A reader with no freedom takes the canonical text and no other.
 abbrev pub PerCanonical : Type 0

@@ -5,7 +5,7 @@ use Rattle.asn1_model.specs.Schema.{Schema}
 use Rattle.asn1_model.specs.Normal.{normal}
 use Rattle.asn1_model.specs.Lawful.{IsLawful}
 use Rattle.asn1_model.specs.Rules.{Rules, IsEncoding}
-use Rattle.asn1_model.specs.Typed.{is_of}
+use Rattle.asn1_model.specs.Lawful.{is_of}
 use Rattle.asn1_model.specs.Versions.{Extends}
 use Rattle.asn1_laws_values.specs.Equal.{are_equal}
 

@@ -6,7 +6,7 @@ use Rattle.asn1_model.specs.Normal.{normal}
 use Rattle.asn1_model.specs.Tidy.{is_normal, IsTidy}
 use Rattle.asn1_model.specs.Lawful.{IsLawful}
 use Rattle.asn1_model.specs.Rules.{Rules, canonical, IsEncoding}
-use Rattle.asn1_model.specs.Typed.{is_of}
+use Rattle.asn1_model.specs.Lawful.{is_of}
 use Rattle.asn1_model.specs.Versions.{grow, drop, Extends}
 use Rattle.asn1_laws_values.specs.Tidied.{tidied}
 use Rattle.asn1_laws_values.specs.Unfolding.{AgreesTo, AreRecursive, unfolded}

@@ -2,7 +2,7 @@
 use Rattle.std.proofs.Common.{◌≡◌, ℕ, zero, suc, ◌≤◌, Bool, true, false, cond, Option, Some, None, option_map, ap, sym, subst, arith}
 use Rattle.asn1_model.specs.Value.{Value, item, members, bag, fields, chosen, Values, no_more, member, Parts, absent, present, depth, depth_of_members, depth_of_parts}
 use Rattle.asn1_model.specs.Schema.{Schema, enumerated, sequence_of, set_of, sequence, set, group, choice, Components, no_component, component, Alternatives, alternative}
-use Rattle.asn1_model.specs.Versions.{carried, lessen, carried_parts, carried_alternative, map_each}
+use Rattle.asn1_model.specs.Versions.{carried, carried_parts, carried_alternative, map_each}
 use Rattle.asn1_model.proofs.Forms.{chain_parts, map_parts}
 use Rattle.asn1_laws_values.proofs.Messages.{some_parts}
 use Rattle.asn1_laws_versions.proofs.Extending.{both_parts_parts}
@@ -25,15 +25,15 @@ if_known false x u e = cc
 mutual
   unfolding depth depth_of_members depth_of_parts carried carried_parts carried_alternative
 
-  pub lessened_depth : (s s' : Schema) (v u : Value) → lessen s s' v ≡ Some u → depth u ≤ depth v
+  pub lessened_depth : (s s' : Schema) (v u : Value) → carried false s s' v ≡ Some u → depth u ≤ depth v
   lessened_depth (enumerated roots m adds) (enumerated roots' m' adds') (item i) u e = subst (λ u. depth u ≤ depth (item i)) (if_known _ (item i) u e) (omega arith)
   lessened_depth (sequence_of z c s) (sequence_of z' c' s') (members vs) u e =
-      let a = map_parts (map_each (λ v. lessen s s' v) vs) members u e in
-      let h = members_less_deep (λ v. lessen s s' v) vs a.0 (λ v u i. lessened_depth s s' v u i) a.1 in
+      let a = map_parts (map_each (λ v. carried false s s' v) vs) members u e in
+      let h = members_less_deep (λ v. carried false s s' v) vs a.0 (λ v u i. lessened_depth s s' v u i) a.1 in
       subst (λ u. depth u ≤ depth (members vs)) a.2 (omega arith)
   lessened_depth (set_of z c s) (set_of z' c' s') (bag vs) u e =
-      let a = map_parts (map_each (λ v. lessen s s' v) vs) bag u e in
-      let h = members_less_deep (λ v. lessen s s' v) vs a.0 (λ v u i. lessened_depth s s' v u i) a.1 in
+      let a = map_parts (map_each (λ v. carried false s s' v) vs) bag u e in
+      let h = members_less_deep (λ v. carried false s s' v) vs a.0 (λ v u i. lessened_depth s s' v u i) a.1 in
       subst (λ u. depth u ≤ depth (bag vs)) a.2 (omega arith)
   lessened_depth (sequence cs m adds) (sequence cs' m' adds') (fields ps qs) u e =
       let a = both_parts_parts (carried_parts false cs cs' ps) (carried_parts false adds adds' qs) u e in
@@ -62,7 +62,7 @@ mutual
 
   lessened_parts_depth : (cs cs' : Components) (ps us : Parts) → carried_parts false cs cs' ps ≡ Some us → depth_of_parts us ≤ depth_of_parts ps
   lessened_parts_depth (component t o s cs) (component t' o' s' cs') (present v ps) us e =
-      let d = chain_parts (lessen s s' v) (λ w. option_map (λ qs. present w qs) (carried_parts false cs cs' ps)) us e in
+      let d = chain_parts (carried false s s' v) (λ w. option_map (λ qs. present w qs) (carried_parts false cs cs' ps)) us e in
       let a = map_parts (carried_parts false cs cs' ps) (λ qs. present d.0 qs) us d.2 in
       let h = lessened_depth s s' v d.0 d.1 in
       let k = lessened_parts_depth cs cs' ps a.0 a.1 in

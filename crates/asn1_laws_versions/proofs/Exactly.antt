@@ -9,7 +9,7 @@ use Rattle.asn1_model.specs.Form.{Reads}
 use Rattle.asn1_model.specs.Rules.{Rules, uper, aper, uper_strict, aper_strict, oer, coer, canonical, encoding, per, octet_encoding, octet_bits, of_moderate_length, IsEncoding, lenient}
 use Rattle.asn1_model.specs.Per
 use Rattle.asn1_model.specs.Oer
-use Rattle.asn1_model.specs.Versions.{Extends, drop, grow, lessen}
+use Rattle.asn1_model.specs.Versions.{Extends, drop, grow, carried}
 use Rattle.asn1_laws_values.proofs.Covers.{Covers, covers_same, covers_within}
 use Rattle.asn1_laws_values.proofs.Messages.{per_text, octet_text}
 use Rattle.asn1_laws_values.proofs.Normals.{normal_normal, tells_normal}
@@ -36,7 +36,7 @@ abbrev octets_free : Oer.Freedom → Bool
 octets_free c = lenient c
 
 -- ---- beginnings
-packed_older : (al : Bool) (old new : Schema) (v x : Value) (w a y z : List ℕ) → is_lawful old ≡ true → is_lawful new ≡ true → Extends old new → option_and_then of_moderate_length (per al new v) ≡ Some w → Reads packed_free (Per.message al old x) 0 (octet_bits a) → a ++ y ≡ w ++ z → (a ≡ w) × There (lessen old new v)
+packed_older : (al : Bool) (old new : Schema) (v x : Value) (w a y z : List ℕ) → is_lawful old ≡ true → is_lawful new ≡ true → Extends old new → option_and_then of_moderate_length (per al new v) ≡ Some w → Reads packed_free (Per.message al old x) 0 (octet_bits a) → a ++ y ≡ w ++ z → (a ≡ w) × There (carried false old new v)
 unfolding Per.message
 packed_older al old new v x w a y z l k h e f q =
     let t = per_text al new v w e in
@@ -52,7 +52,7 @@ packed_newer al old new u x w a y z l k h e f q =
     let r = octet_fronts packed_free _ _ _ w a z y (complete_alike packed_free _ _ _ (packing.way packed_free refl refl true al old new h l k u x)) (c.reads 0 (octet_bits w) t.1) f (sym q) in
     (sym r.0, r.1.1 refl)
 
-octets_older : (old new : Schema) (v x : Value) (w a y z : List ℕ) → is_lawful old ≡ true → is_lawful new ≡ true → Extends old new → option_and_then of_moderate_length (octet_encoding new v) ≡ Some w → Reads octets_free (Oer.form old x) 0 a → a ++ y ≡ w ++ z → (a ≡ w) × There (lessen old new v)
+octets_older : (old new : Schema) (v x : Value) (w a y z : List ℕ) → is_lawful old ≡ true → is_lawful new ≡ true → Extends old new → option_and_then of_moderate_length (octet_encoding new v) ≡ Some w → Reads octets_free (Oer.form old x) 0 a → a ++ y ≡ w ++ z → (a ≡ w) × There (carried false old new v)
 octets_older old new v x w a y z l k h e f q =
     let t = octet_text new v w e in
     let r = (filing.way octets_free refl refl false old new h l k x v).fronts 0 a w y z f ((covers_same octets_free (Oer.form new v)).reads 0 w t.1) q in
@@ -161,7 +161,7 @@ left_is_read r old new v x w k h e q =
     let l = lessen_lifted old new (normal new v) q.0 x h q.1 q.2 in
     let n : normal new l.0 ≡ l.0 = normal_stays new l.0 (stays_normal new (normal new v) l.0 (same_turned l.0 (normal new v) l.2) (normal_normal new v)) in
     let c : canonical r new l.0 ≡ canonical r new v = canonical_same r new l.0 v k (subst (λ y. same y (normal new v) ≡ true) (sym n) l.2) in
-    older_reads r old new l.0 x w h (ap (lessen old new) n ∙ l.1) q.3 (c ∙ e)
+    older_reads r old new l.0 x w h (ap (carried false old new) n ∙ l.1) q.3 (c ∙ e)
 
 grown_is_read : (r : Rules) (old new : Schema) (u x : Value) (w : List ℕ) → is_lawful old ≡ true → Extends old new → canonical r old u ≡ Some w → IsGrown old new u x → IsEncoding r new x w
 grown_is_read r old new u x w k h e q =

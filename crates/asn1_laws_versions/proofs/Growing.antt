@@ -3,15 +3,16 @@ use Rattle.std.proofs.Common.{◌≡◌, ◌⊎◌, inl, inr, ℕ, zero, suc, Bo
 use Rattle.std.proofs.lemmas.Bool.{and_parts}
 use Rattle.asn1_model.specs.Value.{Value, members, bag, fields, chosen, Values, no_more, member, Parts, end, absent, present, map_members, are_absent}
 use Rattle.asn1_model.specs.Schema.{Tag, Presence, required, optional, by_default, Schema, cut, boolean, null, integer, enumerated, bit_string, octet_string, character_string, object_identifier, sequence_of, set_of, sequence, set, group, choice, Components, no_component, component, Alternatives, no_alternative, alternative}
-use Rattle.asn1_model.specs.Normal.{normal, normal_parts, normal_alternative, is_empty_group, is_default_by, kept}
+use Rattle.asn1_model.specs.Normal.{normal, normal_parts, normal_alternative, is_empty_group, is_default_by}
 use Rattle.asn1_model.specs.Value.{are_all}
-use Rattle.asn1_model.specs.Typed.{is_of, are_of, is_of_alternative}
+use Rattle.asn1_model.specs.Lawful.{is_of, are_of, is_of_alternative}
 use Rattle.asn1_model.specs.Versions.{carried, grow, carried_parts, carried_alternative, map_each, KeepsPresence, Extends, ExtendsEach, ExtendsAlternatives}
 use Rattle.asn1_model.proofs.Forms.{chain_parts, map_parts}
 use Rattle.asn1_laws_versions.proofs.Extending.{both_parts_parts, both_parts_from}
 use Rattle.asn1_laws_versions.proofs.Grown.{each_of, each_again}
 use Rattle.asn1_laws_versions.proofs.Alike.{carried_alike}
 use Rattle.asn1_laws_versions.proofs.Normals.{normal_grown}
+use Rattle.std.specs.Prelude.{cond}
 
 -- a value that can be carried over, and parts
 abbrev Grows : (Value → Option Value) → Value → Type 0
@@ -35,7 +36,7 @@ members_grow g f test (member v vs) us k t e =
     (member y.0 ys.0, each_again g v y.0 vs ys.0 y.1 ys.1)
 
 -- ---- what is left out in the normal form
-kept_absent : (t t' : List Tag) (o o' : Presence) (s s' : Schema) (cs cs' : Components) (b : Bool) (x : Value) (ps : Parts) → (are_absent ps ≡ true → PartsGrow cs cs' ps) → are_absent (kept b x ps) ≡ true → PartsGrow (component t o s cs) (component t' o' s' cs') (kept b x ps)
+kept_absent : (t t' : List Tag) (o o' : Presence) (s s' : Schema) (cs cs' : Components) (b : Bool) (x : Value) (ps : Parts) → (are_absent ps ≡ true → PartsGrow cs cs' ps) → are_absent (cond b (absent ps) (present x ps)) ≡ true → PartsGrow (component t o s cs) (component t' o' s' cs') (cond b (absent ps) (present x ps))
 unfolding carried_parts
 kept_absent t t' o o' s s' cs cs' true x ps k a = let u = k a in (absent u.0, ap (option_map absent) u.1)
 kept_absent t t' o o' s s' cs cs' false x ps k a = cc
@@ -76,7 +77,7 @@ left_out_grows s s' o o' v h p k (inl e) = default_grows s s' o o' (normal s v) 
 left_out_grows s s' o o' v h p k (inr e) = empty_grows s s' v h k e
 
 -- a part that is left out or kept, and the further ones
-kept_grows : (t t' : List Tag) (o o' : Presence) (s s' : Schema) (cs cs' : Components) (b : Bool) (x : Value) (ps us : Parts) → (b ≡ true → Grows (λ v. grow s s' v) x) → carried_parts true (component t o s cs) (component t' o' s' cs') (kept b x ps) ≡ Some us → Grows (λ v. grow s s' v) x × PartsGrow cs cs' ps
+kept_grows : (t t' : List Tag) (o o' : Presence) (s s' : Schema) (cs cs' : Components) (b : Bool) (x : Value) (ps us : Parts) → (b ≡ true → Grows (λ v. grow s s' v) x) → carried_parts true (component t o s cs) (component t' o' s' cs') (cond b (absent ps) (present x ps)) ≡ Some us → Grows (λ v. grow s s' v) x × PartsGrow cs cs' ps
 unfolding carried_parts
 kept_grows t t' o o' s s' cs cs' true x ps us k e = let a = map_parts (carried_parts true cs cs' ps) absent us e in (k refl, (a.0, a.1))
 kept_grows t t' o o' s s' cs cs' false x ps us k e =

@@ -1,12 +1,13 @@
 -- Values that are carried over to a newer version are equal exactly if they were, and normal exactly as they were.
 use Rattle.std.proofs.Common.{◌≡◌, ℕ, zero, suc, ◌==◌, Bool, true, false, cond, ◌&&◌, Option, Some, None, option_map, refl, ap, sym, subst}
 use Rattle.std.proofs.lemmas.Bool.{eqb-true}
-use Rattle.asn1_model.specs.Value.{Value, members, bag, fields, chosen, Values, no_more, member, Parts, end, absent, present, same, same_members, same_bag, same_parts, same_truth, taken_out, with_rest}
+use Rattle.asn1_model.specs.Value.{Value, members, bag, fields, chosen, Values, no_more, member, Parts, end, absent, present, same, same_members, same_bag, same_parts, same_truth, taken_out}
 use Rattle.asn1_model.specs.Schema.{Schema, cut, boolean, null, integer, enumerated, bit_string, octet_string, character_string, object_identifier, sequence_of, set_of, sequence, set, group, choice, Components, no_component, component, Alternatives, no_alternative, alternative}
 use Rattle.asn1_model.specs.Versions.{carried, grow, carried_parts, carried_alternative, all_absent, map_each, Extends, ExtendsEach, ExtendsAlternatives}
 use Rattle.asn1_model.proofs.Forms.{chain_parts, map_parts}
 use Rattle.asn1_laws_values.proofs.Messages.{some_parts}
 use Rattle.asn1_laws_versions.proofs.Extending.{both_parts_parts, absent_of}
+use Rattle.std.specs.Option.{option_map_or}
 
 -- ---- equality
 as_before : (u u' t t' : Value) (b : Bool) → u' ≡ u → t' ≡ t → same u' t' ≡ b → same u t ≡ b
@@ -68,7 +69,7 @@ taken_grown g v u (member w ws) ts k e f =
     let b = each_of g w ws ts f in
     subst (λ ts. Rests g (taken_out (λ w. same v w) (member w ws)) (taken_out (λ t. same u t) ts)) b.4 (rest_cases g (same v w) (same u b.0) ws b.1 _ _ (k v w u b.0 e b.2) b.3 (more_rest g w b.0 _ _ b.2 (taken_grown g v u ws b.1 k e b.3)))
 
-with_rests : (g : Value → Option Value) (o p : Option Values) (f h : Values → Bool) → Rests g o p → ((r r' : Values) → map_each g r ≡ Some r' → h r' ≡ f r) → with_rest p h ≡ with_rest o f
+with_rests : (g : Value → Option Value) (o p : Option Values) (f h : Values → Bool) → Rests g o p → ((r r' : Values) → map_each g r ≡ Some r' → h r' ≡ f r) → option_map_or h p false ≡ option_map_or f o false
 with_rests g None None f h r k = refl
 with_rests g (Some s) (Some s') f h r k = k s s' r
 with_rests g None (Some s') f h r k = absurd r

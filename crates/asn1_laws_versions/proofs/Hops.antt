@@ -7,8 +7,8 @@ use Rattle.asn1_model.specs.Lawful.{IsLawful}
 use Rattle.asn1_model.specs.Normal.{normal}
 use Rattle.asn1_model.specs.Tidy.{is_normal}
 use Rattle.asn1_model.specs.Rules.{Rules, uper, aper, uper_strict, aper_strict, oer, coer, canonical, encoding, of_moderate_length, IsEncoding}
-use Rattle.asn1_model.specs.Typed.{is_of}
-use Rattle.asn1_model.specs.Versions.{Extends, drop, grow, lessen, IsClash}
+use Rattle.asn1_model.specs.Lawful.{is_of}
+use Rattle.asn1_model.specs.Versions.{Extends, drop, grow, IsClash, carried}
 use Rattle.asn1_laws_values.proofs.Messages.{canonical_is_read, some_parts}
 use Rattle.asn1_laws_values.proofs.Normals.{normal_again, normal_normal, tells_normal, not_normal}
 use Rattle.asn1_laws_values.proofs.IsNormal.{stays_normal}
@@ -134,7 +134,7 @@ module _ (old new : Schema) (lo : IsLawful old) (ln : IsLawful new) (ext : Exten
   back_message r u g w o k e c =
       let n = normal_normal old u in
       let b = dropped_back old new (normal old u) (normal new g) ext (normal_is_of old u lo o) n (grown_normal u g o e) in
-      let d : drop old new g ≡ Some (normal old u) = ap (lessen old new) (sym (normal_again new g)) ∙ b in
+      let d : drop old new g ≡ Some (normal old u) = ap (carried false old new) (sym (normal_again new g)) ∙ b in
       let i = normal_depth old u in
       left_message r g (normal old u) w d (λ s. normal_again old u) (omega arith) c
 

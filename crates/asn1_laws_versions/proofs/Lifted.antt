@@ -5,8 +5,8 @@ use Rattle.asn1_model.specs.Value.{Value, item, members, bag, fields, chosen, Va
 use Rattle.asn1_model.specs.Schema.{Schema, cut, boolean, null, integer, enumerated, bit_string, octet_string, character_string, object_identifier, sequence_of, set_of, sequence, set, group, choice, Components, no_component, component, Alternatives, no_alternative, alternative}
 use Rattle.asn1_model.specs.Form.{pick, arranged}
 use Rattle.std.specs.Prelude.{is_some}
-use Rattle.asn1_model.specs.Tables.{item_place}
-use Rattle.asn1_model.specs.Versions.{carried, grow, carried_parts, carried_alternative, lessen, all_absent, map_each, Extends, ExtendsEach, ExtendsAlternatives}
+use Rattle.asn1_model.specs.Normal.{item_place}
+use Rattle.asn1_model.specs.Versions.{carried, grow, carried_parts, carried_alternative, all_absent, map_each, Extends, ExtendsEach, ExtendsAlternatives}
 use Rattle.asn1_model.proofs.Forms.{chain_parts, map_parts}
 use Rattle.asn1_laws_values.proofs.Messages.{some_parts}
 use Rattle.asn1_laws_values.proofs.Arranged.{arranged_parts}
@@ -152,7 +152,7 @@ item_kept false v e = cc
 mutual
   unfolding same same_parts Extends ExtendsEach ExtendsAlternatives carried carried_parts carried_alternative
 
-  pub lessen_lifted : (s s' : Schema) (v u x : Value) → Extends s s' → lessen s s' v ≡ Some u → same x u ≡ true → Lifted (λ v. lessen s s' v) x v
+  pub lessen_lifted : (s s' : Schema) (v u x : Value) → Extends s s' → carried false s s' v ≡ Some u → same x u ≡ true → Lifted (λ v. carried false s s' v) x v
   lessen_lifted (enumerated rs m ds) (enumerated rs' m' ds') (item n) u (item k) h e f =
       let a = item_there (is_some (item_place n rs) || is_some (item_place n ds)) (item n) u e in
       let q : same (item k) (item n) ≡ true = subst (λ u. same (item k) u ≡ true) (sym a.1) f in
@@ -164,18 +164,18 @@ mutual
   lessen_lifted (enumerated rs m ds) (enumerated rs' m' ds') v u (item k) h e f = none_same (item k) u v (some_parts e) f (λ q. false_true q)
   lessen_lifted (enumerated rs m ds) (enumerated rs' m' ds') v u x h e f = itself _ v u x (some_parts e) refl f
   lessen_lifted (sequence_of z c s) (sequence_of z' c' s') (members vs) u (members xs) h e f =
-      let a = map_parts (map_each (λ v. lessen s s' v) vs) members u e in
+      let a = map_parts (map_each (λ v. carried false s s' v) vs) members u e in
       let q : same (members xs) (members a.0) ≡ true = subst (λ u. same (members xs) u ≡ true) (sym a.2) f in
-      let l = members_lifted (λ v. lessen s s' v) vs a.0 xs (λ v u x i j. lessen_lifted s s' v u x h.2 i j) a.1 q in
+      let l = members_lifted (λ v. carried false s s' v) vs a.0 xs (λ v u x i j. lessen_lifted s s' v u x h.2 i j) a.1 q in
       (members l.0, ap (option_map members) l.1, l.2)
-  lessen_lifted (sequence_of z c s) (sequence_of z' c' s') (members vs) u x h e f = let a = map_parts (map_each (λ v. lessen s s' v) vs) members u e in none_same x u (members a.0) a.2 f (λ q. false_true q)
+  lessen_lifted (sequence_of z c s) (sequence_of z' c' s') (members vs) u x h e f = let a = map_parts (map_each (λ v. carried false s s' v) vs) members u e in none_same x u (members a.0) a.2 f (λ q. false_true q)
   lessen_lifted (sequence_of z c s) (sequence_of z' c' s') v u (members xs) h e f = none_same (members xs) u v (some_parts e) f (λ q. false_true q)
   lessen_lifted (sequence_of z c s) (sequence_of z' c' s') v u x h e f = itself _ v u x (some_parts e) refl f
   lessen_lifted (set_of z c s) (set_of z' c' s') (bag vs) u (bag xs) h e f =
-      let a = map_parts (map_each (λ v. lessen s s' v) vs) bag u e in
-      let l = bag_lifted (λ v. lessen s s' v) vs a.0 xs (λ v u x i j. lessen_lifted s s' v u x h.2 i j) a.1 (subst (λ u. same (bag xs) u ≡ true) (sym a.2) f) in
+      let a = map_parts (map_each (λ v. carried false s s' v) vs) bag u e in
+      let l = bag_lifted (λ v. carried false s s' v) vs a.0 xs (λ v u x i j. lessen_lifted s s' v u x h.2 i j) a.1 (subst (λ u. same (bag xs) u ≡ true) (sym a.2) f) in
       (bag l.0, ap (option_map bag) l.1, l.2)
-  lessen_lifted (set_of z c s) (set_of z' c' s') (bag vs) u x h e f = let a = map_parts (map_each (λ v. lessen s s' v) vs) bag u e in none_same x u (bag a.0) a.2 f (λ q. false_true q)
+  lessen_lifted (set_of z c s) (set_of z' c' s') (bag vs) u x h e f = let a = map_parts (map_each (λ v. carried false s s' v) vs) bag u e in none_same x u (bag a.0) a.2 f (λ q. false_true q)
   lessen_lifted (set_of z c s) (set_of z' c' s') v u (bag xs) h e f = none_same (bag xs) u v (some_parts e) f (λ q. false_true q)
   lessen_lifted (set_of z c s) (set_of z' c' s') v u x h e f = itself _ v u x (some_parts e) refl f
   lessen_lifted (sequence cs m adds) (sequence cs' m' adds') (fields ps qs) u (fields xs zs) h e f =
@@ -243,14 +243,14 @@ mutual
       let q : same_parts xs (absent a.0) ≡ true = subst (λ us. same_parts xs us ≡ true) (sym a.2) f in
       false_true q
   lessen_parts_lifted more (component t o s cs) (component t' o' s' cs') (present v ps) us (present x xs) h e f =
-      let d = chain_parts (lessen s s' v) (λ w. option_map (λ rs. present w rs) (carried_parts false cs cs' ps)) us e in
+      let d = chain_parts (carried false s s' v) (λ w. option_map (λ rs. present w rs) (carried_parts false cs cs' ps)) us e in
       let a = map_parts (carried_parts false cs cs' ps) (λ rs. present d.0 rs) us d.2 in
       let q = and_parts _ _ (subst (λ us. same_parts (present x xs) us ≡ true) (sym a.2) f) in
       let k = lessen_lifted s s' v d.0 x h.2 d.1 q.0 in
       let l = lessen_parts_lifted more cs cs' ps a.0 xs h.3 a.1 q.1 in
       (present k.0 l.0, put_part _ x _ xs k.1 l.1, and_from _ _ k.2 l.2)
   lessen_parts_lifted more (component t o s cs) (component t' o' s' cs') (present v ps) us xs h e f =
-      let d = chain_parts (lessen s s' v) (λ w. option_map (λ rs. present w rs) (carried_parts false cs cs' ps)) us e in
+      let d = chain_parts (carried false s s' v) (λ w. option_map (λ rs. present w rs) (carried_parts false cs cs' ps)) us e in
       let a = map_parts (carried_parts false cs cs' ps) (λ rs. present d.0 rs) us d.2 in
       let q : same_parts xs (present d.0 a.0) ≡ true = subst (λ us. same_parts xs us ≡ true) (sym a.2) f in
       false_true q

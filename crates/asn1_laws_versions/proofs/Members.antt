@@ -5,8 +5,8 @@ use Rattle.asn1_model.specs.Value.{Value, item, members, bag, fields, chosen, Va
 use Rattle.asn1_model.specs.Schema.{Counts, Size, Schema, enumerated, sequence_of, set_of, sequence, set, group, choice, Components, Alternatives, alternative}
 use Rattle.asn1_model.specs.Form.{Form, pick, arranged}
 use Rattle.std.specs.Prelude.{is_some}
-use Rattle.asn1_model.specs.Tables.{item_place}
-use Rattle.asn1_model.specs.Versions.{carried, grow, lessen, carried_alternative, map_each}
+use Rattle.asn1_model.specs.Normal.{item_place}
+use Rattle.asn1_model.specs.Versions.{carried, grow, carried_alternative, map_each}
 use Rattle.asn1_model.proofs.Forms.{map_parts}
 use Rattle.asn1_laws_values.proofs.Arranged.{arranged_parts, some_parts}
 use Rattle.asn1_laws_values.proofs.Covers.{CoversEach}
@@ -58,11 +58,11 @@ each_there g no_more h = (no_more, refl)
 each_there g (member v vs) h = there_chain (g v) _ h.0 (λ w. there_map (λ ws. member w ws) _ (each_there g vs h.1))
 
 -- each member can be carried over
-pub members_carried : (m : Bool) (z z' : Size) (c c' : Counts) (s s' : Schema) (us vs : Values) → Each (λ v. There (lessen s s' v)) (listed vs) → (m ≡ true → Each (λ x. There (grow s s' x)) (listed us)) → Carried m (sequence_of z c s) (sequence_of z' c' s') (members us) (members vs)
+pub members_carried : (m : Bool) (z z' : Size) (c c' : Counts) (s s' : Schema) (us vs : Values) → Each (λ v. There (carried false s s' v)) (listed vs) → (m ≡ true → Each (λ x. There (grow s s' x)) (listed us)) → Carried m (sequence_of z c s) (sequence_of z' c' s') (members us) (members vs)
 unfolding carried
 members_carried m z z' c c' s s' us vs h k = (there_map members _ (each_there _ vs h), λ q. there_map members _ (each_there _ us (k q)))
 
-pub bags_carried : (m : Bool) (z z' : Size) (c c' : Counts) (s s' : Schema) (us vs : Values) → Each (λ v. There (lessen s s' v)) (listed vs) → (m ≡ true → Each (λ x. There (grow s s' x)) (listed us)) → Carried m (set_of z c s) (set_of z' c' s') (bag us) (bag vs)
+pub bags_carried : (m : Bool) (z z' : Size) (c c' : Counts) (s s' : Schema) (us vs : Values) → Each (λ v. There (carried false s s' v)) (listed vs) → (m ≡ true → Each (λ x. There (grow s s' x)) (listed us)) → Carried m (set_of z c s) (set_of z' c' s') (bag us) (bag vs)
 unfolding carried
 bags_carried m z z' c c' s s' us vs h k = (there_map bag _ (each_there _ vs h), λ q. there_map bag _ (each_there _ us (k q)))
 

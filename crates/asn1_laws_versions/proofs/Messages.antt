@@ -8,12 +8,12 @@ use Rattle.asn1_model.specs.Form.{Reads}
 use Rattle.asn1_model.specs.Rules.{lenient, strict_per, uper, aper, uper_strict, aper_strict, canonical, encoding, per, octet_bits, of_moderate_length, IsEncoding}
 use Rattle.asn1_laws_versions.proofs.Between.{OlderReads, OlderReadsNormal, NewerReads, NewerReadsNormal}
 use Rattle.asn1_model.specs.Per
-use Rattle.asn1_model.specs.Versions.{grow, lessen, Extends}
+use Rattle.asn1_model.specs.Versions.{grow, Extends, carried}
 use Rattle.asn1_laws_values.proofs.Covers.{Covers, covers_same, covers_within}
 use Rattle.asn1_laws_values.proofs.Messages.{per_text}
 use Rattle.asn1_laws_versions.proofs.PerVersions.{sim, grown}
 
-older_reads : (free : Per.Freedom → Bool) → IsTrue (free Per.other_bitmap) → IsTrue (free Per.other_order) → (al : Bool) (old new : Schema) (v u : Value) (w : List ℕ) → Extends old new → lessen old new v ≡ Some u → ((IsTrue (free Per.default_spelled_out) × IsTrue (free Per.empty_group)) ⊎ (is_normal old u ≡ true)) → option_and_then of_moderate_length (per al new v) ≡ Some w → (length w < 2 ^ 60) × Reads free (Per.message al old u) 0 (octet_bits w)
+older_reads : (free : Per.Freedom → Bool) → IsTrue (free Per.other_bitmap) → IsTrue (free Per.other_order) → (al : Bool) (old new : Schema) (v u : Value) (w : List ℕ) → Extends old new → carried false old new v ≡ Some u → ((IsTrue (free Per.default_spelled_out) × IsTrue (free Per.empty_group)) ⊎ (is_normal old u ≡ true)) → option_and_then of_moderate_length (per al new v) ≡ Some w → (length w < 2 ^ 60) × Reads free (Per.message al old u) 0 (octet_bits w)
 unfolding Per.message Per.complete
 older_reads free wide mixed al old new v u w h d l e =
     let t = per_text al new v w e in

@@ -2,7 +2,7 @@
 use Rattle.std.proofs.Common.{◌≡◌, ℕ, zero, suc, Bool, true, false, ◌||◌, List, Option, Some, option_map, option_and_then, refl, ap, sym, ◌∙◌, subst}
 use Rattle.asn1_model.specs.Value.{Value, members, bag, fields, chosen, Values, no_more, member, Parts, end, absent, present, map_members, are_absent, same}
 use Rattle.asn1_model.specs.Schema.{Tag, Presence, required, optional, by_default, Schema, cut, boolean, null, integer, enumerated, bit_string, octet_string, character_string, object_identifier, sequence_of, set_of, sequence, set, group, choice, Components, no_component, component, Alternatives, no_alternative, alternative}
-use Rattle.asn1_model.specs.Normal.{normal, normal_parts, normal_alternative, is_empty_group, is_default_by, kept}
+use Rattle.asn1_model.specs.Normal.{normal, normal_parts, normal_alternative, is_empty_group, is_default_by}
 use Rattle.asn1_model.specs.Tidy.{is_normal}
 use Rattle.asn1_model.specs.Versions.{carried, grow, carried_parts, carried_alternative, all_absent, map_each, KeepsPresence, Extends, ExtendsEach, ExtendsAlternatives}
 use Rattle.asn1_model.proofs.Forms.{chain_parts, map_parts}
@@ -13,6 +13,7 @@ use Rattle.asn1_laws_values.proofs.Same.{same_turned, same_chained}
 use Rattle.asn1_laws_values.proofs.Normal.{normal_stays}
 use Rattle.asn1_laws_versions.proofs.Extending.{both_parts_parts, both_parts_from, absent_of}
 use Rattle.asn1_laws_versions.proofs.Grown.{each_of, each_again, same_grown}
+use Rattle.std.specs.Prelude.{cond}
 
 -- ---- groups
 absent_kept : (cs cs' : Components) (ps us : Parts) → ExtendsEach false cs cs' → carried_parts true cs cs' ps ≡ Some us → are_absent us ≡ are_absent ps
@@ -69,7 +70,7 @@ absent_stay (component t o s cs) us e = let a = absent_of o s t cs us e in subst
 put_part : (o : Option Value) (w : Value) (p : Option Parts) (q : Parts) → o ≡ Some w → p ≡ Some q → option_and_then (λ w. option_map (λ q. present w q) p) o ≡ Some (present w q)
 put_part o w p q e f = rw (e, f) refl
 
-part_kept : (t t' : List Tag) (o o' : Presence) (s s' : Schema) (cs cs' : Components) (b b' : Bool) (x y : Value) (ps qs : Parts) → b ≡ b' → grow s s' x ≡ Some y → carried_parts true cs cs' ps ≡ Some qs → carried_parts true (component t o s cs) (component t' o' s' cs') (kept b x ps) ≡ Some (kept b' y qs)
+part_kept : (t t' : List Tag) (o o' : Presence) (s s' : Schema) (cs cs' : Components) (b b' : Bool) (x y : Value) (ps qs : Parts) → b ≡ b' → grow s s' x ≡ Some y → carried_parts true cs cs' ps ≡ Some qs → carried_parts true (component t o s cs) (component t' o' s' cs') (cond b (absent ps) (present x ps)) ≡ Some (cond b' (absent qs) (present y qs))
 unfolding carried_parts
 part_kept t t' o o' s s' cs cs' true true x y ps qs h e f = ap (option_map absent) f
 part_kept t t' o o' s s' cs cs' false false x y ps qs h e f = put_part (grow s s' x) y (carried_parts true cs cs' ps) qs e f

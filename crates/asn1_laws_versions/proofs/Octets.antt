@@ -9,9 +9,9 @@ use Rattle.asn1_model.specs.Normal.{is_at_default, is_group_left_out}
 use Rattle.asn1_model.specs.Form.{varied, written, Reads, only_if, given, own_bitmap, stands_before}
 use Rattle.std.specs.Prelude.{is_some}
 use Rattle.std.specs.List.{list_all}
-use Rattle.asn1_model.specs.Tables.{presence_bits, item_place}
+use Rattle.asn1_model.specs.Normal.{presence_bits, item_place}
 use Rattle.asn1_model.specs.Oer
-use Rattle.asn1_model.specs.Versions.{carried, grow, carried_alternative, lessen, Begins, Extends, ExtendsEach, ExtendsAlternatives}
+use Rattle.asn1_model.specs.Versions.{carried, grow, carried_alternative, Begins, Extends, ExtendsEach, ExtendsAlternatives}
 use Rattle.asn1_laws_values.proofs.Covers.{covers_same, covers_within}
 use Rattle.asn1_laws_values.proofs.Listed.{listed, each_is_map, order_map}
 use Rattle.asn1_laws_fronts.proofs.Fronts.{Pairwise, agree_with_refused, agree_map, agree_varied_right, agree_if_right, agree_turned}

@@ -9,13 +9,13 @@ use Rattle.asn1_model.specs.Normal.{normal, is_at_default, is_group_left_out}
 use Rattle.asn1_model.specs.Value.{are_all}
 use Rattle.asn1_model.specs.Tidy.{is_normal, are_normal, is_normal_alternative}
 use Rattle.asn1_model.specs.Numbers.{is_count_within}
-use Rattle.asn1_model.specs.Tables.{presence_bits, presence_bit_unless, is_required, item_place}
+use Rattle.asn1_model.specs.Normal.{presence_bits, presence_bit_unless, is_required, item_place}
 use Rattle.asn1_model.specs.Form.{refused, both, varied, written, Reads, only_if, given, joined, ascending, arranged, Bitmap, is_any_present, present_ones, covered_by, own_bitmap, stands_before}
 use Rattle.std.specs.Prelude.{is_some}
 use Rattle.asn1_model.specs.Rules.{lenient, strict_oer, oer, coer, canonical, encoding, octet_encoding, of_moderate_length, IsEncoding}
 use Rattle.asn1_laws_versions.proofs.Between.{OlderReads, OlderReadsNormal, NewerReads, NewerReadsNormal}
 use Rattle.asn1_model.specs.Oer
-use Rattle.asn1_model.specs.Versions.{carried, grow, carried_parts, carried_alternative, all_absent, lessen, map_each, both_parts, Begins, KeepsPresence, Extends, ExtendsEach, ExtendsAlternatives}
+use Rattle.asn1_model.specs.Versions.{carried, grow, carried_parts, carried_alternative, all_absent, map_each, both_parts, Begins, KeepsPresence, Extends, ExtendsEach, ExtendsAlternatives}
 use Rattle.asn1_model.proofs.Forms.{chain_parts, map_parts}
 use Rattle.asn1_laws_values.proofs.Covers.{Covers, CoversEach, covers_same, covers_eq, covers_refused, covers_both, covers_varied, covers_within, covers_if, covers_joined, each_length}
 use Rattle.asn1_laws_values.proofs.Messages.{some_parts, octet_text}
@@ -265,7 +265,7 @@ module _ (free : Oer.Freedom → Bool) (wide : IsTrue (free Oer.other_bitmap)) (
   presence_bits_kept (component t o s cs) no_component ps qs h e = absurd h
   presence_bits_kept (component t o s cs) (component t' o' s' cs') end qs h e = cc
   presence_bits_kept (component t o s cs) (component t' o' s' cs') (present v ps) qs h e =
-      let a = chain_parts (lessen s s' v) (λ w. option_map (λ rs. present w rs) (carried_parts false cs cs' ps)) qs e in
+      let a = chain_parts (carried false s s' v) (λ w. option_map (λ rs. present w rs) (carried_parts false cs cs' ps)) qs e in
       let b = map_parts (carried_parts false cs cs' ps) (λ rs. present a.0 rs) qs a.2 in
       let m = presence_bits_kept cs cs' ps b.0 h.3 b.1 in
       let r = kept_required s s' o o' h.1 in
@@ -411,7 +411,7 @@ module _ (free : Oer.Freedom → Bool) (wide : IsTrue (free Oer.other_bitmap)) (
   mutual
     unfolding is_normal are_normal is_normal_alternative Extends ExtendsEach ExtendsAlternatives carried carried_parts carried_alternative Oer.form Oer.component_forms Oer.addition_forms Oer.alternative_form
 
-    sim : (s s' : Schema) (v u : Value) → Extends s s' → lessen s s' v ≡ Some u → Loose (is_normal s u) → Sim (Oer.form s' v) (Oer.form s u)
+    sim : (s s' : Schema) (v u : Value) → Extends s s' → carried false s s' v ≡ Some u → Loose (is_normal s u) → Sim (Oer.form s' v) (Oer.form s u)
     sim cut cut v u h e l = sim_refused _
     sim boolean boolean v u h e l = sim_same (ap (λ v. Oer.form boolean v) (some_parts e))
     sim null null v u h e l = sim_same (ap (λ v. Oer.form null v) (some_parts e))
@@ -423,13 +423,13 @@ module _ (free : Oer.Freedom → Bool) (wide : IsTrue (free Oer.other_bitmap)) (
     sim (enumerated rs m as_) (enumerated rs' m' as_') (item n) u h e l = sim_enumerated rs rs' m m' as_ as_' n u h e
     sim (enumerated rs m as_) (enumerated rs' m' as_') v u h e l = sim_refused _
     sim (sequence_of z c s) (sequence_of z' c' s') (members vs) u h e l =
-        let q = map_parts (map_each (λ v. lessen s s' v) vs) members u e in
-        let k = sim_each (λ v. Oer.form s v) (λ v. Oer.form s' v) (λ v. lessen s s' v) (λ v. is_normal s v) vs q.0 (λ v u e n. sim s s' v u h.2 e n) q.1 (subst (λ u. Loose (is_normal (sequence_of z c s) u)) (sym q.2) l) in
+        let q = map_parts (map_each (λ v. carried false s s' v) vs) members u e in
+        let k = sim_each (λ v. Oer.form s v) (λ v. Oer.form s' v) (λ v. carried false s s' v) (λ v. is_normal s v) vs q.0 (λ v u e n. sim s s' v u h.2 e n) q.1 (subst (λ u. Loose (is_normal (sequence_of z c s) u)) (sym q.2) l) in
         sim_between refl (sim_list c c' _ _ h.1 k) (ap (λ v. Oer.form (sequence_of z c s) v) q.2)
     sim (sequence_of z c s) (sequence_of z' c' s') v u h e l = sim_refused _
     sim (set_of z c s) (set_of z' c' s') (bag vs) u h e l =
-        let q = map_parts (map_each (λ v. lessen s s' v) vs) bag u e in
-        let k = sim_each (λ v. Oer.form s v) (λ v. Oer.form s' v) (λ v. lessen s s' v) (λ v. is_normal s v) vs q.0 (λ v u e n. sim s s' v u h.2 e n) q.1 (subst (λ u. Loose (is_normal (set_of z c s) u)) (sym q.2) l) in
+        let q = map_parts (map_each (λ v. carried false s s' v) vs) bag u e in
+        let k = sim_each (λ v. Oer.form s v) (λ v. Oer.form s' v) (λ v. carried false s s' v) (λ v. is_normal s v) vs q.0 (λ v u e n. sim s s' v u h.2 e n) q.1 (subst (λ u. Loose (is_normal (set_of z c s) u)) (sym q.2) l) in
         sim_between refl (sim_bag c c' _ _ h.1 k) (ap (λ v. Oer.form (set_of z c s) v) q.2)
     sim (set_of z c s) (set_of z' c' s') v u h e l = sim_refused _
     sim (sequence cs m adds) (sequence cs' m' adds') (fields ps qs) u h e l =
@@ -465,7 +465,7 @@ module _ (free : Oer.Freedom → Bool) (wide : IsTrue (free Oer.other_bitmap)) (
     sim_components (component t o s cs) no_component ps qs h e l = absurd h
     sim_components (component t o s cs) (component t' o' s' cs') end qs h e l = cc
     sim_components (component t o s cs) (component t' o' s' cs') (present v ps) qs h e l =
-        let a = chain_parts (lessen s s' v) (λ w. option_map (λ rs. present w rs) (carried_parts false cs cs' ps)) qs e in
+        let a = chain_parts (carried false s s' v) (λ w. option_map (λ rs. present w rs) (carried_parts false cs cs' ps)) qs e in
         let b = map_parts (carried_parts false cs cs' ps) (λ rs. present a.0 rs) qs a.2 in
         let n = subst (λ q. Loose (are_normal (component t o s cs) q)) (sym b.2) l in
         sim_between refl (sim_both (sim_spelled_left o' s' v (sim_spelled_right o s a.0 (loose_spelled _ _ _ _ n) (sim s s' v a.0 h.2 a.1 (loose_second _ _ (loose_first _ _ n))))) (sim_components cs cs' ps b.0 h.3 b.1 (loose_second _ _ n))) (ap (λ q. Oer.component_forms (component t o s cs) q) b.2)
@@ -480,7 +480,7 @@ module _ (free : Oer.Freedom → Bool) (wide : IsTrue (free Oer.other_bitmap)) (
     sim_additions more (component t o s cs) no_component ps qs ys h e l f = absurd h
     sim_additions more (component t o s cs) (component t' o' s' cs') end qs ys h e l f = cc
     sim_additions more (component t o s cs) (component t' o' s' cs') (present v ps) qs ys h e l f =
-        let a = chain_parts (lessen s s' v) (λ w. option_map (λ rs. present w rs) (carried_parts false cs cs' ps)) qs e in
+        let a = chain_parts (carried false s s' v) (λ w. option_map (λ rs. present w rs) (carried_parts false cs cs' ps)) qs e in
         let b = map_parts (carried_parts false cs cs' ps) (λ rs. present a.0 rs) qs a.2 in
         let c = map_parts (Oer.addition_forms cs' ps) (cons_some (Oer.spelled o' s' v (Oer.open_type (Oer.form s' v)))) ys f in
         let n = subst (λ q. Loose (are_normal (component t o s cs) q)) (sym b.2) l in
@@ -739,7 +739,7 @@ module _ (free : Oer.Freedom → Bool) (wide : IsTrue (free Oer.other_bitmap)) (
     grown_alternative added more (alternative t s others) (alternative t' s' others') (suc i) v u h e l = grown_alternative added more others others' i v u h.2 e l
 
 -- ---- messages
-older_reads : (free : Oer.Freedom → Bool) → IsTrue (free Oer.other_bitmap) → IsTrue (free Oer.other_order) → (old new : Schema) (v u : Value) (w : List ℕ) → Extends old new → lessen old new v ≡ Some u → ((IsTrue (free Oer.default_spelled_out) × IsTrue (free Oer.empty_group)) ⊎ (is_normal old u ≡ true)) → option_and_then of_moderate_length (octet_encoding new v) ≡ Some w → (length w < 2 ^ 60) × Reads free (Oer.form old u) 0 w
+older_reads : (free : Oer.Freedom → Bool) → IsTrue (free Oer.other_bitmap) → IsTrue (free Oer.other_order) → (old new : Schema) (v u : Value) (w : List ℕ) → Extends old new → carried false old new v ≡ Some u → ((IsTrue (free Oer.default_spelled_out) × IsTrue (free Oer.empty_group)) ⊎ (is_normal old u ≡ true)) → option_and_then of_moderate_length (octet_encoding new v) ≡ Some w → (length w < 2 ^ 60) × Reads free (Oer.form old u) 0 w
 older_reads free wide mixed old new v u w h d l e =
     let t = octet_text new v w e in
     (t.0, (sim free wide mixed old new v u h d l).reads 0 w t.1)

@@ -11,10 +11,10 @@ use Rattle.std.specs.Prelude.{is_some}
 use Rattle.asn1_model.specs.Numbers.{binary, by_eights}
 use Rattle.asn1_model.specs.Strings.{is_octet}
 use Rattle.std.specs.List.{list_all}
-use Rattle.asn1_model.specs.Tables.{presence_bits, alternative_count, item_place}
+use Rattle.asn1_model.specs.Normal.{presence_bits, alternative_count, item_place}
 use Rattle.asn1_model.specs.Oer.{packed}
 use Rattle.asn1_model.specs.Per
-use Rattle.asn1_model.specs.Versions.{carried, grow, carried_alternative, lessen, Begins, Extends, ExtendsEach, ExtendsAlternatives}
+use Rattle.asn1_model.specs.Versions.{carried, grow, carried_alternative, Begins, Extends, ExtendsEach, ExtendsAlternatives}
 use Rattle.asn1_laws_values.proofs.Covers.{covers_same, covers_within}
 use Rattle.asn1_laws_values.proofs.Octets.{eights_units}
 use Rattle.asn1_laws_values.proofs.Listed.{listed, each_is_map, order_map}
@@ -56,7 +56,7 @@ module _ (free : Per.Freedom → Bool) where
   open_meets true al x y P h = agree_written free (Per.open_type al x) (Per.open_type al (as_written free x)) (Per.open_type al y) P (covers_within free (covers_within free (covers_written free x) (λ w. covers_same free _)) (λ w. covers_same free _)) (open_alike free al (as_written free x) y P h)
 
   -- octets behind their number, and an open type
-  octets_and_eights : (al : Bool) (os : List ℕ) (w : List Bool) (k : ℕ) → length w ≡ 8 * k → Alike free (Per.counted_octets al os) (Per.counted_eights al w) (Unit {0})
+  octets_and_eights : (al : Bool) (os : List ℕ) (w : List Bool) (k : ℕ) → length w ≡ 8 * k → Alike free (Per.counted_octets al os) (Per.counted al (map (λ o. exactly o) (by_eights w))) (Unit {0})
   unfolding Per.counted_octets
   octets_and_eights al os w k l =
       let e : map (λ o. exactly o) (by_eights w) ≡ Per.octet_units (packed w) = eights_units k w l in
@@ -78,17 +78,17 @@ module _ (free : Per.Freedom → Bool) where
   unknown_added al o s v os = tests_right (is_at_default o s v) (is_group_left_out s v) _ _ _ (octets_and_open al os _)
 
   -- ---- members
-  lists_meet : (al : Bool) (z : Size) (held : Counts) (g h : Value → Per.BitForm) (R : Value → Value → Type 0) → ((x y : Value) → Alike free (g x) (g y) (Unit {0})) → ((x y : Value) → Alike free (h x) (h y) (Unit {0})) → ((x y : Value) → Alike free (g x) (h y) (R x y)) → (us ys : List Value) → Alike free (Per.sized al z held Per.never (map g us)) (Per.sized al z held Per.never (map h ys)) (Pairwise R us ys)
+  lists_meet : (al : Bool) (z : Size) (held : Counts) (g h : Value → Per.BitForm) (R : Value → Value → Type 0) → ((x y : Value) → Alike free (g x) (g y) (Unit {0})) → ((x y : Value) → Alike free (h x) (h y) (Unit {0})) → ((x y : Value) → Alike free (g x) (h y) (R x y)) → (us ys : List Value) → Alike free (Per.sized al z held (λ c. false) (map g us)) (Per.sized al z held (λ c. false) (map h ys)) (Pairwise R us ys)
   lists_meet al z held g h R i j k us ys =
       let f = form_of Per.Freedom Per.Detail Bool free g h in
-      let base : Alike free (Per.sized al z held Per.never (map f (older us))) (Per.sized al z held Per.never (map f (newer ys))) (Pairwise (λ a b. Related R a b) (older us) (newer ys)) = sized_alike free Both (λ a b. Related R a b) f (related_alike Per.Freedom Per.Detail Bool free g h R i j k) al z held Per.never Per.never (older us) (newer ys) (λ l. refl) in
-      subst (λ l. Alike free (Per.sized al z held Per.never l) (Per.sized al z held Per.never (map h ys)) (Pairwise R us ys)) (older_forms Per.Freedom Per.Detail Bool free g h us) (subst (λ l. Alike free (Per.sized al z held Per.never (map f (older us))) (Per.sized al z held Per.never l) (Pairwise R us ys)) (newer_forms Per.Freedom Per.Detail Bool free g h ys) (agree_map free (λ q. related_pairs R us ys q) base))
+      let base : Alike free (Per.sized al z held (λ c. false) (map f (older us))) (Per.sized al z held (λ c. false) (map f (newer ys))) (Pairwise (λ a b. Related R a b) (older us) (newer ys)) = sized_alike free Both (λ a b. Related R a b) f (related_alike Per.Freedom Per.Detail Bool free g h R i j k) al z held (λ c. false) (λ c. false) (older us) (newer ys) (λ l. refl) in
+      subst (λ l. Alike free (Per.sized al z held (λ c. false) l) (Per.sized al z held (λ c. false) (map h ys)) (Pairwise R us ys)) (older_forms Per.Freedom Per.Detail Bool free g h us) (subst (λ l. Alike free (Per.sized al z held (λ c. false) (map f (older us))) (Per.sized al z held (λ c. false) l) (Pairwise R us ys)) (newer_forms Per.Freedom Per.Detail Bool free g h ys) (agree_map free (λ q. related_pairs R us ys q) base))
 
   module _ (wide : IsTrue (free Per.other_bitmap)) (mixed : IsTrue (free Per.other_order)) where
-    sized_meet : (m al : Bool) (z : Size) (held : Counts) (g h : Value → Per.BitForm) (R : Value → Value → Type 0) → ((x y : Value) → Alike free (g x) (g y) (Unit {0})) → ((x y : Value) → Alike free (h x) (h y) (Unit {0})) → ((x y : Value) → Met m (g x) (h y) (R x y)) → (us ys : List Value) → Met m (Per.sized al z held Per.never (map g us)) (Per.sized al z held Per.never (map h ys)) (Pairwise R us ys)
+    sized_meet : (m al : Bool) (z : Size) (held : Counts) (g h : Value → Per.BitForm) (R : Value → Value → Type 0) → ((x y : Value) → Alike free (g x) (g y) (Unit {0})) → ((x y : Value) → Alike free (h x) (h y) (Unit {0})) → ((x y : Value) → Met m (g x) (h y) (R x y)) → (us ys : List Value) → Met m (Per.sized al z held (λ c. false) (map g us)) (Per.sized al z held (λ c. false) (map h ys)) (Pairwise R us ys)
     sized_meet false al z held g h R i j k us ys = lists_meet al z held g h R i j k us ys
     sized_meet true al z held g h R i j k us ys =
-        agree_written free _ _ _ _ (versions.sim_sized free wide mixed al z held Per.never (map g us) (map (λ x. as_written free (g x)) us) (each_written Per.Freedom Per.Detail Bool free g us)) (lists_meet al z held (λ x. as_written free (g x)) h R (λ x y. taken_same free true _ _ _ (agree_turned free (taken_same free true _ _ _ (i y x)))) j k us ys)
+        agree_written free _ _ _ _ (versions.sim_sized free wide mixed al z held (λ c. false) (map g us) (map (λ x. as_written free (g x)) us) (each_written Per.Freedom Per.Detail Bool free g us)) (lists_meet al z held (λ x. as_written free (g x)) h R (λ x y. taken_same free true _ _ _ (agree_turned free (taken_same free true _ _ _ (i y x)))) j k us ys)
 
     module _ (m al : Bool) where
       abbrev Way : Schema → Schema → Type 0
@@ -111,7 +111,7 @@ module _ (free : Per.Freedom → Bool) where
       key x = written (Per.complete x) 0
 
       abbrev Sized : Size → Counts → List Per.BitForm → Per.BitForm
-      Sized z c us = Per.sized al z c Per.never us
+      Sized z c us = Per.sized al z c (λ c. false) us
 
       bag_forms : (z : Size) (c : Counts) (s s' : Schema) → Once s → Once s' → Way s s' → (us vs : Values) → Met m (Per.in_any_order (map (λ v. Per.form al s v) (listed us)) (Sized z c)) (Per.in_any_order (map (λ v. Per.form al s' v) (listed vs)) (Sized z c)) (Carried m (set_of z c s) (set_of z c s') (bag us) (bag vs))
       unfolding Per.in_any_order
@@ -188,7 +188,7 @@ module _ (free : Per.Freedom → Bool) where
       Place ds v o = item_place v ds ≡ o
 
       items_way : (roots adds adds' : List ℤ) (n k : ℤ) → Begins adds adds' → (e : Bool) (i j c d : Option ℕ) → Place roots n i → Place adds n j → Place roots k c → Place adds' k d → Met m (Per.item_form al (length roots) e i j) (Per.item_form al (length roots) e c d) ((is_some (item_place k roots) || is_some (item_place k adds)) ≡ true)
-      unfolding Per.item_form Per.added_item
+      unfolding Per.item_form
       items_way roots adds adds' n k h e (Some i) j (Some c) d p q r s = agree_map free (λ u. ap (λ o. is_some o || is_some (item_place k adds)) r) (taken_same free m _ _ _ (behind_extension_bit free e false _ _ _ (constrained_alike free al (length roots - 1) i c)))
       items_way roots adds adds' n k h false (Some i) j None d p q r s = agree_with_refused free _ _
       items_way roots adds adds' n k h true (Some i) j None None p q r s = agree_with_refused free _ _

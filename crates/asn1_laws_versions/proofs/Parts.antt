@@ -5,8 +5,8 @@ use Rattle.asn1_model.specs.Value.{Value, Parts, end, absent, present}
 use Rattle.asn1_model.specs.Schema.{Tag, Presence, required, optional, by_default, Schema, Components, no_component, component}
 use Rattle.asn1_model.specs.Form.{Form, refused, both, joined, Bitmap, is_any_present, present_ones, covered_by, own_bitmap}
 use Rattle.std.specs.Prelude.{is_some}
-use Rattle.asn1_model.specs.Tables.{presence_bits, is_required, presence_bit_unless}
-use Rattle.asn1_model.specs.Versions.{carried, grow, carried_parts, lessen, all_absent, both_parts, KeepsPresence, ExtendsEach}
+use Rattle.asn1_model.specs.Normal.{presence_bits, is_required, presence_bit_unless}
+use Rattle.asn1_model.specs.Versions.{carried, grow, carried_parts, all_absent, both_parts, KeepsPresence, ExtendsEach}
 use Rattle.asn1_model.proofs.Forms.{map_parts}
 use Rattle.asn1_laws_fronts.proofs.Fronts.{Agree, agree_with_refused, agree_map, agree_both, agree_if_right, agree_nothing}
 use Rattle.asn1_laws_fronts.proofs.Additions as adding
@@ -32,14 +32,14 @@ there_both (Some ps) (Some qs) t u = (_, refl)
 
 -- the newer value can be carried over to the older version, and, of a text as it is written, the older one to the newer
 abbrev pub Carried : Bool → Schema → Schema → Value → Value → Type 0
-Carried m s s' x v = There (lessen s s' v) × (m ≡ true → There (grow s s' x))
+Carried m s s' x v = There (carried false s s' v) × (m ≡ true → There (grow s s' x))
 
 abbrev pub PartsCarried : Bool → Components → Components → Parts → Parts → Type 0
 PartsCarried m cs cs' ps qs = There (carried_parts false cs cs' qs) × (m ≡ true → There (carried_parts true cs cs' ps))
 
 present_carried : (m : Bool) (t t' : List Tag) (o o' : Presence) (s s' : Schema) (cs cs' : Components) (x v : Value) (ps qs : Parts) → Carried m s s' x v → PartsCarried m cs cs' ps qs → PartsCarried m (component t o s cs) (component t' o' s' cs') (present x ps) (present v qs)
 unfolding carried_parts
-present_carried m t t' o o' s s' cs cs' x v ps qs h k = (there_chain (lessen s s' v) _ h.0 (λ w. there_map (λ rs. present w rs) _ k.0), λ q. there_chain (grow s s' x) _ (h.1 q) (λ w. there_map (λ rs. present w rs) _ (k.1 q)))
+present_carried m t t' o o' s s' cs cs' x v ps qs h k = (there_chain (carried false s s' v) _ h.0 (λ w. there_map (λ rs. present w rs) _ k.0), λ q. there_chain (grow s s' x) _ (h.1 q) (λ w. there_map (λ rs. present w rs) _ (k.1 q)))
 
 absent_carried : (m : Bool) (t t' : List Tag) (o o' : Presence) (s s' : Schema) (cs cs' : Components) (ps qs : Parts) → PartsCarried m cs cs' ps qs → PartsCarried m (component t o s cs) (component t' o' s' cs') (absent ps) (absent qs)
 unfolding carried_parts

@@ -8,13 +8,13 @@ use Rattle.asn1_model.specs.Schema.{Tag, Counts, Size, Presence, required, optio
 use Rattle.asn1_model.specs.Normal.{is_at_default, is_group_left_out}
 use Rattle.asn1_model.specs.Value.{are_all}
 use Rattle.asn1_model.specs.Tidy.{is_normal, are_normal, is_normal_alternative}
-use Rattle.asn1_model.specs.Numbers.{binary, is_count_within}
-use Rattle.asn1_model.specs.Tables.{presence_bits, presence_bit_unless, is_required, alternative_count, item_place}
+use Rattle.asn1_model.specs.Numbers.{binary, is_count_within, by_eights}
+use Rattle.asn1_model.specs.Normal.{presence_bits, presence_bit_unless, is_required, alternative_count, item_place}
 use Rattle.asn1_model.specs.Form.{exactly, refused, both, varied, written, Reads, only_if, given, joined, ascending, arranged, Bitmap, is_any_present, present_ones, covered_by, own_bitmap, stands_before}
 use Rattle.std.specs.Prelude.{is_some}
 use Rattle.asn1_model.specs.Oer.{packed}
 use Rattle.asn1_model.specs.Per
-use Rattle.asn1_model.specs.Versions.{carried, grow, carried_parts, carried_alternative, all_absent, lessen, map_each, both_parts, Begins, KeepsPresence, Extends, ExtendsEach, ExtendsAlternatives}
+use Rattle.asn1_model.specs.Versions.{carried, grow, carried_parts, carried_alternative, all_absent, map_each, both_parts, Begins, KeepsPresence, Extends, ExtendsEach, ExtendsAlternatives}
 use Rattle.asn1_model.proofs.Forms.{chain_parts, map_parts}
 use Rattle.asn1_laws_values.proofs.Covers.{Covers, CoversEach, covers_same, covers_eq, covers_refused, covers_both, covers_varied, covers_within, covers_if, covers_cond, covers_joined, each_length, each_take, each_drop}
 use Rattle.asn1_laws_values.proofs.Messages.{IsWhole, complete_whole, some_parts}
@@ -169,20 +169,20 @@ module _ (free : Per.Freedom → Bool) (wide : IsTrue (free Per.other_bitmap)) (
   abbrev unknown : Bool → List ℕ → Per.BitForm
   unknown al os = Per.counted_octets al os
 
-  unknown_eights : (al : Bool) (w : List Bool) → IsWhole w → Per.counted_eights al (w ++ []) ≡ unknown al (packed w)
+  unknown_eights : (al : Bool) (w : List Bool) → IsWhole w → (Per.counted al (map (λ o. exactly o) (by_eights (w ++ [])))) ≡ unknown al (packed w)
   unfolding Per.counted_octets
   unknown_eights al w k =
-      let a : Per.counted_eights al (w ++ []) ≡ Per.counted_eights al w = ap (λ l. Per.counted_eights al l) (append-nil w) in
-      let b : Per.counted_eights al w ≡ Per.counted al (Per.octet_units (packed w)) = ap (λ us. Per.counted al us) (eights_units k.0 w k.1) in
+      let a : (Per.counted al (map (λ o. exactly o) (by_eights (w ++ [])))) ≡ (Per.counted al (map (λ o. exactly o) (by_eights w))) = ap (λ l. (Per.counted al (map (λ o. exactly o) (by_eights l)))) (append-nil w) in
+      let b : (Per.counted al (map (λ o. exactly o) (by_eights w))) ≡ Per.counted al (Per.octet_units (packed w)) = ap (λ us. Per.counted al us) (eights_units k.0 w k.1) in
       let c : Per.counted al (Per.octet_units (packed w)) ≡ unknown al (packed w) = sym (ap (λ (t : Bool). only_if {F = Per.Freedom} {D = Per.Detail} t (Per.counted al (Per.octet_units (packed w)))) (packed_octets k.0 w k.1)) in
       a ∙ b ∙ c
 
   unknown_open : (al : Bool) (x : Per.BitForm) (o : Option (List Bool)) → written (Per.complete x) 0 ≡ o → (os : List ℕ) × Sim (Per.open_type al x) (unknown al os)
   unfolding Per.open_type written
-  unknown_open al x None e = ([], never_written (unknown al []) (λ p. ap (λ o. option_and_then (λ w. written (Per.counted_eights al (w ++ [])) p) o) e))
+  unknown_open al x None e = ([], never_written (unknown al []) (λ p. ap (λ o. option_and_then (λ w. written (Per.counted al (map (λ o. exactly o) (by_eights (w ++ [])))) p) o) e))
   unknown_open al x (Some w) e =
-      let s : Sim (Per.counted_eights al (w ++ [])) (unknown al (packed w)) = sim_same (unknown_eights al w (complete_whole x w e)) in
-      (packed w, record { reads = λ p u t. s.reads p u (sym (ap (λ o. option_and_then (λ w. written (Per.counted_eights al (w ++ [])) p) o) e) ∙ t) })
+      let s : Sim (Per.counted al (map (λ o. exactly o) (by_eights (w ++ [])))) (unknown al (packed w)) = sim_same (unknown_eights al w (complete_whole x w e)) in
+      (packed w, record { reads = λ p u t. s.reads p u (sym (ap (λ o. option_and_then (λ w. written (Per.counted al (map (λ o. exactly o) (by_eights (w ++ [])))) p) o) e) ∙ t) })
 
   -- ---- additions: the reader's first, the writer's second
   abbrev AllCover : List (Option Per.BitForm) → List (Option Per.BitForm) → Type 0
@@ -305,7 +305,7 @@ module _ (free : Per.Freedom → Bool) (wide : IsTrue (free Per.other_bitmap)) (
   presence_bits_kept (component t o s cs) no_component ps qs h e = absurd h
   presence_bits_kept (component t o s cs) (component t' o' s' cs') end qs h e = cc
   presence_bits_kept (component t o s cs) (component t' o' s' cs') (present v ps) qs h e =
-      let a = chain_parts (lessen s s' v) (λ w. option_map (λ rs. present w rs) (carried_parts false cs cs' ps)) qs e in
+      let a = chain_parts (carried false s s' v) (λ w. option_map (λ rs. present w rs) (carried_parts false cs cs' ps)) qs e in
       let b = map_parts (carried_parts false cs cs' ps) (λ rs. present a.0 rs) qs a.2 in
       let m = presence_bits_kept cs cs' ps b.0 h.3 b.1 in
       let r = kept_required s s' o o' h.1 in
@@ -378,7 +378,7 @@ module _ (free : Per.Freedom → Bool) (wide : IsTrue (free Per.other_bitmap)) (
   unfolding Per.item_form
   sim_item al e k (Some i) j j' v u h m = sim_itself _
   sim_item al e k None None j' v u h m = cc
-  sim_item al e k None (Some i) j' v u h m = sim_same (ap (λ j. Per.added_item al e j) (m i refl))
+  sim_item al e k None (Some i) j' v u h m = sim_same (ap (λ j. Per.item_form al k e None j) (m i refl))
 
   -- ---- the additions of the older version, and then those that it does not know
   abbrev Additions : Bool → Components → Parts → List (Option Per.BitForm) → Type 0
@@ -414,16 +414,16 @@ module _ (free : Per.Freedom → Bool) (wide : IsTrue (free Per.other_bitmap)) (
       sim_between left (sim_item al m (length rs) (item_place n rs) (item_place n as_) (item_place n as_') (item n) u e kept) (ap (λ v. Per.form al (enumerated rs m as_) v) same)
 
   -- lists and bags of the same sizes
-  sized_kept : (al : Bool) (z z' : Size) (c c' : Counts) (us : List Per.BitForm) → z ≡ z' → c ≡ c' → Per.sized al z' c' Per.never us ≡ Per.sized al z c Per.never us
-  sized_kept al z z' c c' us a b = ap (λ z. Per.sized al z c' Per.never us) (sym a) ∙ ap (λ c. Per.sized al z c Per.never us) (sym b)
+  sized_kept : (al : Bool) (z z' : Size) (c c' : Counts) (us : List Per.BitForm) → z ≡ z' → c ≡ c' → Per.sized al z' c' (λ c. false) us ≡ Per.sized al z c (λ c. false) us
+  sized_kept al z z' c c' us a b = ap (λ z. Per.sized al z c' (λ c. false) us) (sym a) ∙ ap (λ c. Per.sized al z c (λ c. false) us) (sym b)
 
-  sim_list : (al : Bool) (z z' : Size) (c c' : Counts) (us vs : List Per.BitForm) → z ≡ z' → c ≡ c' → SimEach us vs → Sim (Per.sized al z' c' Per.never us) (Per.sized al z c Per.never vs)
-  sim_list al z z' c c' us vs a b h = sim_between (sized_kept al z z' c c' us a b) (sim_sized al z c Per.never us vs h) refl
+  sim_list : (al : Bool) (z z' : Size) (c c' : Counts) (us vs : List Per.BitForm) → z ≡ z' → c ≡ c' → SimEach us vs → Sim (Per.sized al z' c' (λ c. false) us) (Per.sized al z c (λ c. false) vs)
+  sim_list al z z' c c' us vs a b h = sim_between (sized_kept al z z' c c' us a b) (sim_sized al z c (λ c. false) us vs h) refl
 
-  sim_bag : (al : Bool) (z z' : Size) (c c' : Counts) (us vs : List Per.BitForm) → z ≡ z' → c ≡ c' → SimEach us vs → Sim (Per.in_any_order us (Per.sized al z' c' Per.never)) (Per.in_any_order vs (Per.sized al z c Per.never))
+  sim_bag : (al : Bool) (z z' : Size) (c c' : Counts) (us vs : List Per.BitForm) → z ≡ z' → c ≡ c' → SimEach us vs → Sim (Per.in_any_order us (Per.sized al z' c' (λ c. false))) (Per.in_any_order vs (Per.sized al z c (λ c. false)))
   sim_bag al z z' c c' us vs a b h =
-      let left : Per.in_any_order us (Per.sized al z' c' Per.never) ≡ Per.in_any_order us (Per.sized al z c Per.never) = ap (λ z. Per.in_any_order us (Per.sized al z c' Per.never)) (sym a) ∙ ap (λ c. Per.in_any_order us (Per.sized al z c Per.never)) (sym b) in
-      sim_between left (sim_order us vs (Per.sized al z c Per.never) h (λ us vs k. sim_sized al z c Per.never us vs k)) refl
+      let left : Per.in_any_order us (Per.sized al z' c' (λ c. false)) ≡ Per.in_any_order us (Per.sized al z c (λ c. false)) = ap (λ z. Per.in_any_order us (Per.sized al z c' (λ c. false))) (sym a) ∙ ap (λ c. Per.in_any_order us (Per.sized al z c (λ c. false))) (sym b) in
+      sim_between left (sim_order us vs (Per.sized al z c (λ c. false)) h (λ us vs k. sim_sized al z c (λ c. false) us vs k)) refl
 
   -- the parts of a sequence or a set, put together
   sim_fields : (al e e' : Bool) (cs cs' adds : Components) (ps rs qs : Parts) (o : Option (List (Option Per.BitForm))) → e ≡ e' → presence_bits cs' ps ≡ presence_bits cs rs → Sim (Per.component_forms al cs' ps) (Per.component_forms al cs rs) → ((ys : List (Option Per.BitForm)) → o ≡ Some ys → Additions al adds qs ys) → Sim (given o (Per.sequence_form al e' (presence_bits cs' ps) (Per.component_forms al cs' ps))) (given (Per.addition_forms al adds qs) (Per.sequence_form al e (presence_bits cs rs) (Per.component_forms al cs rs)))
@@ -460,7 +460,7 @@ module _ (free : Per.Freedom → Bool) (wide : IsTrue (free Per.other_bitmap)) (
   mutual
     unfolding is_normal are_normal is_normal_alternative Extends ExtendsEach ExtendsAlternatives carried carried_parts carried_alternative Per.form Per.component_forms Per.addition_forms Per.alternative_form
 
-    pub sim : (al : Bool) (s s' : Schema) (v u : Value) → Extends s s' → lessen s s' v ≡ Some u → Loose (is_normal s u) → Sim (Per.form al s' v) (Per.form al s u)
+    pub sim : (al : Bool) (s s' : Schema) (v u : Value) → Extends s s' → carried false s s' v ≡ Some u → Loose (is_normal s u) → Sim (Per.form al s' v) (Per.form al s u)
     sim al cut cut v u h e l = sim_refused _
     sim al boolean boolean v u h e l = sim_same (ap (λ v. Per.form al boolean v) (some_parts e))
     sim al null null v u h e l = sim_same (ap (λ v. Per.form al null v) (some_parts e))
@@ -472,13 +472,13 @@ module _ (free : Per.Freedom → Bool) (wide : IsTrue (free Per.other_bitmap)) (
     sim al (enumerated rs m as_) (enumerated rs' m' as_') (item n) u h e l = sim_enumerated al rs rs' m m' as_ as_' n u h e
     sim al (enumerated rs m as_) (enumerated rs' m' as_') v u h e l = sim_refused _
     sim al (sequence_of z c s) (sequence_of z' c' s') (members vs) u h e l =
-        let q = map_parts (map_each (λ v. lessen s s' v) vs) members u e in
-        let k = sim_each (λ v. Per.form al s v) (λ v. Per.form al s' v) (λ v. lessen s s' v) (λ v. is_normal s v) vs q.0 (λ v u e n. sim al s s' v u h.2 e n) q.1 (subst (λ u. Loose (is_normal (sequence_of z c s) u)) (sym q.2) l) in
+        let q = map_parts (map_each (λ v. carried false s s' v) vs) members u e in
+        let k = sim_each (λ v. Per.form al s v) (λ v. Per.form al s' v) (λ v. carried false s s' v) (λ v. is_normal s v) vs q.0 (λ v u e n. sim al s s' v u h.2 e n) q.1 (subst (λ u. Loose (is_normal (sequence_of z c s) u)) (sym q.2) l) in
         sim_between refl (sim_list al z z' c c' _ _ h.0 h.1 k) (ap (λ v. Per.form al (sequence_of z c s) v) q.2)
     sim al (sequence_of z c s) (sequence_of z' c' s') v u h e l = sim_refused _
     sim al (set_of z c s) (set_of z' c' s') (bag vs) u h e l =
-        let q = map_parts (map_each (λ v. lessen s s' v) vs) bag u e in
-        let k = sim_each (λ v. Per.form al s v) (λ v. Per.form al s' v) (λ v. lessen s s' v) (λ v. is_normal s v) vs q.0 (λ v u e n. sim al s s' v u h.2 e n) q.1 (subst (λ u. Loose (is_normal (set_of z c s) u)) (sym q.2) l) in
+        let q = map_parts (map_each (λ v. carried false s s' v) vs) bag u e in
+        let k = sim_each (λ v. Per.form al s v) (λ v. Per.form al s' v) (λ v. carried false s s' v) (λ v. is_normal s v) vs q.0 (λ v u e n. sim al s s' v u h.2 e n) q.1 (subst (λ u. Loose (is_normal (set_of z c s) u)) (sym q.2) l) in
         sim_between refl (sim_bag al z z' c c' _ _ h.0 h.1 k) (ap (λ v. Per.form al (set_of z c s) v) q.2)
     sim al (set_of z c s) (set_of z' c' s') v u h e l = sim_refused _
     sim al (sequence cs m adds) (sequence cs' m' adds') (fields ps qs) u h e l =
@@ -516,7 +516,7 @@ module _ (free : Per.Freedom → Bool) (wide : IsTrue (free Per.other_bitmap)) (
     sim_components al (component t o s cs) no_component ps qs h e l = absurd h
     sim_components al (component t o s cs) (component t' o' s' cs') end qs h e l = cc
     sim_components al (component t o s cs) (component t' o' s' cs') (present v ps) qs h e l =
-        let a = chain_parts (lessen s s' v) (λ w. option_map (λ rs. present w rs) (carried_parts false cs cs' ps)) qs e in
+        let a = chain_parts (carried false s s' v) (λ w. option_map (λ rs. present w rs) (carried_parts false cs cs' ps)) qs e in
         let b = map_parts (carried_parts false cs cs' ps) (λ rs. present a.0 rs) qs a.2 in
         let n = subst (λ q. Loose (are_normal (component t o s cs) q)) (sym b.2) l in
         sim_between refl (sim_both (sim_spelled_left o' s' v (sim_spelled_right o s a.0 (loose_spelled _ _ _ _ n) (sim al s s' v a.0 h.2 a.1 (loose_second _ _ (loose_first _ _ n))))) (sim_components al cs cs' ps b.0 h.3 b.1 (loose_second _ _ n))) (ap (λ q. Per.component_forms al (component t o s cs) q) b.2)
@@ -531,7 +531,7 @@ module _ (free : Per.Freedom → Bool) (wide : IsTrue (free Per.other_bitmap)) (
     sim_additions al more (component t o s cs) no_component ps qs ys h e l f = absurd h
     sim_additions al more (component t o s cs) (component t' o' s' cs') end qs ys h e l f = cc
     sim_additions al more (component t o s cs) (component t' o' s' cs') (present v ps) qs ys h e l f =
-        let a = chain_parts (lessen s s' v) (λ w. option_map (λ rs. present w rs) (carried_parts false cs cs' ps)) qs e in
+        let a = chain_parts (carried false s s' v) (λ w. option_map (λ rs. present w rs) (carried_parts false cs cs' ps)) qs e in
         let b = map_parts (carried_parts false cs cs' ps) (λ rs. present a.0 rs) qs a.2 in
         let c = map_parts (Per.addition_forms al cs' ps) (cons_some (Per.spelled o' s' v (Per.open_type al (Per.form al s' v)))) ys f in
         let n = subst (λ q. Loose (are_normal (component t o s cs) q)) (sym b.2) l in
@@ -678,11 +678,11 @@ module _ (free : Per.Freedom → Bool) (wide : IsTrue (free Per.other_bitmap)) (
       (None ∷ r.0, ap (Per.addition_forms al (component t o s cs)) (sym a) ∙ f, subst (λ l. Behind (None ∷ r.0) l) b r.2, λ m. ap suc (r.3 m) ∙ ap length b)
 
   grown_item : (al m : Bool) (rs as_ as_' : List ℤ) (n : ℤ) (o : Option ℕ) → item_place n rs ≡ o → Begins as_ as_' → (p : Option ℕ) → item_place n as_ ≡ p → Sim (Per.item_form al (length rs) m o p) (Per.item_form al (length rs) m o (item_place n as_'))
-  unfolding Per.item_form Per.added_item
+  unfolding Per.item_form
   grown_item al m rs as_ as_' n (Some i) e b p f = sim_itself _
   grown_item al false rs as_ as_' n None e b p f = sim_refused _
   grown_item al true rs as_ as_' n None e b None f = sim_refused _
-  grown_item al true rs as_ as_' n None e b (Some j) f = sim_same (ap (λ q. Per.added_item al true q) (sym (ap (item_place n) (sym b.1) ∙ place_kept n as_ b.0 j f)))
+  grown_item al true rs as_ as_' n None e b (Some j) f = sim_same (ap (λ q. Per.item_form al (length rs) true None q) (sym (ap (item_place n) (sym b.1) ∙ place_kept n as_ b.0 j f)))
 
   grown_enumerated : (al : Bool) (rs rs' : List ℤ) (m m' : Bool) (as_ as_' : List ℤ) (n : ℤ) → (rs ≡ rs') × (m ≡ m') × Begins as_ as_' → Sim (Per.form al (enumerated rs m as_) (item n)) (Per.form al (enumerated rs' m' as_') (item n))
   unfolding Per.form

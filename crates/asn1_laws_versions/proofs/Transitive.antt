@@ -3,15 +3,16 @@ use Rattle.std.proofs.Common.{Bool, true, false, List, ◌++◌, Contains, ap, s
 use Rattle.std.proofs.lemmas.List.Elements.{All-contains, All-weaker}
 use Rattle.asn1_model.specs.Schema.{Tag, Presence, required, optional, by_default, Schema, cut, boolean, null, integer, enumerated, bit_string, octet_string, character_string, object_identifier, sequence_of, set_of, sequence, set, group, choice, Components, no_component, component, Alternatives, no_alternative, alternative}
 use Rattle.asn1_model.specs.Normal.{normal}
-use Rattle.asn1_model.specs.Versions.{Begins, KeepsTags, KeepsPresence, Extends, ExtendsEach, ExtendsAlternatives}
+use Rattle.asn1_model.specs.Versions.{Begins, KeepsPresence, Extends, ExtendsEach, ExtendsAlternatives}
 use Rattle.asn1_laws_values.proofs.Same.{same_chained}
 use Rattle.asn1_laws_versions.proofs.Extending.{grown_twice}
 use Rattle.asn1_laws_versions.proofs.Alike.{carried_alike}
+use Rattle.std.specs.Prelude.{All}
 
 begins_twice : {X : Type 0} (xs ys zs : List X) → Begins xs ys → Begins ys zs → Begins xs zs
 begins_twice xs ys zs h k = (h.0 ++ k.0, sym (append_assoc xs h.0 k.0) ∙ ap (λ l. l ++ k.0) h.1 ∙ k.1)
 
-tags_twice : (ts us ws : List Tag) → KeepsTags ts us → KeepsTags us ws → KeepsTags ts ws
+tags_twice : (ts us ws : List Tag) → All (Contains us) ts → All (Contains ws) us → All (Contains ws) ts
 tags_twice ts us ws h k = All-weaker (Contains us) (Contains ws) (λ t i. All-contains (Contains ws) us t k i) ts h
 
 -- ---- defaults

@@ -4,7 +4,7 @@ use Rattle.asn1_model.specs.Value.{Value, same, depth}
 use Rattle.asn1_model.specs.Schema.{Schema}
 use Rattle.asn1_model.specs.Normal.{normal}
 use Rattle.asn1_model.specs.Tidy.{is_normal}
-use Rattle.asn1_model.specs.Typed.{is_of}
+use Rattle.asn1_model.specs.Lawful.{is_of}
 use Rattle.asn1_model.specs.Versions.{Extends, drop, grow}
 
 -- A newer version of a newer version is one.

@@ -5,7 +5,7 @@ use Rattle.asn1_model.specs.Schema.{Schema}
 use Rattle.asn1_model.specs.Lawful.{IsLawful}
 use Rattle.asn1_model.specs.Normal.{normal}
 use Rattle.asn1_model.specs.Rules.{Rules, canonical}
-use Rattle.asn1_model.specs.Typed.{is_of}
+use Rattle.asn1_model.specs.Lawful.{is_of}
 use Rattle.asn1_model.specs.Versions.{Extends, drop, grow}
 use Rattle.asn1_laws_versions.specs.Answers.{Answer, answered, IsAnswer}
 use Rattle.asn1_laws_versions.specs.Routes.{Hop, HopAnswers, Arrives, RefusesAt, Stage, at_first, and_one, Writes}

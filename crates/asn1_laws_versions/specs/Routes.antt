@@ -5,7 +5,7 @@ use Rattle.asn1_model.specs.Schema.{Schema}
 use Rattle.asn1_model.specs.Value.{Value, depth}
 use Rattle.asn1_model.specs.Normal.{normal}
 use Rattle.asn1_model.specs.Rules.{Rules, canonical}
-use Rattle.asn1_model.specs.Typed.{is_of}
+use Rattle.asn1_model.specs.Lawful.{is_of}
 use Rattle.asn1_model.specs.Versions.{drop, grow, IsClash}
 use Rattle.asn1_laws_versions.specs.ExactLaws.{is_strict}
 use Rattle.asn1_laws_versions.specs.Answers.{Answer, answered, not_an_encoding, no_target, IsAnswer}

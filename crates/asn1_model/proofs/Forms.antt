@@ -2,7 +2,7 @@
 use Rattle.std.specs.Prelude.{unwrap_or}
 use Rattle.std.proofs.Common.{◌≡◌, ℕ, ◌+◌, Bool, true, false, IsTrue, List, ◌++◌, length, Option, Some, None, option_map, option_and_then, refl, ap}
 use Rattle.std.proofs.Common.{inl, inr, subst, ◌⊎◌}
-use Rattle.asn1_model.specs.Form.{Form, exactly, refused, both, placed, varied, within, written, Reads, canonically}
+use Rattle.asn1_model.specs.Form.{Form, exactly, refused, both, placed, varied, within, written, Reads}
 
 wider : {P Q : Type 0} (E : Type 0) → E ⊎ P → (P → Q) → E ⊎ Q
 wider E (inl e) h = inl e
@@ -21,7 +21,7 @@ the_only : {P : Type 0} → P ⊎ IsTrue false → P
 the_only (inl e) = e
 the_only (inr q) = let h : false ≡ true = q in cc
 
-pub writes_read : {F : Type 0} {D : F → Type 0} {A : Type 0} (x : Form F D A) (p : ℕ) (w : List A) → Reads canonically x p w → written x p ≡ Some w
+pub writes_read : {F : Type 0} {D : F → Type 0} {A : Type 0} (x : Form F D A) (p : ℕ) (w : List A) → Reads (λ c. false) x p w → written x p ≡ Some w
 unfolding Reads written
 writes_read (exactly l) p w r = ap Some r
 writes_read refused p w r = absurd r
@@ -39,7 +39,7 @@ pub map_parts : {X Y : Type 0} (o : Option X) (k : X → Y) (y : Y) → option_m
 map_parts None k y e = cc
 map_parts (Some x) k y e = (x, refl, cc)
 
-pub reads_written : {F : Type 0} {D : F → Type 0} {A : Type 0} (x : Form F D A) (p : ℕ) (w : List A) → written x p ≡ Some w → Reads canonically x p w
+pub reads_written : {F : Type 0} {D : F → Type 0} {A : Type 0} (x : Form F D A) (p : ℕ) (w : List A) → written x p ≡ Some w → Reads (λ c. false) x p w
 unfolding Reads written
 reads_written (exactly l) p w e = cc
 reads_written refused p w e = cc

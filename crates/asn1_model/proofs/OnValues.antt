@@ -16,7 +16,7 @@ unfoldable pub on_values : ⊤
 unfolding canonical encoding per octet_encoding written normal normal_parts normal_alternative same same_members same_bag same_parts places_up_to Per.padding
     Per.at_octet Per.in_octets_of Per.constrained_in Per.constrained Per.short_length Per.fragments Per.counted Per.counted_octets Per.semi_constrained Per.unconstrained
     Per.normally_small Per.normally_few Per.whole_number Per.with_extension_bit Per.integer_form Per.sized_root Per.sized Per.character Per.characters Per.string_form
-    Per.added_item Per.item_form Per.padded Per.complete Per.open_type Per.spelled Per.additions Per.with_additions Per.bitmapped Per.sequence_form
+    Per.item_form Per.padded Per.complete Per.open_type Per.spelled Per.additions Per.with_additions Per.bitmapped Per.sequence_form
     Per.in_any_order Per.form Per.component_forms Per.addition_forms Per.alternative_form Per.message Oer.length_form Oer.counted Oer.signed Oer.unsigned
     Oer.bounded Oer.integer_form Oer.item_form Oer.bits_form Oer.counted_bits Oer.bit_string_form Oer.octets_form Oer.tag_form Oer.open_type
     Oer.additions Oer.with_additions Oer.bitmapped Oer.sequence_form Oer.members_form Oer.in_any_order Oer.form Oer.component_forms Oer.addition_forms

@@ -1,15 +1,59 @@
--- Which types are lawful: tables ascend, tags and items are distinct, bounds are ordered, additions stand behind an
+-- Which values are those of a type: of its kind, with the components, alternatives and items of its tables, and within
+-- the constraints that count in all sets of rules; what stands below the cut of a recursive type is not judged. And
+-- which types are lawful: tables ascend, tags and items are distinct, bounds are ordered, additions stand behind an
 -- extension marker, defaults are values of their types.
-use Rattle.std.specs.Prelude.{◌==◌, ltb, leb, ℤ, Bool, true, false, cond, not, ◌&&◌, ◌||◌, IsTrue, List, [], ◌∷◌, ◌++◌}
-use Rattle.std.specs.Prelude.{Option, Some}
-use Rattle.asn1_model.specs.Value.{same_number, same_list}
-use Rattle.asn1_model.specs.Schema.{Tag, Range, Counts, Size, Presence, optional, by_default, Schema, cut, integer}
-use Rattle.asn1_model.specs.Schema.{enumerated, bit_string, octet_string, character_string, sequence_of, set_of}
-use Rattle.asn1_model.specs.Schema.{sequence, set, group, choice, Components, no_component, component, Alternatives}
-use Rattle.asn1_model.specs.Schema.{no_alternative, alternative}
-use Rattle.asn1_model.specs.Numbers.{is_at_most, is_count_to}
+use Rattle.std.specs.Prelude.{ℕ, zero, suc, ◌==◌, ltb, leb, int_lt, Bool, true, false, cond, not, ◌&&◌, ◌||◌, IsTrue,
+    List, [], ◌∷◌, ◌++◌, length, is_some}
 use Rattle.std.specs.List.{list_all}
-use Rattle.asn1_model.specs.Typed.{is_of}
+use Rattle.std.specs.Option.{option_map_or}
+use lib.Pointwise.{pointwise}
+use Rattle.asn1_model.specs.Value.{Value, truth, nothing, number, item, bit_list, octet_list, text, arcs, members, bag,
+    fields, chosen, Values, no_more, member, Parts, end, absent, present, same_number, are_all}
+use Rattle.asn1_model.specs.Schema.{Tag, Range, Counts, Presence, optional, by_default, Schema, cut, boolean, null,
+    integer, enumerated, bit_string, octet_string, character_string, object_identifier, sequence_of, set_of, sequence,
+    set, group, choice, Components, no_component, component, Alternatives, no_alternative, alternative}
+use Rattle.asn1_model.specs.Numbers.{is_at_most, is_within, is_count_within, admits}
+use Rattle.asn1_model.specs.Strings.{is_octet, may_hold, is_of_octets, is_identifier}
+use Rattle.asn1_model.specs.Normal.{item_place, is_required}
+
+abbrev pub member_count : Values → ℕ
+member_count no_more = 0
+member_count (member v vs) = suc (member_count vs)
+
+unfoldable mutual
+  -- Whether a value is one of a type (X.680 17 to 32 and 51).
+  pub is_of : Schema → Value → Bool
+  is_of boolean (truth b) = true
+  is_of null nothing = true
+  is_of (integer b held) (number v) = is_within held v && (b.extensible || is_within b.range v)
+  is_of (enumerated roots e adds) (item v) = is_some (item_place v roots) || (e && is_some (item_place v adds))
+  is_of (bit_string z held) (bit_list bs) = admits z held (length bs)
+  is_of (octet_string z held) (octet_list os) = list_all is_octet os && admits z held (length os)
+  is_of (character_string k z a held) (text cs) =
+      may_hold k cs && is_count_within held (length cs) && (is_of_octets k || admits z held (length cs))
+  is_of object_identifier (arcs ns) = is_identifier ns
+  is_of (sequence_of z held s) (members vs) = is_count_within held (member_count vs) && are_all (λ v. is_of s v) vs
+  is_of (set_of z held s) (bag vs) = is_count_within held (member_count vs) && are_all (λ v. is_of s v) vs
+  is_of (sequence cs e adds) (fields ps qs) = are_of cs ps && are_of adds qs
+  is_of (set cs e adds) (fields ps qs) = are_of cs ps && are_of adds qs
+  is_of (group cs) (fields ps end) = are_of cs ps
+  is_of (choice roots e adds) (chosen false i v) = is_of_alternative roots i v
+  is_of (choice roots e adds) (chosen true i v) = e && is_of_alternative adds i v
+  is_of cut v = true
+  is_of s v = false
+
+  -- Whether parts are those of components: each of its type, and those there that must be (X.680 25).
+  pub are_of : Components → Parts → Bool
+  are_of no_component end = true
+  are_of (component t o s cs) (present v ps) = is_of s v && are_of cs ps
+  are_of (component t o s cs) (absent ps) = not (is_required o) && are_of cs ps
+  are_of cs ps = false
+
+  -- Whether a value is one of the alternative at a place (X.680 29).
+  pub is_of_alternative : Alternatives → ℕ → Value → Bool
+  is_of_alternative (alternative t s others) zero v = is_of s v
+  is_of_alternative (alternative t s others) (suc i) v = is_of_alternative others i v
+  is_of_alternative no_alternative i v = false
 
 -- The order of tags: by class, and then by number (X.680 8.6).
 abbrev pub tag_less : Tag → Tag → Bool
@@ -63,9 +107,9 @@ are_tags ts = not (is_empty ts) && list_all is_tag ts
 -- those of all its alternatives in their order, and a group of additions with those of its components (X.680 25, 29 and
 -- 31). What stands below the cut of a recursive type is not judged.
 abbrev pub begins_with : List Tag → Schema → Bool
-begins_with ts (group cs) = same_list tag_same ts (component_tags cs)
+begins_with ts (group cs) = pointwise tag_same ts (component_tags cs)
 begins_with (t ∷ []) s = true
-begins_with ts (choice roots e adds) = same_list tag_same ts (alternative_tags roots ++ alternative_tags adds)
+begins_with ts (choice roots e adds) = pointwise tag_same ts (alternative_tags roots ++ alternative_tags adds)
 begins_with ts cut = true
 begins_with ts s = false
 
@@ -78,19 +122,11 @@ are_no_components no_component = true
 are_no_components cs = false
 
 -- The low one of two bounds is not above the high one, where both are there.
-abbrev pub are_ordered : Option ℤ → Option ℤ → Bool
-are_ordered (Some a) (Some b) = is_at_most a b
-are_ordered a b = true
-
 abbrev pub is_range : Range → Bool
-is_range r = are_ordered r.low r.high
+is_range r = option_map_or (λ low. option_map_or (λ high. is_at_most low high) r.high true) r.low true
 
--- Ordered sizes, of the constraint and of the program's type.
-abbrev pub is_size : Size → Counts → Bool
-is_size z held = is_count_to z.counts.high z.counts.low && is_count_to held.high held.low
-
-abbrev pub int_less : ℤ → ℤ → Bool
-int_less a b = is_at_most a b && not (same_number a b)
+abbrev pub are_counts : Counts → Bool
+are_counts c = option_map_or (λ high. leb c.low high) c.high true
 
 abbrev pub is_optional : Presence → Bool
 is_optional optional = true
@@ -100,21 +136,17 @@ abbrev pub is_group : Schema → Bool
 is_group (group cs) = true
 is_group s = false
 
--- No component is a group: groups stand among additions alone.
-abbrev pub has_no_group : Components → Bool
-has_no_group no_component = true
-has_no_group (component t o s cs) = not (is_group s) && has_no_group cs
-
--- The groups among additions stand there as optional.
-abbrev pub has_optional_groups : Components → Bool
-has_optional_groups no_component = true
-has_optional_groups (component t o s cs) = (not (is_group s) || is_optional o) && has_optional_groups cs
+-- Groups stand among additions alone, and there as optional.
+abbrev pub are_groups_in_place : Bool → Components → Bool
+are_groups_in_place added no_component = true
+are_groups_in_place added (component t o s cs) =
+    cond added (not (is_group s) || is_optional o) (not (is_group s)) && are_groups_in_place added cs
 
 -- Additions stand behind an extension marker, all tags differ (X.680 25 and 27), and groups stand where they may.
 abbrev pub is_sequence_table : Components → Bool → Components → Bool
 is_sequence_table cs e adds =
-    (e || are_no_components adds) && are_distinct tag_same (component_tags cs ++ component_tags adds) && has_no_group cs
-    && has_optional_groups adds
+    (e || are_no_components adds) && are_distinct tag_same (component_tags cs ++ component_tags adds)
+    && are_groups_in_place false cs && are_groups_in_place true adds
 
 -- Whether a default is a value of its component's type (X.680 25).
 abbrev pub has_typed_default : Schema → Presence → Bool
@@ -126,18 +158,19 @@ unfoldable mutual
   pub is_lawful : Schema → Bool
   is_lawful (integer b held) = is_range b.range && is_range held
   is_lawful (enumerated roots e adds) =
-      not (is_empty roots) && (e || is_empty adds) && are_ascending int_less roots && are_ascending int_less adds
+      not (is_empty roots) && (e || is_empty adds) && are_ascending int_lt roots && are_ascending int_lt adds
       && are_distinct same_number (roots ++ adds)
-  is_lawful (bit_string z held) = is_size z held
-  is_lawful (octet_string z held) = is_size z held
-  is_lawful (character_string k z a held) = is_size z held
-  is_lawful (sequence_of z held s) = is_size z held && not (is_group s) && is_lawful s
-  is_lawful (set_of z held s) = is_size z held && not (is_group s) && is_lawful s
+  is_lawful (bit_string z held) = are_counts z.counts && are_counts held
+  is_lawful (octet_string z held) = are_counts z.counts && are_counts held
+  is_lawful (character_string k z a held) = are_counts z.counts && are_counts held
+  is_lawful (sequence_of z held s) = are_counts z.counts && are_counts held && not (is_group s) && is_lawful s
+  is_lawful (set_of z held s) = are_counts z.counts && are_counts held && not (is_group s) && is_lawful s
   is_lawful (sequence cs e adds) = is_sequence_table cs e adds && are_lawful cs && are_lawful adds
   is_lawful (set cs e adds) =
       is_sequence_table cs e adds && are_ascending tag_less (component_places cs) && are_lawful cs && are_lawful adds
   is_lawful (group cs) =
-      not (are_no_components cs) && are_distinct tag_same (component_tags cs) && has_no_group cs && are_lawful cs
+      not (are_no_components cs) && are_distinct tag_same (component_tags cs) && are_groups_in_place false cs
+      && are_lawful cs
   is_lawful (choice roots e adds) =
       not (is_empty (alternative_tags roots)) && (e || is_empty (alternative_tags adds))
       && are_ascending tag_less (alternative_tags roots)
@@ -148,8 +181,7 @@ unfoldable mutual
   -- Whether the types of all components are, with their tags, and their defaults are values of them (X.680 25).
   pub are_lawful : Components → Bool
   are_lawful no_component = true
-  are_lawful (component t o s cs) =
-      are_tags_of t s && has_typed_default s o && is_lawful s && are_lawful cs
+  are_lawful (component t o s cs) = are_tags_of t s && has_typed_default s o && is_lawful s && are_lawful cs
 
   -- Whether the types of all alternatives are.
   pub are_lawful_alternatives : Alternatives → Bool

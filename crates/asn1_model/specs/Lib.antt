@@ -5,13 +5,11 @@ pub mod Normal
 pub mod Tidy
 pub mod Form
 pub mod Strings
-pub mod Tables
 pub mod Per
 pub mod Oer
 pub mod Rules
 pub mod Types
 pub mod Rows
-pub mod Typed
 pub mod Lawful
 pub mod Versions
 pub mod VersionRows

@@ -1,10 +1,13 @@
 -- The normal form of a value: what is equal to its default is absent (X.691 19.5 and X.696 16 in their canonical
--- forms), and so is, by the project's choice, a group of additions that are all absent.
-use Rattle.std.specs.Prelude.{ℕ, zero, suc, Bool, true, false, ◌||◌}
-use Rattle.asn1_model.specs.Value.{Value, members, bag, fields, chosen, Parts, absent, present, same, are_absent}
-use Rattle.asn1_model.specs.Value.{map_members}
-use Rattle.asn1_model.specs.Schema.{Presence, by_default, Schema, sequence_of, set_of, sequence, set, group, choice}
-use Rattle.asn1_model.specs.Schema.{Components, component, Alternatives, no_alternative, alternative}
+-- forms), and so is, by the project's choice, a group of additions that are all absent. And what both rule sets use of
+-- a type's tables.
+use Rattle.std.specs.Prelude.{ℕ, zero, suc, ◌+◌, ℤ, Bool, true, false, cond, ◌||◌, List, [], ◌∷◌, Option, Some, None,
+    is_some, option_map}
+use Rattle.asn1_model.specs.Value.{Value, members, bag, fields, chosen, Parts, end, absent, present, same, same_number,
+    are_absent, map_members}
+use Rattle.asn1_model.specs.Schema.{Bounds, Presence, required, by_default, Schema, sequence_of, set_of, sequence, set,
+    group, choice, Components, no_component, component, Alternatives, no_alternative, alternative}
+use Rattle.asn1_model.specs.Form.{Form, Freedom, Detail, varied, only_if, default_spelled_out, empty_group}
 
 -- A group none of whose components is there.
 abbrev pub is_empty_group : Schema → Value → Bool
@@ -15,11 +18,6 @@ is_empty_group s v = false
 abbrev pub is_default_by : (Value → Value) → Presence → Value → Bool
 is_default_by form (by_default d) w = same w (form d)
 is_default_by form o w = false
-
--- A part that is left out, or kept.
-abbrev pub kept : Bool → Value → Parts → Parts
-kept true v ps = absent ps
-kept false v ps = present v ps
 
 unfoldable mutual
   -- The normal form, from the leaves up: every writer writes it.
@@ -36,8 +34,8 @@ unfoldable mutual
   -- Each part in its normal form, left out if it is then its default or an empty group.
   pub normal_parts : Components → Parts → Parts
   normal_parts (component t o s cs) (present v ps) =
-      kept (is_default_by (λ d. normal s d) o (normal s v) || is_empty_group s (normal s v)) (normal s v)
-      (normal_parts cs ps)
+      cond (is_default_by (λ d. normal s d) o (normal s v) || is_empty_group s (normal s v))
+      (absent (normal_parts cs ps)) (present (normal s v) (normal_parts cs ps))
   normal_parts (component t o s cs) (absent ps) = absent (normal_parts cs ps)
   normal_parts cs ps = ps
 
@@ -54,3 +52,39 @@ is_at_default o s v = is_default_by (λ d. normal s d) o (normal s v)
 -- Whether a part is a group in which nothing is left.
 abbrev pub is_group_left_out : Schema → Value → Bool
 is_group_left_out s v = is_empty_group s (normal s v)
+
+-- The place of an item among the numbers of a table, from 0 on (X.691 14).
+abbrev pub item_place : ℤ → List ℤ → Option ℕ
+item_place v [] = None
+item_place v (d ∷ ds) = cond (same_number v d) (Some zero) (option_map suc (item_place v ds))
+
+-- Whether there is a value constraint.
+abbrev pub is_bounded : Bounds → Bool
+is_bounded b = is_some b.range.low || is_some b.range.high || b.extensible
+
+abbrev pub is_required : Presence → Bool
+is_required required = true
+is_required o = false
+
+-- A further presence bit, unless there is none for the component.
+abbrev pub presence_bit_unless : Bool → Bool → List Bool → List Bool
+presence_bit_unless true m ms = ms
+presence_bit_unless false m ms = m ∷ ms
+
+-- For each component that may be absent, whether it is there, in the order of the table (X.691 19.2, X.696 16).
+abbrev pub presence_bits : Components → Parts → List Bool
+presence_bits no_component ps = []
+presence_bits (component t o s cs) (present v ps) = presence_bit_unless (is_required o) true (presence_bits cs ps)
+presence_bits (component t o s cs) (absent ps) = presence_bit_unless (is_required o) false (presence_bits cs ps)
+presence_bits (component t o s cs) end = presence_bit_unless (is_required o) false (presence_bits cs end)
+
+abbrev pub alternative_count : Alternatives → ℕ
+alternative_count no_alternative = 0
+alternative_count (alternative t s others) = alternative_count others + 1
+
+-- A component that is there, if it may be: what the normal form leaves out is spelled out only to a reader with the
+-- freedom (X.691 19.5, X.696 16).
+unfoldable pub spelled : {A : Type 0} → Presence → Schema → Value → Form Freedom Detail A → Form Freedom Detail A
+spelled o s v x = cond (is_at_default o s v)
+    (varied default_spelled_out false (λ b. only_if b x))
+    (cond (is_group_left_out s v) (varied empty_group false (λ b. only_if b x)) x)

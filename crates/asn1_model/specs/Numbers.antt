@@ -1,17 +1,14 @@
 -- Numbers as digits, as octets of two's complement and as bits; the order of whole numbers; ranges and sizes.
-use Rattle.std.specs.Prelude.{ℕ, zero, suc, ◌+◌, ◌-◌, ◌*◌, ◌/◌, ◌%◌, ◌^◌, ◌==◌, leb, max, ℤ, pos, negsuc, ◌-ℤ◌, Bool}
-use Rattle.std.specs.Prelude.{true, false, cond, ◌&&◌, ◌||◌, List, [], ◌∷◌, map, flat_map, Option, Some, None}
+use Rattle.std.specs.Prelude.{ℕ, zero, suc, ◌+◌, ◌-◌, ◌/◌, ◌%◌, ◌^◌, ◌==◌, leb, max, ℤ, pos, negsuc, ◌-ℤ◌, Bool, true,
+    false, cond, ◌&&◌, ◌||◌, List, [], ◌∷◌, map, flat_map, Option, Some, None}
+use Rattle.std.specs.Option.{option_map_or}
+use Rattle.std.specs.Int.Digits.{number_from_digits}
 use Rattle.asn1_model.specs.Schema.{Range, Counts, Size}
 
 -- So many digits of a number to a base, the highest first.
 abbrev pub digits : ℕ → ℕ → ℕ → List ℕ
 digits base zero n = []
 digits base (suc w) n = n / base ^ w % base ∷ digits base w n
-
--- The number that digits stand for, behind digits that stand for n.
-abbrev pub number_after : ℕ → ℕ → List ℕ → ℕ
-number_after base n [] = n
-number_after base n (d ∷ ds) = number_after base (n * base + d) ds
 
 -- How many digits a number has, 0 having none; at most so many are counted.
 unfoldable pub places_up_to : ℕ → ℕ → ℕ → ℕ
@@ -48,43 +45,26 @@ abbrev pub complement : ℕ → ℤ → List ℕ
 complement k (pos m) = digits 256 k m
 complement k (negsuc m) = digits 256 k (256 ^ k - 1 - m)
 
--- A whole number that is not negative, as a natural one.
-abbrev pub natural : ℤ → Option ℕ
-natural (pos n) = Some n
-natural (negsuc n) = None
-
 -- How far a number is above a bound, if it is not below it.
 abbrev pub above : ℤ → ℤ → Option ℕ
-above low v = natural (v -ℤ low)
+above low v = elim (v -ℤ low) [ pos n ↦ Some n | negsuc n ↦ None ]
 
 -- Whether the first is not above the second.
 abbrev pub is_at_most : ℤ → ℤ → Bool
 is_at_most a b = elim (b -ℤ a) [ pos n ↦ true | negsuc n ↦ false ]
 
-abbrev pub is_from : Option ℤ → ℤ → Bool
-is_from None v = true
-is_from (Some low) v = is_at_most low v
-
-abbrev pub is_to : Option ℤ → ℤ → Bool
-is_to None v = true
-is_to (Some high) v = is_at_most v high
-
 -- Whether a number is in a range (X.680 51.4).
 abbrev pub is_within : Range → ℤ → Bool
-is_within r v = is_from r.low v && is_to r.high v
-
-abbrev pub is_count_to : Option ℕ → ℕ → Bool
-is_count_to None n = true
-is_count_to (Some high) n = leb n high
+is_within r v =
+    option_map_or (λ low. is_at_most low v) r.low true && option_map_or (λ high. is_at_most v high) r.high true
 
 -- Whether a count is one of these (X.680 51.5).
 abbrev pub is_count_within : Counts → ℕ → Bool
-is_count_within c n = leb c.low n && is_count_to c.high n
+is_count_within c n = leb c.low n && option_map_or (λ high. leb n high) c.high true
 
 -- Whether the highest count is the lowest.
 abbrev pub is_fixed_at : Counts → Option ℕ → Bool
-is_fixed_at c None = false
-is_fixed_at c (Some high) = high == c.low
+is_fixed_at c o = option_map_or (λ high. high == c.low) o false
 
 -- Whether a length is one that the program's type holds and a size without an extension marker admits.
 abbrev pub admits : Size → Counts → ℕ → Bool
@@ -108,7 +88,7 @@ by_eights bs = bs ∷ []
 -- Bits as octets, the first bit the highest (X.691 11.1); a last octet of fewer than eight bits is the number that they
 -- are.
 abbrev pub packed : List Bool → List ℕ
-packed bs = map (λ o. number_after 2 0 (map (λ b. cond b 1 0) o)) (by_eights bs)
+packed bs = map (λ o. number_from_digits 2 (map (λ b. cond b 1 0) o)) (by_eights bs)
 
 abbrev pub octet_bits : List ℕ → List Bool
 octet_bits os = flat_map (binary 8) os

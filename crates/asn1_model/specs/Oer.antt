@@ -1,26 +1,24 @@
 -- The octet encoding rules (X.696): the form of a value of a type, in octets.
-use Rattle.std.specs.Prelude.{ℕ, zero, suc, ◌+◌, ◌*◌, ◌/◌, ◌^◌, ◌==◌, ltb, leb, not, max, ℤ, pos, negsuc, Bool, true}
-use Rattle.std.specs.Prelude.{false, cond, ◌&&◌, ◌||◌, List, [], ◌∷◌, ◌++◌, length, map, replicate, flat_map, Option}
-use Rattle.std.specs.Prelude.{Some, None, is_some, option_map}
-use Rattle.asn1_model.specs.Value.{Value, truth, nothing, number, item, bit_list, octet_list, text, arcs, members, bag}
-use Rattle.asn1_model.specs.Value.{fields, chosen, Parts, end, absent, present, each}
-use Rattle.asn1_model.specs.Schema.{Tag, Range, Bounds, Counts, Size, StringKind, bmp, Schema, boolean, null}
-use Rattle.asn1_model.specs.Schema.{integer, enumerated, bit_string, octet_string, character_string, object_identifier}
-use Rattle.asn1_model.specs.Schema.{sequence_of, set_of, sequence, set, group, choice, Components, no_component}
-use Rattle.asn1_model.specs.Schema.{component, Alternatives, no_alternative, alternative}
+use Rattle.std.specs.Prelude.{ℕ, zero, suc, ◌+◌, ◌*◌, ◌/◌, ◌^◌, ◌==◌, ltb, leb, not, max, ℤ, pos, negsuc, Bool, true,
+    false, cond, ◌&&◌, ◌||◌, List, [], ◌∷◌, ◌++◌, length, map, replicate, flat_map, Option, Some, None, is_some,
+    option_map}
+use Rattle.asn1_model.specs.Value.{Value, truth, nothing, number, item, bit_list, octet_list, text, arcs, members, bag,
+    fields, chosen, Parts, end, absent, present, each}
+use Rattle.asn1_model.specs.Schema.{Tag, Range, Bounds, Counts, Size, StringKind, bmp, Schema, boolean, null, integer,
+    enumerated, bit_string, octet_string, character_string, object_identifier, sequence_of, set_of, sequence, set,
+    group, choice, Components, no_component, component, Alternatives, no_alternative, alternative}
 pub use Rattle.asn1_model.specs.Numbers.{packed}
-use Rattle.asn1_model.specs.Numbers.{missing, digits, octet_width, least_octets, signed_octets, complement, is_within}
-use Rattle.asn1_model.specs.Numbers.{is_count_within, fits_128, is_fixed_at, admits}
-use Rattle.asn1_model.specs.Form.{Form, exactly, refused, both, varied, within, written, nothing_more, only_if, given}
-use Rattle.asn1_model.specs.Form.{joined, stands_before, ascending, in_order, Bitmap, is_any_present}
-use Rattle.asn1_model.specs.Form.{present_ones, covered_by, own_bitmap}
-pub use Rattle.asn1_model.specs.Form.{Freedom, Detail, longer_length, longer_number, any_truth, longer_item}
-pub use Rattle.asn1_model.specs.Form.{empty_bit_string, any_unused_bits, long_tag, default_spelled_out, empty_group}
-pub use Rattle.asn1_model.specs.Form.{other_bitmap, empty_bitmap, octets_behind, other_order}
+use Rattle.asn1_model.specs.Numbers.{missing, digits, octet_width, least_octets, signed_octets, complement, is_within,
+    is_count_within, fits_128, is_fixed_at, admits}
+use Rattle.asn1_model.specs.Form.{Form, exactly, refused, both, varied, within, written, only_if, given, joined,
+    stands_before, ascending, in_order, Bitmap, is_any_present, present_ones, covered_by, own_bitmap}
+pub use Rattle.asn1_model.specs.Form.{Freedom, Detail, longer_length, longer_number, any_truth, longer_item,
+    empty_bit_string, any_unused_bits, long_tag, default_spelled_out, empty_group, other_bitmap, empty_bitmap,
+    octets_behind, other_order}
 use Rattle.asn1_model.specs.Strings.{may_hold, identifier_octets, is_identifier, is_octet, groups_of_seven}
 use Rattle.std.specs.List.{list_all}
-use Rattle.asn1_model.specs.Tables.{is_bounded, item_place, is_required, presence_bits}
-unfoldable pub use Rattle.asn1_model.specs.Tables.{spelled}
+use Rattle.asn1_model.specs.Normal.{is_bounded, item_place, is_required, presence_bits}
+unfoldable pub use Rattle.asn1_model.specs.Normal.{spelled}
 
 abbrev pub OctetForm : Type 0
 OctetForm = Form Freedom Detail ℕ
@@ -182,7 +180,7 @@ unfoldable mutual
   pub form : Schema → Value → OctetForm
   form boolean (truth false) = exactly (0 ∷ [])
   form boolean (truth true) = varied any_truth 255 (λ o. only_if (leb 1 o && is_octet o) (exactly (o ∷ [])))
-  form null nothing = nothing_more
+  form null nothing = exactly []
   form (integer b held) (number v) = integer_form b held v
   form (enumerated roots e adds) (item v) =
       only_if (is_some (item_place v roots) || (e && is_some (item_place v adds))) (item_form v)
@@ -204,7 +202,7 @@ unfoldable mutual
 
   -- One component after another (X.696 16).
   pub component_forms : Components → Parts → OctetForm
-  component_forms no_component end = nothing_more
+  component_forms no_component end = exactly []
   component_forms (component t o s cs) (present v ps) = both (spelled o s v (form s v)) (component_forms cs ps)
   component_forms (component t o s cs) (absent ps) = cond (is_required o) refused (component_forms cs ps)
   component_forms cs ps = refused

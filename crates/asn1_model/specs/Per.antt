@@ -1,29 +1,27 @@
 -- The packed encoding rules (X.691), aligned and not: the form of a value of a type, in bits. Where padding stands in
 -- the aligned variant is the project's own statement: before the fields that say so here, up to the next octet of the
 -- message or open type that holds them, and never before a field of no bits.
-use Rattle.std.specs.Prelude.{ℕ, zero, suc, ◌-◌, ◌*◌, ◌/◌, ◌%◌, ◌^◌, ◌==◌, ltb, leb, not, ℤ, Bool, true, false, cond}
-use Rattle.std.specs.Prelude.{◌&&◌, ◌||◌, List, [], ◌∷◌, ◌++◌, length, take, drop, map, replicate, flat_map, Option}
-use Rattle.std.specs.Prelude.{Some, None, is_some, option_map, filter}
+use Rattle.std.specs.Prelude.{ℕ, zero, suc, ◌-◌, ◌*◌, ◌/◌, ◌%◌, ◌^◌, ◌==◌, ltb, leb, not, ℤ, Bool, true, false, cond,
+    ◌&&◌, ◌||◌, List, [], ◌∷◌, ◌++◌, length, take, drop, map, replicate, flat_map, Option, Some, None, is_some,
+    option_map, filter}
 use Rattle.std.specs.List.{list_all}
-use Rattle.asn1_model.specs.Value.{Value, truth, nothing, number, item, bit_list, octet_list, text, arcs, members, bag}
-use Rattle.asn1_model.specs.Value.{fields, chosen, Parts, end, absent, present, each}
-use Rattle.asn1_model.specs.Schema.{Range, Bounds, Counts, Size, Alphabet, StringKind, Schema, boolean, null}
-use Rattle.asn1_model.specs.Schema.{integer, enumerated, bit_string, octet_string, character_string, object_identifier}
-use Rattle.asn1_model.specs.Schema.{sequence_of, set_of, sequence, set, group, choice, Components, no_component}
-use Rattle.asn1_model.specs.Schema.{component, Alternatives, no_alternative, alternative}
+use Rattle.asn1_model.specs.Value.{Value, truth, nothing, number, item, bit_list, octet_list, text, arcs, members, bag,
+    fields, chosen, Parts, end, absent, present, each}
+use Rattle.asn1_model.specs.Schema.{Range, Bounds, Counts, Size, Alphabet, StringKind, Schema, boolean, null, integer,
+    enumerated, bit_string, octet_string, character_string, object_identifier, sequence_of, set_of, sequence, set,
+    group, choice, Components, no_component, component, Alternatives, no_alternative, alternative}
 pub use Rattle.asn1_model.specs.Numbers.{missing, by_eights}
-use Rattle.asn1_model.specs.Numbers.{digits, binary, width, octet_width, least_octets, signed_octets, complement, above}
-use Rattle.asn1_model.specs.Numbers.{is_at_most, is_within, is_count_within, fits_128, is_fixed_at}
-use Rattle.asn1_model.specs.Form.{Form, exactly, refused, both, placed, varied, within, written, nothing_more, only_if}
-use Rattle.asn1_model.specs.Form.{given, joined, stands_before, ascending, in_order, Bitmap, is_any_present}
-use Rattle.asn1_model.specs.Form.{present_ones, covered_by, own_bitmap}
-pub use Rattle.asn1_model.specs.Form.{Freedom, Detail, any_padding, two_octet_length, other_fragments, longer_number}
-pub use Rattle.asn1_model.specs.Form.{root_told_outside, long_small_number, default_spelled_out, empty_group}
-pub use Rattle.asn1_model.specs.Form.{other_bitmap, empty_bitmap, octets_behind, other_order}
-use Rattle.asn1_model.specs.Strings.{Run, permitted, how_many, largest, place_of, may_hold, is_of_octets}
-use Rattle.asn1_model.specs.Strings.{identifier_octets, is_identifier, is_octet}
-use Rattle.asn1_model.specs.Tables.{is_bounded, item_place, is_required, presence_bits, alternative_count}
-unfoldable pub use Rattle.asn1_model.specs.Tables.{spelled}
+use Rattle.asn1_model.specs.Numbers.{digits, binary, width, octet_width, least_octets, signed_octets, complement, above,
+    is_at_most, is_within, is_count_within, fits_128, is_fixed_at}
+use Rattle.asn1_model.specs.Form.{Form, exactly, refused, both, placed, varied, within, written, only_if, given, joined,
+    stands_before, ascending, in_order, Bitmap, is_any_present, present_ones, covered_by, own_bitmap}
+pub use Rattle.asn1_model.specs.Form.{Freedom, Detail, any_padding, two_octet_length, other_fragments, longer_number,
+    root_told_outside, long_small_number, default_spelled_out, empty_group, other_bitmap, empty_bitmap, octets_behind,
+    other_order}
+use Rattle.asn1_model.specs.Strings.{Run, permitted, how_many, largest, place_of, may_hold, is_of_octets,
+    identifier_octets, is_identifier, is_octet}
+use Rattle.asn1_model.specs.Normal.{is_bounded, item_place, is_required, presence_bits, alternative_count}
+unfoldable pub use Rattle.asn1_model.specs.Normal.{spelled}
 
 abbrev pub BitForm : Type 0
 BitForm = Form Freedom Detail Bool
@@ -155,9 +153,6 @@ sized al z held has_padding us = only_if (is_count_within held (length us))
     (with_extension_bit z.extensible (is_count_within z.counts (length us))
     (sized_root al z.counts z.counts.high has_padding us) (counted al us))
 
-abbrev pub never : Counts → Bool
-never c = false
-
 -- Contents of no bits take no padding, and nor do those of one size of at most 16 bits (X.691 16.9 to 16.11, 17.6 to
 -- 17.8).
 abbrev pub string_has_padding : ℕ → ℕ → Counts → Bool
@@ -197,18 +192,14 @@ string_form al k z a held cs = only_if (may_hold k cs) (cond (is_of_octets k)
 
 -- The extension marker, where the type has one.
 abbrev pub extension_bit_of : Bool → Bool → BitForm
-extension_bit_of false m = nothing_more
+extension_bit_of false m = exactly []
 extension_bit_of true m = exactly (m ∷ [])
 
--- An added item, by its place among these (X.691 14.3).
-unfoldable pub added_item : Bool → Bool → Option ℕ → BitForm
-added_item al true (Some j) = both (exactly (true ∷ [])) (normally_small al j)
-added_item al e j = refused
-
--- ENUMERATED (X.691 14): a root item by its place.
+-- ENUMERATED: a root item by its place among these, and an added one by its own (X.691 14).
 unfoldable pub item_form : Bool → ℕ → Bool → Option ℕ → Option ℕ → BitForm
 item_form al roots e (Some i) j = both (extension_bit_of e false) (constrained al (roots - 1) i)
-item_form al roots e None j = added_item al e j
+item_form al roots true None (Some j) = both (exactly (true ∷ [])) (normally_small al j)
+item_form al roots e None j = refused
 
 -- Padded with zero bits to whole octets, and one zero octet in place of no bits (X.691 11.1).
 unfoldable pub padded : List Bool → BitForm
@@ -219,15 +210,11 @@ padded (b ∷ bs) = both (exactly (b ∷ bs)) (padding (missing (length (b ∷ b
 unfoldable pub complete : BitForm → BitForm
 complete x = within x padded
 
--- Whole octets behind their number.
-abbrev pub counted_eights : Bool → List Bool → BitForm
-counted_eights al w = counted al (map (λ o. exactly o) (by_eights w))
-
 -- An open type: a complete encoding behind its number of octets (X.691 11.2).
 unfoldable pub open_type : Bool → BitForm → BitForm
 open_type al x = within (complete x) (λ w.
     varied octets_behind [] (λ more. only_if (list_all is_octet more)
-    (counted_eights al (w ++ flat_map (binary 8) more))))
+    (counted al (map (λ o. exactly o) (by_eights (w ++ flat_map (binary 8) more))))))
 
 abbrev pub flag : Option BitForm → BitForm
 flag a = exactly (is_some a ∷ [])
@@ -272,7 +259,7 @@ unfoldable mutual
   -- restricted character strings (30).
   pub form : Bool → Schema → Value → BitForm
   form al boolean (truth b) = exactly (b ∷ [])
-  form al null nothing = nothing_more
+  form al null nothing = exactly []
   form al (integer b held) (number v) = integer_form al b held v
   form al (enumerated roots e adds) (item v) = item_form al (length roots) e (item_place v roots) (item_place v adds)
   form al (bit_string z held) (bit_list bs) = sized al z held (string_has_padding 1 (length bs)) (bit_units bs)
@@ -280,8 +267,8 @@ unfoldable mutual
       only_if (list_all is_octet os) (sized al z held (string_has_padding 8 (length os)) (octet_units os))
   form al (character_string k z a held) (text cs) = string_form al k z a held cs
   form al object_identifier (arcs ns) = only_if (is_identifier ns) (counted_octets al (identifier_octets ns))
-  form al (sequence_of z held s) (members vs) = sized al z held never (each (λ v. form al s v) vs)
-  form al (set_of z held s) (bag vs) = in_any_order (each (λ v. form al s v) vs) (sized al z held never)
+  form al (sequence_of z held s) (members vs) = sized al z held (λ c. false) (each (λ v. form al s v) vs)
+  form al (set_of z held s) (bag vs) = in_any_order (each (λ v. form al s v) vs) (sized al z held (λ c. false))
   form al (sequence cs e adds) (fields ps qs) =
       given (addition_forms al adds qs) (sequence_form al e (presence_bits cs ps) (component_forms al cs ps))
   form al (set cs e adds) (fields ps qs) =
@@ -296,7 +283,7 @@ unfoldable mutual
 
   -- One component after another (X.691 19.6).
   pub component_forms : Bool → Components → Parts → BitForm
-  component_forms al no_component end = nothing_more
+  component_forms al no_component end = exactly []
   component_forms al (component t o s cs) (present v ps) = both (spelled o s v (form al s v)) (component_forms al cs ps)
   component_forms al (component t o s cs) (absent ps) = cond (is_required o) refused (component_forms al cs ps)
   component_forms al cs ps = refused

@@ -1,10 +1,11 @@
 -- Character strings and object identifiers: what may stand in them, and the octets of an identifier.
-use Rattle.std.specs.Prelude.{ℕ, ◌+◌, ◌-◌, ◌*◌, ◌^◌, ◌==◌, ltb, leb, max, Bool, true, false, cond, ◌&&◌, ◌||◌, List, []}
-use Rattle.std.specs.Prelude.{◌∷◌, ◌++◌, filter, map, flat_map, Option, Some, None, option_map}
+use Rattle.std.specs.Prelude.{ℕ, ◌+◌, ◌-◌, ◌*◌, ◌^◌, ◌==◌, ltb, leb, max, Bool, true, false, cond, ◌&&◌, ◌||◌, List, [],
+    ◌∷◌, ◌++◌, filter, map, flat_map, Option, Some, None, option_map}
 use Rattle.std.specs.List.{list_all, list_any}
+use Rattle.std.specs.Option.{option_map_or}
 use Rattle.std.specs.Str.{is_utf8}
-use Rattle.asn1_model.specs.Schema.{Alphabet, StringKind, numeric, printable, visible, ia5, bmp, general, graphic}
-use Rattle.asn1_model.specs.Schema.{teletex, utf8}
+use Rattle.asn1_model.specs.Schema.{Alphabet, StringKind, numeric, printable, visible, ia5, bmp, general, graphic,
+    teletex, utf8}
 use Rattle.asn1_model.specs.Numbers.{digits, places}
 
 -- The characters from one number to another.
@@ -58,12 +59,9 @@ sorted (c ∷ cs) = put_in c (sorted cs)
 
 -- The characters that a constraint leaves of the type's own, in whatever order it lists them (X.680 51.7, X.691 30.5).
 -- A constraint with an extension marker counts for nothing, by the project's choice.
-abbrev pub permitted_in : StringKind → Bool → Option (List ℕ) → List Run
-permitted_in k false (Some cs) = map (λ c. run c c) (sorted (filter (is_among (characters_of k)) cs))
-permitted_in k e cs = characters_of k
-
 abbrev pub permitted : StringKind → Alphabet → List Run
-permitted k a = permitted_in k a.extensible a.characters
+permitted k a = cond a.extensible (characters_of k) (option_map_or
+    (λ cs. map (λ c. run c c) (sorted (filter (is_among (characters_of k)) cs))) a.characters (characters_of k))
 
 -- Whether a value holds octets in place of characters (X.691 30, types whose characters have no fixed width).
 abbrev pub is_of_octets : StringKind → Bool

@@ -1,15 +1,13 @@
 -- Two versions of a type: the newer has further additions, alternatives and items behind its extension markers, and is
 -- as the older one else (X.680 52).
-use Rattle.std.specs.Prelude.{◌≡◌, ℕ, zero, suc, Bool, true, false, cond, ◌||◌, List, ◌++◌, All, Contains, Option, Some}
-use Rattle.std.specs.Prelude.{None, is_some, option_map, option_and_then}
-use Rattle.asn1_model.specs.Value.{Value, item, members, bag, fields, chosen, Values, no_more, member, Parts, end}
-use Rattle.asn1_model.specs.Value.{absent, present, same}
-use Rattle.asn1_model.specs.Schema.{Tag, Presence, required, optional, by_default, Schema, cut, boolean, null, integer}
-use Rattle.asn1_model.specs.Schema.{enumerated, bit_string, octet_string, character_string, object_identifier}
-use Rattle.asn1_model.specs.Schema.{sequence_of, set_of, sequence, set, group, choice, Components, no_component}
-use Rattle.asn1_model.specs.Schema.{component, Alternatives, no_alternative, alternative}
-use Rattle.asn1_model.specs.Normal.{normal}
-use Rattle.asn1_model.specs.Tables.{item_place}
+use Rattle.std.specs.Prelude.{◌≡◌, ℕ, zero, suc, Bool, true, false, cond, ◌||◌, List, ◌++◌, All, Contains, Option, Some,
+    None, is_some, option_map, option_and_then}
+use Rattle.asn1_model.specs.Value.{Value, item, members, bag, fields, chosen, Values, no_more, member, Parts, end,
+    absent, present, same}
+use Rattle.asn1_model.specs.Schema.{Presence, required, optional, by_default, Schema, cut, boolean, null, integer,
+    enumerated, bit_string, octet_string, character_string, object_identifier, sequence_of, set_of, sequence, set,
+    group, choice, Components, no_component, component, Alternatives, no_alternative, alternative}
+use Rattle.asn1_model.specs.Normal.{normal, item_place}
 
 abbrev pub map_each : (Value → Option Value) → Values → Option Values
 map_each f no_more = Some no_more
@@ -25,13 +23,6 @@ all_absent (component t o s cs) = option_map absent (all_absent cs)
 abbrev pub both_parts : Option Parts → Option Parts → Option Value
 both_parts (Some ps) (Some qs) = Some (fields ps qs)
 both_parts ps qs = None
-
--- What becomes of the parts that only the newer version has: in the newer one they are absent (true), and in the older
--- one there are none (false).
-abbrev pub behind : Bool → Components → Parts → Option Parts
-behind false cs ps = Some end
-behind true cs end = all_absent cs
-behind true cs ps = None
 
 unfoldable mutual
   -- A value of the older version as one of the newer (true), or of the newer one as one of the older (false). To the
@@ -54,12 +45,14 @@ unfoldable mutual
       option_map (λ w. chosen true i w) (carried_alternative newer adds adds' i v)
   carried newer s s' v = Some v
 
+  -- The parts that only the newer version has are absent in it, and are not there in the older one.
   pub carried_parts : Bool → Components → Components → Parts → Option Parts
   carried_parts newer (component t o s cs) (component t' o' s' cs') (present v ps) =
       option_and_then (λ w. option_map (λ qs. present w qs) (carried_parts newer cs cs' ps)) (carried newer s s' v)
   carried_parts newer (component t o s cs) (component t' o' s' cs') (absent ps) =
       option_map absent (carried_parts newer cs cs' ps)
-  carried_parts newer no_component cs' ps = behind newer cs' ps
+  carried_parts false no_component cs' ps = Some end
+  carried_parts true no_component cs' end = all_absent cs'
   carried_parts newer cs cs' ps = None
 
   pub carried_alternative : Bool → Alternatives → Alternatives → ℕ → Value → Option Value
@@ -72,13 +65,9 @@ unfoldable mutual
 abbrev pub grow : Schema → Schema → Value → Option Value
 grow old new v = carried true old new v
 
--- A value of the newer version without the parts that the older one lacks.
-abbrev pub lessen : Schema → Schema → Value → Option Value
-lessen old new v = carried false old new v
-
 -- The normal form of a value of the newer version, without the parts that the older one lacks.
 abbrev pub drop : Schema → Schema → Value → Option Value
-drop old new v = lessen old new (normal new v)
+drop old new v = carried false old new (normal new v)
 
 -- By the loss a part that the older version knows has become its default, or a group has become empty, so that what is
 -- left is not in normal form.
@@ -88,11 +77,6 @@ IsClash old new v = (w : Value) × (drop old new v ≡ Some w) × ¬ (normal old
 -- The elements of the first are the first of the second.
 abbrev pub Begins : {X : Type 0} → List X → List X → Type 0
 Begins {X} xs ys = (zs : List X) × (xs ++ zs ≡ ys)
-
--- Each tag of the older version is one of the newer. An untagged choice and a group gain the tags of what they gain,
--- wherever it stands among them; no addition takes a tag away (X.680 52).
-abbrev pub KeepsTags : List Tag → List Tag → Type 0
-KeepsTags ts ts' = All (Contains ts') ts
 
 -- Both required, both optional, or both with one default: that of the older version, carried over, is the same value as
 -- that of the newer, whatever order a bag in it has and whether or not it spells out what is at a default of its own
@@ -126,12 +110,13 @@ unfoldable mutual
       ExtendsAlternatives false roots roots' × (e ≡ e') × ExtendsAlternatives e adds adds'
   Extends s s' = ⊥
 
-  -- One by one, and behind them further ones if these may come.
+  -- One by one, and behind them further ones if these may come. Each tag of the older version is one of the newer: an
+  -- untagged choice and a group gain the tags of what they gain, wherever it stands among them.
   pub ExtendsEach : Bool → Components → Components → Type 0
   ExtendsEach more no_component no_component = Unit {0}
   ExtendsEach true no_component (component t' o' s' cs') = Unit {0}
   ExtendsEach more (component t o s cs) (component t' o' s' cs') =
-      KeepsTags t t' × KeepsPresence s s' o o' × Extends s s' × ExtendsEach more cs cs'
+      All (Contains t') t × KeepsPresence s s' o o' × Extends s s' × ExtendsEach more cs cs'
   ExtendsEach more cs cs' = ⊥
 
   -- The same of alternatives, whose tags are equal.

@@ -2,8 +2,9 @@
 use Rattle.std.proofs.Common.{◌≡◌, ℕ, ◌+◌, ◌==◌, [], ◌∷◌, Bool, true, false, not, ◌&&◌, IsTrue, List, length, Option, Some, None, refl, ap, inl, inr}
 use Rattle.std.proofs.Common.{subst, ◌⊎◌}
 use Rattle.std.proofs.lemmas.Bool.{eq-eqb}
-use Rattle.asn1_model.specs.Value.{same_list, same_truth}
+use Rattle.asn1_model.specs.Value.{same_truth}
 use Rattle.asn1_model.specs.Form.{Form, exactly, refused, both, placed, varied, within, written, Reads}
+use lib.Pointwise.{pointwise}
 
 abbrev pub if_some : {X : Type 0} → Option X → (X → Bool) → Bool
 if_some None f = true
@@ -51,21 +52,21 @@ plain_reads free (within x f) p w h r =
 
 -- ---- texts compared by computation
 
-same_bits : (bs : List Bool) → same_list same_truth bs bs ≡ true
+same_bits : (bs : List Bool) → pointwise same_truth bs bs ≡ true
 same_bits [] = refl
 same_bits (true ∷ bs) = same_bits bs
 same_bits (false ∷ bs) = same_bits bs
 
-same_octets : (os : List ℕ) → same_list ◌==◌ os os ≡ true
+same_octets : (os : List ℕ) → pointwise ◌==◌ os os ≡ true
 same_octets [] = refl
 same_octets (o ∷ os) = rw (eq-eqb o o refl) (same_octets os)
 
 abbrev pub is_text : {A : Type 0} → (A → A → Bool) → Option (List A) → List A → Bool
 is_text same None w = false
-is_text same (Some l) w = same_list same l w
+is_text same (Some l) w = pointwise same l w
 
 -- so a text that the canonical one is not is not read
-not_read : {F : Type 0} {D : F → Type 0} {A : Type 0} (same : A → A → Bool) (h : (l : List A) → same_list same l l ≡ true) (free : F → Bool) (x : Form F D A) (w : List A) → is_plain free x 0 ≡ true → is_text same (written x 0) w ≡ false → Reads free x 0 w → ⊥
+not_read : {F : Type 0} {D : F → Type 0} {A : Type 0} (same : A → A → Bool) (h : (l : List A) → pointwise same l l ≡ true) (free : F → Bool) (x : Form F D A) (w : List A) → is_plain free x 0 ≡ true → is_text same (written x 0) w ≡ false → Reads free x 0 w → ⊥
 not_read same h free x w p n r = let e : is_text same (written x 0) w ≡ true = rw (plain_reads free x 0 w p r) (h w) in let q : false ≡ true = subst (λ b. b ≡ true) n e in cc
 
 pub bits_not_read : {F : Type 0} {D : F → Type 0} (free : F → Bool) (x : Form F D Bool) (w : List Bool) → is_plain free x 0 ≡ true → is_text same_truth (written x 0) w ≡ false → Reads free x 0 w → ⊥

@@ -3,7 +3,7 @@ use Rattle.std.specs.Prelude.{◌≡◌, ℕ, ◌+◌, ◌^◌, pos, Bool, true,
 use Rattle.asn1_model.specs.Value.{Value, nothing, item, text, arcs, fields, chosen, end, absent, present}
 use Rattle.asn1_model.specs.Schema.{visible, ia5, numeric, utf8, Schema, boolean, null, integer, enumerated}
 use Rattle.asn1_model.specs.Schema.{object_identifier, sequence_of, no_alternative}
-use Rattle.asn1_model.specs.Form.{written, Reads, nothing_more, covered_by, arranged}
+use Rattle.asn1_model.specs.Form.{written, Reads, covered_by, arranged, exactly}
 use Rattle.asn1_model.specs.Per
 use Rattle.asn1_model.specs.Oer
 use Rattle.asn1_model.specs.Rules.{Rules, lenient, strict_per, strict_oer, IsEncoding, uper, aper, uper_strict}
@@ -173,15 +173,15 @@ abbrev pub FormRows : Type 0
 FormRows =
     -- a PER fragment of 0 units, of 5 times 16384, and of more than there are
     (written (Per.fragments false (0 ∷ []) []) 0 ≡ None)
-    × (written (Per.fragments false (5 ∷ []) (replicate 81920 nothing_more)) 0 ≡ None)
-    × (written (Per.fragments false (1 ∷ []) (replicate 16383 nothing_more)) 0 ≡ None)
+    × (written (Per.fragments false (5 ∷ []) (replicate 81920 (exactly []))) 0 ≡ None)
+    × (written (Per.fragments false (1 ∷ []) (replicate 16383 (exactly []))) 0 ≡ None)
     -- a number of the aligned variant in no octets, and in more than its range has
     × (written (Per.in_octets_of (Per.constrained true) true 1234311 0 0) 0 ≡ None)
     × (written (Per.in_octets_of (Per.constrained true) true 1234311 0 4) 0 ≡ None)
     × (written (Per.in_octets_of (Per.constrained true) true 1234311 256 1) 0 ≡ None)
     -- a number or a size told as inside the root that is not
-    × (written (Per.with_extension_bit true false nothing_more nothing_more) 0 ≡ Some (true ∷ []))
-    × (written (Per.with_extension_bit false false nothing_more nothing_more) 0 ≡ None)
+    × (written (Per.with_extension_bit true false (exactly []) (exactly [])) 0 ≡ Some (true ∷ []))
+    × (written (Per.with_extension_bit false false (exactly []) (exactly [])) 0 ≡ None)
     -- an OER length in no octets, in 128, and in fewer than it needs; one past 64 bits
     × (written (Oer.long_length 5 0) 0 ≡ None)
     × (written (Oer.long_length 5 128) 0 ≡ None)

@@ -3,7 +3,7 @@ use Rattle.std.proofs.Common.{◌≡◌, ◌≤◌, ℕ, zero, suc, true, false,
 use Rattle.std.proofs.lemmas.Bool.{and_parts}
 use Rattle.asn1_model.specs.Value.{Value, fields, Parts, end, absent, present, same}
 use Rattle.asn1_model.specs.Schema.{required, optional, by_default, Schema}
-use Rattle.asn1_model.specs.Typed.{is_of, are_of}
+use Rattle.asn1_model.specs.Lawful.{is_of, are_of}
 use Rattle.asn1_model.specs.Versions.{carried, KeepsPresence, grow, carried_parts, all_absent}
 use Rattle.asn1_laws_values.proofs.Same.{same_self}
 use Rattle.asn1_laws_values.proofs.Itself.{grows, parts_grow}

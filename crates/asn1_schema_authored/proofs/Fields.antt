@@ -1,11 +1,11 @@
 -- Newer versions of types by their tables, so that no author recurs over a type.
 use Rattle.std.proofs.Common.{◌≡◌, ◌≤◌, ℕ, zero, suc, ℤ, Bool, true, false, List, ◌++◌, refl, arith}
-use Rattle.std.specs.Prelude.{leb}
+use Rattle.std.specs.Prelude.{leb, Contains, All}
 use Rattle.std.proofs.lemmas.Bool.{and_parts, leb-true}
 use Rattle.std.proofs.lemmas.List.Elements.{All-contains_itself}
 use Rattle.asn1_model.specs.Schema.{Tag, Presence, Schema, enumerated}
 use Rattle.asn1_model.specs.Lawful.{is_lawful, are_lawful, are_lawful_alternatives}
-use Rattle.asn1_model.specs.Versions.{KeepsTags, KeepsPresence, Extends, ExtendsEach, ExtendsAlternatives}
+use Rattle.asn1_model.specs.Versions.{KeepsPresence, Extends, ExtendsEach, ExtendsAlternatives}
 use Rattle.asn1_laws_values.proofs.Itself.{each_itself, alternatives_itself}
 use Rattle.asn1_schema_presented.specs.Tables.{Fields, no_field, field, Table, components_at, scope, sequence_type}
 use Rattle.asn1_schema_constructed.specs.Sets.{set_type}
@@ -31,7 +31,7 @@ pub record FieldsExtend (k : ℕ) (more : Bool) (fs gs : Fields) : Type 0 where
 pub record KeepsPresenceFrom (k : ℕ) (s s' : ℕ → Schema) (o o' : Presence) : Type 0 where
   pub unfolded : (n : ℕ) → k ≤ n → KeepsPresence (s n) (s' n) o o'
 
-pub same_tags : (t : List Tag) → KeepsTags t t
+pub same_tags : (t : List Tag) → All (Contains t) t
 same_tags t = All-contains_itself t
 
 -- ---- components
@@ -41,7 +41,7 @@ unfolding components_at ExtendsEach
 no_fields = record { unfolded = λ n h. tt }
 
 -- A component that has grown itself, and those behind it.
-pub grown_field : {k : ℕ} {more : Bool} {t t' : List Tag} {o o' : Presence} {s s' : ℕ → Schema} {fs gs : Fields} → KeepsTags t t' → KeepsPresenceFrom k s s' o o' → ExtendsFrom k s s' → FieldsExtend k more fs gs → FieldsExtend k more (field t o s fs) (field t' o' s' gs)
+pub grown_field : {k : ℕ} {more : Bool} {t t' : List Tag} {o o' : Presence} {s s' : ℕ → Schema} {fs gs : Fields} → All (Contains t') t → KeepsPresenceFrom k s s' o o' → ExtendsFrom k s s' → FieldsExtend k more fs gs → FieldsExtend k more (field t o s fs) (field t' o' s' gs)
 unfolding components_at ExtendsEach
 grown_field a b c d = record { unfolded = λ n h. (a, b.unfolded n h, c.unfolded n h, d.unfolded n h) }
 

@@ -3,7 +3,7 @@ use Rattle.std.proofs.Common.{◌≡◌, ℕ, Bool, true, false, List, [], ◌�
 use Rattle.asn1_model.specs.Value.{Value, Parts, end, absent, present, same}
 use Rattle.asn1_model.specs.Schema.{Tag, Presence, required, optional, by_default, Schema}
 use Rattle.asn1_model.specs.Normal.{normal, normal_parts, is_at_default, is_group_left_out}
-use Rattle.asn1_model.specs.Tables.{is_required}
+use Rattle.asn1_model.specs.Normal.{is_required}
 use Rattle.asn1_schema_faults.specs.declared.DecodeError.{DecodeError}
 use Rattle.asn1_schema_faults.specs.declared.DecodeError.TheVariants.{OutOfMemory}
 use Rattle.asn1_schema_presented.specs.Records.{Record, is_default, is_empty, additions_begin, addition, addition_ends, ends, asks_additions, asks_addition, asks_addition_end, asks_default, asks_empty, asks_end}

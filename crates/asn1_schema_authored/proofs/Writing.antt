@@ -3,7 +3,7 @@ use Rattle.std.proofs.Common.{◌≡◌, ℕ, true, false, List, [], ◌∷◌, 
 use Rattle.asn1_model.specs.Value.{Value, Parts, end, same}
 use Rattle.asn1_model.specs.Schema.{Tag, Presence, by_default, Schema}
 use Rattle.asn1_model.specs.Normal.{normal, is_at_default}
-use Rattle.asn1_model.specs.Tables.{is_required}
+use Rattle.asn1_model.specs.Normal.{is_required}
 use Rattle.asn1_schema_faults.specs.declared.EncodeError.{EncodeError}
 use Rattle.asn1_schema_presented.specs.Records.{Record, additions_begin, addition, addition_ends, ends}
 use Rattle.asn1_schema_presented.specs.Presents.{Part, left_out, there, with_part, presents, noted, root_records, addition_records, added_records, Fits}

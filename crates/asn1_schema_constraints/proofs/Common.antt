@@ -2,11 +2,12 @@
 use Rattle.std.proofs.Common.{◌≡◌, ◌∙◌, refl, sym, ap, ℕ, ℤ, pos, negsuc, ◌-ℤ◌, ◌≤ℤ◌, ◌<ℤ◌, leb, Bool, true, false, cond, ◌&&◌, Option, Some, None, unwrap_or, IfSome, arith}
 use Rattle.std.proofs.lemmas.Int.{ints}
 use Rattle.std.proofs.lemmas.Bool.{leb-true, leb-false, le-leb}
-use Rattle.asn1_model.specs.Numbers.{is_at_most, is_from, is_to, is_count_to}
+use Rattle.asn1_model.specs.Numbers.{is_at_most}
 use Rattle.asn1_schema_constraints.specs.declared.bounds.Bounded.{Bounded}
 use Rattle.asn1_schema_constraints.specs.Bounds.{lower, upper, later, earlier, meet, is_inverted, common, admits_number, admits_count, are_admitting}
 use Rattle.asn1_schema_constraints.proofs.Orders.{at_most}
 use Rattle.asn1_schema_constraints.proofs.Meets.{IsOrder, is_above, is_below, meet_admits, lower_meet, upper_meet, inverted_admits, straight_admits}
+use Rattle.std.specs.Option.{option_map_or}
 
 -- ---- the two orders
 
@@ -40,29 +41,29 @@ count_order = record {
 
 -- ---- what is admitted, by the ends
 
-pub from_is : (low : Option ℤ) (v : ℤ) → is_from low v ≡ is_above is_at_most low v
+pub from_is : (low : Option ℤ) (v : ℤ) → option_map_or (λ x. is_at_most x v) low true ≡ is_above is_at_most low v
 from_is None v = refl
 from_is (Some a) v = refl
 
-pub to_is : (high : Option ℤ) (v : ℤ) → is_to high v ≡ is_below is_at_most high v
+pub to_is : (high : Option ℤ) (v : ℤ) → option_map_or (λ x. is_at_most v x) high true ≡ is_below is_at_most high v
 to_is None v = refl
 to_is (Some a) v = refl
 
 -- what bounds of numbers admit lies between their ends
 number_ends : (b : Bounded ℤ) (v : ℤ) → admits_number b v ≡ (is_above is_at_most (lower b) v && is_below is_at_most (upper b) v)
-number_ends b v = ap (λ t. t && is_to (upper b) v) (from_is (lower b) v) ∙ ap (λ t. is_above is_at_most (lower b) v && t) (to_is (upper b) v)
+number_ends b v = ap (λ t. t && (option_map_or (λ x. is_at_most v x) (upper b) true)) (from_is (lower b) v) ∙ ap (λ t. is_above is_at_most (lower b) v && t) (to_is (upper b) v)
 
 count_from_is : (low : Option ℕ) (n : ℕ) → leb (unwrap_or low 0) n ≡ is_above leb low n
 count_from_is None n = le-leb 0 n (omega arith)
 count_from_is (Some a) n = refl
 
-count_to_is : (high : Option ℕ) (n : ℕ) → is_count_to high n ≡ is_below leb high n
+count_to_is : (high : Option ℕ) (n : ℕ) → option_map_or (λ x. leb n x) high true ≡ is_below leb high n
 count_to_is None n = refl
 count_to_is (Some a) n = refl
 
 -- what bounds of counts admit lies between their ends
 count_ends : (b : Bounded ℕ) (n : ℕ) → admits_count b n ≡ (is_above leb (lower b) n && is_below leb (upper b) n)
-count_ends b n = ap (λ t. t && is_count_to (upper b) n) (count_from_is (lower b) n) ∙ ap (λ t. is_above leb (lower b) n && t) (count_to_is (upper b) n)
+count_ends b n = ap (λ t. t && (option_map_or (λ x. leb n x) (upper b) true)) (count_from_is (lower b) n) ∙ ap (λ t. is_above leb (lower b) n && t) (count_to_is (upper b) n)
 
 -- two truth values by two equations
 pub both_by : {p p' q q' : Bool} → p ≡ p' → q ≡ q' → (p && q) ≡ (p' && q')

@@ -4,7 +4,7 @@ use Rattle.std.proofs.Common.{◌≡◌, ◌∙◌, refl, sym, ◌-◌, ◌^◌,
 use Rattle.std.proofs.lemmas.Int.{ints}
 use Rattle.std.proofs.lemmas.Bool.{false≢true, le-leb, leb-true, and_parts}
 use Rattle.asn1_model.specs.Schema.{Range}
-use Rattle.asn1_model.specs.Numbers.{signed_octets, is_at_most, is_from, is_to, is_within, fits_128}
+use Rattle.asn1_model.specs.Numbers.{signed_octets, is_at_most, is_within, fits_128}
 use Rattle.asn1_values_natives.proofs.RangeLaws.{at_most}
 use Rattle.asn1_values_natives.proofs.TwosComplement.{plain-fits}
 use Rattle.asn1_values_natives.proofs.Widths.{signed_octets-le}
@@ -14,13 +14,14 @@ use Rattle.asn1_schema_constraints.specs.declared.extensions.Extensible.{Extensi
 use Rattle.asn1_schema_constraints.specs.declared.parts.Value.{Value}
 use Rattle.asn1_schema_constraints.proofs.Common.{number_order, told_at_most, from_is, to_is, both_by}
 use Rattle.asn1_schema_constraints.proofs.Meets.{later_admits, earlier_admits, regroup}
+use Rattle.std.specs.Option.{option_map_or}
 
 -- a range of the later of the lower and the earlier of the upper ends has what both have
 meet_within : (a b : Range) (v : ℤ) → is_within (record { low = later is_at_most a.low b.low; high = earlier is_at_most a.high b.high }) v ≡ (is_within a v && is_within b v)
 meet_within a b v =
     both_by (from_is (later is_at_most a.low b.low) v ∙ (later_admits is_at_most number_order a.low b.low v ∙ sym (both_by (from_is a.low v) (from_is b.low v))))
     (to_is (earlier is_at_most a.high b.high) v ∙ (earlier_admits is_at_most number_order a.high b.high v ∙ sym (both_by (to_is a.high v) (to_is b.high v))))
-    ∙ regroup (is_from a.low v) (is_from b.low v) (is_to a.high v) (is_to b.high v)
+    ∙ regroup (option_map_or (λ x. is_at_most x v) a.low true) (option_map_or (λ x. is_at_most x v) b.low true) (option_map_or (λ x. is_at_most v x) a.high true) (option_map_or (λ x. is_at_most v x) b.high true)
 
 pub held_within : (c : Extensible Value) (h : Range) (v : ℤ) → is_within (held_of (Some c) h) v ≡ (is_within h v && is_within wide_range v)
 held_within c h v = meet_within h wide_range v

@@ -4,7 +4,7 @@ use Rattle.asn1_model.specs.Value.{Values, bag}
 use Rattle.asn1_model.specs.Schema.{Schema, Size, Counts, set_of}
 use Rattle.asn1_schema_faults.specs.declared.EncodeError.{EncodeError}
 use Rattle.asn1_schema_presented.specs.Records.{Record, bag_begins}
-use Rattle.asn1_model.specs.Typed.{member_count}
+use Rattle.asn1_model.specs.Lawful.{member_count}
 use Rattle.asn1_schema_presented.specs.Presents.{presents, member_records, Fits}
 use Rattle.asn1_schema_presented.specs.Tables.{scope}
 use Rattle.asn1_schema_presented.specs.Chains.{Chain, OneAfter}

@@ -6,7 +6,7 @@ use Rattle.asn1_model.specs.Value.{Value, bag, member, depth, depth_of_members, 
 use Rattle.asn1_model.specs.Schema.{Tag, Counts, Size, Schema, set_of}
 use Rattle.asn1_model.specs.Normal.{normal}
 use Rattle.asn1_model.specs.Tidy.{is_tidy}
-use Rattle.asn1_model.specs.Lawful.{is_lawful, is_group, is_size}
+use Rattle.asn1_model.specs.Lawful.{is_lawful, is_group, are_counts}
 use Rattle.asn1_schema_presented.specs.Presents.{Fits, AllFit}
 use Rattle.asn1_schema_presented.specs.Parts.{values_of}
 use Rattle.asn1_schema_presented.specs.Tables.{scope, is_one_tag, IsType, IsValue}
@@ -18,7 +18,7 @@ unfolding bag_type scope
 bag_is_no_group z h s zero = refl
 bag_is_no_group z h s (suc m) = refl
 
-pub type_bag : {ts us : List Tag} (z : Size) (h : Counts) {s : ℕ → Schema} → is_one_tag ts ≡ true → is_size z h ≡ true → IsType us s → IsType ts (bag_type z h s)
+pub type_bag : {ts us : List Tag} (z : Size) (h : Counts) {s : ℕ → Schema} → is_one_tag ts ≡ true → (are_counts z.counts && are_counts h) ≡ true → IsType us s → IsType ts (bag_type z h s)
 unfolding bag_type scope is_lawful is_tidy
 type_bag {ts} z h {s} e k t = record {
   tagged = λ n. tags_of_one ts (bag_type z h s n) (bag_is_no_group z h s n) e;

@@ -1,7 +1,7 @@
 -- As many fields may be absent as components.
 use Rattle.std.proofs.Common.{◌≡◌, ℕ, suc, cond, not, List, [], ◌∷◌, filter, length, refl, ap, ◌∙◌}
 use Rattle.asn1_model.specs.Schema.{Presence, required, optional, by_default}
-use Rattle.asn1_model.specs.Tables.{is_required}
+use Rattle.asn1_model.specs.Normal.{is_required}
 use Rattle.asn1_schema_constructed.specs.declared.tables.Field.{Field}
 use Rattle.asn1_schema_constructed.specs.Fields.{may_be_absent, is_optional}
 use Rattle.asn1_schema_presented.specs.Tables.{Fields, no_field, field, presence_bits}

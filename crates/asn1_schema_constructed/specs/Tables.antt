@@ -1,8 +1,8 @@
 -- A choice's schema, unfolded to any number of nested levels, is made of these.
-use Rattle.std.specs.Prelude.{◌≡◌, ℕ, ℤ, zero, suc, Bool, true, false, not, ◌&&◌, ◌||◌, List, [], ◌∷◌, ◌++◌}
+use Rattle.std.specs.Prelude.{◌≡◌, ℕ, ℤ, zero, suc, Bool, true, false, not, ◌&&◌, ◌||◌, List, [], ◌∷◌, ◌++◌, int_lt}
 use Rattle.asn1_model.specs.Schema.{Tag, Schema, cut, choice, Alternatives, no_alternative, alternative}
 use Rattle.asn1_model.specs.Tidy.{are_tidy_alternatives}
-use Rattle.asn1_model.specs.Lawful.{are_lawful_alternatives, are_distinct, are_ascending, int_less, tag_less}
+use Rattle.asn1_model.specs.Lawful.{are_lawful_alternatives, are_distinct, are_ascending, tag_less}
 use Rattle.asn1_model.specs.Lawful.{tag_same, is_empty}
 use Rattle.asn1_model.specs.Value.{same_number}
 use Rattle.asn1_schema_presented.specs.Tables.{scope}
@@ -65,5 +65,5 @@ all_tags t = tags_of t.root ++ tags_of t.additions
 -- numbers of either table ascend, and none occurs twice (X.680 20.4 to 20.6).
 abbrev pub are_items : List ℤ → Bool → List ℤ → Bool
 are_items roots e others =
-    not (is_empty roots) && (e || is_empty others) && are_ascending int_less roots && are_ascending int_less others
+    not (is_empty roots) && (e || is_empty others) && are_ascending int_lt roots && are_ascending int_lt others
     && are_distinct same_number (roots ++ others)

@@ -5,10 +5,10 @@ use Rattle.std.proofs.Common.{◌≡◌, ℕ, ◌+◌, ◌<◌, ◌≤◌, leb, 
 use Rattle.asn1_model.specs.Value.{Value, Values, no_more, member, members, map_members}
 use Rattle.asn1_model.specs.Schema.{Schema, Size, Counts, sequence_of}
 use Rattle.asn1_model.specs.Normal.{normal}
-use Rattle.asn1_model.specs.Numbers.{is_count_to, is_count_within}
+use Rattle.asn1_model.specs.Numbers.{is_count_within}
 use Rattle.asn1_schema_faults.specs.declared.DecodeError.{DecodeError}
 use Rattle.asn1_schema_presented.specs.Records.{Record, list_begins, further, ends, asks_list, asks_further, asks_end}
-use Rattle.asn1_model.specs.Typed.{member_count}
+use Rattle.asn1_model.specs.Lawful.{member_count}
 use Rattle.asn1_schema_presented.specs.Presents.{presents, member_records, Fits, AllFit}
 use Rattle.asn1_schema_presented.specs.Parts.{values_of}
 use Rattle.asn1_schema_presented.specs.Tables.{scope, list_type}
@@ -16,6 +16,7 @@ use Rattle.asn1_schema_presented.specs.Chains.{Chain, OneRecord}
 use Rattle.asn1_schema_presented.proofs.Chains.{chain_append, chain_split}
 use Rattle.asn1_schema_presented.proofs.OneValue.{one_value}
 use Rattle.asn1_schema_decode.specs.Reads.{NoRecord, NoLevel, Reads, Unread, ReadsMembers, UnreadMembers}
+use Rattle.std.specs.Option.{option_map_or}
 
 -- members, and those behind them
 abbrev pub joined : Values → Values → Values
@@ -43,7 +44,7 @@ one_longer [] x = refl
 one_longer (y ∷ xs) x = ap suc (one_longer xs x)
 
 -- what is not above bounds is so with all that is below it
-within_below : (h : Option ℕ) (k n : ℕ) → n ≤ k → is_count_to h k ≡ true → is_count_to h n ≡ true
+within_below : (h : Option ℕ) (k n : ℕ) → n ≤ k → option_map_or (λ x. leb k x) h true ≡ true → option_map_or (λ x. leb n x) h true ≡ true
 within_below None k n l e = refl
 within_below (Some high) k n l e = le-leb n high (let j = leb-true k high e in omega arith)
 
@@ -127,14 +128,14 @@ module _ {S A : Type 0} {step : S → Record → S → Type 0} {s : ℕ → Sche
     }
 
     -- one member more than h has room for
-    pub from_full : (h : Counts) (x : DecodeError) {xs : List A} {a b c : S} → ReadsFrom step s n f xs a b → step b (further true) c → not (is_count_to h.high (length xs + 1)) ≡ true → UnreadMembers step s n h a x
+    pub from_full : (h : Counts) (x : DecodeError) {xs : List A} {a b c : S} → ReadsFrom step s n f xs a b → step b (further true) c → not (option_map_or (λ x. leb (length xs + 1) x) h.high true) ≡ true → UnreadMembers step s n h a x
     from_full h x {xs} w m u = record {
       none = λ y vs e i g p.
           let q = w.rest vs e g p in
           let t = one_further step s n one q.0 e m q.2 q.3 in
-          let j = and_parts (leb h.low (member_count vs)) (is_count_to h.high (member_count vs)) i in
-          let z : is_count_to h.high (length xs + 1) ≡ true = within_below h.high (member_count vs) (length xs + 1) (omega (arith, q.1, t.2)) j.1 in
-          let z' : not (is_count_to h.high (length xs + 1)) ≡ false = rw z refl in
+          let j = and_parts (leb h.low (member_count vs)) (option_map_or (λ x. leb (member_count vs) x) h.high true) i in
+          let z : option_map_or (λ x. leb (length xs + 1) x) h.high true ≡ true = within_below h.high (member_count vs) (length xs + 1) (omega (arith, q.1, t.2)) j.1 in
+          let z' : not (option_map_or (λ x. leb (length xs + 1) x) h.high true) ≡ false = rw z refl in
           let e : true ≡ false = sym u ∙ z' in
           cc;
     }

@@ -1,7 +1,8 @@
 -- Values that are the same up to the order of bags nest as deep.
 use Rattle.std.proofs.Common.{◌≡◌, ◌==◌, ◌&&◌, ◌≤◌, max, Bool, true, false, cond, Option, Some, None, option_map, refl, subst, arith}
 use Rattle.std.proofs.lemmas.Bool.{and_parts}
-use Rattle.asn1_model.specs.Value.{Value, truth, nothing, number, item, bit_list, octet_list, text, arcs, members, bag, fields, chosen, Values, no_more, member, Parts, end, absent, present, same, same_truth, same_members, same_bag, same_parts, taken_out, with_rest, depth, depth_of_members, depth_of_parts}
+use Rattle.asn1_model.specs.Value.{Value, truth, nothing, number, item, bit_list, octet_list, text, arcs, members, bag, fields, chosen, Values, no_more, member, Parts, end, absent, present, same, same_truth, same_members, same_bag, same_parts, taken_out, depth, depth_of_members, depth_of_parts}
+use Rattle.std.specs.Option.{option_map_or}
 
 -- what was taken out of some members
 record Out (f : Value → Bool) (ws rest : Values) : Type 0 where
@@ -29,7 +30,7 @@ out f (member w ws) rest e = at (λ us h. out f ws us h) (f w) refl e
     at again true h e = let i : ws ≡ rest = cc e in subst (λ r. Out f (member w ws) r) i (first_out f w ws h)
     at again false h e = behind again (taken_out f ws) refl e
 
-some_rest : (o : Option Values) (f : Values → Bool) → with_rest o f ≡ true → (rest : Values) × (o ≡ Some rest) × (f rest ≡ true)
+some_rest : (o : Option Values) (f : Values → Bool) → option_map_or f o false ≡ true → (rest : Values) × (o ≡ Some rest) × (f rest ≡ true)
 some_rest None f e = cc
 some_rest (Some rest) f e = (rest, refl, e)
 

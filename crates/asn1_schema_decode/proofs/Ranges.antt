@@ -1,7 +1,7 @@
 -- Numbers within a range, as they are read.
 use Rattle.std.proofs.Common.{◌≡◌, sym, subst, ℕ, ℤ, pos, negsuc, Bool, true, false, cond, ◌||◌, Option, Some, None, refl}
 use Rattle.std.proofs.lemmas.Bool.{and_parts}
-use Rattle.asn1_model.specs.Numbers.{is_at_most, is_from, is_to, is_within}
+use Rattle.asn1_model.specs.Numbers.{is_at_most, is_within}
 use Rattle.asn1_model.specs.Schema.{Range, any_number}
 use Rattle.asn1_model.specs.Value.{number}
 use Rattle.asn1_schema_constraints.specs.Bounds.{later, earlier}
@@ -15,6 +15,7 @@ use Rattle.asn1_schema_types.specs.Told.{whole_under, asks_whole_under}
 use Rattle.asn1_schema_decode.specs.Answers.{is_admitted}
 use Rattle.asn1_schema_decode.specs.Reads.{NoRecord, Reads, Unread}
 use Rattle.asn1_schema_decode.proofs.SingleRecords.{reads_integer, unread_integer}
+use Rattle.std.specs.Option.{option_map_or}
 
 -- the numbers of an octet without a sign
 abbrev octet : Range
@@ -42,7 +43,7 @@ module _ {S : Type 0} {step : S → Record → S → Type 0} (low high : ℤ) (c
   unread_unranged e m {a} {x} k = rw e (unread_integer _ _ n (subst (λ (w : Meant). NoRecord step (asks_whole w.bounds (held_where w.is_bounded octet)) a x) m k))
 
 -- what is from the later of two numbers on, is from the second on
-from_later : (o : Option ℤ) (low v : ℤ) → is_from (later is_at_most o (Some low)) v ≡ true → is_at_most low v ≡ true
+from_later : (o : Option ℤ) (low v : ℤ) → option_map_or (λ x. is_at_most x v) (later is_at_most o (Some low)) true ≡ true → is_at_most low v ≡ true
 from_later None low v h = h
 from_later (Some a) low v h = go (is_at_most a low) refl h where
   go : (b : Bool) → is_at_most a low ≡ b → is_at_most (cond b low a) v ≡ true → is_at_most low v ≡ true
@@ -50,7 +51,7 @@ from_later (Some a) low v h = go (is_at_most a low) refl h where
   go false e h = number_order.chained low a v (number_order.total a low e) h
 
 -- what is up to the earlier of two numbers, is up to the second
-to_earlier : (o : Option ℤ) (high v : ℤ) → is_to (earlier is_at_most o (Some high)) v ≡ true → is_at_most v high ≡ true
+to_earlier : (o : Option ℤ) (high v : ℤ) → option_map_or (λ x. is_at_most v x) (earlier is_at_most o (Some high)) true ≡ true → is_at_most v high ≡ true
 to_earlier None high v h = h
 to_earlier (Some a) high v h = go (is_at_most a high) refl h where
   go : (b : Bool) → is_at_most a high ≡ b → is_at_most v (cond b a high) ≡ true → is_at_most v high ≡ true

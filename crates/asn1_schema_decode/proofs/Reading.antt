@@ -3,7 +3,7 @@ use Rattle.std.proofs.Common.{◌≡◌, ℕ, ◌+◌, ◌<◌, zero, suc, Bool,
 use Rattle.asn1_model.specs.Value.{Value, fields, Parts, end, absent, present, same}
 use Rattle.asn1_model.specs.Schema.{Tag, Presence, required, by_default, Schema, sequence}
 use Rattle.asn1_model.specs.Normal.{normal, normal_parts, is_at_default, is_group_left_out}
-use Rattle.asn1_model.specs.Tables.{is_required}
+use Rattle.asn1_model.specs.Normal.{is_required}
 use Rattle.asn1_schema_faults.specs.declared.DecodeError.{DecodeError}
 use Rattle.asn1_schema_presented.specs.Records.{Record, sequence_begins, presence_bit, is_default, ends, asks_sequence, asks_presence_bit, asks_end}
 use Rattle.asn1_schema_presented.specs.Presents.{Part, left_out, there, with_part, presents, part_records, noted, root_records, added_records, optional_count, Fits, PartFits, PartsFit}

@@ -8,7 +8,7 @@ use Rattle.asn1_schema_faults.specs.declared.DecodeError.{DecodeError}
 use Rattle.asn1_schema_faults.specs.declared.DecodeError.TheVariants.{OutOfMemory}
 use Rattle.asn1_schema_presented.specs.Records.{Record, Question, question, presence_bit, is_default}
 use Rattle.asn1_schema_presented.specs.Presents.{Part, left_out, there, presents, part_records, member_records}
-use Rattle.asn1_model.specs.Typed.{member_count}
+use Rattle.asn1_model.specs.Lawful.{member_count}
 use Rattle.asn1_schema_presented.specs.Presents.{Fits, PartFits, AllFit}
 use Rattle.asn1_schema_presented.specs.Tables.{Table, components_at}
 use Rattle.asn1_schema_presented.specs.Chains.{Chain}

@@ -1,7 +1,7 @@
 //! Lists, as they are read.
 
-ghost use Rattle.std.specs.Prelude.{◌≡◌, ◌+◌, length, true, not, Some, OnOk, IfOk, OnErr, IfErr};
-ghost use Rattle.asn1_model.specs.Numbers.{is_count_to, is_count_within};
+ghost use Rattle.std.specs.Prelude.{◌≡◌, ◌+◌, length, true, not, Some, OnOk, IfOk, OnErr, IfErr, leb};
+ghost use Rattle.asn1_model.specs.Numbers.{is_count_within};
 ghost use Rattle.asn1_model.specs.Value.{members};
 ghost use Rattle.asn1_schema_constraints.specs.Bounds.{members_of};
 ghost use Rattle.asn1_schema_presented.specs.Parts.{values_of};
@@ -13,6 +13,7 @@ use asn1_schema_constraints::{Bounded, Constraints};
 use asn1_schema_faults::DecodeError;
 use asn1_schema_tags::Tag;
 use std::alloc::Global;
+ghost use Rattle.std.specs.Option.{option_map_or};
 
 /// How a list is read.
 pub trait DecodeList: Decoder {
@@ -97,7 +98,7 @@ pub fn members_within<T: Decode, D: Decoder>(
 
 // Whether one more than this count is above bounds.
 fn is_full(held: Bounded<usize>, count: usize) -> bool
-    ensures { result ≡ not (is_count_to ((members_of held).high) (count + 1)) }
+    ensures { result ≡ not (option_map_or (λ x. leb (count + 1) x) ((members_of held).high) true) }
 {
     match held.as_end() {
         Some(end) => *end <= count,

@@ -5,7 +5,7 @@ use Rattle.asn1_model.specs.Value.{Value, Values, no_more, member, members}
 use Rattle.asn1_model.specs.Schema.{Schema, Size, Counts, sequence_of}
 use Rattle.asn1_schema_faults.specs.declared.EncodeError.{EncodeError}
 use Rattle.asn1_schema_presented.specs.Records.{Record, list_begins, further, ends}
-use Rattle.asn1_model.specs.Typed.{member_count}
+use Rattle.asn1_model.specs.Lawful.{member_count}
 use Rattle.asn1_schema_presented.specs.Presents.{presents, member_records, Fits}
 use Rattle.asn1_schema_presented.specs.Parts.{values_of}
 use Rattle.asn1_schema_presented.specs.Tables.{scope, list_type}

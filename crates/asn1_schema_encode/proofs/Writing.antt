@@ -3,7 +3,7 @@ use Rattle.std.proofs.Common.{◌≡◌, ℕ, zero, suc, Bool, true, false, List
 use Rattle.asn1_model.specs.Value.{Value, fields, Parts, end, same}
 use Rattle.asn1_model.specs.Schema.{Tag, Presence, required, optional, by_default, Schema, sequence}
 use Rattle.asn1_model.specs.Normal.{normal, is_at_default}
-use Rattle.asn1_model.specs.Tables.{is_required}
+use Rattle.asn1_model.specs.Normal.{is_required}
 use Rattle.asn1_schema_faults.specs.declared.EncodeError.{EncodeError}
 use Rattle.asn1_schema_presented.specs.Records.{Record, sequence_begins, presence_bit, ends}
 use Rattle.asn1_schema_presented.specs.Presents.{Part, left_out, there, with_part, presents, part_records, root_records, added_records, Fits}

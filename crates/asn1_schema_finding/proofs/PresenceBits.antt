@@ -2,7 +2,7 @@
 use Rattle.std.proofs.Common.{◌≡◌, ℕ, suc, Bool, cond, true, false, List, length, refl, ap}
 use Rattle.asn1_model.specs.Value.{Parts, end, absent, present}
 use Rattle.asn1_model.specs.Schema.{Components, no_component, component}
-use Rattle.asn1_model.specs.Tables.{is_required, presence_bit_unless, presence_bits}
+use Rattle.asn1_model.specs.Normal.{is_required, presence_bit_unless, presence_bits}
 use Rattle.asn1_schema_presented.specs.Presents.{optional_count}
 
 pub unless_count : (q t : Bool) (ms : List Bool) (n : ℕ) → length ms ≡ n → length (presence_bit_unless q t ms) ≡ cond q n (suc n)

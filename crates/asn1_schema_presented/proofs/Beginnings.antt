@@ -2,16 +2,16 @@
 use Rattle.std.proofs.Common.{◌≡◌, Bool, true, false, cond, List, [], ◌∷◌, ◌++◌, refl, ap, ◌∙◌, eq-eqb}
 use Rattle.std.specs.Prelude.{◌&&◌, ◌==◌}
 use Rattle.std.proofs.lemmas.Bool.{and_parts, and_from}
-use Rattle.asn1_model.specs.Value.{same_list}
 use Rattle.asn1_model.specs.Schema.{Tag, Schema, cut, group, choice, Components, Alternatives}
 use Rattle.std.specs.List.{list_all}
 use Rattle.asn1_model.specs.Lawful.{tag_less, tag_same, is_tag, smallest, is_group, component_tags, alternative_tags, are_tags, begins_with, are_tags_of}
 use Rattle.asn1_schema_presented.specs.Tables.{is_one_tag, are_choice_tags}
+use lib.Pointwise.{pointwise}
 
 tag_itself : (t : Tag) → tag_same t t ≡ true
 tag_itself t = ap (λ b. b && (t.number == t.number)) (eq-eqb t.class t.class refl) ∙ eq-eqb t.number t.number refl
 
-pub same_tags : (ts : List Tag) → same_list tag_same ts ts ≡ true
+pub same_tags : (ts : List Tag) → pointwise tag_same ts ts ≡ true
 same_tags [] = refl
 same_tags (t ∷ ts) = and_from _ _ (tag_itself t) (same_tags ts)
 
@@ -53,7 +53,7 @@ all_tags_begin (t ∷ u ∷ ts) e = and_from _ _ e (same_tags (t ∷ u ∷ ts))
 
 -- a group: those of its components
 pub tags_of_group : (ts : List Tag) (cs : Components) → component_tags cs ≡ ts → are_tags ts ≡ true → are_tags_of ts (group cs) ≡ true
-tags_of_group ts cs h e = and_from _ _ e (ap (same_list tag_same ts) h ∙ same_tags ts)
+tags_of_group ts cs h e = and_from _ _ e (ap (pointwise tag_same ts) h ∙ same_tags ts)
 
 -- the smallest of some tags, or a further one
 one_of_two : (b : Bool) (t u : Tag) → is_tag t ≡ true → is_tag u ≡ true → (ts : List Tag) → ((v : Tag) → is_tag v ≡ true → is_tag (smallest v ts) ≡ true) → is_tag (cond b (smallest u ts) (smallest t ts)) ≡ true

@@ -4,7 +4,7 @@ use Rattle.std.specs.Prelude.{◌&&◌, ◌||◌}
 use Rattle.asn1_model.specs.Value.{Value, truth, nothing, number, bit_list, octet_list, text, arcs}
 use Rattle.asn1_model.specs.Schema.{Range, Bounds, Counts, Size, Schema, by_default, boolean, null, integer, bit_string, octet_string, character_string, object_identifier, StringKind, Alphabet}
 use Rattle.asn1_model.specs.Tidy.{is_normal}
-use Rattle.asn1_model.specs.Typed.{is_of}
+use Rattle.asn1_model.specs.Lawful.{is_of}
 use Rattle.asn1_model.specs.Numbers.{is_within, is_count_within}
 use Rattle.asn1_model.specs.Strings.{is_octet, may_hold, is_of_octets, is_identifier}
 use Rattle.std.specs.List.{list_all}

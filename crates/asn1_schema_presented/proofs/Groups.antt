@@ -6,7 +6,7 @@ use Rattle.asn1_model.specs.Value.{fields, Parts, end, absent, present, are_abse
 use Rattle.asn1_model.specs.Schema.{optional, sequence, group, Components}
 use Rattle.asn1_model.specs.Normal.{normal, normal_parts}
 use Rattle.asn1_model.specs.Tidy.{is_tidy, are_tidy}
-use Rattle.asn1_model.specs.Lawful.{is_lawful, are_lawful, is_group, is_optional, has_optional_groups, are_no_components, are_distinct, tag_same, component_tags, has_no_group, is_sequence_table, are_tags, are_tags_of}
+use Rattle.asn1_model.specs.Lawful.{is_lawful, are_lawful, is_group, is_optional, are_no_components, are_distinct, tag_same, component_tags, is_sequence_table, are_tags, are_tags_of, are_groups_in_place}
 use Rattle.asn1_schema_presented.specs.Presents.{left_out, there, Fits, PartsFit}
 use Rattle.asn1_schema_presented.specs.Tables.{Fields, no_field, field, Table, components_at, field_tags, scope, sequence_type, IsValue}
 use Rattle.asn1_schema_presented.proofs.Beginnings.{tags_of_cut, tags_of_group}
@@ -42,8 +42,8 @@ lawful_group cs e adds some none h =
     let i = and_parts (is_sequence_table cs e adds) (are_lawful cs) a.0 in
     let f : Bool = e || are_no_components adds in
     let g : Bool = are_distinct tag_same (component_tags cs ++ component_tags adds) in
-    let b = and_parts (f && g && has_no_group cs) (has_optional_groups adds) i.0 in
-    let d = and_parts (f && g) (has_no_group cs) b.0 in
+    let b = and_parts (f && g && (are_groups_in_place false cs)) (are_groups_in_place true adds) i.0 in
+    let d = and_parts (f && g) (are_groups_in_place false cs) b.0 in
     let c = and_parts f g d.0 in
     let j : are_distinct tag_same (component_tags cs) ≡ true = ap (λ xs. are_distinct tag_same xs) (sym (append_nothing (component_tags cs)) ∙ ap (λ ys. component_tags cs ++ ys) (sym none)) ∙ c.1 in
     rw (some, j, d.1, i.1) refl

@@ -7,7 +7,7 @@ use Rattle.std.specs.Prelude.{◌+◌, max, leb, ltb, not, ◌||◌, Option, Som
 use Rattle.asn1_model.specs.Value.{Value, truth, nothing, number, item, bit_list, octet_list, text, arcs, members, bag, fields, chosen, Values, no_more, member, Parts, end, absent, present, depth, depth_of_members, depth_of_parts}
 use Rattle.asn1_model.specs.Schema.{Presence, Schema, cut, boolean, null, integer, enumerated, bit_string, octet_string, character_string, object_identifier, sequence_of, set_of, sequence, set, group, choice, Components, no_component, component, Alternatives, no_alternative, alternative}
 use Rattle.asn1_model.specs.Normal.{is_at_default, is_group_left_out}
-use Rattle.asn1_model.specs.Tables.{is_required}
+use Rattle.asn1_model.specs.Normal.{is_required}
 use Rattle.asn1_model.specs.Lawful.{are_no_components}
 use Rattle.asn1_schema_presented.specs.Records.{Record, presence_bit, addition, addition_ends, additions_begin, is_default, is_empty, ends}
 use Rattle.asn1_schema_presented.specs.Presents.{presents, root_records, added_records, chosen_records, member_records, behind_root, component_count, with_presence_bit, Fits, PartsFit, ChosenFits, AllFit}

@@ -5,7 +5,7 @@ use Rattle.asn1_model.specs.Value.{Value, truth, nothing, number, item, bit_list
 use Rattle.asn1_model.specs.Schema.{Tag, Range, Bounds, Counts, Size, Alphabet, StringKind, Presence, required, optional, by_default, Schema, cut, boolean, null, integer, enumerated, bit_string, octet_string, character_string, object_identifier, sequence_of, set_of, sequence, set, group, choice, Components, no_component, component, Alternatives, no_alternative, alternative}
 use Rattle.asn1_model.specs.Lawful.{are_no_components, alternative_tags}
 use Rattle.asn1_schema_presented.specs.Records.{Record, list_begins, bag_begins, further, sequence_begins, set_begins, group_begins, presence_bit, additions_begin, addition, addition_ends, choice_begins, ends, question, told}
-use Rattle.asn1_model.specs.Typed.{member_count}
+use Rattle.asn1_model.specs.Lawful.{member_count}
 use Rattle.asn1_schema_presented.specs.Presents.{presents, root_records, added_records, chosen_records, part_records, addition_records, member_records, optional_count, component_count, behind_root, noted, Part, with_part, left_out, there, Fits, PartsFit, ChosenFits, PartFits, AllFit}
 use Rattle.asn1_schema_presented.specs.Chains.{Chain, OneRecord}
 use Rattle.asn1_schema_presented.proofs.Chains.{chain_split}

@@ -4,7 +4,7 @@ use Rattle.std.specs.Prelude.{◌==◌, nat_eq}
 use Rattle.std.specs.Bool.{beq}
 use Rattle.std.proofs.lemmas.Bool.Decides.{nat_tests}
 use lib.Pointwise.{pointwise}
-use Rattle.asn1_model.specs.Value.{Value, truth, nothing, number, item, bit_list, octet_list, text, arcs, members, bag, fields, chosen, Values, no_more, member, Parts, end, absent, present, same, same_members, same_bag, same_parts, same_truth, same_number, same_list}
+use Rattle.asn1_model.specs.Value.{Value, truth, nothing, number, item, bit_list, octet_list, text, arcs, members, bag, fields, chosen, Values, no_more, member, Parts, end, absent, present, same, same_members, same_bag, same_parts, same_truth, same_number}
 
 same_truth_self : (b : Bool) → same_truth b b ≡ true
 same_truth_self true = refl
@@ -17,7 +17,7 @@ same_number_self : (z : ℤ) → same_number z z ≡ true
 same_number_self (pos n) = same_count_self n
 same_number_self (negsuc n) = same_count_self n
 
-same_list_self : {X : Type 0} (e : X → X → Bool) → ((x : X) → e x x ≡ true) → (xs : List X) → same_list e xs xs ≡ true
+same_list_self : {X : Type 0} (e : X → X → Bool) → ((x : X) → e x x ≡ true) → (xs : List X) → pointwise e xs xs ≡ true
 same_list_self e h [] = refl
 same_list_self e h (x ∷ xs) = rw (h x, same_list_self e h xs) refl
 
@@ -59,7 +59,7 @@ same_truth_as true false = refl
 same_truth_as false true = refl
 same_truth_as false false = refl
 
-same_list_as : {X : Type 0} (e f : X → X → Bool) → ((x y : X) → e x y ≡ f x y) → (xs ys : List X) → pointwise e xs ys ≡ same_list f xs ys
+same_list_as : {X : Type 0} (e f : X → X → Bool) → ((x y : X) → e x y ≡ f x y) → (xs ys : List X) → pointwise e xs ys ≡ pointwise f xs ys
 same_list_as e f h [] [] = refl
 same_list_as e f h [] (y ∷ ys) = refl
 same_list_as e f h (x ∷ xs) [] = refl

@@ -6,7 +6,7 @@ use Rattle.asn1_model.specs.Value.{Value, truth, nothing, number, bit_list, octe
 use Rattle.asn1_model.specs.Schema.{Tag, Range, Bounds, Counts, Size, Schema, boolean, null, integer, bit_string, octet_string, character_string, object_identifier, StringKind, Alphabet, sequence_of}
 use Rattle.asn1_model.specs.Normal.{normal}
 use Rattle.asn1_model.specs.Tidy.{is_tidy}
-use Rattle.asn1_model.specs.Lawful.{is_lawful, is_group, is_range, is_size, is_tag, smallest}
+use Rattle.asn1_model.specs.Lawful.{is_lawful, is_group, is_range, is_tag, smallest, are_counts}
 use Rattle.std.proofs.lemmas.Bool.{and_parts}
 use Rattle.asn1_schema_presented.specs.Presents.{Fits, AllFit}
 use Rattle.asn1_schema_presented.specs.Parts.{values_of}
@@ -46,7 +46,7 @@ pub integer_value : (b : Bounds) (h : Range) (z : ℤ) → IsValue (λ _. intege
 unfolding Fits normal
 integer_value b h z = record { fits = λ n le. tt; normal = λ n. refl }
 
-pub bit_string_type : {ts : List Tag} (z : Size) (h : Counts) → is_one_tag ts ≡ true → is_size z h ≡ true → IsType ts (λ _. bit_string z h)
+pub bit_string_type : {ts : List Tag} (z : Size) (h : Counts) → is_one_tag ts ≡ true → (are_counts z.counts && are_counts h) ≡ true → IsType ts (λ _. bit_string z h)
 unfolding is_lawful is_tidy
 bit_string_type {ts} z h e k = record { tagged = λ n. tags_of_one ts (bit_string z h) refl e; lawful = λ n. k; tidy = λ n. refl; no_group = λ n. refl }
 
@@ -54,7 +54,7 @@ pub bit_string_value : (z : Size) (h : Counts) (xs : List Bool) → IsValue (λ 
 unfolding Fits normal
 bit_string_value z h xs = record { fits = λ n le. tt; normal = λ n. refl }
 
-pub octet_string_type : {ts : List Tag} (z : Size) (h : Counts) → is_one_tag ts ≡ true → is_size z h ≡ true → IsType ts (λ _. octet_string z h)
+pub octet_string_type : {ts : List Tag} (z : Size) (h : Counts) → is_one_tag ts ≡ true → (are_counts z.counts && are_counts h) ≡ true → IsType ts (λ _. octet_string z h)
 unfolding is_lawful is_tidy
 octet_string_type {ts} z h e k = record { tagged = λ n. tags_of_one ts (octet_string z h) refl e; lawful = λ n. k; tidy = λ n. refl; no_group = λ n. refl }
 
@@ -62,7 +62,7 @@ pub octet_string_value : (z : Size) (h : Counts) (xs : List ℕ) → IsValue (λ
 unfolding Fits normal
 octet_string_value z h xs = record { fits = λ n le. tt; normal = λ n. refl }
 
-pub character_string_type : {ts : List Tag} (c : StringKind) (z : Size) (a : Alphabet) (h : Counts) → is_one_tag ts ≡ true → is_size z h ≡ true → IsType ts (λ _. character_string c z a h)
+pub character_string_type : {ts : List Tag} (c : StringKind) (z : Size) (a : Alphabet) (h : Counts) → is_one_tag ts ≡ true → (are_counts z.counts && are_counts h) ≡ true → IsType ts (λ _. character_string c z a h)
 unfolding is_lawful is_tidy
 character_string_type {ts} c z a h e k = record { tagged = λ n. tags_of_one ts (character_string c z a h) refl e; lawful = λ n. k; tidy = λ n. refl; no_group = λ n. refl }
 
@@ -83,7 +83,7 @@ unfolding list_type scope
 list_is_no_group z h s zero = refl
 list_is_no_group z h s (suc m) = refl
 
-pub type_list : {ts us : List Tag} (z : Size) (h : Counts) {s : ℕ → Schema} → is_one_tag ts ≡ true → is_size z h ≡ true → IsType us s → IsType ts (list_type z h s)
+pub type_list : {ts us : List Tag} (z : Size) (h : Counts) {s : ℕ → Schema} → is_one_tag ts ≡ true → (are_counts z.counts && are_counts h) ≡ true → IsType us s → IsType ts (list_type z h s)
 unfolding list_type scope is_lawful is_tidy
 type_list {ts} z h {s} e k t = record {
   tagged = λ n. tags_of_one ts (list_type z h s n) (list_is_no_group z h s n) e;

@@ -3,9 +3,9 @@ use Rattle.std.proofs.Common.{◌≡◌, ℕ, ◌≤◌, ◌+◌, zero, suc, Boo
 use Rattle.std.specs.Prelude.{◌||◌, max}
 use Rattle.std.proofs.lemmas.Bool.{and_parts}
 use Rattle.std.proofs.Math.Nat.{le-max_left, le-max_right}
-use Rattle.asn1_model.specs.Value.{Value, fields, Parts, end, depth, depth_of_parts, same}
+use Rattle.asn1_model.specs.Value.{Value, fields, Parts, end, depth, depth_of_parts, same, absent, present}
 use Rattle.asn1_model.specs.Schema.{Tag, Presence, required, optional, by_default, Schema, sequence, group, Components, component}
-use Rattle.asn1_model.specs.Normal.{normal, normal_parts, kept, is_empty_group, is_at_default, is_group_left_out}
+use Rattle.asn1_model.specs.Normal.{normal, normal_parts, is_empty_group, is_at_default, is_group_left_out}
 use Rattle.asn1_model.specs.Tidy.{has_normal_default, is_tidy, are_tidy}
 use Rattle.asn1_model.specs.Lawful.{is_lawful, are_lawful, has_typed_default, is_group, are_distinct, tag_same, component_tags}
 use Rattle.asn1_schema_presented.specs.Presents.{Part, left_out, there, with_part, Fits, PartFits, PartsFit}
@@ -39,7 +39,7 @@ unfolding components_at PartsFit normal_parts
 no_values = record { fits = λ n le. tt; fits_added = λ n le. tt; normal = λ n. refl; normal_added = λ n. refl }
 
 -- a part in front of the others
-kept_part : (b : Bool) (w : Value) (ps : Parts) → kept b w ps ≡ with_part (cond b left_out (there w)) ps
+kept_part : (b : Bool) (w : Value) (ps : Parts) → cond b (absent ps) (present w ps) ≡ with_part (cond b left_out (there w)) ps
 kept_part true w ps = refl
 kept_part false w ps = refl
 

@@ -4,7 +4,7 @@ use Rattle.asn1_model.specs.Value.{Parts, fields, end, are_absent, depth_of_part
 use Rattle.asn1_model.specs.Schema.{Tag, Presence, Schema, group}
 use Rattle.asn1_model.specs.Normal.{normal_parts}
 use Rattle.asn1_model.specs.Tidy.{is_tidy, are_tidy}
-use Rattle.asn1_model.specs.Lawful.{is_lawful, are_lawful, is_group, is_optional, has_optional_groups, are_tags}
+use Rattle.asn1_model.specs.Lawful.{is_lawful, are_lawful, is_group, is_optional, are_tags, are_groups_in_place}
 use Rattle.asn1_model.specs.Lawful.{are_tags_of}
 use Rattle.asn1_schema_presented.specs.Presents.{Part, left_out, PartsFit}
 use Rattle.asn1_schema_presented.specs.Parts.{part_unless}
@@ -36,7 +36,7 @@ pub record IsAddition (tags : List Tag) (o : Presence) (schema : ℕ → Schema)
 pub record AreAdditionTypes (fs : Fields) : Type 0 where
   pub lawful : (n : ℕ) → are_lawful (components_at n fs) ≡ true
   pub tidy : (n : ℕ) → are_tidy (components_at n fs) ≡ true
-  pub optional_groups : (n : ℕ) → has_optional_groups (components_at n fs) ≡ true
+  pub optional_groups : (n : ℕ) → are_groups_in_place true (components_at n fs) ≡ true
 
 -- The parts are of these types, and in their normal form.
 pub record AreAdditionValues (fs : Fields) (qs : Parts) : Type 0 where

@@ -8,8 +8,8 @@ use Rattle.asn1_model.specs.Schema.{choice, Components, no_component, component,
 use Rattle.asn1_model.specs.Schema.{alternative}
 use Rattle.asn1_model.specs.Normal.{is_at_default, is_group_left_out}
 use Rattle.asn1_model.specs.Lawful.{are_no_components, alternative_tags}
-use Rattle.asn1_model.specs.Tables.{is_required}
-use Rattle.asn1_model.specs.Typed.{member_count}
+use Rattle.asn1_model.specs.Normal.{is_required}
+use Rattle.asn1_model.specs.Lawful.{member_count}
 use Rattle.asn1_schema_presented.specs.Records.{Record, flag, nil, whole, one_of, bits, octets, characters}
 use Rattle.asn1_schema_presented.specs.Records.{identifier, list_begins, bag_begins, further, sequence_begins}
 use Rattle.asn1_schema_presented.specs.Records.{set_begins, group_begins, presence_bit, is_default, is_empty}

@@ -1,13 +1,14 @@
 -- A type's schema, unfolded to any number of nested levels, is made of these.
 use Rattle.std.specs.Prelude.{◌≡◌, ◌≤◌, ℕ, zero, suc, Bool, true, false, cond, ◌&&◌, List, [], ◌∷◌, ◌++◌}
-use Rattle.asn1_model.specs.Value.{Value, depth, same_list}
+use Rattle.asn1_model.specs.Value.{Value, depth}
 use Rattle.asn1_model.specs.Schema.{Tag, Size, Counts, Presence, Schema, cut, sequence_of, sequence, Components}
 use Rattle.asn1_model.specs.Schema.{no_component, component}
 use Rattle.asn1_model.specs.Normal.{normal}
 use Rattle.asn1_model.specs.Tidy.{is_tidy}
 use Rattle.asn1_model.specs.Lawful.{is_lawful, is_group, is_tag, tag_same, are_tags, are_tags_of}
-use Rattle.asn1_model.specs.Tables.{is_required}
+use Rattle.asn1_model.specs.Normal.{is_required}
 use Rattle.asn1_schema_presented.specs.Presents.{Fits}
+use lib.Pointwise.{pointwise}
 
 -- A list, sequence or choice takes one of the n levels.
 unfoldable pub scope : ℕ → (ℕ → Schema) → Schema
@@ -69,7 +70,7 @@ is_one_tag ts = false
 -- One tag, or those of all alternatives of a choice (X.680 29).
 abbrev pub are_choice_tags : List Tag → List Tag → Bool
 are_choice_tags (t ∷ []) all = is_tag t
-are_choice_tags ts all = are_tags ts && same_list tag_same ts all
+are_choice_tags ts all = are_tags ts && pointwise tag_same ts all
 
 -- A type begins with these tags, and what it is for each number of levels is lawful, with defaults in normal form, and
 -- no group of additions.

@@ -1,12 +1,12 @@
 -- Types and values of components.
-use Rattle.std.specs.Prelude.{◌≡◌, ◌≤◌, ℕ, true, ◌&&◌, ◌||◌}
+use Rattle.std.specs.Prelude.{◌≡◌, ◌≤◌, ℕ, true, ◌&&◌, ◌||◌, false}
 use Rattle.asn1_model.specs.Value.{Value, Parts, depth, depth_of_parts}
 use Rattle.asn1_model.specs.Schema.{Presence, by_default, Schema}
 use Rattle.asn1_model.specs.Normal.{normal_parts}
 use Rattle.asn1_model.specs.Tidy.{is_normal, has_normal_default, are_tidy}
-use Rattle.asn1_model.specs.Lawful.{are_lawful, has_typed_default, has_no_group, has_optional_groups, are_no_components}
+use Rattle.asn1_model.specs.Lawful.{are_lawful, has_typed_default, are_no_components, are_groups_in_place}
 use Rattle.asn1_schema_presented.specs.Presents.{Part, left_out, there, Fits, PartFits, PartsFit}
-use Rattle.asn1_model.specs.Typed.{is_of}
+use Rattle.asn1_model.specs.Lawful.{is_of}
 use Rattle.asn1_schema_presented.specs.Tables.{Fields, no_field, field, Table, components_at, IsValue}
 use Rattle.asn1_schema_presented.specs.Parts.{normal_part}
 
@@ -15,10 +15,10 @@ use Rattle.asn1_schema_presented.specs.Parts.{normal_part}
 pub record AreTypes (t : Table) : Type 0 where
   pub lawful : (n : ℕ) → are_lawful (components_at n t.root) ≡ true
   pub tidy : (n : ℕ) → are_tidy (components_at n t.root) ≡ true
-  pub no_group : (n : ℕ) → has_no_group (components_at n t.root) ≡ true
+  pub no_group : (n : ℕ) → are_groups_in_place false (components_at n t.root) ≡ true
   pub lawful_additions : (n : ℕ) → are_lawful (components_at n t.additions) ≡ true
   pub tidy_additions : (n : ℕ) → are_tidy (components_at n t.additions) ≡ true
-  pub optional_groups : (n : ℕ) → has_optional_groups (components_at n t.additions) ≡ true
+  pub optional_groups : (n : ℕ) → are_groups_in_place true (components_at n t.additions) ≡ true
   pub extensible : (n : ℕ) → (t.extensible || are_no_components (components_at n t.additions)) ≡ true
 
 -- A default is a value of its type, in its normal form, for each number of levels.

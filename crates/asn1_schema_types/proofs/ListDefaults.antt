@@ -5,7 +5,7 @@ use Rattle.asn1_model.specs.Schema.{Counts, Size, Schema, sequence_of}
 use Rattle.asn1_model.specs.Value.{are_all}
 use Rattle.asn1_model.specs.Tidy.{is_normal}
 use Rattle.asn1_model.specs.Numbers.{is_count_within}
-use Rattle.asn1_model.specs.Typed.{member_count, is_of}
+use Rattle.asn1_model.specs.Lawful.{member_count, is_of}
 use Rattle.asn1_schema_presented.specs.Tables.{scope, list_type, IsValue}
 use Rattle.asn1_schema_presented.specs.Typed.{IsDefault}
 

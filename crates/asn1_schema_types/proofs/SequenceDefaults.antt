@@ -4,8 +4,8 @@ use Rattle.asn1_model.specs.Value.{Value, fields, Parts, end}
 use Rattle.asn1_model.specs.Schema.{Tag, Presence, Schema, sequence}
 use Rattle.asn1_model.specs.Normal.{is_at_default, is_group_left_out}
 use Rattle.asn1_model.specs.Tidy.{is_normal, are_normal}
-use Rattle.asn1_model.specs.Tables.{is_required}
-use Rattle.asn1_model.specs.Typed.{is_of, are_of}
+use Rattle.asn1_model.specs.Normal.{is_required}
+use Rattle.asn1_model.specs.Lawful.{is_of, are_of}
 use Rattle.asn1_schema_presented.specs.Presents.{Part, left_out, there, with_part}
 use Rattle.asn1_schema_presented.specs.Tables.{Fields, no_field, field, Table, components_at, scope, sequence_type}
 use Rattle.asn1_schema_presented.specs.Typed.{IsDefault, AreValues}

@@ -8,7 +8,7 @@ use Rattle.std.proofs.lemmas.List.{drop_more}
 use Rattle.asn1_model.specs.Value.{same_number}
 use Rattle.std.specs.List.{list_all}
 use Rattle.asn1_model.specs.Lawful.{are_distinct}
-use Rattle.asn1_model.specs.Tables.{item_place}
+use Rattle.asn1_model.specs.Normal.{item_place}
 
 -- equal numbers
 pub same_number_is : (a b : ℤ) → same_number a b ≡ true → a ≡ b

@@ -1,6 +1,6 @@
 -- Items of enumerations.
 use Rattle.std.specs.Prelude.{◌≡◌, ℕ, ℤ, Bool, true, false, List, Some, None}
-use Rattle.asn1_model.specs.Tables.{item_place}
+use Rattle.asn1_model.specs.Normal.{item_place}
 
 -- Where the number of an item stands: among the root items, or, if it is an added one, among those behind the extension
 -- marker and not in the root (X.680 20.4 to 20.6).

@@ -2,7 +2,7 @@
 ghost use Rattle.std.specs.Prelude.{◌≡◌, ℕ, ℤ, Bool, true, false, cond, List};
 ghost use Rattle.std.specs.Prelude.{◌++◌, length, map, min, ◌+◌, ◌≤◌, Some, MatchOption};
 ghost use Rattle.asn1_model.specs.Lawful.{are_distinct};
-ghost use Rattle.asn1_model.specs.Tables.{item_place};
+ghost use Rattle.asn1_model.specs.Normal.{item_place};
 ghost use Rattle.asn1_model.specs.Value.{same_number};
 ghost use Rattle.asn1_schema_variants.specs.Items.{IsPlaced, IsNone};
 

@@ -3,10 +3,11 @@ use Rattle.std.proofs.Common.{◌≡◌, ℕ, suc, Bool, true, false, cond, List
 use Rattle.std.proofs.Common.{option_map, refl, sym, ap, ◌∙◌, arith}
 use Rattle.std.specs.Prelude.{not}
 use Rattle.std.specs.Cmp.{IsPartialEquivalence, per_alike}
-use Rattle.asn1_model.specs.Value.{Value, bag, member, same, same_bag, taken_out, with_rest}
+use Rattle.asn1_model.specs.Value.{Value, bag, member, same, same_bag, taken_out}
 use Rattle.asn1_schema_presented.specs.Parts.{values_of}
 use Rattle.asn1_schema_presented.proofs.Same.{same_self}
 use Rattle.asn1_schema_wrapped.specs.Equality.{times, same_items, same_length, all_alike, same_by_counts}
+use Rattle.std.specs.Option.{option_map_or}
 
 -- A list without the first element that is equal to this one, if one is.
 abbrev pub without : {A : Type 0} → (A → A → Bool) → A → List A → Option (List A)
@@ -126,7 +127,7 @@ module _ {A : Type 0} {e : A → A → Bool} (p : IsPartialEquivalence e) where
         let l = same_length e (x ∷ xs) ys q in
         let t = all_alike p (x ∷ xs) ys q in
         let step : (o : Option (List A)) → without e x ys ≡ o
-        → with_rest (option_map (λ zs. values_of f zs) o) (λ rest. same_bag (values_of f xs) rest) ≡ true =
+        → option_map_or (λ rest. same_bag (values_of f xs) rest) (option_map (λ zs. values_of f zs) o) false ≡ true =
         λ o. elim o as (λ o. without e x ys ≡ o → with_rest (option_map (λ zs. values_of f zs) o)
         (λ rest. same_bag (values_of f xs) rest) ≡ true) [
           | None ↦ λ k. absurd (let a = none_left x ys k in let b : suc (times e x xs)
@@ -144,7 +145,7 @@ module _ {A : Type 0} {e : A → A → Bool} (p : IsPartialEquivalence e) where
     same_here [] (y ∷ ys) q = absurd (let l : false ≡ true = q in cc)
     same_here (x ∷ xs) ys q =
         let step : (o : Option (List A)) → without e x ys ≡ o
-        → with_rest (option_map (λ zs. values_of f zs) o) (λ rest. same_bag (values_of f xs) rest) ≡ true
+        → option_map_or (λ rest. same_bag (values_of f xs) rest) (option_map (λ zs. values_of f zs) o) false ≡ true
         → same_items e (x ∷ xs) ys ≡ true =
         λ o. elim o as (λ o. without e x ys ≡ o → with_rest (option_map (λ zs. values_of f zs) o)
         (λ rest. same_bag (values_of f xs) rest) ≡ true → same_items e (x ∷ xs) ys ≡ true) [

@@ -2,14 +2,15 @@
 use Rattle.std.proofs.Common.{◌≡◌, ℕ, suc, ◌+◌, ◌-◌, ◌*◌, ◌/◌, ◌^◌, ◌<◌, Bool, false, cond, List, ◌∷◌, ◌++◌, length, min, drop, take, map, replicate, ap, sym, ◌∙◌, arith}
 use Rattle.std.proofs.lemmas.List.{length-drop}
 use Rattle.std.proofs.lemmas.Nat.{shl_below}
-use Rattle.asn1_model.specs.Numbers.{binary, number_after, packed, missing}
+use Rattle.asn1_model.specs.Numbers.{binary, packed, missing}
 use Rattle.asn1_values_bits.specs.Octets.{padded}
 use Rattle.asn1_values_bits.proofs.Packed.{number_binary}
 use Rattle.asn1_values_bits.proofs.Views.{to_come, next_octet}
+use Rattle.std.specs.Int.Digits.{number_from_digits_after}
 
 pub packed-next : (o : ℕ) (r : List Bool) → o < 256 → packed (binary 8 o ++ r) ≡ o ∷ packed r
 packed-next o r h =
-    let value : number_after 2 0 (map (λ b. cond b 1 0) (binary 8 o)) ≡ o = number_binary 8 o 0 ∙ (omega arith) in
+    let value : number_from_digits_after 2 0 (map (λ b. cond b 1 0) (binary 8 o)) ≡ o = number_binary 8 o 0 ∙ (omega arith) in
     ap (λ x. x ∷ packed r) value
 
 -- so many of the first bits, at most eight, as an octet

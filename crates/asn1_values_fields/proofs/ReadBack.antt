@@ -5,7 +5,7 @@ use Rattle.std.specs.List.Sorted.{IsStrictlyIncreasing}
 use Rattle.std.proofs.lemmas.Bool.{ltb-true, leb-true}
 use Rattle.std.proofs.lemmas.List.{take_at, drop_at, drop-drop}
 use Rattle.std.proofs.Math.Nat.{mod-eq_of_lt}
-use Rattle.asn1_model.specs.Numbers.{binary, number_after, octet_bits, complement, signed_octets}
+use Rattle.asn1_model.specs.Numbers.{binary, octet_bits, complement, signed_octets}
 use Rattle.asn1_values_bits.proofs.Binary.{length-binary, length-octet_bits}
 use Rattle.asn1_values_bits.proofs.Packed.{number_binary}
 use Rattle.asn1_values_natives.specs.Octets.{signed_number, signed_octets_of}
@@ -23,6 +23,7 @@ use Rattle.asn1_values_fields.specs.Written.{both, codes_of, digits_of, bits_of_
 use Rattle.asn1_values_fields.specs.Read.{width_of, IsValueOf, AreValuesOf, IsUnknownCode, IsUnreadable, IsFirstUnread}
 use Rattle.asn1_values_fields.specs.ReadBack.{shape_of, IsSame, AreSame, IsField, AreFields, IsValue, AreValues}
 use Rattle.asn1_values_fields.proofs.Shortest.{same_octets}
+use Rattle.std.specs.Int.Digits.{number_from_digits_after}
 
 some_of : {x w : List Bool} → Some x ≡ Some w → x ≡ w
 some_of e = cc
@@ -67,9 +68,9 @@ digits_there n m w e = go (leb m 128) (ltb n (2 ^ m)) refl refl e
 
 same_number : (m x n : ℕ) → x < 2 ^ m → n < 2 ^ m → binary m x ≡ binary m n → x ≡ n
 same_number m x n h l e =
-    let a : number_after 2 0 (map (λ b. cond b 1 0) (binary m x)) ≡ x = number_binary m x 0 ∙ none (x % 2 ^ m) ∙ mod-eq_of_lt h in
-    let b : number_after 2 0 (map (λ b. cond b 1 0) (binary m n)) ≡ n = number_binary m n 0 ∙ none (n % 2 ^ m) ∙ mod-eq_of_lt l in
-    sym a ∙ ap (λ d. number_after 2 0 (map (λ b. cond b 1 0) d)) e ∙ b
+    let a : number_from_digits_after 2 0 (map (λ b. cond b 1 0) (binary m x)) ≡ x = number_binary m x 0 ∙ none (x % 2 ^ m) ∙ mod-eq_of_lt h in
+    let b : number_from_digits_after 2 0 (map (λ b. cond b 1 0) (binary m n)) ≡ n = number_binary m n 0 ∙ none (n % 2 ^ m) ∙ mod-eq_of_lt l in
+    sym a ∙ ap (λ d. number_from_digits_after 2 0 (map (λ b. cond b 1 0) d)) e ∙ b
   where
     none : (r : ℕ) → 0 * 2 ^ m + r ≡ r
     none r = omega arith

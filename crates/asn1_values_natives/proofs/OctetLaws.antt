@@ -7,8 +7,9 @@ use Rattle.std.proofs.lemmas.Int.{ints}
 use Rattle.std.proofs.lemmas.Bool.Decides.{nat_tests}
 use Rattle.std.proofs.lemmas.Nat.{mul-add-lt, mod-mul-add, div-mul-add}
 use Rattle.std.proofs.lemmas.List.{take_more, map-append, drop-set}
-use Rattle.asn1_model.specs.Numbers.{digits, number_after}
+use Rattle.asn1_model.specs.Numbers.{digits}
 use Rattle.asn1_values_natives.specs.Octets.{unsigned_number, signed_number, is_padded, sign_free}
+use Rattle.std.specs.Int.Digits.{number_from_digits_after}
 
 abbrev pub AreOctets : List ℕ → Type 0
 AreOctets os = AllByRecursion (λ o. o < 256) os
@@ -184,7 +185,7 @@ rest-more n i r e =
 
 -- ---- the number of digits
 
-behind : (n : ℕ) (os : List ℕ) → number_after 256 n os ≡ n * 256 ^ length os + unsigned_number os
+behind : (n : ℕ) (os : List ℕ) → number_from_digits_after 256 n os ≡ n * 256 ^ length os + unsigned_number os
 behind n [] = omega arith
 behind n (o ∷ os) =
     let h = behind (n * 256 + o) os in
@@ -194,5 +195,5 @@ behind n (o ∷ os) =
     regroup : (n o p u : ℕ) → (n * 256 + o) * p + u ≡ n * (p * 256) + (o * p + u)
     regroup n o p u = omega arith
 
-pub unsigned-after : (os : List ℕ) → unsigned_number os ≡ number_after 256 0 os
+pub unsigned-after : (os : List ℕ) → unsigned_number os ≡ number_from_digits_after 256 0 os
 unsigned-after os = let h = behind 0 os in omega arith

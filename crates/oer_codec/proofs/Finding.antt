@@ -1,12 +1,12 @@
 -- How a record that is asked for is found in front, and why none is.
 use Rattle.std.proofs.Common.{◌≡◌, ℕ, ℤ, zero, ◌+◌, ◌<◌, ◌≤◌, ◌^◌, suc, ltb, Bool, cond, true, false, ◌||◌, List, [], ◌∷◌, length, take, Some, Result, Ok, Err, refl, sym, ◌∙◌, ap, subst, arith}
 use Rattle.std.proofs.lemmas.Bool.{and_parts, le-leb, leb-true}
-use Rattle.std.specs.Prelude.{OnOk}
+use Rattle.std.specs.Prelude.{OnOk, leb}
 use Rattle.asn1_schema_presented.specs.Levels.{level}
 use Rattle.asn1_model.specs.Numbers.{admits}
 use Rattle.asn1_model.specs.Value.{Value, truth, nothing, number, bit_list, octet_list, text, arcs}
 use Rattle.asn1_model.specs.Schema.{Range, Bounds, Counts, Size, Alphabet, StringKind, Schema, boolean, null, integer, bit_string, octet_string, character_string, object_identifier}
-use Rattle.asn1_model.specs.Numbers.{is_within, is_count_to, is_count_within}
+use Rattle.asn1_model.specs.Numbers.{is_within, is_count_within}
 use Rattle.asn1_model.specs.Form.{Reads, only_if}
 use Rattle.asn1_model.specs.Oer
 use Rattle.asn1_laws_fronts.proofs.OerNumbers.{unsigned_alike}
@@ -22,6 +22,7 @@ use Rattle.oer_codec_fronts.proofs.Next.{same_fronts}
 use Rattle.oer_codec.specs.Held.{Held, state_of, Finds, IsReady}
 use Rattle.oer_codec.specs.Members.{HasMembers, NoMembers}
 use Rattle.oer_codec.specs.Preamble.{HasPreamble}
+use Rattle.std.specs.Option.{option_map_or}
 
 -- all of a list are its first ones, if there are not more
 pub take_whole : {X : Type 0} (k : ℕ) (l : List X) → length l ≤ k → take k l ≡ l
@@ -165,7 +166,7 @@ not_counted free h n a b e m i t = m.none i (members t.0) b.0 (t.2, stands t.3)
 
 -- what a number of members is between
 pub between : (h : Counts) (most n : ℕ) → h.high ≡ Some most → is_count_within h n ≡ true → (h.low ≤ n) × (n ≤ most)
-between h most n top e = let p = and_parts _ _ e in (leb-true h.low n p.0, leb-true n most (subst (λ t. is_count_to t n ≡ true) top p.1))
+between h most n top e = let p = and_parts _ _ e in (leb-true h.low n p.0, leb-true n most (subst (λ t. (option_map_or (λ x. leb n x) t true) ≡ true) top p.1))
 
 -- no other number of members is in front
 pub other_count : (free : Oer.Freedom → Bool) (h : Counts) (n : ℕ) (os rest : List ℕ) (e : DecodeError) → ¬ (e ≡ AlreadyFailed) → Stands free (Oer.unsigned n) os rest → (is_count_within h n ≡ true → ⊥) → NoMembers free h os e

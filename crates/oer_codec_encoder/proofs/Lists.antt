@@ -7,7 +7,7 @@ use Rattle.asn1_model.specs.Numbers.{is_count_within}
 use Rattle.asn1_model.specs.Form.{both, only_if, joined, written}
 use Rattle.asn1_model.specs.Oer
 use Rattle.asn1_schema_presented.specs.Records.{Record}
-use Rattle.asn1_model.specs.Typed.{member_count}
+use Rattle.asn1_model.specs.Lawful.{member_count}
 use Rattle.asn1_schema_presented.specs.Presents.{presents, member_records}
 use Rattle.oer_codec_encoder.specs.Steps.{Scope, members, State, runs}
 use Rattle.oer_codec_encoder.specs.Ties.{Bridges}

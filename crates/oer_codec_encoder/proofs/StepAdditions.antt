@@ -4,7 +4,7 @@ use Rattle.std.proofs.lemmas.List.{append-nil}
 use Rattle.asn1_model.specs.Value.{Value, fields, Parts, end, absent, present}
 use Rattle.asn1_model.specs.Schema.{Tag, Presence, Schema, sequence, set, Components, no_component, component}
 use Rattle.asn1_model.specs.Normal.{is_at_default, is_group_left_out}
-use Rattle.asn1_model.specs.Tables.{is_required, presence_bits}
+use Rattle.asn1_model.specs.Normal.{is_required, presence_bits}
 use Rattle.std.proofs.lemmas.Bool.{lt-ltb}
 use Rattle.asn1_model.specs.Form.{exactly, refused, both, given, joined, is_any_present, present_ones, covered_by, written}
 use Rattle.std.specs.Prelude.{is_some}

@@ -6,7 +6,7 @@ use Rattle.asn1_model.specs.Schema.{Tag, Range, Bounds, Counts, Presence, Schema
 use Rattle.asn1_model.specs.Numbers.{digits, least_octets, signed_octets, complement}
 use Rattle.asn1_model.specs.Normal.{is_at_default, is_group_left_out}
 use Rattle.asn1_model.specs.Form.{exactly, refused, both, varied, within, Reads, only_if, given, joined, Bitmap, is_any_present, present_ones, stands_before, written}
-use Rattle.asn1_model.specs.Tables.{is_required, presence_bits}
+use Rattle.asn1_model.specs.Normal.{is_required, presence_bits}
 use Rattle.asn1_model.specs.Strings.{is_octet}
 use Rattle.std.specs.List.{list_all}
 use Rattle.asn1_model.specs.Oer

@@ -8,7 +8,7 @@ use Rattle.asn1_model.specs.Schema.{Tag, Counts, Size, StringKind, Alphabet, Bou
 use Rattle.asn1_model.specs.Lawful.{tag_same}
 use Rattle.std.specs.Prelude.{is_some}
 use Rattle.asn1_model.specs.Strings.{may_hold, identifier_octets, is_identifier}
-use Rattle.asn1_model.specs.Tables.{item_place}
+use Rattle.asn1_model.specs.Normal.{item_place}
 use Rattle.asn1_model.specs.Oer
 use Rattle.asn1_schema_presented.specs.Records.{Record, flag, nil, whole, one_of, bits, octets, characters, identifier, list_begins, bag_begins, further, sequence_begins, set_begins, group_begins, presence_bit, is_default, is_empty, additions_begin, addition, addition_ends, choice_begins, ends, mismatch, question, told}
 use Rattle.asn1_laws_fronts.proofs.Fronts.{agree_map, agree_if, agree_nothing}

@@ -4,12 +4,12 @@ use Rattle.asn1_model.specs.Value.{Value, truth, nothing, number, item, bit_list
 use Rattle.asn1_model.specs.Schema.{Range, Bounds, Counts, Size, StringKind, Alphabet, Schema, boolean, null, integer, enumerated, bit_string, octet_string, character_string, object_identifier, sequence_of, set_of, Components, no_component, component}
 use Rattle.asn1_model.specs.Normal.{is_at_default, is_group_left_out}
 use Rattle.asn1_model.specs.Numbers.{is_count_within}
-use Rattle.asn1_model.specs.Tables.{is_required, presence_bit_unless, presence_bits}
+use Rattle.asn1_model.specs.Normal.{is_required, presence_bit_unless, presence_bits}
 use Rattle.asn1_model.specs.Form.{refused, both, given, joined, exactly, in_order, arranged, ascending, stands_before, written}
 use Rattle.asn1_model.specs.Oer
 use Rattle.asn1_laws_values.proofs.Listed.{EachComponent}
 use Rattle.asn1_schema_presented.specs.Records.{Record, flag, nil, whole, one_of, bits, octets, characters, identifier, presence_bit, ends, mismatch}
-use Rattle.asn1_model.specs.Typed.{member_count}
+use Rattle.asn1_model.specs.Lawful.{member_count}
 use Rattle.asn1_schema_presented.specs.Presents.{presents, member_records, root_records, with_presence_bit}
 use Rattle.asn1_schema_presented.specs.Chains.{Chain}
 use Rattle.asn1_schema_presented.proofs.Chains.{chain_split, chain_append}

@@ -4,7 +4,7 @@ use Rattle.std.proofs.lemmas.List.{append-nil}
 use Rattle.asn1_model.specs.Value.{Value, Parts, end, absent, present}
 use Rattle.asn1_model.specs.Schema.{Presence, Schema, Components, no_component, component}
 use Rattle.asn1_model.specs.Normal.{is_at_default, is_group_left_out}
-use Rattle.asn1_model.specs.Tables.{is_required, presence_bits}
+use Rattle.asn1_model.specs.Normal.{is_required, presence_bits}
 use Rattle.asn1_model.specs.Form.{exactly, both, joined, present_ones, Reads}
 use Rattle.std.specs.Prelude.{is_some}
 use Rattle.asn1_model.specs.Oer

@@ -7,7 +7,7 @@ use Rattle.asn1_model.specs.Schema.{Schema, cut, boolean, null, integer, enumera
 use Rattle.asn1_model.specs.Form.{Reads, given}
 use Rattle.std.specs.Prelude.{is_some}
 use Rattle.asn1_model.specs.Lawful.{is_lawful, are_lawful, are_lawful_alternatives}
-use Rattle.asn1_model.specs.Tables.{presence_bits}
+use Rattle.asn1_model.specs.Normal.{presence_bits}
 use Rattle.asn1_model.specs.Oer
 use Rattle.asn1_model.specs.Rules.{oer, coer, lenient, strict_oer, IsEncoding}
 use Rattle.asn1_laws_values.proofs.Listed.{EachAlternative}

@@ -3,7 +3,7 @@ use Rattle.std.proofs.Common.{◌≡◌, ℕ, zero, suc, ◌+◌, ◌*◌, ◌/�
 use Rattle.std.proofs.lemmas.List.{append-nil, take-append-drop, length-take-le, take_all}
 use Rattle.std.proofs.Math.Nat.{mod-eq_of_lt}
 use Rattle.std.proofs.lemmas.Bool.{false≢true, eqb-true, eq-eqb}
-use Rattle.asn1_model.specs.Numbers.{binary, number_after, missing, octet_bits, packed}
+use Rattle.asn1_model.specs.Numbers.{binary, missing, octet_bits, packed}
 use Rattle.asn1_model.specs.Form.{exactly, only_if}
 use Rattle.asn1_model.specs.Oer.{any_unused_bits, bits_form}
 use Rattle.asn1_values_bits.proofs.Binary.{binary_join, binary_zero, low_zeros, length-octet_bits, same_fronts, same_backs}
@@ -14,6 +14,7 @@ use Rattle.oer_codec_reading_lengths.specs.Fronts.{freedoms, is_basic, Stands, N
 use Rattle.oer_codec_reading_lengths.proofs.Fronts.{fronts_equal, exactly_stands, exactly_front, if_stands, if_front, varied_stands, varied_front}
 use Rattle.oer_codec_reading_lengths.proofs.Freedoms.{any_unused_bits_is_basic}
 use Rattle.oer_codec_reading_lengths.specs.declared.rules.EncodingRules.{EncodingRules}
+use Rattle.std.specs.Int.Digits.{number_from_digits_after}
 
 -- ---- octets of bits, and back
 
@@ -24,11 +25,11 @@ one_bit : (k n : ℕ) (b : Bool) → binary (k + 1) (n * 2 + digit b) ≡ binary
 one_bit k n true = sym (binary_join k 1 n 1 (omega arith))
 one_bit k n false = sym (binary_join k 1 n 0 (omega arith))
 
-bits_behind : (l : List Bool) (k n : ℕ) → binary (k + length l) (number_after 2 n (map digit l)) ≡ binary k n ++ l
+bits_behind : (l : List Bool) (k n : ℕ) → binary (k + length l) (number_from_digits_after 2 n (map digit l)) ≡ binary k n ++ l
 bits_behind [] k n = ap (λ j. binary j n) (omega arith) ∙ sym (append-nil (binary k n))
 bits_behind (b ∷ l) k n =
     let e : k + length (b ∷ l) ≡ (k + 1) + length l = omega arith in
-    ap (λ j. binary j (number_after 2 (n * 2 + digit b) (map digit l))) e
+    ap (λ j. binary j (number_from_digits_after 2 (n * 2 + digit b) (map digit l))) e
     ∙ bits_behind l (k + 1) (n * 2 + digit b)
     ∙ ap (λ m. m ++ l) (one_bit k n b)
     ∙ append_assoc (binary k n) (b ∷ []) l
@@ -39,7 +40,7 @@ packed_back zero [] h = refl
 packed_back zero (b ∷ bs) h = absurd (omega arith)
 packed_back (suc k) (a ∷ b ∷ c ∷ d ∷ e ∷ f ∷ g ∷ i ∷ bs) h =
     let o : List Bool = a ∷ b ∷ c ∷ d ∷ e ∷ f ∷ g ∷ i ∷ [] in
-    let x : binary 8 (number_after 2 0 (map digit o)) ≡ o = bits_behind o 0 0 in
+    let x : binary 8 (number_from_digits_after 2 0 (map digit o)) ≡ o = bits_behind o 0 0 in
     ap (λ l. l ++ octet_bits (packed bs)) x ∙ ap (λ l. o ++ l) (packed_back k bs (omega arith))
 packed_back (suc k) bs h = absurd (omega arith)
 

@@ -6,7 +6,7 @@ use Rattle.asn1_model.specs.Form.{Reads}
 use Rattle.std.specs.Prelude.{is_some}
 use Rattle.asn1_model.specs.Oer.{Freedom, form, item_form}
 use Rattle.asn1_model.specs.Schema.{enumerated}
-use Rattle.asn1_model.specs.Tables.{item_place}
+use Rattle.asn1_model.specs.Normal.{item_place}
 use Rattle.asn1_model.specs.Value.{Value, item}
 use Rattle.asn1_schema_variants.specs.Items.{IsPlaced, IsNone}
 use Rattle.oer_codec_fronts.specs.Takes.{Front}

@@ -7,9 +7,9 @@ use Rattle.std.proofs.lemmas.Bool.{false≢true, leb-true, le-leb, cases_lt, and
 use Rattle.std.proofs.Math.Bool.{or-true}
 use Rattle.asn1_model.specs.Schema.{Range, Bounds, integer}
 use Rattle.asn1_model.specs.Value.{Value, number}
-use Rattle.asn1_model.specs.Numbers.{octet_width, signed_octets, width, is_at_most, is_from, is_to, is_within, fits_128}
+use Rattle.asn1_model.specs.Numbers.{octet_width, signed_octets, width, is_at_most, is_within, fits_128}
 use Rattle.asn1_model.specs.Form.{Reads, only_if}
-use Rattle.asn1_model.specs.Tables.{is_bounded}
+use Rattle.asn1_model.specs.Normal.{is_bounded}
 use Rattle.asn1_model.specs.Oer.{Freedom, form, integer_form, fixed_octets, bounded, signed, signed_form, natural_form}
 use Rattle.asn1_values_natives.specs.Octets.{plain}
 use Rattle.asn1_values_natives.proofs.RangeLaws.{not_at_most}
@@ -28,6 +28,7 @@ use Rattle.oer_codec_reading_lengths.proofs.Freedoms.{and_true}
 use Rattle.oer_codec_reading_lengths.proofs.Fronts.{if_stands, if_front, none_misses}
 use Rattle.oer_codec_reading_lengths.proofs.LengthFronts.{octets_hold}
 use Rattle.oer_codec_reading.proofs.WholeFronts.{number_one, width_at_most}
+use Rattle.std.specs.Option.{option_map_or}
 
 -- ---- numbers within bounds in the octets of their form
 
@@ -67,7 +68,7 @@ holds_by false None v h = refl
 holds_by true (Some k) v h = h k refl
 holds_by false (Some k) v h = h k refl
 
-range_holds : (low high : Option ℤ) (v : ℤ) → (is_from low v && is_to high v) ≡ true → holds (has_sign low) (fixed_width low high) v ≡ true
+range_holds : (low high : Option ℤ) (v : ℤ) → ((option_map_or (λ x. is_at_most x v) low true) && (option_map_or (λ x. is_at_most v x) high true)) ≡ true → holds (has_sign low) (fixed_width low high) v ≡ true
 range_holds (Some (pos low)) (Some (pos high)) (pos n) h =
     let p = and_parts (is_at_most (pos low) (pos n)) (is_at_most (pos n) (pos high)) h in
     let l = octet_width_at_most n high (at_most_natural n high p.1) in
@@ -93,21 +94,21 @@ range_holds (Some (negsuc low)) (Some high) v h =
 -- ---- the form
 
 module _ (free : Freedom → Bool) where
-  either_front : (e : Bool) (low high : Option ℤ) (v : ℤ) (w rest : List ℕ) → Stands free (cond e (signed v) (only_if (is_from low v && is_to high v) (bounded low high v))) w rest
-      → ((e || (is_from low v && is_to high v)) ≡ true) × Stands free (number_in (e || has_sign low) (cond e None (fixed_width low high)) v) w rest
+  either_front : (e : Bool) (low high : Option ℤ) (v : ℤ) (w rest : List ℕ) → Stands free (cond e (signed v) (only_if ((option_map_or (λ x. is_at_most x v) low true) && (option_map_or (λ x. is_at_most v x) high true)) (bounded low high v))) w rest
+      → ((e || ((option_map_or (λ x. is_at_most x v) low true) && (option_map_or (λ x. is_at_most v x) high true))) ≡ true) × Stands free (number_in (e || has_sign low) (cond e None (fixed_width low high)) v) w rest
   unfolding number_in
   either_front true low high v w rest h = (refl, h)
   either_front false low high v w rest h =
-      let i = if_front free (is_from low v && is_to high v) (bounded low high v) w rest h in
+      let i = if_front free ((option_map_or (λ x. is_at_most x v) low true) && (option_map_or (λ x. is_at_most v x) high true)) (bounded low high v) w rest h in
       (i.0, if_stands free (holds (has_sign low) (fixed_width low high) v) _ w rest (range_holds low high v i.0) (subst (λ x. Stands free x w rest) (form_told low high v) i.1))
 
-  either_stands : (e : Bool) (low high : Option ℤ) (v : ℤ) (w rest : List ℕ) → (e || (is_from low v && is_to high v)) ≡ true → Stands free (number_in (e || has_sign low) (cond e None (fixed_width low high)) v) w rest
-      → Stands free (cond e (signed v) (only_if (is_from low v && is_to high v) (bounded low high v))) w rest
+  either_stands : (e : Bool) (low high : Option ℤ) (v : ℤ) (w rest : List ℕ) → (e || ((option_map_or (λ x. is_at_most x v) low true) && (option_map_or (λ x. is_at_most v x) high true))) ≡ true → Stands free (number_in (e || has_sign low) (cond e None (fixed_width low high)) v) w rest
+      → Stands free (cond e (signed v) (only_if ((option_map_or (λ x. is_at_most x v) low true) && (option_map_or (λ x. is_at_most v x) high true)) (bounded low high v))) w rest
   unfolding number_in
   either_stands true low high v w rest a h = h
   either_stands false low high v w rest a h =
       let i = if_front free (holds (has_sign low) (fixed_width low high) v) (cond (has_sign low) (signed_form (fixed_width low high) v) (natural_form (fixed_width low high) v)) w rest h in
-      if_stands free (is_from low v && is_to high v) (bounded low high v) w rest a (subst (λ x. Stands free x w rest) (sym (form_told low high v)) i.1)
+      if_stands free ((option_map_or (λ x. is_at_most x v) low true) && (option_map_or (λ x. is_at_most v x) high true)) (bounded low high v) w rest a (subst (λ x. Stands free x w rest) (sym (form_told low high v)) i.1)
 
   integer_front : (b : Bounds) (held : Range) (u : Value) (w rest : List ℕ) → Front free (integer b held) u w rest → (v : ℤ) × (is_within held v ≡ true) × ((b.extensible || is_within b.range v) ≡ true) × Stands free (number_in (sign_under b) (width_under b) v) w rest
   unfolding form integer_form Reads

@@ -11,7 +11,7 @@ use Rattle.asn1_values_natives.specs.Ranges.{whole_range}
 use Rattle.asn1_values_natives.proofs.RangeLaws.{at_most}
 use Rattle.oer_codec_reading.proofs.Freedoms.{and_true}
 use Rattle.asn1_model.specs.Schema.{Tag}
-use Rattle.asn1_model.specs.Tables.{item_place}
+use Rattle.asn1_model.specs.Normal.{item_place}
 use Rattle.asn1_model.specs.Value.{same_number}
 use Rattle.std.specs.List.{list_all}
 use Rattle.oer_codec_fronts.specs.Takes.{tag_place}

@@ -3,7 +3,7 @@ use Rattle.std.proofs.Common.{◌≡◌, ℕ, ◌≤◌, ◌<◌, ◌==◌, leb,
 use Rattle.std.proofs.lemmas.Bool.{false≢true, leb-true, eqb-true, eq-eqb, and_parts}
 use Rattle.asn1_model.specs.Schema.{Size, Counts, octet_string}
 use Rattle.asn1_model.specs.Value.{Value, octet_list}
-use Rattle.asn1_model.specs.Numbers.{is_count_to, is_count_within}
+use Rattle.asn1_model.specs.Numbers.{is_count_within}
 use Rattle.asn1_model.specs.Form.{Reads, exactly}
 use Rattle.asn1_model.specs.Strings.{is_octet}
 use Rattle.std.specs.List.{list_all}
@@ -15,11 +15,12 @@ use Rattle.asn1_schema_constraints.specs.Terms.{one_size}
 use Rattle.oer_codec_reading.specs.Sized.{sized}
 use Rattle.oer_codec_reading_lengths.proofs.Fronts.{fronts_equal, exactly_stands, exactly_front, if_stands, if_front}
 use Rattle.oer_codec_reading_lengths.proofs.LengthFronts.{each_octet, counted_front, counted_one}
+use Rattle.std.specs.Option.{option_map_or}
 
 -- ---- one size
 
 -- what has one size has that length
-at_one : (c : Counts) (high : Option ℕ) (n : ℕ) → is_fixed_at c high ≡ true → (leb c.low n && is_count_to high n) ≡ true → n ≡ c.low
+at_one : (c : Counts) (high : Option ℕ) (n : ℕ) → is_fixed_at c high ≡ true → (leb c.low n && (option_map_or (λ x. leb n x) high true)) ≡ true → n ≡ c.low
 at_one c None n e f = cc
 at_one c (Some top) n e f =
     let a : top ≡ c.low = eqb-true _ _ e in

@@ -1,7 +1,7 @@
 //! ENUMERATED (X.696 11).
 ghost use Rattle.std.specs.Prelude.{◌≡◌, ◌↔◌, IsTrue, Some, None, map, IfOk, IfErr, MatchOption};
 ghost use Rattle.asn1_model.specs.Schema as Asn1;
-ghost use Rattle.asn1_model.specs.Tables.{item_place};
+ghost use Rattle.asn1_model.specs.Normal.{item_place};
 ghost use Rattle.asn1_model.specs.Value as Asn1Value;
 ghost use Rattle.asn1_schema_variants.specs.Items.{IsNone};
 ghost use Rattle.asn1_values_natives.specs.Octets.{signed_number};

@@ -9,7 +9,7 @@ use Rattle.asn1_model.specs.Form.{written, only_if}
 use Rattle.asn1_model.specs.Schema.{Range}
 use Rattle.asn1_model.specs.Numbers.{digits, width, octet_width, least_octets, signed_octets, complement, is_at_most, is_within, fits_128}
 use Rattle.asn1_model.specs.Oer
-use Rattle.asn1_model.specs.Tables.{is_bounded}
+use Rattle.asn1_model.specs.Normal.{is_bounded}
 use Rattle.asn1_schema_constraints.specs.Bounds.{lower, upper}
 use Rattle.asn1_schema_constraints.specs.Widths.{has_sign, fixed_width}
 use Rattle.asn1_schema_constraints.specs.Terms.{bounds_of, held_of}

@@ -3,7 +3,7 @@ use Rattle.std.proofs.Common.{◌≡◌, ℕ, ℤ, ◌&&◌, ◌||◌, Bool, tru
 use Rattle.asn1_model.specs.Numbers.{admits}
 use Rattle.asn1_model.specs.Form.{written, only_if, exactly}
 use Rattle.std.specs.Prelude.{is_some}
-use Rattle.asn1_model.specs.Tables.{item_place}
+use Rattle.asn1_model.specs.Normal.{item_place}
 use Rattle.asn1_schema_variants.specs.Items.{IsPlaced}
 use Rattle.asn1_model.specs.Schema.{Size, Counts, boolean, enumerated, octet_string, object_identifier}
 use Rattle.asn1_model.specs.Value.{truth, item, octet_list, arcs}

@@ -2,7 +2,7 @@
 use Rattle.std.proofs.Common.{◌≡◌, ℕ, zero, ◌-◌, ◌*◌, ◌≤◌, ltb, leb, Bool, true, false, cond, ◌||◌, ◌&&◌, IsTrue, inl, inr, List, [], ◌∷◌, Option, Some, None, Box, Global, refl, sym, ◌∙◌, ap, subst, arith}
 use Rattle.std.proofs.lemmas.Bool.{and_parts, and_from, leb-true, le-leb}
 use Rattle.asn1_model.specs.Schema.{Counts, Size}
-use Rattle.asn1_model.specs.Numbers.{binary, is_count_to, is_count_within}
+use Rattle.asn1_model.specs.Numbers.{binary, is_count_within}
 use Rattle.asn1_model.specs.Form.{exactly, only_if}
 use Rattle.asn1_model.specs.Per
 use Rattle.asn1_laws_fronts.proofs.Fronts.{agree_first, agree_if_right, agree_varied_right}
@@ -22,6 +22,7 @@ use Rattle.per_codec_reading.specs.declared.sizes.Heading.{Heading}
 use Rattle.per_codec_reading.specs.declared.sizes.LengthDeterminant.{LengthDeterminant}
 use Rattle.per_codec_reading.specs.declared.sizes.LengthDeterminant.TheVariants.{Constrained, General}
 use Rattle.per_codec_decoder.specs.Members.{HasMembers, NoMembers, NoDeterminant, NoFurther, tally_in}
+use Rattle.std.specs.Option.{option_map_or}
 
 -- want of memory aside, what is missed does not stand in front
 pub missed : {X : Type 0} (free : Per.Freedom → Bool) (f : X → Per.BitForm) (a : Place) (e : DecodeError) → Misses free f a e → ¬ (e ≡ OutOfMemory) → NoneStands free f a
@@ -35,7 +36,7 @@ held_tally o boxed t e f = ap tally_in e ∙ ap (λ x. Some x) (sym f)
 
 -- what a number of members is between
 pub between : (h : Counts) (most n : ℕ) → h.high ≡ Some most → is_count_within h n ≡ true → (h.low ≤ n) × (n ≤ most)
-between h most n top e = let p = and_parts _ _ e in (leb-true h.low n p.0, leb-true n most (subst (λ t. is_count_to t n ≡ true) top p.1))
+between h most n top e = let p = and_parts _ _ e in (leb-true h.low n p.0, leb-true n most (subst (λ t. (option_map_or (λ x. leb n x) t true) ≡ true) top p.1))
 
 pub untrue : false ≡ true → ⊥
 untrue e = cc
@@ -198,7 +199,7 @@ module _ (free : Per.Freedom → Bool) (al : Bool) where
           let p = same_fronts free (constrained_alike free al (x - z.counts.low) (n - z.counts.low) (g.0 - z.counts.low)) mid b c.0 r.1 g.2 in
           let j : n - z.counts.low ≡ g.0 - z.counts.low = p.0 in
           let l = leb-true z.counts.low n ((and_parts (leb z.counts.low n) (leb n x) r.0).0) in
-          let u = leb-true z.counts.low g.0 ((and_parts (leb z.counts.low g.0) (is_count_to z.counts.high g.0) g.1.1).0) in
+          let u = leb-true z.counts.low g.0 ((and_parts (leb z.counts.low g.0) (option_map_or (λ x. leb g.0 x) z.counts.high true) g.1.1).0) in
           let y : g.0 ≡ n = omega (arith, j, l, u) in
           let v = subst (λ m. Admits free z h false m) y g.1 in
           untrue (w ∙ and_from (is_count_within h n) (hd.is_outside || is_count_within z.counts n) v.0 (or_right hd.is_outside (is_count_within z.counts n) v.1))

@@ -7,7 +7,7 @@ use Rattle.asn1_model.specs.Schema.{Range, Bounds, Counts, Size, Alphabet, Strin
 use Rattle.asn1_model.specs.Numbers.{is_within, is_count_within, fits_128}
 use Rattle.asn1_model.specs.Strings.{is_octet}
 use Rattle.std.specs.List.{list_all}
-use Rattle.asn1_model.specs.Tables.{is_bounded}
+use Rattle.asn1_model.specs.Normal.{is_bounded}
 use Rattle.asn1_model.specs.Per
 use Rattle.asn1_laws_fronts.proofs.PerNumbers.{length_of_map}
 use Rattle.asn1_schema_decode.specs.Reads.{NoRecord}

@@ -3,7 +3,7 @@ use Rattle.std.proofs.Common.{◌≡◌, ℕ, zero, suc, ◌-◌, arith, Bool, t
 use Rattle.asn1_model.specs.Value.{Value, chosen}
 use Rattle.asn1_model.specs.Schema.{choice, Alternatives, no_alternative, alternative as or}
 use Rattle.asn1_model.specs.Lawful.{alternative_tags}
-use Rattle.asn1_model.specs.Tables.{alternative_count}
+use Rattle.asn1_model.specs.Normal.{alternative_count}
 use Rattle.asn1_model.specs.Form.{exactly, refused, both, written}
 use Rattle.asn1_model.specs.Per
 use Rattle.asn1_schema_presented.specs.Records.{Record, ends}

@@ -4,7 +4,7 @@ use Rattle.std.specs.Prelude.{min, unwrap_or, ◌^◌}
 use Rattle.std.proofs.lemmas.Bool.{ltb-true, ltb-false, le-leb, leb-true, and_parts, cases_lt}
 use Rattle.std.proofs.lemmas.List.{length-replicate}
 use Rattle.asn1_model.specs.Schema.{Counts, Size}
-use Rattle.asn1_model.specs.Numbers.{binary, is_count_to, is_count_within}
+use Rattle.asn1_model.specs.Numbers.{binary, is_count_within}
 use Rattle.asn1_model.specs.Numbers.{admits}
 use Rattle.asn1_model.specs.Per
 use Rattle.asn1_schema_constraints.specs.Bounds.{counts_of, members_of, lower, upper}
@@ -18,6 +18,7 @@ use Rattle.per_codec_writing.specs.Headings.{Heading, before_all, count_up_to, g
 use Rattle.per_codec_writing.specs.declared.lengths.Due.{Due}
 use Rattle.per_codec_writing.proofs.HeadingTexts.{few_heads, fragment_heads}
 use Rattle.per_codec_encoder.specs.Steps.{list_heading}
+use Rattle.std.specs.Option.{option_map_or}
 
 abbrev pub IsThere : {X : Type 0} → Option X → Type 0
 IsThere {X} o = (x : X) × (o ≡ Some x)
@@ -87,7 +88,7 @@ module _ (al : Bool) where
   constrained_there : (span d : ℕ) (q : Option ℕ) → d ≤ span → span < 65536 → IsThere (text_at (Per.constrained al span d) q)
   constrained_there span d q h u = let p = at_place q in subst (λ x. IsThere (text_at (Per.constrained al span d) x)) p.1 (number_there al p.0 span d h u)
 
-  sized_there : (c : Counts) (high : Option ℕ) (n : ℕ) → (leb c.low n && is_count_to high n) ≡ true → (q : Option ℕ) → IsThere (sized_count al c high false n q)
+  sized_there : (c : Counts) (high : Option ℕ) (n : ℕ) → (leb c.low n && (option_map_or (λ x. leb n x) high true)) ≡ true → (q : Option ℕ) → IsThere (sized_count al c high false n q)
   sized_there c None n w q = general_there al n q
   sized_there c (Some high) n w q = go (ltb high 65536) refl
     where
@@ -124,7 +125,7 @@ none_extensible true true b root outside q w = cc
 held_same : (b : Bounded ℕ) (n : ℕ) → n < 2 ^ 64 → is_count_within (members_of b) n ≡ is_count_within (counts_of b) n
 held_same b n l = ap (λ t. leb (unwrap_or (lower b) 0) n && t) (go (upper b))
   where
-    go : (o : Option ℕ) → is_count_to (Some (unwrap_or o (2 ^ 64 - 1))) n ≡ is_count_to o n
+    go : (o : Option ℕ) → option_map_or (λ x. leb n x) (Some (unwrap_or o (2 ^ 64 - 1))) true ≡ option_map_or (λ x. leb n x) o true
     go None = le-leb n (2 ^ 64 - 1) (omega arith)
     go (Some h) = refl
 

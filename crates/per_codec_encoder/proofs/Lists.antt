@@ -7,7 +7,7 @@ use Rattle.asn1_model.specs.Numbers.{is_count_within}
 use Rattle.asn1_model.specs.Form.{both, joined}
 use Rattle.asn1_model.specs.Per
 use Rattle.asn1_schema_presented.specs.Records.{Record, further, ends}
-use Rattle.asn1_model.specs.Typed.{member_count}
+use Rattle.asn1_model.specs.Lawful.{member_count}
 use Rattle.asn1_schema_presented.specs.Presents.{presents, member_records}
 use Rattle.per_codec_packing.specs.Texts.{Text, on, text_at}
 use Rattle.per_codec_writing.specs.Headings.{general, sized_count, form_due}
@@ -112,14 +112,14 @@ module _ (al : Bool) (s : Schema) (h : (v : Value) → BridgesAt al s v) where
 
 -- ---- the heading is that of the form
 
-list_leads : (al : Bool) (z : Size) (held : Counts) (us : List Per.BitForm) → Leads al (list_heading al z held (length us)) (length us) us (Per.sized al z held Per.never us)
+list_leads : (al : Bool) (z : Size) (held : Counts) (us : List Per.BitForm) → Leads al (list_heading al z held (length us)) (length us) us (Per.sized al z held (λ c. false) us)
 unfolding Per.sized
 list_leads al z held us =
     if_leads al (is_count_within held (length us)) _ (length us) us _
-    (extensible_leads al z.extensible (is_count_within z.counts (length us)) (λ q. sized_count al z.counts z.counts.high false (length us) q) (λ q. general al (length us) q) (length us) us (Per.sized_root al z.counts z.counts.high Per.never us) (Per.counted al us) (count_leads al z.counts z.counts.high Per.never us) (general_leads al us))
+    (extensible_leads al z.extensible (is_count_within z.counts (length us)) (λ q. sized_count al z.counts z.counts.high false (length us) q) (λ q. general al (length us) q) (length us) us (Per.sized_root al z.counts z.counts.high (λ c. false) us) (Per.counted al us) (count_leads al z.counts z.counts.high (λ c. false) us) (general_leads al us))
 
 -- units of a size have the text of their heading, and of what is due behind it
-pub list_text : (al : Bool) (z : Size) (held : Counts) (us : List Per.BitForm) (p : Option ℕ) → text_at (Per.sized al z held Per.never us) p ≡ by_heading al us p (list_heading al z held (length us) p)
+pub list_text : (al : Bool) (z : Size) (held : Counts) (us : List Per.BitForm) (p : Option ℕ) → text_at (Per.sized al z held (λ c. false) us) p ≡ by_heading al us p (list_heading al z held (length us) p)
 list_text al z held us p = (list_leads al z held us).text p
 
 pub lists : (z : Size) (held : Counts) (s : Schema) → Bridges s → Bridges (sequence_of z held s)
@@ -135,7 +135,7 @@ lists z held s b al (in_list vs) os k rest =
     count : length us ≡ member_count vs
     count = length-each (λ v. Per.form al s v) vs
 
-    l : Leads al (list_heading al z held (length us)) (length us) us (Per.sized al z held Per.never us)
+    l : Leads al (list_heading al z held (length us)) (length us) us (Per.sized al z held (λ c. false) us)
     l = list_leads al z held us
 
     sound : AllSound (member_count vs) (list_heading al z held (member_count vs) (position (os, k)))

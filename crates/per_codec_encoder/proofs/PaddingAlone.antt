@@ -4,7 +4,7 @@ use Rattle.std.proofs.lemmas.List.{append-nil}
 use Rattle.asn1_model.specs.Value.{Value, truth, nothing, number, item, bit_list, octet_list, text, arcs, members, bag, fields, chosen, Values, no_more, member, each, Parts, end, absent, present}
 use Rattle.asn1_model.specs.Schema.{Range, Bounds, Counts, Size, StringKind, Alphabet, Presence, Schema, boolean, null, integer, enumerated, bit_string, octet_string, character_string, object_identifier, sequence_of, set_of, sequence, set, group, choice, Components, no_component, component, Alternatives, no_alternative, alternative}
 use Rattle.asn1_model.specs.Normal.{is_at_default, is_group_left_out}
-use Rattle.asn1_model.specs.Tables.{is_required, presence_bits}
+use Rattle.asn1_model.specs.Normal.{is_required, presence_bits}
 use Rattle.asn1_model.specs.Strings.{Run, permitted, may_hold, is_of_octets, is_octet}
 use Rattle.std.specs.List.{list_all}
 use Rattle.asn1_model.specs.Numbers.{digits, binary, width, octet_width, least_octets, above, is_count_within}
@@ -212,16 +212,12 @@ extension_bit_padding : (e m : Bool) → PaddingAlone (Per.extension_bit_of e m)
 extension_bit_padding false m = padding_exactly []
 extension_bit_padding true m = padding_exactly (m ∷ [])
 
-added_item_padding : (al e : Bool) (j : Option ℕ) → PaddingAlone (Per.added_item al e j)
-unfolding Per.added_item
-added_item_padding al true (Some j) = padding_both (padding_exactly _) (normally_small_padding al j)
-added_item_padding al true None = padding_refused
-added_item_padding al false j = padding_refused
-
 item_padding : (al : Bool) (n : ℕ) (e : Bool) (i j : Option ℕ) → PaddingAlone (Per.item_form al n e i j)
 unfolding Per.item_form
 item_padding al n e (Some i) j = padding_both (extension_bit_padding e false) (constrained_padding al _ i)
-item_padding al n e None j = added_item_padding al e j
+item_padding al n true None (Some j) = padding_both (padding_exactly _) (normally_small_padding al j)
+item_padding al n true None None = padding_refused
+item_padding al n false None j = padding_refused
 
 -- ---- open types, sequences and bags
 
@@ -319,8 +315,8 @@ mutual
   form_padding al (octet_string z held) (octet_list os) = padding_if _ (sized_padding al z held _ _ (map_padding _ (λ o. padding_exactly _) os))
   form_padding al (character_string k z a held) (text cs) = string_padding al k z a held cs
   form_padding al object_identifier (arcs ns) = padding_if _ (counted_octets_padding al _)
-  form_padding al (sequence_of z held s) (members vs) = sized_padding al z held Per.never _ (each_padding _ (λ v. form_padding al s v) vs)
-  form_padding al (set_of z held s) (bag vs) = bag_padding _ (λ ys h. sized_padding al z held Per.never ys h) _ (each_padding _ (λ v. form_padding al s v) vs)
+  form_padding al (sequence_of z held s) (members vs) = sized_padding al z held (λ c. false) _ (each_padding _ (λ v. form_padding al s v) vs)
+  form_padding al (set_of z held s) (bag vs) = bag_padding _ (λ ys h. sized_padding al z held (λ c. false) ys h) _ (each_padding _ (λ v. form_padding al s v) vs)
   form_padding al (sequence cs e adds) (fields ps qs) = given_padding al e (presence_bits cs ps) _ (Per.addition_forms al adds qs) (component_padding al cs ps) (addition_padding al adds qs)
   form_padding al (set cs e adds) (fields ps qs) = given_padding al e (presence_bits cs ps) _ (Per.addition_forms al adds qs) (component_padding al cs ps) (addition_padding al adds qs)
   form_padding al (group cs) (fields ps end) = padding_both (padding_exactly _) (component_padding al cs ps)

@@ -5,8 +5,8 @@ use Rattle.std.proofs.lemmas.Bool.{lt-ltb}
 use Rattle.asn1_model.specs.Value.{Value, fields, Parts, end, absent, present}
 use Rattle.asn1_model.specs.Schema.{Tag, Presence, Schema, sequence, set, Components, no_component, component}
 use Rattle.asn1_model.specs.Normal.{is_at_default, is_group_left_out}
-use Rattle.asn1_model.specs.Tables.{is_required, presence_bits}
-use Rattle.asn1_model.specs.Numbers.{binary}
+use Rattle.asn1_model.specs.Normal.{is_required, presence_bits}
+use Rattle.asn1_model.specs.Numbers.{binary, by_eights}
 use Rattle.asn1_model.specs.Strings.{is_octet}
 use Rattle.std.specs.List.{list_all}
 use Rattle.asn1_model.specs.Form.{exactly, both, varied, only_if, given, joined, is_any_present, present_ones, covered_by, written}
@@ -83,7 +83,7 @@ pub open_text : (al : Bool) (x : Per.BitForm) (q : Option ℕ) → text_at (Per.
 unfolding written text_at Per.open_type Per.complete
 open_text al x q = go (written x 0)
   where
-    go : (o : Option (List Bool)) → option_and_then (λ w. text_at (varied Per.octets_behind [] (λ more. only_if (list_all is_octet more) (Per.counted_eights al (w ++ flat_map (binary 8) more)))) q) (option_and_then (λ w. written (Per.padded w) 0) o) ≡ option_and_then (λ w. text_at (Per.open_type al (exactly w)) q) o
+    go : (o : Option (List Bool)) → option_and_then (λ w. text_at (varied Per.octets_behind [] (λ more. only_if (list_all is_octet more) (Per.counted al (map (λ o. exactly o) (by_eights (w ++ flat_map (binary 8) more)))))) q) (option_and_then (λ w. written (Per.padded w) 0) o) ≡ option_and_then (λ w. text_at (Per.open_type al (exactly w)) q) o
     go None = refl
     go (Some w) = refl
 

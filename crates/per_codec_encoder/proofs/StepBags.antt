@@ -7,7 +7,7 @@ use Rattle.asn1_model.specs.Numbers.{binary}
 use Rattle.asn1_model.specs.Form.{exactly, both, only_if, joined, given, put_in_place, with_keys, ascending, stands_before, written}
 use Rattle.asn1_model.specs.Per
 use Rattle.asn1_schema_presented.specs.Records.{Record}
-use Rattle.asn1_model.specs.Typed.{member_count}
+use Rattle.asn1_model.specs.Lawful.{member_count}
 use Rattle.asn1_schema_presented.specs.Presents.{presents, member_records}
 use Rattle.per_codec_packing.specs.Texts.{Text, on, text_at, as_form}
 use Rattle.per_codec_encoder.specs.Steps.{LengthDeterminants, Scope, bag_members, position, Heading, list_heading, with_open, bag_opened, closed_bag, State, runs}
@@ -237,7 +237,7 @@ due_same al n (Some h) ys q = both_same (joined (take n (retold ys))) (joined (t
 
 module _ (al : Bool) (z : Size) (held : Counts) (q : Option ℕ) where
   abbrev size : List Per.BitForm → Per.BitForm
-  size us = Per.sized al z held Per.never us
+  size us = Per.sized al z held (λ c. false) us
 
   heading_same : (ys : List Told) (o : Option Heading) → by_heading al (retold ys) q o ≡ by_heading al (forms_of ys) q o
   heading_same ys None = refl

@@ -4,7 +4,7 @@ use Rattle.std.proofs.lemmas.List.{append-nil}
 use Rattle.asn1_model.specs.Value.{Value, fields, Parts, end, absent, present}
 use Rattle.asn1_model.specs.Schema.{Schema, sequence, group, Components, no_component, component}
 use Rattle.asn1_model.specs.Normal.{is_at_default, is_group_left_out}
-use Rattle.asn1_model.specs.Tables.{is_required, presence_bit_unless, presence_bits}
+use Rattle.asn1_model.specs.Normal.{is_required, presence_bit_unless, presence_bits}
 use Rattle.asn1_model.specs.Form.{exactly, refused, both, varied, only_if}
 use Rattle.asn1_model.specs.Per
 use Rattle.asn1_schema_presented.specs.Records.{Record, presence_bit, is_default, is_empty, ends, mismatch}

@@ -18,7 +18,7 @@ bag_of b front = bag_members (size_of b.sizes) (members_of b.held) b.due b.membe
 -- The form of a bag of these members (X.691 22).
 abbrev pub form_of : Bool → Bag → List Text → Per.BitForm
 form_of al b ts = Per.in_any_order (map as_form ts)
-    (Per.sized al (size_of b.sizes) (members_of b.held) Per.never)
+    (Per.sized al (size_of b.sizes) (members_of b.held) (λ c. false))
 
 -- Whether a further member comes, as the writer has it: the text of the innermost member, and the scopes.
 abbrev pub further_in : Bool → Bag → Text → Text → List Scope → Option (Text × List Scope)

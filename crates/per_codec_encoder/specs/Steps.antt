@@ -120,7 +120,7 @@ counted_in z h (suc n) ts front os k false = None
 -- The end of a bag puts its members in the ascending order of their complete encodings: its form is that of the
 -- definitions, around their texts.
 abbrev pub closed_bag : Bool → Size → Counts → ℕ → List Text → Text → List Scope → Option State
-closed_bag al z h zero ts front k = adds_form (Per.in_any_order (map as_form ts) (Per.sized al z h Per.never))
+closed_bag al z h zero ts front k = adds_form (Per.in_any_order (map as_form ts) (Per.sized al z h (λ c. false)))
     (front, k)
 closed_bag al z h n ts front k = None
 

@@ -3,7 +3,7 @@ use Rattle.std.proofs.Common.{◌≡◌, ◌⊎◌, inl, inr, ℕ, suc, not, Boo
 use Rattle.std.proofs.lemmas.List.{append-nil}
 use Rattle.asn1_model.specs.Value.{Parts, end, absent, present}
 use Rattle.asn1_model.specs.Schema.{Components, no_component, component}
-use Rattle.asn1_model.specs.Tables.{is_required, presence_bits}
+use Rattle.asn1_model.specs.Normal.{is_required, presence_bits}
 use Rattle.asn1_model.specs.Form.{exactly, both, varied, given, only_if, joined, Bitmap, is_any_present, present_ones, covered_by, Reads}
 use Rattle.std.specs.Prelude.{is_some}
 use Rattle.asn1_model.specs.Per

@@ -5,7 +5,7 @@ use Rattle.asn1_model.specs.Value.{Value, chosen, same}
 use Rattle.asn1_model.specs.Schema.{choice, Alternatives, no_alternative, alternative as other}
 use Rattle.asn1_model.specs.Lawful.{alternative_tags}
 use Rattle.asn1_model.specs.Numbers.{octet_bits}
-use Rattle.asn1_model.specs.Tables.{alternative_count}
+use Rattle.asn1_model.specs.Normal.{alternative_count}
 use Rattle.asn1_model.specs.Form.{exactly, both}
 use Rattle.asn1_model.specs.Per
 use Rattle.asn1_laws_values.proofs.Listed.{EachAlternative}

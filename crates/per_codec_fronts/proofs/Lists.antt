@@ -8,7 +8,7 @@ use Rattle.asn1_model.specs.Numbers.{binary, is_count_within}
 use Rattle.asn1_model.specs.Form.{exactly, both, only_if, joined, given, written, arranged, stands_before}
 use Rattle.asn1_model.specs.Per
 use Rattle.asn1_schema_presented.specs.Records.{Record, further, ends}
-use Rattle.asn1_model.specs.Typed.{member_count}
+use Rattle.asn1_model.specs.Lawful.{member_count}
 use Rattle.asn1_schema_presented.specs.Presents.{presents, member_records}
 use Rattle.asn1_schema_presented.specs.Chains.{Chain}
 use Rattle.asn1_schema_presented.proofs.Chains.{chain_split, chain_append}
@@ -273,7 +273,7 @@ module _ (free : Per.Freedom → Bool) (al : Bool) where
 
   -- what is read of a list behind the extension bit of its size
   abbrev counts_form : Size → Bool → Option ℕ → List Per.BitForm → Per.BitForm
-  counts_form z out high us = cond out (Per.counted al us) (Per.sized_root al z.counts high Per.never us)
+  counts_form z out high us = cond out (Per.counted al us) (Per.sized_root al z.counts high (λ c. false) us)
 
   abbrev Opened : Size → Counts → Bool → Option ℕ → List Per.BitForm → Place → List Scope → Place → Type 0
   Opened z h out high us a k b = (m : State) × (d : ℕ) × (hs : Option Tally) × Counted al free z h out (told_highest out high) a k m × (m.1 ≡ members d hs ∷ k) × Rest d hs us m.0 b
@@ -293,7 +293,7 @@ module _ (free : Per.Freedom → Bool) (al : Bool) where
       ((n.2, members n.0 n.1 ∷ k), n.0, n.1, (n.0, n.1, n.3, refl), refl, n.5)
 
   abbrev by_number : Size → ℕ → List Per.BitForm → Per.BitForm
-  by_number z high us = both (Per.constrained al (high - z.counts.low) (length us - z.counts.low)) (Per.at_octet (al && Per.never z.counts) (joined us))
+  by_number z high us = both (Per.constrained al (high - z.counts.low) (length us - z.counts.low)) (Per.at_octet (al && (λ c. false) z.counts) (joined us))
 
   bounds_in : (z : Size) (h : Counts) (t : Bool) (high : ℕ) (us : List Per.BitForm) (a : Place) (k : List Scope) (m : State) (b : Place) → Counted al free z h false (cond t (Some high) None) a k m → Onward us m k b → Admits free z h false (length us) × Front free (cond t (by_number z high us) (Per.counted al us)) a b
   bounds_in z h true high us a k m b f g =
@@ -358,17 +358,17 @@ module _ (free : Per.Freedom → Bool) (al : Bool) where
           (false, q.0, q.1, p.0, q.2)
 
   -- ---- SEQUENCE OF
-  sized_in : (z : Size) (h : Counts) (us : List Per.BitForm) (n : ℕ) (a m : State) (b : Place) → ListBegins al free z h n a m → Onward us m a.1 b → Front free (Per.sized al z h Per.never us) a.0 b
+  sized_in : (z : Size) (h : Counts) (us : List Per.BitForm) (n : ℕ) (a m : State) (b : Place) → ListBegins al free z h n a m → Onward us m a.1 b → Front free (Per.sized al z h (λ c. false) us) a.0 b
   unfolding Per.sized
   sized_in z h us n a m b t g =
       let r = counted_in z h t.1 z.counts.high us t.2 a.1 m b t.4 g in
-      if_in free (is_count_within h (length us)) _ a.0 b r.0.0 (bit_in z.extensible (is_count_within z.counts (length us)) (Per.sized_root al z.counts z.counts.high Per.never us) (Per.counted al us) t.1 a.0 t.2 b t.3 r.0.1 r.1)
+      if_in free (is_count_within h (length us)) _ a.0 b r.0.0 (bit_in z.extensible (is_count_within z.counts (length us)) (Per.sized_root al z.counts z.counts.high (λ c. false) us) (Per.counted al us) t.1 a.0 t.2 b t.3 r.0.1 r.1)
 
-  sized_out : (z : Size) (h : Counts) (us : List Per.BitForm) (n : ℕ) → length us ≡ n → (a : State) (b : Place) → Front free (Per.sized al z h Per.never us) a.0 b → (m : State) × (d : ℕ) × (hs : Option Tally) × ListBegins al free z h n a m × (m.1 ≡ members d hs ∷ a.1) × Rest d hs us m.0 b
+  sized_out : (z : Size) (h : Counts) (us : List Per.BitForm) (n : ℕ) → length us ≡ n → (a : State) (b : Place) → Front free (Per.sized al z h (λ c. false) us) a.0 b → (m : State) × (d : ℕ) × (hs : Option Tally) × ListBegins al free z h n a m × (m.1 ≡ members d hs ∷ a.1) × Rest d hs us m.0 b
   unfolding Per.sized
   sized_out z h us n l a b f =
       let p = if_out free (is_count_within h (length us)) _ a.0 b f in
-      let q = bit_out z.extensible (is_count_within z.counts (length us)) (Per.sized_root al z.counts z.counts.high Per.never us) (Per.counted al us) a.0 b p.1 in
+      let q = bit_out z.extensible (is_count_within z.counts (length us)) (Per.sized_root al z.counts z.counts.high (λ c. false) us) (Per.counted al us) a.0 b p.1 in
       let r = counted_out z h q.0 z.counts.high us q.1 a.1 b ((p.0, q.3), q.4) in
       (r.0, r.1, r.2, (subst (λ i. is_count_within h i ≡ true) l p.0, q.0, q.1, q.2, r.3), r.4, r.5)
 
@@ -379,7 +379,7 @@ module _ (free : Per.Freedom → Bool) (al : Bool) where
       held o None p f = (f.0, f.1, f.3)
       held o (Some high) p f = (f.0, None, f.3)
 
-  list_in : (z : Size) (h : Counts) (s : Schema) → Finds al free s → (vs : Values) (a m b : State) → ListBegins al free z h (member_count vs) a m → Chain (Step free al) (member_records (λ v. presents s v) vs) m b → Found free (Per.sized al z h Per.never (each (λ v. Per.form al s v) vs)) a b
+  list_in : (z : Size) (h : Counts) (s : Schema) → Finds al free s → (vs : Values) (a m b : State) → ListBegins al free z h (member_count vs) a m → Chain (Step free al) (member_records (λ v. presents s v) vs) m b → Found free (Per.sized al z h (λ c. false) (each (λ v. Per.form al s v) vs)) a b
   list_in z h s finds vs a m b t c =
       let g : Onward (each (λ v. Per.form al s v) vs) m a.1 b.0 = λ d hs e. (members_in s finds vs d hs m b a.1 e c).0 in
       let o = scopes_held z h (member_count vs) a m t in
@@ -389,7 +389,7 @@ module _ (free : Per.Freedom → Bool) (al : Bool) where
   abbrev ListOut : Size → Counts → Schema → Values → State → State → Type 0
   ListOut z h s vs a b = (ws : Values) × (m : State) × LikeMembers s vs ws × ListBegins al free z h (member_count ws) a m × Chain (Step free al) (member_records (λ v. presents s v) ws) m b
 
-  list_out : (z : Size) (h : Counts) (s : Schema) → Shows al free s → (vs : Values) (a b : State) → Found free (Per.sized al z h Per.never (each (λ v. Per.form al s v) vs)) a b → ListOut z h s vs a b
+  list_out : (z : Size) (h : Counts) (s : Schema) → Shows al free s → (vs : Values) (a b : State) → Found free (Per.sized al z h (λ c. false) (each (λ v. Per.form al s v) vs)) a b → ListOut z h s vs a b
   list_out z h s shows vs a b f =
       let r = sized_out z h (each (λ v. Per.form al s v) vs) (member_count vs) (each_long (λ v. Per.form al s v) vs) a b.0 f.0 in
       let m : State = r.0 in
@@ -413,20 +413,20 @@ module _ (free : Per.Freedom → Bool) (al : Bool) where
   bag_finds order z h s finds (bag vs) a b c =
       let xs : List Per.BitForm = each (λ v. Per.form al s v) vs in
       let f = list_in z h s finds vs a c.0 b c.1 c.2 in
-      (varied_in free {c = Per.other_order} (λ o. given (Ordered (λ x. written (Per.complete x) 0) (stands_before Per.bit_less) xs o) (Per.sized al z h Per.never)) (Some (replicate (length xs) 0)) (inr order) a.0 b.0 (given_in free (arranged (replicate (length xs) 0) xs) (Per.sized al z h Per.never) xs (in_place xs) a.0 b.0 f.0), f.1)
+      (varied_in free {c = Per.other_order} (λ o. given (Ordered (λ x. written (Per.complete x) 0) (stands_before Per.bit_less) xs o) (Per.sized al z h (λ c. false))) (Some (replicate (length xs) 0)) (inr order) a.0 b.0 (given_in free (arranged (replicate (length xs) 0) xs) (Per.sized al z h (λ c. false)) xs (in_place xs) a.0 b.0 f.0), f.1)
   bag_finds order z h s finds v a b c = (none free al a b).0 c
 
-  ordered_out : (z : Size) (h : Counts) (s : Schema) → Shows al free s → (vs : Values) (ys : List Per.BitForm) (a b : State) → Arranged (λ v. Per.form al s v) vs ys → Found free (Per.sized al z h Per.never ys) a b → (ws : Values) × (m : State) × (same (bag vs) (bag ws) ≡ true) × ListBegins al free z h (member_count ws) a m × Chain (Step free al) (member_records (λ v. presents s v) ws) m b
+  ordered_out : (z : Size) (h : Counts) (s : Schema) → Shows al free s → (vs : Values) (ys : List Per.BitForm) (a b : State) → Arranged (λ v. Per.form al s v) vs ys → Found free (Per.sized al z h (λ c. false) ys) a b → (ws : Values) × (m : State) × (same (bag vs) (bag ws) ≡ true) × ListBegins al free z h (member_count ws) a m × Chain (Step free al) (member_records (λ v. presents s v) ws) m b
   ordered_out z h s shows vs ys a b r f =
-      let t = list_out z h s shows (values_of r.1) a b (subst (λ l. Found free (Per.sized al z h Per.never l) a b) (sym r.3) f) in
+      let t = list_out z h s shows (values_of r.1) a b (subst (λ l. Found free (Per.sized al z h (λ c. false) l) a b) (sym r.3) f) in
       (t.0, t.1, bag_like vs t.0 r.0 r.1 r.2 t.2.0, t.3, t.4)
 
   pub bag_shows : (z : Size) (h : Counts) (s : Schema) → Shows al free s → Shows al free (set_of z h s)
   unfolding presents Per.form Per.in_any_order
   bag_shows z h s shows (bag vs) a b f =
       let xs : List Per.BitForm = each (λ v. Per.form al s v) vs in
-      let t = varied_out free {c = Per.other_order} (λ o. given (Ordered (λ x. written (Per.complete x) 0) (stands_before Per.bit_less) xs o) (Per.sized al z h Per.never)) a.0 b.0 f.0 in
-      let q = given_out free (Ordered (λ x. written (Per.complete x) 0) (stands_before Per.bit_less) xs t.0) (Per.sized al z h Per.never) a.0 b.0 t.2 in
+      let t = varied_out free {c = Per.other_order} (λ o. given (Ordered (λ x. written (Per.complete x) 0) (stands_before Per.bit_less) xs o) (Per.sized al z h (λ c. false))) a.0 b.0 f.0 in
+      let q = given_out free (Ordered (λ x. written (Per.complete x) 0) (stands_before Per.bit_less) xs t.0) (Per.sized al z h (λ c. false)) a.0 b.0 t.2 in
       let r = ordered_out z h s shows vs q.0 a b (reordered (λ v. Per.form al s v) (λ x. written (Per.complete x) 0) (stands_before Per.bit_less) vs t.0 q.0 q.1) (q.2, f.1) in
       (bag r.0, (r.2, λ d. cc d), (r.1, r.3, r.4))
   bag_shows z h s shows v a b f = absurd (of_refused free a.0 b.0 f.0)

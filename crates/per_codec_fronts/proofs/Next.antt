@@ -5,7 +5,7 @@ use Rattle.std.proofs.lemmas.Bool.{and_parts, leb-true}
 use Rattle.asn1_model.specs.Value.{truth, nothing, number, item, bit_list, octet_list, text, arcs}
 use Rattle.asn1_model.specs.Schema.{Counts, Size, StringKind, Alphabet, Bounds, Range, boolean, null, integer, enumerated, bit_string, octet_string, character_string, object_identifier}
 use Rattle.asn1_model.specs.Numbers.{binary, octet_bits}
-use Rattle.asn1_model.specs.Form.{exactly, both, only_if, nothing_more}
+use Rattle.asn1_model.specs.Form.{exactly, both, only_if}
 use Rattle.std.specs.Prelude.{is_some}
 use Rattle.asn1_model.specs.Strings.{is_octet, is_identifier, identifier_octets}
 use Rattle.std.specs.List.{list_all}
@@ -143,7 +143,7 @@ module _ (free : Per.Freedom → Bool) where
 
   pub same_extension_bit : (e o u : Bool) (a b c : Place) → Front free (extension_bit e o) a b → Front free (extension_bit e u) a c → (o ≡ u) × (b ≡ c)
   same_extension_bit true o u a b c f g = same_fronts (agree_first free (λ e. agree_map free (λ q. e) (agree_nothing free))) a b c f g
-  same_extension_bit false o u a b c f g = same_fronts (agree_if free (not o) (not u) nothing_more nothing_more (λ i j. agree_map free (λ q. negated o u i j) (agree_nothing free))) a b c f g
+  same_extension_bit false o u a b c f g = same_fronts (agree_if free (not o) (not u) (exactly []) (exactly []) (λ i j. agree_map free (λ q. negated o u i j) (agree_nothing free))) a b c f g
     where
       negated : (o u : Bool) → not o ≡ true → not u ≡ true → o ≡ u
       negated false false i j = refl

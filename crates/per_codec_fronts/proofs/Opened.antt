@@ -1,6 +1,6 @@
 -- Complete encodings and open types, as a reader finds them: the value's bits, their padding, and octets behind.
 use Rattle.std.proofs.Common.{◌≡◌, ℕ, zero, suc, ◌+◌, ◌*◌, Bool, List, [], ◌∷◌, ◌++◌, length, map, refl, ap, sym, ◌∙◌, subst, append_assoc, arith}
-use Rattle.asn1_model.specs.Numbers.{binary, octet_bits, packed}
+use Rattle.asn1_model.specs.Numbers.{binary, octet_bits, packed, by_eights}
 use Rattle.asn1_model.specs.Form.{exactly, only_if, Reads}
 use Rattle.asn1_model.specs.Strings.{is_octet}
 use Rattle.std.specs.List.{list_all}
@@ -41,9 +41,9 @@ module _ (free : Per.Freedom → Bool) where
     open_in x a rest left os k l f g c =
         let all : (g.text ++ c.2.text) ++ octet_bits c.1 ≡ octet_bits os = append_assoc g.text c.2.text (octet_bits c.1) ∙ ap (λ w. g.text ++ (c.2.text ++ w)) (sym c.4) ∙ ap (λ w. g.text ++ w) c.2.in_front ∙ g.in_front in
         let counted = if_out free (list_all is_octet os) (Per.counted al (Per.octet_units os)) a rest f in
-        let eights : Front free (Per.counted_eights al (octet_bits os)) a rest = subst (λ us. Front free (Per.counted al us) a rest) (sym (octets_as_units os)) counted.1 in
-        let whole : Front free (Per.counted_eights al ((g.text ++ c.2.text) ++ octet_bits c.1)) a rest = subst (λ w. Front free (Per.counted_eights al w) a rest) (sym all) eights in
-        let told = if_in free (list_all is_octet c.1) (Per.counted_eights al ((g.text ++ c.2.text) ++ octet_bits c.1)) a rest c.3 whole in
+        let eights : Front free (Per.counted al (map (λ o. exactly o) (by_eights (octet_bits os)))) a rest = subst (λ us. Front free (Per.counted al us) a rest) (sym (octets_as_units os)) counted.1 in
+        let whole : Front free (Per.counted al (map (λ o. exactly o) (by_eights ((g.text ++ c.2.text) ++ octet_bits c.1)))) a rest = subst (λ w. Front free (Per.counted al (map (λ o. exactly o) (by_eights w))) a rest) (sym all) eights in
+        let told = if_in free (list_all is_octet c.1) (Per.counted al (map (λ o. exactly o) (by_eights ((g.text ++ c.2.text) ++ octet_bits c.1)))) a rest c.3 whole in
         record {
           text = told.text;
           has_form = (g.text ++ c.2.text, (g.text, g.has_form, padded_in g.text c.2.text left.0 g.moved c.2.has_form), (c.1, c.5, told.has_form));
@@ -61,8 +61,8 @@ module _ (free : Per.Freedom → Bool) where
         let k = complete_whole free x r.0 0 r.1 in
         let long : length (r.0 ++ octet_bits r.2.0) ≡ 8 * (k.0 + length r.2.0) = joined_long free r.0 r.2.0 k.0 k.1 in
         let back : octet_bits (packed (r.0 ++ octet_bits r.2.0)) ≡ r.0 ++ octet_bits r.2.0 = packed_back (k.0 + length r.2.0) (r.0 ++ octet_bits r.2.0) long in
-        let told : Front free (only_if (list_all is_octet r.2.0) (Per.counted_eights al (r.0 ++ octet_bits r.2.0))) a rest = record { text = f.text; has_form = r.2.2; in_front = f.in_front; moved = f.moved } in
-        let s = if_out free (list_all is_octet r.2.0) (Per.counted_eights al (r.0 ++ octet_bits r.2.0)) a rest told in
+        let told : Front free (only_if (list_all is_octet r.2.0) (Per.counted al (map (λ o. exactly o) (by_eights (r.0 ++ octet_bits r.2.0))))) a rest = record { text = f.text; has_form = r.2.2; in_front = f.in_front; moved = f.moved } in
+        let s = if_out free (list_all is_octet r.2.0) (Per.counted al (map (λ o. exactly o) (by_eights (r.0 ++ octet_bits r.2.0)))) a rest told in
         let units : Front free (Per.counted al (Per.octet_units (packed (r.0 ++ octet_bits r.2.0)))) a rest = subst (λ us. Front free (Per.counted al us) a rest) (eights_units (k.0 + length r.2.0) (r.0 ++ octet_bits r.2.0) long) s.1 in
         let counted = if_in free (list_all is_octet (packed (r.0 ++ octet_bits r.2.0))) (Per.counted al (Per.octet_units (packed (r.0 ++ octet_bits r.2.0)))) a rest (packed_octets (k.0 + length r.2.0) (r.0 ++ octet_bits r.2.0) long) units in
         let z = padded_out r.1.0 r.0 r.1.2 in

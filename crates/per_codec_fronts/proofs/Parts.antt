@@ -3,7 +3,7 @@ use Rattle.std.proofs.Common.{◌≡◌, ℤ, Bool, true, false, cond, List, [],
 use Rattle.asn1_model.specs.Value.{Value, truth, nothing, number, item, bit_list, octet_list, text, arcs, Parts, end, absent, present}
 use Rattle.asn1_model.specs.Schema.{Range, Bounds, Counts, Size, StringKind, Alphabet, Schema, boolean, null, integer, enumerated, bit_string, octet_string, character_string, object_identifier, Components, no_component, component}
 use Rattle.asn1_model.specs.Normal.{is_at_default, is_group_left_out}
-use Rattle.asn1_model.specs.Tables.{is_required, presence_bit_unless, presence_bits}
+use Rattle.asn1_model.specs.Normal.{is_required, presence_bit_unless, presence_bits}
 use Rattle.asn1_model.specs.Form.{refused, both}
 use Rattle.asn1_model.specs.Per
 use Rattle.asn1_laws_values.proofs.Listed.{EachComponent}

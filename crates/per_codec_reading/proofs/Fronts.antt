@@ -1,7 +1,7 @@
 -- Parts of forms that stand in front.
 use Rattle.std.proofs.Common.{◌≡◌, inr, ℕ, ◌+◌, ◌<◌, ◌==◌, Bool, true, false, IsTrue, Result, Ok, Err, IfOk, IfErr, List, [], ◌∷◌, ◌++◌, length, refl, ap, sym, ◌∙◌, subst, append_assoc, length-append, arith}
 use Rattle.std.proofs.lemmas.Bool.{eq-eqb, eqb-true}
-use Rattle.asn1_model.specs.Form.{Reads, exactly, only_if, nothing_more}
+use Rattle.asn1_model.specs.Form.{Reads, exactly, only_if}
 use Rattle.asn1_model.specs.Per
 use Rattle.asn1_schema_faults.specs.declared.DecodeError.{DecodeError}
 use Rattle.asn1_schema_faults.specs.declared.DecodeError.TheVariants.{Incomplete, OutOfMemory, AlreadyFailed}
@@ -115,18 +115,18 @@ module _ (free : Per.Freedom → Bool) where
   paddings_same a b c f g = (same_fronts free (agree_placed free (λ p. padding_alike free (Per.missing p))) a b c f g).1
 
   -- a form behind padding stands just behind it
-  pub after_padding : (al : Bool) (x : Per.BitForm) (a mid b : Place) → Front free (Per.at_octet al nothing_more) a mid → Front free x mid b → Front free (Per.at_octet al x) a b
+  pub after_padding : (al : Bool) (x : Per.BitForm) (a mid b : Place) → Front free (Per.at_octet al (exactly [])) a mid → Front free x mid b → Front free (Per.at_octet al x) a b
   unfolding Per.at_octet
   after_padding false x a mid b f g = subst (λ m. Front free x m b) (of_nothing free a mid f) g
   after_padding true x a mid b f g =
-      let p = split free to_octet nothing_more a mid f in
+      let p = split free to_octet (exactly []) a mid f in
       join free to_octet x a p.0 b p.1 (subst (λ m. Front free x m b) (of_nothing free p.0 mid p.2) g)
 
-  pub behind_padding : (al : Bool) (x : Per.BitForm) (a mid b : Place) → Front free (Per.at_octet al nothing_more) a mid → Front free (Per.at_octet al x) a b → Front free x mid b
+  pub behind_padding : (al : Bool) (x : Per.BitForm) (a mid b : Place) → Front free (Per.at_octet al (exactly [])) a mid → Front free (Per.at_octet al x) a b → Front free x mid b
   unfolding Per.at_octet
   behind_padding false x a mid b f g = subst (λ m. Front free x m b) (sym (of_nothing free a mid f)) g
   behind_padding true x a mid b f g =
-      let p = split free to_octet nothing_more a mid f in
+      let p = split free to_octet (exactly []) a mid f in
       let q = split free to_octet x a b g in
       let e : mid ≡ q.0 = of_nothing free p.0 mid p.2 ∙ paddings_same a p.0 q.0 p.1 q.1 in
       subst (λ m. Front free x m b) (sym e) q.2
@@ -139,11 +139,11 @@ module _ (free : Per.Freedom → Bool) where
   unfolding Per.at_octet
   unpadded_in x a b f = f
 
-  pub aligned_padding : (a b : Place) → Front free to_octet a b → Front free (Per.at_octet true nothing_more) a b
+  pub aligned_padding : (a b : Place) → Front free to_octet a b → Front free (Per.at_octet true (exactly [])) a b
   unfolding Per.at_octet
-  aligned_padding a b f = join free to_octet nothing_more a b b f (nothing_front free b)
+  aligned_padding a b f = join free to_octet (exactly []) a b b f (nothing_front free b)
 
-  pub unaligned_padding : (a : Place) → Front free (Per.at_octet false nothing_more) a a
+  pub unaligned_padding : (a : Place) → Front free (Per.at_octet false (exactly [])) a a
   unfolding Per.at_octet
   unaligned_padding a = nothing_front free a
 

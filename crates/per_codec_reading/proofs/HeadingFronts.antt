@@ -1,7 +1,7 @@
 -- What stands in front of the items of a size, piece by piece, and the units behind it.
 use Rattle.std.proofs.Common.{◌≡◌, ℕ, ◌*◌, ◌<◌, ◌==◌, ◌&&◌, Bool, true, false, List, [], ◌∷◌, length, Option, Some, None, refl, ap, sym, subst}
 use Rattle.asn1_model.specs.Schema.{Counts, Size}
-use Rattle.asn1_model.specs.Form.{exactly, nothing_more}
+use Rattle.asn1_model.specs.Form.{exactly}
 use Rattle.asn1_model.specs.Per
 use Rattle.asn1_schema_faults.specs.declared.DecodeError.{DecodeError}
 use Rattle.per_codec_fronts.specs.Sizes.{extension_bit, told_highest}
@@ -46,11 +46,11 @@ module _ (free : Per.Freedom → Bool) (al : Bool) where
   no_padding w has_padding c n padded m e i x None a f = absurd (of_refused free a m f)
   no_padding w has_padding c n padded m e i x (Some high) a f = misses_also free (Per.at_octet (al && padded)) (told_units al w has_padding c high) m a e (λ z. no_octet free al w has_padding c high n a m f (subst (λ t. NoneStands free (Per.at_octet (al && t)) m) i z)) x
 
-  pub no_bits : (w : ℕ) (has_padding : ℕ → Counts → Bool) (c : Counts) (n : ℕ) (m o : Place) → Front free (Per.at_octet (al && has_padding n c) nothing_more) m o → length o.1 < n * w → (told : Option ℕ) (a : Place) → Front free (determinant_form al c told (Constrained n)) a m → NoneStands free (units_told al w has_padding c told) a
+  pub no_bits : (w : ℕ) (has_padding : ℕ → Counts → Bool) (c : Counts) (n : ℕ) (m o : Place) → Front free (Per.at_octet (al && has_padding n c) (exactly [])) m o → length o.1 < n * w → (told : Option ℕ) (a : Place) → Front free (determinant_form al c told (Constrained n)) a m → NoneStands free (units_told al w has_padding c told) a
   no_bits w has_padding c n m o k l None a f = absurd (of_refused free a m f)
   no_bits w has_padding c n m o k l (Some high) a f = few_bits free al w has_padding c high n a m o f k l
 
-  pub constrained_units : (w : ℕ) (has_padding : ℕ → Counts → Bool) (c : Counts) (n : ℕ) (bs : List Bool) (m o b : Place) → Front free (Per.at_octet (al && has_padding n c) nothing_more) m o → Leads bs o b → length bs ≡ n * w → (told : Option ℕ) → Completes free (determinant_form al c told (Constrained n)) (units_told al w has_padding c told (n, bs)) m b
+  pub constrained_units : (w : ℕ) (has_padding : ℕ → Counts → Bool) (c : Counts) (n : ℕ) (bs : List Bool) (m o b : Place) → Front free (Per.at_octet (al && has_padding n c) (exactly [])) m o → Leads bs o b → length bs ≡ n * w → (told : Option ℕ) → Completes free (determinant_form al c told (Constrained n)) (units_told al w has_padding c told (n, bs)) m b
   constrained_units w has_padding c n bs m o b k l e None a f = absurd (of_refused free a m f)
   constrained_units w has_padding c n bs m o b k l e (Some high) a f = told_stands free al w has_padding c high n bs a m o b f k l e
 

@@ -2,7 +2,7 @@
 use Rattle.std.proofs.Common.{◌≡◌, inl, inr, ◌⊎◌, ℕ, ◌+◌, ◌-◌, ◌*◌, ◌/◌, ◌%◌, ◌^◌, ◌<◌, ◌≤◌, ◌==◌, leb, ltb, ◌&&◌, Bool, true, false, IsTrue, List, [], ◌∷◌, ◌++◌, length, refl, ap, sym, ◌∙◌, subst, cond, append_assoc, length-append, arith}
 use Rattle.std.proofs.lemmas.Bool.{lt-ltb, ltb-true, le-leb, leb-true, and_parts, and_from, eq-eqb, false_from_ne_true}
 use Rattle.std.proofs.lemmas.List.{append-nil}
-use Rattle.asn1_model.specs.Form.{exactly, only_if, nothing_more}
+use Rattle.asn1_model.specs.Form.{exactly, only_if}
 use Rattle.asn1_model.specs.Numbers.{binary}
 use Rattle.asn1_model.specs.Per
 use Rattle.asn1_values_bits.proofs.Binary.{binary_join, binary_low, length-binary}
@@ -156,21 +156,21 @@ module _ (free : Per.Freedom → Bool) where
   ])
 
   -- ---- behind padding
-  pub length_after : (al : Bool) (l : Length) (a mid b : Place) → Front free (Per.at_octet al nothing_more) a mid → Front free (length_form false l) mid b → Front free (length_form al l) a b
+  pub length_after : (al : Bool) (l : Length) (a mid b : Place) → Front free (Per.at_octet al (exactly [])) a mid → Front free (length_form false l) mid b → Front free (length_form al l) a b
   unfolding Per.short_length
   length_after al (Short n) a mid b f g = after_padding free al _ a mid b f (unpadded free _ mid b g)
   length_after al (Fragment m) a mid b f g =
       let i = if_out free (leb 1 m && leb m 4) _ mid b g in
       if_in free (leb 1 m && leb m 4) _ a b i.0 (after_padding free al _ a mid b f (unpadded free _ mid b i.1))
 
-  pub length_behind : (al : Bool) (l : Length) (a mid b : Place) → Front free (Per.at_octet al nothing_more) a mid → Front free (length_form al l) a b → Front free (length_form false l) mid b
+  pub length_behind : (al : Bool) (l : Length) (a mid b : Place) → Front free (Per.at_octet al (exactly [])) a mid → Front free (length_form al l) a b → Front free (length_form false l) mid b
   unfolding Per.short_length
   length_behind al (Short n) a mid b f g = unpadded_in free _ mid b (behind_padding free al _ a mid b f g)
   length_behind al (Fragment m) a mid b f g =
       let i = if_out free (leb 1 m && leb m 4) _ a b g in
       if_in free (leb 1 m && leb m 4) _ mid b i.0 (unpadded_in free _ mid b (behind_padding free al _ a mid b f i.1))
 
-  pub no_length_behind : (al : Bool) (a mid : Place) → Front free (Per.at_octet al nothing_more) a mid → NoneStands free (length_form false) mid → NoneStands free (length_form al) a
+  pub no_length_behind : (al : Bool) (a mid : Place) → Front free (Per.at_octet al (exactly [])) a mid → NoneStands free (length_form false) mid → NoneStands free (length_form al) a
   no_length_behind al a mid f n l b g = n l b (length_behind al l a mid b f g)
 
   pub no_length_at_all : (al : Bool) (a : Place) → NoneStands free (Per.at_octet al) a → NoneStands free (length_form al) a

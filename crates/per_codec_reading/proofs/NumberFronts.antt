@@ -2,7 +2,7 @@
 use Rattle.std.proofs.Common.{◌≡◌, inl, inr, ◌⊎◌, ℕ, zero, suc, ◌+◌, ◌-◌, ◌*◌, ◌/◌, ◌^◌, ◌<◌, ◌≤◌, ◌==◌, leb, ltb, not, ◌&&◌, ◌||◌, Bool, true, false, IsTrue, [], ◌∷◌, ◌++◌, length, flat_map, refl, ap, sym, ◌∙◌, subst, cond, arith}
 use Rattle.std.proofs.lemmas.Bool.{lt-ltb, ltb-true, le-leb, leb-true, and_parts, and_from, eq-eqb, false≢true, false_from_ne_true, eqb-true}
 use Rattle.std.proofs.Math.Nat.{pow-le-pow_right}
-use Rattle.asn1_model.specs.Form.{exactly, varied, only_if, nothing_more}
+use Rattle.asn1_model.specs.Form.{exactly, varied, only_if}
 use Rattle.asn1_model.specs.Numbers.{binary, digits, width, octet_width, least_octets}
 use Rattle.asn1_model.specs.Schema.{boolean, null}
 use Rattle.asn1_model.specs.Value.{truth, nothing}
@@ -107,10 +107,10 @@ module _ (free : Per.Freedom → Bool) where
       let p = and_parts _ _ i.0 in
       record { bound = leb-true n most p.0; fits = ltb-true n (2 ^ w) p.1; stands = i.1 }
 
-  pub aligned_read : (al : Bool) (w most n : ℕ) (a mid b : Place) → Front free (Per.at_octet al nothing_more) a mid → Front free (number_within w most n) mid b → Front free (aligned_within al w most n) a b
+  pub aligned_read : (al : Bool) (w most n : ℕ) (a mid b : Place) → Front free (Per.at_octet al (exactly [])) a mid → Front free (number_within w most n) mid b → Front free (aligned_within al w most n) a b
   aligned_read al w most n a mid b f g = after_padding free al _ a mid b f g
 
-  pub none_aligned : (al : Bool) (w most : ℕ) (a mid : Place) → Front free (Per.at_octet al nothing_more) a mid → NoneStands free (number_within w most) mid → NoneStands free (aligned_within al w most) a
+  pub none_aligned : (al : Bool) (w most : ℕ) (a mid : Place) → Front free (Per.at_octet al (exactly [])) a mid → NoneStands free (number_within w most) mid → NoneStands free (aligned_within al w most) a
   none_aligned al w most a mid f n d b g = n d b (behind_padding free al _ a mid b f g)
 
   pub none_padded : (al : Bool) (w most : ℕ) (a : Place) → NoneStands free (Per.at_octet al) a → NoneStands free (aligned_within al w most) a

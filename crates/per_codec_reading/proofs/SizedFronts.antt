@@ -2,7 +2,7 @@
 use Rattle.std.proofs.Common.{◌≡◌, inr, ℕ, ◌-◌, ◌*◌, ◌≤◌, ◌==◌, leb, ltb, ◌&&◌, ◌||◌, Bool, true, false, cond, IsTrue, Option, Some, None, List, [], ◌∷◌, length, refl, ap, sym, ◌∙◌, subst, arith}
 use Rattle.std.proofs.lemmas.Bool.{false≢true, leb-true, eqb-true, eq-eqb, and_parts, and_from}
 use Rattle.asn1_model.specs.Schema.{Counts, Size}
-use Rattle.asn1_model.specs.Numbers.{is_count_to, is_count_within}
+use Rattle.asn1_model.specs.Numbers.{is_count_within}
 use Rattle.asn1_model.specs.Form.{exactly, both, only_if, joined}
 use Rattle.asn1_model.specs.Per
 use Rattle.asn1_laws_fronts.proofs.PerNumbers.{constrained_alike}
@@ -18,6 +18,7 @@ use Rattle.per_codec_reading.proofs.HeadingFronts.{units_headed}
 use Rattle.per_codec_reading.proofs.UnitFronts.{length-units, units_in, units_out}
 use Rattle.per_codec_reading.proofs.RunFronts.{one}
 use Rattle.per_codec_reading.proofs.RunsOne.{counted_one}
+use Rattle.std.specs.Option.{option_map_or}
 
 module _ (free : Per.Freedom → Bool) where
   -- ---- units behind a number that bounds tell
@@ -70,7 +71,7 @@ module _ (free : Per.Freedom → Bool) where
       go true f = told_in al w has_padding c high us.0 us.1 a b f
       go false f = (if_out free (length us.1 == us.0 * w) _ a b f).1
 
-  root_out : (al : Bool) (w : ℕ) (has_padding : ℕ → Counts → Bool) (c : Counts) (high : Option ℕ) (us : Units) (a b : Place) → length us.1 ≡ us.0 * w → (leb c.low us.0 && is_count_to high us.0) ≡ true → Front free (Per.sized_root al c high (has_padding us.0) (units_of w us.0 us.1)) a b → Front free (units_told al w has_padding c (told_highest false high) us) a b
+  root_out : (al : Bool) (w : ℕ) (has_padding : ℕ → Counts → Bool) (c : Counts) (high : Option ℕ) (us : Units) (a b : Place) → length us.1 ≡ us.0 * w → (leb c.low us.0 && (option_map_or (λ x. leb us.0 x) high true)) ≡ true → Front free (Per.sized_root al c high (has_padding us.0) (units_of w us.0 us.1)) a b → Front free (units_told al w has_padding c (told_highest false high) us) a b
   unfolding Per.sized_root
   root_out al w has_padding c None us a b l k f = if_in free (length us.1 == us.0 * w) _ a b (eq-eqb _ _ l) f
   root_out al w has_padding c (Some high) us a b l k f = go (ltb high 65536) f

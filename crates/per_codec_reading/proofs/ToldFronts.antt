@@ -2,7 +2,7 @@
 use Rattle.std.proofs.Common.{◌≡◌, ℕ, ◌-◌, ◌*◌, ◌≤◌, ◌<◌, ◌==◌, leb, ◌&&◌, Bool, true, false, List, length, refl, ap, sym, ◌∙◌, subst, arith, length-append}
 use Rattle.std.proofs.lemmas.Bool.{leb-true, eqb-true, eq-eqb, and_parts}
 use Rattle.asn1_model.specs.Schema.{Counts}
-use Rattle.asn1_model.specs.Form.{exactly, nothing_more}
+use Rattle.asn1_model.specs.Form.{exactly}
 use Rattle.asn1_model.specs.Per
 use Rattle.asn1_laws_fronts.proofs.PerNumbers.{constrained_alike}
 use Rattle.per_codec_fronts.specs.Takes.{Place, Front}
@@ -56,7 +56,7 @@ module _ (free : Per.Freedom → Bool) where
     pub no_octet : (n : ℕ) (a m : Place) → Front free (told_count al c.low high n) a m → NoneStands free (Per.at_octet (al && has_padding n c)) m → NoneStands free (told_units al w has_padding c high) a
     no_octet n a m h z us b f = let g = behind n us a m b h f in z (exactly us.1) b g.1
 
-    pub few_bits : (n : ℕ) (a m o : Place) → Front free (told_count al c.low high n) a m → Front free (Per.at_octet (al && has_padding n c) nothing_more) m o → length o.1 < n * w → NoneStands free (told_units al w has_padding c high) a
+    pub few_bits : (n : ℕ) (a m o : Place) → Front free (told_count al c.low high n) a m → Front free (Per.at_octet (al && has_padding n c) (exactly [])) m o → length o.1 < n * w → NoneStands free (told_units al w has_padding c high) a
     few_bits n a m o h k l us b f =
         let g = behind n us a m b h f in
         let e = exactly_out free us.1 o b (behind_padding free (al && has_padding n c) (exactly us.1) m o b k g.1) in
@@ -65,5 +65,5 @@ module _ (free : Per.Freedom → Bool) where
         let j = length-append us.1 b.1 in
         absurd (omega arith)
 
-    pub told_stands : (n : ℕ) (bs : List Bool) (a m o b : Place) → Front free (told_count al c.low high n) a m → Front free (Per.at_octet (al && has_padding n c) nothing_more) m o → Leads bs o b → length bs ≡ n * w → Front free (told_units al w has_padding c high (n, bs)) a b
+    pub told_stands : (n : ℕ) (bs : List Bool) (a m o b : Place) → Front free (told_count al c.low high n) a m → Front free (Per.at_octet (al && has_padding n c) (exactly [])) m o → Leads bs o b → length bs ≡ n * w → Front free (told_units al w has_padding c high (n, bs)) a b
     told_stands n bs a m o b h k l e = if_in free (length bs == n * w) _ a b (eq-eqb _ _ e) (join free _ _ a m b h (after_padding free (al && has_padding n c) (exactly bs) m o b k (exactly_in free bs o b l)))

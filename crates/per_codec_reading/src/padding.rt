@@ -1,6 +1,5 @@
 //! Padding up to whole octets (X.691 11.1).
 ghost use Rattle.std.specs.Prelude.{OnOk, IfErr};
-ghost use Rattle.asn1_model.specs.Form.{nothing_more};
 ghost use Rattle.asn1_model.specs.Per as Per;
 ghost use Rattle.per_codec_reading.specs.Fronts as fronts;
 ghost use Rattle.per_codec_reading.specs.Fronts.{freedoms, Misses, to_octet};
@@ -9,6 +8,7 @@ ghost use Rattle.per_codec_fronts.specs.Takes.{Front};
 use crate::{Cursor, Variant};
 use asn1_schema_faults::DecodeError;
 use asn1_values_bits::free_bits;
+ghost use Rattle.asn1_model.specs.Form.{exactly};
 
 /// Skips the padding up to the next octet of the message or open type, whatever its bits are (X.691 11.1).
 ///
@@ -32,7 +32,7 @@ pub fn skip_padding(cursor: &mut Cursor<'_>, variant: Variant) -> Result<(), Dec
 #[inline(always)]
 pub fn read_padding(cursor: &mut Cursor<'_>, variant: Variant) -> Result<(), DecodeError>
     ensures ok { OnOk result (Front (freedoms variant)
-        (Per.at_octet (fronts.is_aligned variant) nothing_more) cursor.old cursor.new) }
+        (Per.at_octet (fronts.is_aligned variant) (exactly [])) cursor.old cursor.new) }
     ensures only { IfErr result (Misses (freedoms variant) (Per.at_octet (fronts.is_aligned variant)) cursor.old) }
 {
     if variant.is_aligned() {

@@ -1,6 +1,5 @@
 //! Units of a size (X.691 16, 17 and 30): an extension bit, a length determinant, and the units.
 ghost use Rattle.std.specs.Prelude.{◌≡◌, ◌&&◌, IfOk, OnOk, IfErr};
-ghost use Rattle.asn1_model.specs.Form.{nothing_more};
 ghost use Rattle.asn1_model.specs.Per as Per;
 ghost use Rattle.asn1_schema_constraints.specs.Bounds.{counts_of};
 ghost use Rattle.asn1_schema_constraints.specs.Terms.{size_of};
@@ -20,6 +19,7 @@ use asn1_schema_constraints::{Bounded, Sizes};
 use asn1_schema_faults::DecodeError;
 use per_codec_limits::{characters_have_padding, string_has_padding};
 use std::alloc::Global;
+ghost use Rattle.asn1_model.specs.Form.{exactly};
 
 /// What units make up, which tells where padding stands in front of them.
 #[derive(Clone, Copy, Debug, PartialEq, Eq)]
@@ -53,7 +53,7 @@ fn read_padding_if(
     has_padding: bool,
 ) -> Result<(), DecodeError>
     ensures ok { OnOk result (Front (freedoms variant)
-        (Per.at_octet (fronts.is_aligned variant && has_padding) nothing_more) cursor.old cursor.new) }
+        (Per.at_octet (fronts.is_aligned variant && has_padding) (exactly [])) cursor.old cursor.new) }
     ensures only { IfErr result (Misses (freedoms variant)
         (Per.at_octet (fronts.is_aligned variant && has_padding)) cursor.old) }
 {

@@ -5,8 +5,8 @@ use Rattle.std.proofs.lemmas.Bool.{false≢true, le-leb, and_parts, and_from}
 use Rattle.std.proofs.Math.Bool.{or-true}
 use Rattle.asn1_model.specs.Schema.{Range, integer}
 use Rattle.asn1_model.specs.Value.{Value, number}
-use Rattle.asn1_model.specs.Numbers.{signed_octets, is_at_most, is_from, is_to, is_within, fits_128}
-use Rattle.asn1_model.specs.Tables.{is_bounded}
+use Rattle.asn1_model.specs.Numbers.{signed_octets, is_at_most, is_within, fits_128}
+use Rattle.asn1_model.specs.Normal.{is_bounded}
 use Rattle.asn1_model.specs.Per
 use Rattle.asn1_laws_values.proofs.Numbers.{at_most_pos, at_most_negsuc}
 use Rattle.asn1_values_natives.specs.Octets.{signed_number}
@@ -27,13 +27,14 @@ use Rattle.per_codec_reading.specs.Fronts.{NoneStands, IsFresh, Misses}
 use Rattle.per_codec_reading.proofs.Fronts.{none_misses}
 use Rattle.per_codec_reading_values.specs.Whole.{number_octets, in_128_bits, under_constraint}
 use Rattle.per_codec_reading_values.proofs.OctetFronts.{number_read, none_signed, signed_same}
+use Rattle.std.specs.Option.{option_map_or}
 
 -- ---- the numbers that are held under a constraint
-from_is : (low : Option ℤ) (v : ℤ) → is_from low v ≡ is_above is_at_most low v
+from_is : (low : Option ℤ) (v : ℤ) → option_map_or (λ x. is_at_most x v) low true ≡ is_above is_at_most low v
 from_is None v = refl
 from_is (Some a) v = refl
 
-to_is : (high : Option ℤ) (v : ℤ) → is_to high v ≡ is_below is_at_most high v
+to_is : (high : Option ℤ) (v : ℤ) → option_map_or (λ x. is_at_most v x) high true ≡ is_below is_at_most high v
 to_is None v = refl
 to_is (Some a) v = refl
 
@@ -50,7 +51,7 @@ held_within : (c : Extensible Constraint.Value) (h : Range) (v : ℤ) → is_wit
 held_within c h v =
     both_by (from_is (later is_at_most h.low wide_range.low) v ∙ (later_admits is_at_most number_order h.low wide_range.low v ∙ sym (both_by (from_is h.low v) (from_is wide_range.low v))))
     (to_is (earlier is_at_most h.high wide_range.high) v ∙ (earlier_admits is_at_most number_order h.high wide_range.high v ∙ sym (both_by (to_is h.high v) (to_is wide_range.high v))))
-    ∙ regroup (is_from h.low v) (is_from wide_range.low v) (is_to h.high v) (is_to wide_range.high v)
+    ∙ regroup (option_map_or (λ x. is_at_most x v) h.low true) (option_map_or (λ x. is_at_most x v) wide_range.low true) (option_map_or (λ x. is_at_most v x) h.high true) (option_map_or (λ x. is_at_most v x) wide_range.high true)
 
 wide_fits : (v : ℤ) → is_within wide_range v ≡ true → fits_128 v ≡ true
 wide_fits (pos n) h =

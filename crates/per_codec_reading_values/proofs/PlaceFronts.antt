@@ -4,7 +4,7 @@ use Rattle.std.specs.Prelude.{option_map, is_some, MatchOption}
 use Rattle.std.proofs.lemmas.Bool.{ltb-true, lt-ltb, false≢true}
 use Rattle.asn1_model.specs.Schema.{enumerated}
 use Rattle.asn1_model.specs.Value.{item, same_number}
-use Rattle.asn1_model.specs.Tables.{item_place}
+use Rattle.asn1_model.specs.Normal.{item_place}
 use Rattle.asn1_model.specs.Form.{exactly, both}
 use Rattle.asn1_model.specs.Per
 use Rattle.asn1_schema_variants.specs.Items.{IsPlaced}
@@ -113,7 +113,7 @@ module _ (free : Per.Freedom → Bool) where
 
     -- ---- ENUMERATED
     pub item_stands : (roots adds : List ℤ) (e : Bool) (others : ℕ) (v : ℤ) (c : Chosen) (a b : Place) → IsPlaced roots e adds v c.added c.place → Front free (place_form al (length roots) e others c) a b → Front free (Per.form al (enumerated roots e adds) (item v)) a b
-    unfolding Per.form Per.item_form Per.added_item
+    unfolding Per.form Per.item_form
     item_stands roots adds e others v c a b p f = go c.added c.place p f
       where
         in_root : (i : ℕ) (o : Option ℕ) → item_place v roots ≡ o → o ≡ Some i → Front free (both (Per.extension_bit_of e false) (Per.constrained al (length roots - 1) i)) a b → Front free (Per.item_form al (length roots) e o (item_place v adds)) a b
@@ -131,7 +131,7 @@ module _ (free : Per.Freedom → Bool) where
         go true i q g = behind_root i (item_place v roots) (item_place v adds) e q.0 q.2 q.1 (added_told (length roots) e others i a b g).2
 
     pub no_item : (roots adds : List ℤ) (e : Bool) (others : ℕ) (a : Place) → others ≡ cond e (length adds) 0 → NoneStands free (place_form al (length roots) e others) a → NoneStands free (Per.form al (enumerated roots e adds)) a
-    unfolding Per.form Per.item_form Per.added_item
+    unfolding Per.form Per.item_form
     no_item roots adds e others a h n (item v) b f = cases e (item_place v roots) (item_place v adds) refl refl refl f
       where
         cases : (t : Bool) (o u : Option ℕ) → e ≡ t → item_place v roots ≡ o → item_place v adds ≡ u → Front free (Per.item_form al (length roots) t o u) a b → ⊥

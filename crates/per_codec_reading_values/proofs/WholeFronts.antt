@@ -5,7 +5,7 @@ use Rattle.std.specs.Int.{w128}
 use Rattle.std.proofs.Common.{◌≡◌, ℕ, ◌-◌, ◌^◌, ◌<◌, leb, not, ℤ, pos, negsuc, Bool, true, false, cond, ◌&&◌, IsTrue, inl, inr, Option, Some, None, Result, Ok, Err, IfOk, OnOk, IfErr, OnErr, [], ◌∷◌, refl, sym, ap, ◌∙◌, subst, arith}
 use Rattle.std.proofs.lemmas.Int.{ints}
 use Rattle.std.proofs.lemmas.Bool.{false≢true, leb-true, lt-ltb, and_parts, and_from}
-use Rattle.asn1_model.specs.Numbers.{natural, above, is_at_most, is_from, is_to, is_within}
+use Rattle.asn1_model.specs.Numbers.{above, is_at_most, is_within}
 use Rattle.asn1_model.specs.Form.{exactly, both, only_if, given}
 use Rattle.asn1_model.specs.Per
 use Rattle.asn1_values_natives.proofs.RangeLaws.{at_most, not_at_most}
@@ -24,6 +24,7 @@ use Rattle.per_codec_reading.specs.Fronts.{NoneStands, IsFresh, Misses}
 use Rattle.per_codec_reading.specs.Lengths.{one_bit}
 use Rattle.per_codec_reading.proofs.Fronts.{none_misses}
 use Rattle.per_codec_reading_values.specs.Whole.{offset_form, is_offset, in_128_bits, behind_extension_bit, under_constraint}
+use Rattle.std.specs.Option.{option_map_or}
 
 -- ---- 128 bits
 pub fits_wide : (v : ℤ) → FitsSigned w128 v → is_within wide_range v ≡ true
@@ -33,7 +34,7 @@ fits_wide (negsuc n) h = let l = h.sfits in and_from _ _ (at_most (negsuc (2 ^ 1
 at_most_told : (a b : ℤ) → is_at_most a b ≡ true → a ≤ℤ b
 at_most_told a b h = told (b -ℤ a) refl h
   where
-    told : (d : ℤ) → b -ℤ a ≡ d → (elim d as (λ _. Bool) [ pos n ↦ true | negsuc n ↦ false ]) ≡ true → a ≤ℤ b
+    told : (d : ℤ) → b -ℤ a ≡ d → elim d as (λ _. Bool) [ pos n ↦ true | negsuc n ↦ false ] ≡ true → a ≤ℤ b
     told (pos n) e h = omega (arith, ints, e)
     told (negsuc n) e h = cc
 
@@ -42,12 +43,12 @@ wide_told (pos n) h = let l : pos n ≤ℤ pos (2 ^ 127 - 1) = at_most_told (pos
 wide_told (negsuc n) h = let l : negsuc (2 ^ 127 - 1) ≤ℤ negsuc n = at_most_told (negsuc (2 ^ 127 - 1)) (negsuc n) (and_parts (is_at_most (negsuc (2 ^ 127 - 1)) (negsuc n)) (is_at_most (negsuc n) (pos (2 ^ 127 - 1))) h).0 in record { sfits = omega (arith, ints, l) }
 
 -- ---- how far a number is above a bound
-natural_some : (z : ℤ) (d : ℕ) → natural z ≡ Some d → z ≡ pos d
+natural_some : (z : ℤ) (d : ℕ) → elim z [ pos n ↦ Some n | negsuc n ↦ None ] ≡ Some d → z ≡ pos d
 natural_some (pos n) d e = cc
 natural_some (negsuc n) d e = cc
 
 above_is : (low v : ℤ) (d : ℕ) → v ≡ low +ℤ pos d → above low v ≡ Some d
-above_is low v d e = let f : v -ℤ low ≡ pos d = omega (arith, ints, e) in ap natural f
+above_is low v d e = let f : v -ℤ low ≡ pos d = omega (arith, ints, e) in ap (λ z. elim z [ pos n ↦ Some n | negsuc n ↦ None ]) f
 
 above_told : (low v : ℤ) (d : ℕ) → above low v ≡ Some d → v ≡ low +ℤ pos d
 above_told low v d e = let f = natural_some (v -ℤ low) d e in omega (arith, ints, f)
@@ -187,7 +188,7 @@ module _ (free : Per.Freedom → Bool) where
   unbounded_missed al a n v b f = n v b f
 
   -- ---- by bounds, a number is within them
-  whole_within : (al : Bool) (low high : Option ℤ) (v : ℤ) (a b : Place) → Front free (Per.whole_number al low high v) a b → (is_from low v && is_to high v) ≡ true
+  whole_within : (al : Bool) (low high : Option ℤ) (v : ℤ) (a b : Place) → Front free (Per.whole_number al low high v) a b → ((option_map_or (λ x. is_at_most x v) low true) && (option_map_or (λ x. is_at_most v x) high true)) ≡ true
   unfolding Per.whole_number Per.constrained Per.constrained_in
   whole_within al (Some low) (Some high) v a b f =
       let t = between_told al low high v a b f in

@@ -6,8 +6,8 @@ use Rattle.std.proofs.lemmas.Bool.{le-leb, and_parts, and_right, or_right}
 use Rattle.asn1_model.specs.Form.{exactly, both}
 use Rattle.asn1_model.specs.Schema.{Range, integer}
 use Rattle.asn1_model.specs.Value.{number}
-use Rattle.asn1_model.specs.Numbers.{signed_octets, is_at_most, is_from, is_to, is_within, fits_128}
-use Rattle.asn1_model.specs.Tables.{is_bounded}
+use Rattle.asn1_model.specs.Numbers.{signed_octets, is_at_most, is_within, fits_128}
+use Rattle.asn1_model.specs.Normal.{is_bounded}
 use Rattle.asn1_model.specs.Per
 use Rattle.asn1_schema_constraints.proofs.Common.{number_order}
 use Rattle.asn1_schema_constraints.proofs.Meets.{is_above, is_below, later_admits, earlier_admits}
@@ -23,6 +23,7 @@ use Rattle.per_codec_packing.specs.Texts.{as_text, text_at}
 use Rattle.per_codec_writing.specs.Writing.{Packed, Adds, place, plus}
 use Rattle.per_codec_writing.proofs.PaddingTexts.{adds_text, adds_same, adds_both, if_true, if_false}
 use Rattle.per_codec_writing.proofs.NumberTexts.{Did, did_same, did_behind, is_at_most_le}
+use Rattle.std.specs.Option.{option_map_or}
 
 -- ---- in the root, or outside it
 
@@ -61,11 +62,11 @@ module _ (root outside : Per.BitForm) where
 
 -- ---- numbers that the program's type and 128 bits hold
 
-from_is : (low : Option ℤ) (v : ℤ) → is_from low v ≡ is_above is_at_most low v
+from_is : (low : Option ℤ) (v : ℤ) → option_map_or (λ x. is_at_most x v) low true ≡ is_above is_at_most low v
 from_is None v = refl
 from_is (Some a) v = refl
 
-to_is : (high : Option ℤ) (v : ℤ) → is_to high v ≡ is_below is_at_most high v
+to_is : (high : Option ℤ) (v : ℤ) → option_map_or (λ x. is_at_most v x) high true ≡ is_below is_at_most high v
 to_is None v = refl
 to_is (Some a) v = refl
 
@@ -85,7 +86,7 @@ held_within : (c : Extensible Value) (h : Range) (v : ℤ) → is_within (held_o
 held_within c h v =
     both_by (from_is (later is_at_most h.low wide.low) v ∙ (later_admits is_at_most number_order h.low wide.low v ∙ sym (both_by (from_is h.low v) (from_is wide.low v))))
     (to_is (earlier is_at_most h.high wide.high) v ∙ (earlier_admits is_at_most number_order h.high wide.high v ∙ sym (both_by (to_is h.high v) (to_is wide.high v))))
-    ∙ regroup (is_from h.low v) (is_from wide.low v) (is_to h.high v) (is_to wide.high v)
+    ∙ regroup (option_map_or (λ x. is_at_most x v) h.low true) (option_map_or (λ x. is_at_most x v) wide.low true) (option_map_or (λ x. is_at_most v x) h.high true) (option_map_or (λ x. is_at_most v x) wide.high true)
 
 within_wide : (v : ℤ) → is_within wide v ≡ true → plain v < 2 ^ 127
 within_wide (pos m) w = let h : pos m ≤ℤ pos (2 ^ 127 - 1) = is_at_most_le (pos m) (pos (2 ^ 127 - 1)) (and_parts (is_at_most (negsuc (2 ^ 127 - 1)) (pos m)) (is_at_most (pos m) (pos (2 ^ 127 - 1))) w).1 in omega (arith, ints)

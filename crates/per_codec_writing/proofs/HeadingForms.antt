@@ -3,7 +3,7 @@ use Rattle.std.proofs.Common.{◌≡◌, ℕ, zero, suc, ◌+◌, ◌-◌, ◌*�
 use Rattle.std.proofs.lemmas.Bool.{le-leb, leb-true, and_parts}
 use Rattle.std.proofs.lemmas.List.{length-drop, drop-drop, take_all}
 use Rattle.asn1_model.specs.Schema.{Counts, Size}
-use Rattle.asn1_model.specs.Numbers.{binary, is_count_to, is_count_within, missing}
+use Rattle.asn1_model.specs.Numbers.{binary, is_count_within, missing}
 use Rattle.asn1_model.specs.Form.{exactly, both, only_if, joined, placed}
 use Rattle.asn1_model.specs.Per
 use Rattle.asn1_schema_constraints.specs.Bounds.{counts_of, lower, members_of, upper}
@@ -16,6 +16,7 @@ use Rattle.per_codec_writing.specs.Headings.{LengthDeterminants, Heading, before
 use Rattle.per_codec_writing.specs.Units.{of_size}
 use Rattle.per_codec_writing.specs.declared.lengths.Due.{Due}
 use Rattle.per_codec_writing.proofs.PaddingTexts.{if_true, if_false}
+use Rattle.std.specs.Option.{option_map_or}
 
 -- how many units stand behind the next length determinant
 abbrev pub left : LengthDeterminants → ℕ
@@ -220,7 +221,7 @@ not_held al z h has_padding us q e = if_false (is_count_within h (length us)) (o
 pub members_counted : (b : Bounded ℕ) (n : ℕ) → n < 2 ^ 64 → is_count_within (members_of b) n ≡ is_count_within (counts_of b) n
 members_counted b n h = ap (λ t. leb (unwrap_or (lower b) 0) n && t) (go (upper b))
   where
-    go : (u : Option ℕ) → is_count_to (Some (unwrap_or u (2 ^ 64 - 1))) n ≡ is_count_to u n
+    go : (u : Option ℕ) → option_map_or (λ x. leb n x) (Some (unwrap_or u (2 ^ 64 - 1))) true ≡ option_map_or (λ x. leb n x) u true
     go None = le-leb n (2 ^ 64 - 1) (omega (arith, h))
     go (Some m) = refl
 

@@ -6,7 +6,7 @@ use Rattle.std.proofs.lemmas.Bool.{le-leb, lt-leb, lt-ltb, and_parts}
 use Rattle.asn1_model.specs.Form.{exactly, both, given}
 use Rattle.asn1_model.specs.Schema.{boolean}
 use Rattle.asn1_model.specs.Value.{truth}
-use Rattle.asn1_model.specs.Numbers.{binary, digits, least_octets, signed_octets, complement, above, natural, is_at_most, is_from, is_to, is_within}
+use Rattle.asn1_model.specs.Numbers.{binary, digits, least_octets, signed_octets, complement, above, is_at_most, is_within}
 use Rattle.asn1_model.specs.Per
 use Rattle.asn1_schema_faults.specs.declared.EncodeError.{EncodeError}
 use Rattle.asn1_schema_faults.specs.declared.EncodeError.TheVariants as Fault
@@ -14,6 +14,7 @@ use Rattle.asn1_values_bits.proofs.Binary.{binary_join}
 use Rattle.per_codec_packing.specs.Texts.{Text, as_text, text_at}
 use Rattle.per_codec_writing.specs.Writing.{Packed, Adds, Refuses, place, plus}
 use Rattle.per_codec_writing.proofs.PaddingTexts.{adds_text, adds_same, adds_both, none_second, if_true, cond_true, cond_false}
+use Rattle.std.specs.Option.{option_map_or}
 
 -- ---- what was done
 
@@ -78,7 +79,7 @@ adds_not_small al n old mid new h e a =
 above_at : (a b : ℤ) → a ≤ℤ b → above a b ≡ Some (unsigned_abs (b -ℤ a))
 above_at a b h = go (b -ℤ a) refl
   where
-    go : (z : ℤ) → b -ℤ a ≡ z → natural z ≡ Some (unsigned_abs z)
+    go : (z : ℤ) → b -ℤ a ≡ z → elim z [ pos n ↦ Some n | negsuc n ↦ None ] ≡ Some (unsigned_abs z)
     go (pos n) e = refl
     go (negsuc n) e = absurd (omega (arith, ints))
 
@@ -115,13 +116,13 @@ up_to_text al (Some high) v p w = if_true (is_at_most v high) (Per.unconstrained
 
 pub between_at : (al : Bool) (lo hi : Option ℤ) (low high v : ℤ) (span d : ℕ) (p : Option ℕ) → Some low ≡ lo → Some high ≡ hi → is_within (record { low = lo; high = hi }) v ≡ true → span ≡ unsigned_abs (high -ℤ low) → d ≡ unsigned_abs (v -ℤ low) → text_at (Per.whole_number al lo hi v) p ≡ text_at (Per.constrained al span d) p
 between_at al lo hi low high v span d p e f w s o =
-    let within : is_within (record { low = Some low; high = Some high }) v ≡ true = ap (λ x. is_from x v && is_to (Some high) v) e ∙ ap (λ x. is_from lo v && is_to x v) f ∙ w in
+    let within : is_within (record { low = Some low; high = Some high }) v ≡ true = ap (λ x. (option_map_or (λ x. is_at_most x v) x true) && (option_map_or (λ x. is_at_most v x) (Some high) true)) e ∙ ap (λ x. (option_map_or (λ x. is_at_most x v) lo true) && (option_map_or (λ x. is_at_most v x) x true)) f ∙ w in
     ap (λ x. text_at (Per.whole_number al x hi v) p) (sym e) ∙ ap (λ x. text_at (Per.whole_number al (Some low) x v) p) (sym f) ∙ between_text al low high v span d p within s o
 
 pub from_at : (al : Bool) (lo hi : Option ℤ) (low v : ℤ) (d : ℕ) (p : Option ℕ) → Some low ≡ lo → None ≡ hi → is_within (record { low = lo; high = hi }) v ≡ true → d ≡ unsigned_abs (v -ℤ low) → text_at (Per.whole_number al lo hi v) p ≡ text_at (Per.semi_constrained al d) p
 from_at al lo hi low v d p e f w o =
-    let within : is_within (record { low = Some low; high = None }) v ≡ true = ap (λ x. is_from x v && is_to None v) e ∙ ap (λ x. is_from lo v && is_to x v) f ∙ w in
+    let within : is_within (record { low = Some low; high = None }) v ≡ true = ap (λ x. (option_map_or (λ x. is_at_most x v) x true) && (option_map_or (λ x. is_at_most v x) None true)) e ∙ ap (λ x. (option_map_or (λ x. is_at_most x v) lo true) && (option_map_or (λ x. is_at_most v x) x true)) f ∙ w in
     ap (λ x. text_at (Per.whole_number al x hi v) p) (sym e) ∙ ap (λ x. text_at (Per.whole_number al (Some low) x v) p) (sym f) ∙ from_text al low v d p within o
 
 pub up_to_at : (al : Bool) (lo hi : Option ℤ) (v : ℤ) (p : Option ℕ) → None ≡ lo → is_within (record { low = lo; high = hi }) v ≡ true → text_at (Per.whole_number al lo hi v) p ≡ text_at (Per.unconstrained al v) p
-up_to_at al lo hi v p e w = ap (λ x. text_at (Per.whole_number al x hi v) p) (sym e) ∙ up_to_text al hi v p (ap (λ x. is_from x v && is_to hi v) e ∙ w)
+up_to_at al lo hi v p e w = ap (λ x. text_at (Per.whole_number al x hi v) p) (sym e) ∙ up_to_text al hi v p (ap (λ x. (option_map_or (λ x. is_at_most x v) x true) && (option_map_or (λ x. is_at_most v x) hi true)) e ∙ w)

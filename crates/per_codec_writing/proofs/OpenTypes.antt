@@ -3,7 +3,7 @@ use Rattle.std.proofs.Common.{◌≡◌, ℕ, ◌+◌, ◌*◌, ◌/◌, ◌==�
 use Rattle.std.proofs.lemmas.Bool.{eq-eqb}
 use Rattle.std.proofs.lemmas.List.{append-nil, length-replicate}
 use Rattle.asn1_model.specs.Form.{exactly, only_if, written}
-use Rattle.asn1_model.specs.Numbers.{missing, packed}
+use Rattle.asn1_model.specs.Numbers.{missing, packed, by_eights}
 use Rattle.asn1_model.specs.Per
 use Rattle.asn1_model.specs.Strings.{is_octet}
 use Rattle.std.specs.List.{list_all}
@@ -12,12 +12,13 @@ use Rattle.asn1_values_bits.specs.Octets.{padded}
 use Rattle.per_codec_packing.specs.Texts.{text_at}
 use Rattle.per_codec_writing.specs.Writing.{Packed, Adds, place}
 use Rattle.per_codec_writing.proofs.PaddingTexts.{adds_same, if_true}
+use Rattle.std.specs.Prelude.{map}
 
 open_text : (al : Bool) (w z : List Bool) (k : ℕ) (p : Option ℕ) → written (Per.padded w) 0 ≡ Some z → length z ≡ 8 * k → text_at (Per.open_type al (exactly w)) p ≡ text_at (Per.counted_octets al (packed z)) p
 unfolding Per.open_type Per.complete Per.counted_octets written text_at
 open_text al w z k p e n =
-    ap (option_and_then (λ (y : List Bool). text_at (Per.counted_eights al (y ++ [])) p)) e
-    ∙ ap (λ y. text_at (Per.counted_eights al y) p) (append-nil z)
+    ap (option_and_then (λ (y : List Bool). text_at (Per.counted al (map (λ o. exactly o) (by_eights (y ++ [])))) p)) e
+    ∙ ap (λ y. text_at (Per.counted al (map (λ o. exactly o) (by_eights y))) p) (append-nil z)
     ∙ ap (λ us. text_at (Per.counted al us) p) (eights_units k z n)
     ∙ sym (if_true (list_all is_octet (packed z)) (Per.counted al (Per.octet_units (packed z))) p (packed_octets k z n))
 

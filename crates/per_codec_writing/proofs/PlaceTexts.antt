@@ -4,7 +4,7 @@ use Rattle.std.specs.Prelude.{Result, MatchOption, is_some}
 use Rattle.std.proofs.lemmas.List.{append-nil}
 use Rattle.asn1_model.specs.Form.{exactly}
 use Rattle.asn1_model.specs.Schema.{enumerated}
-use Rattle.asn1_model.specs.Tables.{item_place}
+use Rattle.asn1_model.specs.Normal.{item_place}
 use Rattle.asn1_model.specs.Value.{item}
 use Rattle.asn1_model.specs.Per
 use Rattle.asn1_schema_faults.specs.declared.EncodeError.{EncodeError}
@@ -56,12 +56,12 @@ none_added al true added n i p h k = cc
 -- ---- items
 
 item_text : (al e added : Bool) (roots others : List ℤ) (v : ℤ) (i : ℕ) (p : Option ℕ) → IsPlaced roots e others v added i → text_at (Per.form al (enumerated roots e others) (item v)) p ≡ text_at (place_form al (length roots) e added i) p
-unfolding Per.form Per.item_form Per.added_item
+unfolding Per.form Per.item_form
 item_text al e false roots others v i p h = ap (λ o. text_at (Per.item_form al (length roots) e o (item_place v others)) p) h
 item_text al e true roots others v i p h =
     ap (λ o. text_at (Per.item_form al (length roots) e o (item_place v others)) p) h.0
-    ∙ ap (λ o. text_at (Per.added_item al e o) p) h.2
-    ∙ ap (λ b. text_at (Per.added_item al b (Some i)) p) h.1
+    ∙ ap (λ o. text_at (Per.item_form al (length roots) e None o) p) h.2
+    ∙ ap (λ b. text_at (Per.item_form al (length roots) b None (Some i)) p) h.1
     ∙ ap (λ b. text_at (place_form al (length roots) b true i) p) (sym h.1)
 
 pub did_item : {T : Type 0} (r : Result T EncodeError) (al e ext added : Bool) (n : ℕ) (roots others : List ℤ) (v : ℤ) (i : ℕ) (old new : Packed) → n ≡ length roots → ext ≡ e → IsPlaced roots e others v added i → Did r (text_at (place_form al n ext added i) (place old)) old new → Did r (text_at (Per.form al (enumerated roots e others) (item v)) (place old)) old new

@@ -1,6 +1,6 @@
 //! The end of a bag (X.691 22).
 ghost use Rattle.std.specs.Prelude.{MatchResult};
-ghost use Rattle.asn1_model.specs.Per.{in_any_order, sized, never};
+ghost use Rattle.asn1_model.specs.Per.{in_any_order, sized};
 ghost use Rattle.asn1_schema_constraints.specs.Bounds.{members_of};
 ghost use Rattle.asn1_schema_constraints.specs.Terms.{size_of};
 ghost use Rattle.per_codec_packing.specs.Texts.{text_at};
@@ -33,10 +33,10 @@ pub fn push_bag(
 ) -> Result<(), EncodeError>
     ensures { MatchResult result (λ _. Adds
         (text_at (in_any_order (forms members.now)
-        (λ us. sized (is_aligned variant) (size_of sizes) (members_of held) never us)) (place output.old))
+        (λ us. sized (is_aligned variant) (size_of sizes) (members_of held) (λ c. false) us)) (place output.old))
         output.old output.new)
         (Refuses (text_at (in_any_order (forms members.now)
-        (λ us. sized (is_aligned variant) (size_of sizes) (members_of held) never us)) (place output.old))) }
+        (λ us. sized (is_aligned variant) (size_of sizes) (members_of held) (λ c. false) us)) (place output.old))) }
 {
     let ordered = in_order(alloc, members)?;
     let units = ordered.as_slice();

@@ -5,28 +5,29 @@ use Rattle.asn1_model.specs.Schema.{Tag, Bounds, Schema}
 use Rattle.asn1_model.specs.Normal.{normal}
 use Rattle.asn1_model.specs.Types.{context, default_old}
 use Rattle.asn1_model.specs.VersionRows.{group_of}
-use Rattle.asn1_model.specs.Versions.{carried, lessen, carried_parts, carried_alternative, grow, Extends, ExtendsEach}
-use Rattle.asn1_model.specs.Versions.{ExtendsAlternatives, KeepsTags}
+use Rattle.asn1_model.specs.Versions.{carried, carried_parts, carried_alternative, Extends, ExtendsEach}
+use Rattle.asn1_model.specs.Versions.{ExtendsAlternatives}
 use Rattle.asn1_model.proofs.OnValues.{on_values}
 use Rattle.asn1_model.proofs.version_rows.Goals as goal
+use Rattle.std.specs.Prelude.{All}
 
 as_carried : (u w v : Value) → Some u ≡ Some w → same w v ≡ true → same u v ≡ true
 as_carried u w v e f = let q : u ≡ w = cc in subst (λ w. same w v ≡ true) (sym q) f
 
-gained : KeepsTags (context 0 ∷ context 9 ∷ []) (context 0 ∷ context 1 ∷ context 9 ∷ [])
+gained : All (Contains (context 0 ∷ context 1 ∷ context 9 ∷ [])) (context 0 ∷ context 9 ∷ [])
 gained =
     let ts : List Tag = context 0 ∷ context 1 ∷ context 9 ∷ [] in
     All-cons (Contains ts) (context 0) (context 9 ∷ []) (0, omega arith, refl) (All-cons (Contains ts) (context 9) [] (2, omega arith, refl) (All-nil (Contains ts)))
 
-first_gained : KeepsTags (context 0 ∷ []) (context 0 ∷ context 1 ∷ [])
+first_gained : All (Contains (context 0 ∷ context 1 ∷ [])) (context 0 ∷ [])
 first_gained =
     let ts : List Tag = context 0 ∷ context 1 ∷ [] in
     All-cons (Contains ts) (context 0) [] (0, omega arith, refl) (All-nil (Contains ts))
 
-lone : (t u : Tag) → KeepsTags (t ∷ []) (u ∷ []) → t.number ≡ u.number
+lone : (t u : Tag) → All (Contains (u ∷ [])) (t ∷ []) → t.number ≡ u.number
 lone t u h = ap (λ (t : Tag). t.number) (All-contains (λ t. t ≡ u) (u ∷ []) t (All-cons (λ t. t ≡ u) u [] refl (All-nil (λ t. t ≡ u))) (All-head (Contains (u ∷ [])) t [] h))
 
-own : (n : ℕ) → KeepsTags (context n ∷ []) (context n ∷ [])
+own : (n : ℕ) → All (Contains (context n ∷ [])) (context n ∷ [])
 own n = All-contains_itself (context n ∷ [])
 
 stays_apart : (s : Schema) (w : Value) → same (normal s w) w ≡ false → same w w ≡ true → normal s w ≡ w → ⊥

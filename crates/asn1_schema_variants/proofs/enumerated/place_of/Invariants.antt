@@ -1,5 +1,5 @@
 use Rattle.std.proofs.Common.{◌≡◌, ◌+◌, map, drop, option_map}
-use Rattle.asn1_model.specs.Tables.{item_place}
+use Rattle.asn1_model.specs.Normal.{item_place}
 use Rattle.asn1_schema_variants.proofs.enumerated.place_of.Given as goal
 
 abbrev pub invariant-loop-place : goal.invariant-loop-place

@@ -1,5 +1,5 @@
 use Rattle.std.proofs.Common.{◌≡◌, None, map, take}
-use Rattle.asn1_model.specs.Tables.{item_place}
+use Rattle.asn1_model.specs.Normal.{item_place}
 use Rattle.asn1_values_natives.specs.Octets.{signed_number}
 use Rattle.oer_codec_reading.proofs.enumerated.find_item.Given as goal
 

@@ -1,12 +1,12 @@
 use Rattle.std.proofs.Common.{◌&&◌, sym, subst}
 use Rattle.std.proofs.lemmas.Result.{err_from_is_err_and}
-use Rattle.asn1_model.specs.Form.{nothing_more}
 use Rattle.asn1_model.specs.Per
 use Rattle.per_codec_fronts.specs.Takes.{Front}
 use Rattle.per_codec_reading.specs.Fronts.{freedoms, is_aligned}
 use Rattle.per_codec_reading.proofs.Fronts.{misses_also, unaligned_padding}
 use Rattle.per_codec_reading.proofs.ToldFronts.{padded_true, padded_false}
 use Rattle.per_codec_reading.proofs.sized.read_padding_if.Goals as goal
+use Rattle.asn1_model.specs.Form.{exactly}
 
 pub returns-in_err-read_padding-clause-only : goal.returns-in_err-read_padding-clause-only
 returns-in_err-read_padding-clause-only c =
@@ -21,4 +21,4 @@ pub returns-else-has_padding-clause-ok : goal.returns-else-has_padding-clause-ok
 returns-else-has_padding-clause-ok c =
     let f = freedoms c.args.variant in
     let a = c.args.cursor.now in
-    subst (λ t. Front f (Per.at_octet t nothing_more) a a) (sym (padded_false (is_aligned c.args.variant) c.args.has_padding c.if-has_padding.false)) (unaligned_padding f a)
+    subst (λ t. Front f (Per.at_octet t (exactly [])) a a) (sym (padded_false (is_aligned c.args.variant) c.args.has_padding c.if-has_padding.false)) (unaligned_padding f a)

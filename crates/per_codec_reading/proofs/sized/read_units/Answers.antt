@@ -1,6 +1,5 @@
 use Rattle.std.proofs.Common.{ℕ, Option, ◌&&◌, sym, subst}
 use Rattle.std.proofs.lemmas.Result.{err_from_is_err_and}
-use Rattle.asn1_model.specs.Form.{nothing_more}
 use Rattle.asn1_model.specs.Per
 use Rattle.asn1_schema_constraints.specs.Bounds.{counts_of}
 use Rattle.asn1_values_bits.specs.BitStr.{bits_of}
@@ -10,6 +9,7 @@ use Rattle.per_codec_reading.specs.Runs.{units_in}
 use Rattle.per_codec_reading.specs.Sizes.{contents_have_padding, determinant_form, units_told}
 use Rattle.per_codec_reading.proofs.HeadingFronts.{no_padding, no_bits, constrained_units, general_units, no_general_units}
 use Rattle.per_codec_reading.proofs.sized.read_units.Goals as goal
+use Rattle.asn1_model.specs.Form.{exactly}
 
 pub returns-in_err-read_padding_if-in-Constrained-clause-only : goal.returns-in_err-read_padding_if-in-Constrained-clause-only
 returns-in_err-read_padding_if-in-Constrained-clause-only c =
@@ -33,7 +33,7 @@ returns-in_err-bits-in-Constrained-clause-only c =
     let m = c.args.cursor.now in
     let o = c.read_padding_if.new.cursor in
     let q = c.in_err-bits-in-Constrained.ensures.short in
-    let k = subst (λ t. Front f (Per.at_octet (al && t) nothing_more) m o) c.has_padding.ensures c.in_ok-read_padding_if-in-Constrained.ensures.ok in
+    let k = subst (λ t. Front f (Per.at_octet (al && t) (exactly [])) m o) c.has_padding.ensures c.in_ok-read_padding_if-in-Constrained.ensures.ok in
     rw (p.1, p.2, q.0) (λ told a front. no_bits f al w has_padding root c.in-Constrained.count m o k q.1 told a (subst (λ d. Front f (determinant_form al root told d) a m) c.in-Constrained.is front))
 
 pub returns-in_err-run-in-General-clause-only : goal.returns-in_err-run-in-General-clause-only
@@ -60,7 +60,7 @@ returns-in_ok-bits-in-Constrained-clause-ok c =
     let o = c.read_padding_if.new.cursor in
     let b = c.take.new.self in
     let q = c.in_ok-bits-in-Constrained.ensures in
-    let k = subst (λ t. Front f (Per.at_octet (al && t) nothing_more) m o) c.has_padding.ensures c.in_ok-read_padding_if-in-Constrained.ensures.ok in
+    let k = subst (λ t. Front f (Per.at_octet (al && t) (exactly [])) m o) c.has_padding.ensures c.in_ok-read_padding_if-in-Constrained.ensures.ok in
     subst (λ d. (told : Option ℕ) → Completes f (determinant_form al root told d) (units_told al w has_padding root told (n, bs)) m b) (sym c.in-Constrained.is) (constrained_units f al w has_padding root n bs m o b k q.bits q.count)
 
 pub returns-in_ok-run-in-General-clause-ok : goal.returns-in_ok-run-in-General-clause-ok

@@ -1,11 +1,11 @@
 use Rattle.std.proofs.Common.{◌≡◌, ℕ, Bool, true, false, List, Option, refl, ap, ◌∙◌}
 use Rattle.std.specs.Prelude.{is_some, not}
 use Rattle.asn1_model.specs.Schema.{StringKind}
-use Rattle.asn1_model.specs.Strings.{characters_of, permitted, permitted_in}
+use Rattle.asn1_model.specs.Strings.{characters_of, permitted}
 use Rattle.asn1_schema_constraints.specs.Terms.{alphabet_of}
 use Rattle.per_codec_writing.proofs.characters.is_narrowed.Goals as goal
 
-whole : (k : StringKind) (b : Bool) (cs : Option (List ℕ)) → b ≡ true → permitted_in k b cs ≡ characters_of k
+whole : (k : StringKind) (b : Bool) (cs : Option (List ℕ)) → b ≡ true → permitted k (record { characters = cs; extensible = b }) ≡ characters_of k
 whole k true cs e = refl
 whole k false cs e = cc
 

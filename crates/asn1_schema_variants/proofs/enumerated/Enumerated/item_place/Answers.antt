@@ -1,6 +1,6 @@
 use Rattle.std.proofs.Common.{◌≡◌, ◌∙◌, w64, true, None}
 use Rattle.std.proofs.lemmas.Int.{to_z-of_z}
-use Rattle.asn1_model.specs.Tables.{item_place}
+use Rattle.asn1_model.specs.Normal.{item_place}
 use Rattle.asn1_schema_variants.proofs.Places.{missed, nowhere}
 use Rattle.asn1_schema_variants.proofs.enumerated.Enumerated.item_place.Goals as goal
 use Rattle.asn1_schema_variants.proofs.enumerated.Enumerated.item_place.Goals.{in-Some-extended_variants+in_default-place_of, in_default-extended_variants}
