@@ -1,6 +1,6 @@
 -- Bags: their types and their values.
 use Rattle.std.proofs.Common.{◌≡◌, ℕ, ◌≤◌, ◌+◌, zero, suc, true, false, List, [], ◌∷◌, refl, ap, ◌∙◌, arith}
-use Rattle.std.specs.Prelude.{max}
+use Rattle.std.specs.Prelude.{max, ◌&&◌}
 use Rattle.std.proofs.Math.Nat.{le-max_left, le-max_right}
 use Rattle.asn1_model.specs.Value.{Value, bag, member, depth, depth_of_members, map_members}
 use Rattle.asn1_model.specs.Schema.{Tag, Counts, Size, Schema, set_of}

@@ -1,6 +1,6 @@
 -- Types and values of each kind.
 use Rattle.std.proofs.Common.{◌≡◌, ℕ, ◌≤◌, ◌+◌, zero, suc, ℤ, Bool, true, false, List, [], ◌∷◌, refl, ap, ◌∙◌, arith}
-use Rattle.std.specs.Prelude.{max}
+use Rattle.std.specs.Prelude.{max, ◌&&◌}
 use Rattle.std.proofs.Math.Nat.{le-max_left, le-max_right}
 use Rattle.asn1_model.specs.Value.{Value, truth, nothing, number, bit_list, octet_list, text, arcs, members, member, depth, depth_of_members, map_members}
 use Rattle.asn1_model.specs.Schema.{Tag, Range, Bounds, Counts, Size, Schema, boolean, null, integer, bit_string, octet_string, character_string, object_identifier, StringKind, Alphabet, sequence_of}

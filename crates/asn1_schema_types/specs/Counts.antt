@@ -1,5 +1,5 @@
 -- How many members a list of the program holds.
-use Rattle.std.proofs.Common.{◌≡◌, ℕ, ◌-◌, ◌^◌, true, false, Some, refl, arith}
+use Rattle.std.proofs.Common.{◌≡◌, ℕ, ◌-◌, ◌&&◌, ◌^◌, true, false, Some, refl, arith}
 use Rattle.std.proofs.lemmas.Bool.{le-leb}
 use Rattle.asn1_model.specs.Schema.{Counts}
 use Rattle.asn1_schema_constraints.specs.Terms.{Meant, sized}
@@ -18,5 +18,5 @@ abbrev pub fixed_to : ℕ → Meant
 fixed_to n = sized n (Some n) false
 
 -- one number is a size of a lawful type
-pub exactly_is_size : (n : ℕ) → (are_counts (record { counts = exactly n; extensible = false }).counts && are_counts (exactly n)) ≡ true
+pub exactly_is_size : (n : ℕ) → (are_counts (exactly n) && are_counts (exactly n)) ≡ true
 exactly_is_size n = rw (le-leb n n (omega arith)) refl

@@ -1,14 +1,15 @@
 -- Whether so many members have a heading, which is known without it.
 use Rattle.std.proofs.Common.{◌≡◌, ℕ, ◌+◌, ◌-◌, ◌*◌, ◌/◌, ◌<◌, ◌≤◌, ltb, leb, Bool, true, false, cond, ◌&&◌, ◌||◌, [], ◌∷◌, replicate, Option, Some, None, option_map, refl, ap, sym, subst, ◌∙◌, inl, inr, arith}
-use Rattle.std.specs.Prelude.{min, unwrap_or, ◌^◌}
+use Rattle.std.specs.Prelude.{min, ◌^◌}
 use Rattle.std.proofs.lemmas.Bool.{ltb-true, ltb-false, le-leb, leb-true, and_parts, cases_lt}
 use Rattle.std.proofs.lemmas.List.{length-replicate}
 use Rattle.asn1_model.specs.Schema.{Counts, Size}
 use Rattle.asn1_model.specs.Numbers.{binary, is_count_within}
 use Rattle.asn1_model.specs.Numbers.{admits}
 use Rattle.asn1_model.specs.Per
-use Rattle.asn1_schema_constraints.specs.Bounds.{counts_of, members_of, lower, upper}
+use Rattle.asn1_schema_constraints.specs.Bounds.{counts_of, members_of}
 use Rattle.asn1_schema_constraints.specs.declared.bounds.Bounded.{Bounded}
+use Rattle.per_codec_writing.proofs.HeadingForms.{members_counted}
 use Rattle.per_codec_packing.specs.Texts.{padding, as_text, text_at, moved, bit}
 use Rattle.per_codec_packing.specs.Packed.{Packed, place, plus}
 use Rattle.per_codec_writing.specs.Writing.{padding_if}
@@ -121,16 +122,8 @@ none_extensible true false false root outside q w = refl
 none_extensible true false true root outside q w = cc
 none_extensible true true b root outside q w = cc
 
--- The counts that a type of the program holds, told by its bounds.
-held_same : (b : Bounded ℕ) (n : ℕ) → n < 2 ^ 64 → is_count_within (members_of b) n ≡ is_count_within (counts_of b) n
-held_same b n l = ap (λ t. leb (unwrap_or (lower b) 0) n && t) (go (upper b))
-  where
-    go : (o : Option ℕ) → option_map_or (λ x. leb n x) (Some (unwrap_or o (2 ^ 64 - 1))) true ≡ option_map_or (λ x. leb n x) o true
-    go None = le-leb n (2 ^ 64 - 1) (omega arith)
-    go (Some h) = refl
-
 pub admitted : (z : Size) (b : Bounded ℕ) (n : ℕ) (t : Bool) → n < 2 ^ 64 → t ≡ admits z (counts_of b) n → t ≡ (is_count_within (members_of b) n && (z.extensible || is_count_within z.counts n))
-admitted z b n t l e = e ∙ ap (λ x. x && (z.extensible || is_count_within z.counts n)) (sym (held_same b n l))
+admitted z b n t l e = e ∙ ap (λ x. x && (z.extensible || is_count_within z.counts n)) (sym (members_counted b n l))
 
 -- And no others have one.
 pub no_heading : (al : Bool) (z : Size) (h : Counts) (n : ℕ) (q : Option ℕ) → false ≡ (is_count_within h n && (z.extensible || is_count_within z.counts n)) → list_heading al z h n q ≡ None

@@ -293,7 +293,7 @@ module _ (free : Per.Freedom → Bool) (al : Bool) where
       ((n.2, members n.0 n.1 ∷ k), n.0, n.1, (n.0, n.1, n.3, refl), refl, n.5)
 
   abbrev by_number : Size → ℕ → List Per.BitForm → Per.BitForm
-  by_number z high us = both (Per.constrained al (high - z.counts.low) (length us - z.counts.low)) (Per.at_octet (al && (λ c. false) z.counts) (joined us))
+  by_number z high us = both (Per.constrained al (high - z.counts.low) (length us - z.counts.low)) (Per.at_octet (al && false) (joined us))
 
   bounds_in : (z : Size) (h : Counts) (t : Bool) (high : ℕ) (us : List Per.BitForm) (a : Place) (k : List Scope) (m : State) (b : Place) → Counted al free z h false (cond t (Some high) None) a k m → Onward us m k b → Admits free z h false (length us) × Front free (cond t (by_number z high us) (Per.counted al us)) a b
   bounds_in z h true high us a k m b f g =

@@ -1,5 +1,5 @@
 //! Padding up to whole octets (X.691 11.1).
-ghost use Rattle.std.specs.Prelude.{OnOk, IfErr};
+ghost use Rattle.std.specs.Prelude.{OnOk, IfErr, []};
 ghost use Rattle.asn1_model.specs.Per as Per;
 ghost use Rattle.per_codec_reading.specs.Fronts as fronts;
 ghost use Rattle.per_codec_reading.specs.Fronts.{freedoms, Misses, to_octet};

@@ -1,5 +1,5 @@
 //! The end of a bag (X.691 22).
-ghost use Rattle.std.specs.Prelude.{MatchResult};
+ghost use Rattle.std.specs.Prelude.{MatchResult, false};
 ghost use Rattle.asn1_model.specs.Per.{in_any_order, sized};
 ghost use Rattle.asn1_schema_constraints.specs.Bounds.{members_of};
 ghost use Rattle.asn1_schema_constraints.specs.Terms.{size_of};
