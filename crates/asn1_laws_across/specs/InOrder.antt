@@ -29,7 +29,8 @@ ReadsWith {A = A} may (within x f) p w = (a : List A) × (ReadsWith may x 0 a) �
 abbrev pub HasAscendingBag : Bool → Per.BitForm → Per.BitForm → Type 0
 HasAscendingBag al x y =
     (z : Size) × (held : Counts) × (s : Schema) × (vs : Values) × (is : List ℕ) × (ys : List Per.BitForm)
-    × IsLawful (set_of z held s) × (x ≡ Per.form al (set_of z held s) (bag vs)) × (y ≡ Per.sized al z held (λ c. false) ys)
+    × IsLawful (set_of z held s) × (x ≡ Per.form al (set_of z held s) (bag vs))
+    × (y ≡ Per.sized al z held (λ c. false) ys)
     × (arranged is (each (λ v. Per.form al s v) vs) ≡ Some ys)
     × (ascending (λ x. written (Per.complete x) 0) (stands_before Per.bit_less) ys ≡ Some ys)
 

@@ -9,12 +9,12 @@ use Rattle.asn1_model.specs.Strings.{may_hold, is_octet, identifier_octets, is_i
 use Rattle.std.specs.List.{list_all}
 use Rattle.asn1_model.specs.Form.{stands_before}
 use Rattle.asn1_model.specs.Per.{bit_less}
-use Rattle.std.specs.Int.Digits.{number_from_digits_after}
+use Rattle.std.specs.Int.Digits.{number_from_digits}
 
 -- So many digits of a number that has no more are a positional sum: they stand for it, and each is below the base.
 abbrev pub DigitsAreASum : Type 0
 DigitsAreASum =
-    (base w n : ℕ) → 0 < base → n < base ^ w → (number_from_digits_after base 0 (digits base w n) ≡ n)
+    (base w n : ℕ) → 0 < base → n < base ^ w → (number_from_digits base (digits base w n) ≡ n)
     × (length (digits base w n) ≡ w) × IsTrue (list_all (λ d. ltb d base) (digits base w n))
 
 -- The number of its digits holds a number, and no lower one does.
@@ -25,8 +25,8 @@ FewestDigits = (base n : ℕ) → 1 < base → (n < base ^ places base n) × ((k
 -- out.
 abbrev pub ComplementIsASum : Type 0
 ComplementIsASum =
-    (k n : ℕ) → 0 < k → n < 2 ^ (8 * k - 1) → (number_from_digits_after 256 0 (complement k (pos n)) ≡ n)
-    × (number_from_digits_after 256 0 (complement k (negsuc n)) + (n + 1) ≡ 256 ^ k) × (length (complement k (pos n)) ≡ k)
+    (k n : ℕ) → 0 < k → n < 2 ^ (8 * k - 1) → (number_from_digits 256 (complement k (pos n)) ≡ n)
+    × (number_from_digits 256 (complement k (negsuc n)) + (n + 1) ≡ 256 ^ k) × (length (complement k (pos n)) ≡ k)
     × (length (complement k (negsuc n)) ≡ k)
 
 -- The octets of a number, and those of two's complement, are the fewest that hold it, and at least one.

@@ -7,13 +7,13 @@ use Rattle.asn1_model.specs.Strings.{is_octet}
 use Rattle.std.specs.List.{list_all}
 use Rattle.asn1_model.specs.Per
 use Rattle.asn1_model.specs.Oer
-use Rattle.std.specs.Int.Digits.{number_from_digits_after}
+use Rattle.std.specs.Int.Digits.{number_from_digits}
 
 -- Octets of two's complement stand for a number: their positional sum is the number, or lacks as much to the power of
 -- 256 as they have room for (X.690 8.3, X.691 11.4, X.696 10).
 abbrev pub StandsFor : List ℕ → ℤ → Type 0
-StandsFor os (pos n) = (number_from_digits_after 256 0 os ≡ n) × (n < 2 ^ (8 * length os - 1))
-StandsFor os (negsuc n) = (number_from_digits_after 256 0 os + (n + 1) ≡ 256 ^ length os) × (n < 2 ^ (8 * length os - 1))
+StandsFor os (pos n) = (number_from_digits 256 os ≡ n) × (n < 2 ^ (8 * length os - 1))
+StandsFor os (negsuc n) = (number_from_digits 256 os + (n + 1) ≡ 256 ^ length os) × (n < 2 ^ (8 * length os - 1))
 
 -- What is read of a form is the text of any octets, one at least, that are those of the number, and nothing else.
 abbrev pub IsReadAsAny : {F : Type 0} {D : F → Type 0} {A : Type 0} → (F → Bool) → Form F D A → (List ℕ → Form F D A)
@@ -27,14 +27,14 @@ IsReadAsAny {F} {D} {A} free x text IsOf =
 abbrev pub OerNumbersAreSums : Type 0
 OerNumbersAreSums =
     (free : Oer.Freedom → Bool) → IsTrue (free Oer.longer_number)
-    → ((n : ℕ) → IsReadAsAny free (Oer.unsigned n) Oer.counted (λ os. number_from_digits_after 256 0 os ≡ n))
+    → ((n : ℕ) → IsReadAsAny free (Oer.unsigned n) Oer.counted (λ os. number_from_digits 256 os ≡ n))
     × ((v : ℤ) → IsReadAsAny free (Oer.signed v) Oer.counted (λ os. StandsFor os v))
 
 -- And in PER, aligned and not.
 abbrev pub PerNumbersAreSums : Type 0
 PerNumbersAreSums =
     (free : Per.Freedom → Bool) (al : Bool) → IsTrue (free Per.longer_number)
-    → ((n : ℕ) → IsReadAsAny free (Per.semi_constrained al n) (Per.counted_octets al) (λ os. number_from_digits_after 256 0 os ≡ n))
+    → ((n : ℕ) → IsReadAsAny free (Per.semi_constrained al n) (Per.counted_octets al) (λ os. number_from_digits 256 os ≡ n))
     × ((v : ℤ) → IsReadAsAny free (Per.unconstrained al v) (Per.counted_octets al) (λ os. StandsFor os v))
 
 -- Octets of a number of 0 to span, aligned, behind their number: a constrained whole number of 1 to the octets of span
@@ -49,4 +49,4 @@ behind_their_number span os = only_if (list_all is_octet os && leb (length os) (
 abbrev pub PerRangesAreSums : Type 0
 PerRangesAreSums =
     (free : Per.Freedom → Bool) → IsTrue (free Per.longer_number) → (span d : ℕ) → 65536 ≤ span → d ≤ span
-    → IsReadAsAny free (Per.constrained true span d) (behind_their_number span) (λ os. number_from_digits_after 256 0 os ≡ d)
+    → IsReadAsAny free (Per.constrained true span d) (behind_their_number span) (λ os. number_from_digits 256 os ≡ d)

@@ -16,7 +16,8 @@ equal_members equal vs ws = false
 -- Equal bags: each member of the one has its own equal one in the other.
 abbrev pub equal_bags : (Value → Value → Bool) → Values → Values → Bool
 equal_bags equal no_more no_more = true
-equal_bags equal (member v vs) ws = option_map_or (λ rest. equal_bags equal vs rest) (taken_out (λ w. equal v w) ws) false
+equal_bags equal (member v vs) ws =
+    option_map_or (λ rest. equal_bags equal vs rest) (taken_out (λ w. equal v w) ws) false
 equal_bags equal vs ws = false
 
 -- Whether a value is equal to the default.

@@ -128,8 +128,8 @@ module _ {A : Type 0} {e : A → A → Bool} (p : IsPartialEquivalence e) where
         let t = all_alike p (x ∷ xs) ys q in
         let step : (o : Option (List A)) → without e x ys ≡ o
         → option_map_or (λ rest. same_bag (values_of f xs) rest) (option_map (λ zs. values_of f zs) o) false ≡ true =
-        λ o. elim o as (λ o. without e x ys ≡ o → with_rest (option_map (λ zs. values_of f zs) o)
-        (λ rest. same_bag (values_of f xs) rest) ≡ true) [
+        λ o. elim o as (λ o. without e x ys ≡ o → option_map_or
+        (λ rest. same_bag (values_of f xs) rest) (option_map (λ zs. values_of f zs) o) false ≡ true) [
           | None ↦ λ k. absurd (let a = none_left x ys k in let b : suc (times e x xs)
               ≡ times e x ys = rw (itself x) at (t x) in omega (arith, a, b))
           | Some zs ↦ λ k.
@@ -147,8 +147,9 @@ module _ {A : Type 0} {e : A → A → Bool} (p : IsPartialEquivalence e) where
         let step : (o : Option (List A)) → without e x ys ≡ o
         → option_map_or (λ rest. same_bag (values_of f xs) rest) (option_map (λ zs. values_of f zs) o) false ≡ true
         → same_items e (x ∷ xs) ys ≡ true =
-        λ o. elim o as (λ o. without e x ys ≡ o → with_rest (option_map (λ zs. values_of f zs) o)
-        (λ rest. same_bag (values_of f xs) rest) ≡ true → same_items e (x ∷ xs) ys ≡ true) [
+        λ o. elim o as (λ o. without e x ys ≡ o → option_map_or
+        (λ rest. same_bag (values_of f xs) rest) (option_map (λ zs. values_of f zs) o) false ≡ true
+        → same_items e (x ∷ xs) ys ≡ true) [
           | None ↦ λ k u. absurd (let l : false ≡ true = u in cc)
           | Some zs ↦ λ k u.
               let r = left_counts x ys zs k in

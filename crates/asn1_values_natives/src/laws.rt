@@ -3,7 +3,7 @@ ghost use Rattle.std.specs.Prelude.{◌≡◌, ℕ, ◌<◌, ◌≤◌, ◌^◌,
 ghost use Rattle.std.specs.List.{AllByRecursion};
 ghost use Rattle.asn1_model.specs.Numbers.{complement, digits, signed_octets};
 ghost use Rattle.asn1_values_natives.specs.Octets.{signed_number, unsigned_number, signed_octets_of, is_padded};
-ghost use Rattle.std.specs.Int.Digits.{number_from_digits_after};
+ghost use Rattle.std.specs.Int.Digits.{number_from_digits};
 
 /// Two's complement and the positional sum undo one another (X.690 8.3.3): the octets of a number
 /// stand for it, and octets are those of the number that they stand for.
@@ -27,7 +27,7 @@ pub fn octets_are_fewest()
 /// The positional sum of octets is the number of the digits of the model, and its digits are the
 /// octets.
 pub fn octets_are_digits()
-    ensures sum { (os : List ℕ) → unsigned_number os ≡ number_from_digits_after 256 0 os }
+    ensures sum { (os : List ℕ) → unsigned_number os ≡ number_from_digits 256 os }
     ensures digits { (os : List ℕ) → AllByRecursion (λ o. o < 256) os → digits 256 (length os) (unsigned_number os)
         ≡ os }
     ensures number { (k n : ℕ) → n < 256 ^ k → unsigned_number (digits 256 k n) ≡ n }
