@@ -2,16 +2,18 @@
 -- the constraints that count in all sets of rules; what stands below the cut of a recursive type is not judged. And
 -- which types are lawful: tables ascend, tags and items are distinct, bounds are ordered, additions stand behind an
 -- extension marker, defaults are values of their types.
-use Rattle.std.specs.Prelude.{ℕ, zero, suc, ◌==◌, ltb, leb, int_lt, Bool, true, false, cond, not, ◌&&◌, ◌||◌, IsTrue,
-    List, [], ◌∷◌, ◌++◌, length, is_some}
+use Rattle.std.specs.Prelude.{ℕ, zero, suc, ◌==◌, ltb, leb, int_lt, Bool, true, false, cond, not, ◌&&◌, ◌||◌, IsTrue}
+use Rattle.std.specs.Prelude.{List, [], ◌∷◌, ◌++◌, length, is_some}
 use Rattle.std.specs.List.{list_all}
 use Rattle.std.specs.Option.{option_map_or}
 use lib.Pointwise.{pointwise}
-use Rattle.asn1_model.specs.Value.{Value, truth, nothing, number, item, bit_list, octet_list, text, arcs, members, bag,
-    fields, chosen, Values, no_more, member, Parts, end, absent, present, same_number, are_all}
-use Rattle.asn1_model.specs.Schema.{Tag, Range, Counts, Presence, optional, by_default, Schema, cut, boolean, null,
-    integer, enumerated, bit_string, octet_string, character_string, object_identifier, sequence_of, set_of, sequence,
-    set, group, choice, Components, no_component, component, Alternatives, no_alternative, alternative}
+use Rattle.asn1_model.specs.Value.{Value, truth, nothing, number, item, bit_list, octet_list, text, arcs, members, bag}
+use Rattle.asn1_model.specs.Value.{fields, chosen, Values, no_more, member, Parts, end, absent, present, same_number}
+use Rattle.asn1_model.specs.Value.{are_all}
+use Rattle.asn1_model.specs.Schema.{Tag, Range, Counts, Presence, optional, by_default, Schema, cut, boolean, null}
+use Rattle.asn1_model.specs.Schema.{integer, enumerated, bit_string, octet_string, character_string, object_identifier}
+use Rattle.asn1_model.specs.Schema.{sequence_of, set_of, sequence, set, group, choice, Components, no_component}
+use Rattle.asn1_model.specs.Schema.{component, Alternatives, no_alternative, alternative}
 use Rattle.asn1_model.specs.Numbers.{is_at_most, is_within, is_count_within, admits}
 use Rattle.asn1_model.specs.Strings.{is_octet, may_hold, is_of_octets, is_identifier}
 use Rattle.asn1_model.specs.Normal.{item_place, is_required}

@@ -1,12 +1,12 @@
 -- The normal form of a value: what is equal to its default is absent (X.691 19.5 and X.696 16 in their canonical
--- forms), and so is, by the project's choice, a group of additions that are all absent. And what both rule sets use of
--- a type's tables.
-use Rattle.std.specs.Prelude.{ℕ, zero, suc, ◌+◌, ℤ, Bool, true, false, cond, ◌||◌, List, [], ◌∷◌, Option, Some, None,
-    is_some, option_map}
-use Rattle.asn1_model.specs.Value.{Value, members, bag, fields, chosen, Parts, end, absent, present, same, same_number,
-    are_absent, map_members}
-use Rattle.asn1_model.specs.Schema.{Bounds, Presence, required, by_default, Schema, sequence_of, set_of, sequence, set,
-    group, choice, Components, no_component, component, Alternatives, no_alternative, alternative}
+-- forms), and so is, by the project's choice, a group of absent additions. And what both rule sets use of tables.
+use Rattle.std.specs.Prelude.{ℕ, zero, suc, ◌+◌, ℤ, Bool, true, false, cond, ◌||◌, List, [], ◌∷◌, Option, Some, None}
+use Rattle.std.specs.Prelude.{is_some, option_map}
+use Rattle.asn1_model.specs.Value.{Value, members, bag, fields, chosen, Parts, end, absent, present, same, same_number}
+use Rattle.asn1_model.specs.Value.{are_absent, map_members}
+use Rattle.asn1_model.specs.Schema.{Bounds, Presence, required, by_default, Schema, sequence_of, set_of, sequence, set}
+use Rattle.asn1_model.specs.Schema.{group, choice, Components, no_component, component, Alternatives, no_alternative}
+use Rattle.asn1_model.specs.Schema.{alternative}
 use Rattle.asn1_model.specs.Form.{Form, Freedom, Detail, varied, only_if, default_spelled_out, empty_group}
 
 -- A group none of whose components is there.

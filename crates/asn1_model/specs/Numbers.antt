@@ -1,6 +1,6 @@
 -- Numbers as digits, as octets of two's complement and as bits; the order of whole numbers; ranges and sizes.
-use Rattle.std.specs.Prelude.{ℕ, zero, suc, ◌+◌, ◌-◌, ◌/◌, ◌%◌, ◌^◌, ◌==◌, leb, max, ℤ, pos, negsuc, ◌-ℤ◌, Bool, true,
-    false, cond, ◌&&◌, ◌||◌, List, [], ◌∷◌, map, flat_map, Option, Some, None}
+use Rattle.std.specs.Prelude.{ℕ, zero, suc, ◌+◌, ◌-◌, ◌/◌, ◌%◌, ◌^◌, ◌==◌, leb, max, ℤ, pos, negsuc, ◌-ℤ◌, Bool, true}
+use Rattle.std.specs.Prelude.{false, cond, ◌&&◌, ◌||◌, List, [], ◌∷◌, map, flat_map, Option, Some, None}
 use Rattle.std.specs.Option.{option_map_or}
 use Rattle.std.specs.Int.Digits.{number_from_digits}
 use Rattle.asn1_model.specs.Schema.{Range, Counts, Size}
@@ -85,8 +85,7 @@ by_eights (a ∷ b ∷ c ∷ d ∷ e ∷ f ∷ g ∷ h ∷ rest) = (a ∷ b ∷ 
 by_eights [] = []
 by_eights bs = bs ∷ []
 
--- Bits as octets, the first bit the highest (X.691 11.1); a last octet of fewer than eight bits is the number that they
--- are.
+-- Bits as octets, the first bit the highest (X.691 11.1); fewer than eight at the end are the number that they are.
 abbrev pub packed : List Bool → List ℕ
 packed bs = map (λ o. number_from_digits 2 (map (λ b. cond b 1 0) o)) (by_eights bs)
 

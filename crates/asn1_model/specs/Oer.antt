@@ -1,20 +1,22 @@
 -- The octet encoding rules (X.696): the form of a value of a type, in octets.
-use Rattle.std.specs.Prelude.{ℕ, zero, suc, ◌+◌, ◌*◌, ◌/◌, ◌^◌, ◌==◌, ltb, leb, not, max, ℤ, pos, negsuc, Bool, true,
-    false, cond, ◌&&◌, ◌||◌, List, [], ◌∷◌, ◌++◌, length, map, replicate, flat_map, Option, Some, None, is_some,
-    option_map}
-use Rattle.asn1_model.specs.Value.{Value, truth, nothing, number, item, bit_list, octet_list, text, arcs, members, bag,
-    fields, chosen, Parts, end, absent, present, each}
-use Rattle.asn1_model.specs.Schema.{Tag, Range, Bounds, Counts, Size, StringKind, bmp, Schema, boolean, null, integer,
-    enumerated, bit_string, octet_string, character_string, object_identifier, sequence_of, set_of, sequence, set,
-    group, choice, Components, no_component, component, Alternatives, no_alternative, alternative}
+use Rattle.std.specs.Prelude.{ℕ, zero, suc, ◌+◌, ◌*◌, ◌/◌, ◌^◌, ◌==◌, ltb, leb, not, max, ℤ, pos, negsuc, Bool, true}
+use Rattle.std.specs.Prelude.{false, cond, ◌&&◌, ◌||◌, List, [], ◌∷◌, ◌++◌, length, map, replicate, flat_map, Option}
+use Rattle.std.specs.Prelude.{Some, None, is_some, option_map}
+use Rattle.asn1_model.specs.Value.{Value, truth, nothing, number, item, bit_list, octet_list, text, arcs, members, bag}
+use Rattle.asn1_model.specs.Value.{fields, chosen, Parts, end, absent, present, each}
+use Rattle.asn1_model.specs.Schema.{Tag, Range, Bounds, Counts, Size, StringKind, bmp, Schema, boolean, null, integer}
+use Rattle.asn1_model.specs.Schema.{enumerated, bit_string, octet_string, character_string, object_identifier}
+use Rattle.asn1_model.specs.Schema.{sequence_of, set_of, sequence, set, group, choice, Components, no_component}
+use Rattle.asn1_model.specs.Schema.{component, Alternatives, no_alternative, alternative}
 pub use Rattle.asn1_model.specs.Numbers.{packed}
-use Rattle.asn1_model.specs.Numbers.{missing, digits, octet_width, least_octets, signed_octets, complement, is_within,
-    is_count_within, fits_128, is_fixed_at, admits}
-use Rattle.asn1_model.specs.Form.{Form, exactly, refused, both, varied, within, written, only_if, given, joined,
-    stands_before, ascending, in_order, Bitmap, is_any_present, present_ones, covered_by, own_bitmap}
-pub use Rattle.asn1_model.specs.Form.{Freedom, Detail, longer_length, longer_number, any_truth, longer_item,
-    empty_bit_string, any_unused_bits, long_tag, default_spelled_out, empty_group, other_bitmap, empty_bitmap,
-    octets_behind, other_order}
+use Rattle.asn1_model.specs.Numbers.{missing, digits, octet_width, least_octets, signed_octets, complement, is_within}
+use Rattle.asn1_model.specs.Numbers.{is_count_within, fits_128, is_fixed_at, admits}
+use Rattle.asn1_model.specs.Form.{Form, exactly, refused, both, varied, within, written, only_if, given, joined}
+use Rattle.asn1_model.specs.Form.{stands_before, ascending, in_order, Bitmap, is_any_present, present_ones, covered_by}
+use Rattle.asn1_model.specs.Form.{own_bitmap}
+pub use Rattle.asn1_model.specs.Form.{Freedom, Detail, longer_length, longer_number, any_truth, longer_item}
+pub use Rattle.asn1_model.specs.Form.{empty_bit_string, any_unused_bits, long_tag, default_spelled_out, empty_group}
+pub use Rattle.asn1_model.specs.Form.{other_bitmap, empty_bitmap, octets_behind, other_order}
 use Rattle.asn1_model.specs.Strings.{may_hold, identifier_octets, is_identifier, is_octet, groups_of_seven}
 use Rattle.std.specs.List.{list_all}
 use Rattle.asn1_model.specs.Normal.{is_bounded, item_place, is_required, presence_bits}
@@ -27,8 +29,7 @@ OctetForm = Form Freedom Detail ℕ
 abbrev pub long_length : ℕ → ℕ → OctetForm
 long_length n k = only_if (leb 1 k && leb k 127 && leb (octet_width n) k) (exactly ((128 + k) ∷ digits 256 k n))
 
--- A length: below 128 one octet, else the fewest behind their number (X.696 8.6). That it fits 64 bits is the project's
--- choice.
+-- A length: below 128 one octet, else the fewest behind their number (X.696 8.6); below 2 ^ 64 by the project's choice.
 unfoldable pub length_form : ℕ → OctetForm
 length_form n = only_if (ltb n (2 ^ 64)) (varied longer_length (cond (ltb n 128) None (Some (octet_width n)))
     (λ o. elim o [ None ↦ only_if (ltb n 128) (exactly (n ∷ [])) | Some k ↦ long_length n k ]))

@@ -1,25 +1,27 @@
 -- The packed encoding rules (X.691), aligned and not: the form of a value of a type, in bits. Where padding stands in
 -- the aligned variant is the project's own statement: before the fields that say so here, up to the next octet of the
 -- message or open type that holds them, and never before a field of no bits.
-use Rattle.std.specs.Prelude.{ℕ, zero, suc, ◌-◌, ◌*◌, ◌/◌, ◌%◌, ◌^◌, ◌==◌, ltb, leb, not, ℤ, Bool, true, false, cond,
-    ◌&&◌, ◌||◌, List, [], ◌∷◌, ◌++◌, length, take, drop, map, replicate, flat_map, Option, Some, None, is_some,
-    option_map, filter}
+use Rattle.std.specs.Prelude.{ℕ, zero, suc, ◌-◌, ◌*◌, ◌/◌, ◌%◌, ◌^◌, ◌==◌, ltb, leb, not, ℤ, Bool, true, false, cond}
+use Rattle.std.specs.Prelude.{◌&&◌, ◌||◌, List, [], ◌∷◌, ◌++◌, length, take, drop, map, replicate, flat_map, Option}
+use Rattle.std.specs.Prelude.{Some, None, is_some, option_map, filter}
 use Rattle.std.specs.List.{list_all}
-use Rattle.asn1_model.specs.Value.{Value, truth, nothing, number, item, bit_list, octet_list, text, arcs, members, bag,
-    fields, chosen, Parts, end, absent, present, each}
-use Rattle.asn1_model.specs.Schema.{Range, Bounds, Counts, Size, Alphabet, StringKind, Schema, boolean, null, integer,
-    enumerated, bit_string, octet_string, character_string, object_identifier, sequence_of, set_of, sequence, set,
-    group, choice, Components, no_component, component, Alternatives, no_alternative, alternative}
+use Rattle.asn1_model.specs.Value.{Value, truth, nothing, number, item, bit_list, octet_list, text, arcs, members, bag}
+use Rattle.asn1_model.specs.Value.{fields, chosen, Parts, end, absent, present, each}
+use Rattle.asn1_model.specs.Schema.{Range, Bounds, Counts, Size, Alphabet, StringKind, Schema, boolean, null, integer}
+use Rattle.asn1_model.specs.Schema.{enumerated, bit_string, octet_string, character_string, object_identifier}
+use Rattle.asn1_model.specs.Schema.{sequence_of, set_of, sequence, set, group, choice, Components, no_component}
+use Rattle.asn1_model.specs.Schema.{component, Alternatives, no_alternative, alternative}
 pub use Rattle.asn1_model.specs.Numbers.{missing, by_eights}
-use Rattle.asn1_model.specs.Numbers.{digits, binary, width, octet_width, least_octets, signed_octets, complement, above,
-    is_at_most, is_within, is_count_within, fits_128, is_fixed_at}
-use Rattle.asn1_model.specs.Form.{Form, exactly, refused, both, placed, varied, within, written, only_if, given, joined,
-    stands_before, ascending, in_order, Bitmap, is_any_present, present_ones, covered_by, own_bitmap}
-pub use Rattle.asn1_model.specs.Form.{Freedom, Detail, any_padding, two_octet_length, other_fragments, longer_number,
-    root_told_outside, long_small_number, default_spelled_out, empty_group, other_bitmap, empty_bitmap, octets_behind,
-    other_order}
-use Rattle.asn1_model.specs.Strings.{Run, permitted, how_many, largest, place_of, may_hold, is_of_octets,
-    identifier_octets, is_identifier, is_octet}
+use Rattle.asn1_model.specs.Numbers.{digits, binary, width, octet_width, least_octets, signed_octets, complement, above}
+use Rattle.asn1_model.specs.Numbers.{is_at_most, is_within, is_count_within, fits_128, is_fixed_at}
+use Rattle.asn1_model.specs.Form.{Form, exactly, refused, both, placed, varied, within, written, only_if, given, joined}
+use Rattle.asn1_model.specs.Form.{stands_before, ascending, in_order, Bitmap, is_any_present, present_ones, covered_by}
+use Rattle.asn1_model.specs.Form.{own_bitmap}
+pub use Rattle.asn1_model.specs.Form.{Freedom, Detail, any_padding, two_octet_length, other_fragments, longer_number}
+pub use Rattle.asn1_model.specs.Form.{root_told_outside, long_small_number, default_spelled_out, empty_group}
+pub use Rattle.asn1_model.specs.Form.{other_bitmap, empty_bitmap, octets_behind, other_order}
+use Rattle.asn1_model.specs.Strings.{Run, permitted, how_many, largest, place_of, may_hold, is_of_octets}
+use Rattle.asn1_model.specs.Strings.{identifier_octets, is_identifier, is_octet}
 use Rattle.asn1_model.specs.Normal.{is_bounded, item_place, is_required, presence_bits, alternative_count}
 unfoldable pub use Rattle.asn1_model.specs.Normal.{spelled}
 
@@ -124,8 +126,7 @@ whole_number al (Some low) None v = given (above low v) (λ d. semi_constrained 
 whole_number al None (Some high) v = only_if (is_at_most v high) (unconstrained al v)
 whole_number al None None v = unconstrained al v
 
--- What stands behind an extension bit, where there is one: this is set outside the root (X.691 13.1, 16.6, 17.3, 20.4
--- and 30.4).
+-- What stands behind an extension bit, if there is one, set outside the root (X.691 13.1, 16.6, 17.3, 20.4 and 30.4).
 unfoldable pub with_extension_bit : Bool → Bool → BitForm → BitForm → BitForm
 with_extension_bit false in_root root outside = only_if in_root root
 with_extension_bit true in_root root outside = varied root_told_outside (not in_root) (λ out. cond out
@@ -153,8 +154,7 @@ sized al z held has_padding us = only_if (is_count_within held (length us))
     (with_extension_bit z.extensible (is_count_within z.counts (length us))
     (sized_root al z.counts z.counts.high has_padding us) (counted al us))
 
--- Contents of no bits take no padding, and nor do those of one size of at most 16 bits (X.691 16.9 to 16.11, 17.6 to
--- 17.8).
+-- Contents of no bits take no padding, nor do those of one size of at most 16 bits (X.691 16.9 to 16.11, 17.6 to 17.8).
 abbrev pub string_has_padding : ℕ → ℕ → Counts → Bool
 string_has_padding unit n c = not (n * unit == 0) && not (is_fixed_at c c.high && leb (c.low * unit) 16)
 
@@ -168,8 +168,7 @@ characters_have_padding unit n c = string_has_padding unit n c
 abbrev pub raised : ℕ → ℕ
 raised b = cond (leb b 2) b (cond (leb b 4) 4 (cond (leb b 8) 8 16))
 
--- The bits of each character: those that the number of permitted ones needs, raised in the aligned variant (X.691
--- 30.5.2).
+-- The bits of a character: those that the number of permitted ones needs, raised in the aligned variant (X.691 30.5.2).
 abbrev pub character_bits : Bool → List Run → ℕ
 character_bits al rs = cond al (raised (width (how_many rs - 1))) (width (how_many rs - 1))
 
@@ -219,8 +218,7 @@ open_type al x = within (complete x) (λ w.
 abbrev pub flag : Option BitForm → BitForm
 flag a = exactly (is_some a ∷ [])
 
--- The number of additions that the bitmap has, its bits, and each addition that is there as an open type (X.691 19.7 to
--- 19.9).
+-- The number of bits of the bitmap, these bits, and each addition that is there as an open type (X.691 19.7 to 19.9).
 unfoldable pub additions : Bool → List (Option BitForm) → BitForm
 additions al xs = both (normally_few al (map flag xs)) (joined (present_ones xs))
 

@@ -1,6 +1,6 @@
 -- Six sets of rules: what is written in each, and what each reads.
-use Rattle.std.specs.Prelude.{ℕ, ◌^◌, ◌<◌, ltb, Bool, true, false, cond, List, length, Option, Some, None, option_map,
-    option_and_then}
+use Rattle.std.specs.Prelude.{ℕ, ◌^◌, ◌<◌, ltb, Bool, true, false, cond, List, length, Option, Some, None, option_map}
+use Rattle.std.specs.Prelude.{option_and_then}
 use Rattle.asn1_model.specs.Value.{Value}
 use Rattle.asn1_model.specs.Schema.{Schema}
 pub use Rattle.asn1_model.specs.Numbers.{octet_bits}

@@ -2,8 +2,7 @@
 use Rattle.std.specs.Prelude.{ℕ, ◌-◌, ◌^◌, ℤ, pos, negsuc, Bool, false, List, Option, Some, None}
 use Rattle.asn1_model.specs.Value.{Value}
 
--- A tag: its class, which is 0 for universal, 1 for application, 2 for context-specific and 3 for private, and its
--- number (X.680 8).
+-- A tag: its class (0 universal, 1 application, 2 context-specific, 3 private), and its number (X.680 8).
 pub record Tag : Type 0 where
   pub class : ℕ
   pub number : ℕ
@@ -47,8 +46,7 @@ any_number = record { low = None; high = None }
 abbrev pub wide_range : Range
 wide_range = record { low = Some (negsuc (2 ^ 127 - 1)); high = Some (pos (2 ^ 127 - 1)) }
 
--- A permitted alphabet, where there is one: its characters, and whether an extension marker follows it (X.680 51.7 and
--- 52).
+-- A permitted alphabet, where there is one: its characters, and whether an extension marker follows (X.680 51.7, 52).
 pub record Alphabet : Type 0 where
   pub characters : Option (List ℕ)
   pub extensible : Bool

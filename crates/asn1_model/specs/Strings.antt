@@ -1,11 +1,11 @@
 -- Character strings and object identifiers: what may stand in them, and the octets of an identifier.
-use Rattle.std.specs.Prelude.{ℕ, ◌+◌, ◌-◌, ◌*◌, ◌^◌, ◌==◌, ltb, leb, max, Bool, true, false, cond, ◌&&◌, ◌||◌, List, [],
-    ◌∷◌, ◌++◌, filter, map, flat_map, Option, Some, None, option_map}
+use Rattle.std.specs.Prelude.{ℕ, ◌+◌, ◌-◌, ◌*◌, ◌^◌, ◌==◌, ltb, leb, max, Bool, true, false, cond, ◌&&◌, ◌||◌, List, []}
+use Rattle.std.specs.Prelude.{◌∷◌, ◌++◌, filter, map, flat_map, Option, Some, None, option_map}
 use Rattle.std.specs.List.{list_all, list_any}
 use Rattle.std.specs.Option.{option_map_or}
 use Rattle.std.specs.Str.{is_utf8}
-use Rattle.asn1_model.specs.Schema.{Alphabet, StringKind, numeric, printable, visible, ia5, bmp, general, graphic,
-    teletex, utf8}
+use Rattle.asn1_model.specs.Schema.{Alphabet, StringKind, numeric, printable, visible, ia5, bmp, general, graphic}
+use Rattle.asn1_model.specs.Schema.{teletex, utf8}
 use Rattle.asn1_model.specs.Numbers.{digits, places}
 
 -- The characters from one number to another.
@@ -82,8 +82,7 @@ with_top_bits [] = []
 with_top_bits (o ∷ []) = o ∷ []
 with_top_bits (o ∷ p ∷ os) = (o + 128) ∷ with_top_bits (p ∷ os)
 
--- A number in the fewest groups of seven bits, the highest first, the top bit set on all but the last (X.690 8.19 and
--- 8.1).
+-- A number in the fewest groups of seven bits, highest first, the top bit set on all but the last (X.690 8.1 and 8.19).
 abbrev pub groups_of_seven : ℕ → List ℕ
 groups_of_seven n = with_top_bits (digits 128 (max 1 (places 128 n)) n)
 

@@ -2,8 +2,8 @@
 -- own normal form passes. Laws and the tables of types compute with them; what is written and read is said without.
 use Rattle.std.specs.Prelude.{ℕ, zero, suc, Bool, true, false, ◌&&◌, not, IsTrue}
 use Rattle.asn1_model.specs.Value.{Value, members, bag, fields, chosen, Parts, absent, present, are_all}
-use Rattle.asn1_model.specs.Schema.{Presence, by_default, Schema, sequence_of, set_of, sequence, set, group, choice,
-    Components, no_component, component, Alternatives, no_alternative, alternative}
+use Rattle.asn1_model.specs.Schema.{Presence, by_default, Schema, sequence_of, set_of, sequence, set, group, choice}
+use Rattle.asn1_model.specs.Schema.{Components, no_component, component, Alternatives, no_alternative, alternative}
 use Rattle.asn1_model.specs.Normal.{is_at_default, is_group_left_out}
 
 unfoldable mutual

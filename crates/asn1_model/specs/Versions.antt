@@ -1,12 +1,13 @@
 -- Two versions of a type: the newer has further additions, alternatives and items behind its extension markers, and is
 -- as the older one else (X.680 52).
-use Rattle.std.specs.Prelude.{◌≡◌, ℕ, zero, suc, Bool, true, false, cond, ◌||◌, List, ◌++◌, All, Contains, Option, Some,
-    None, is_some, option_map, option_and_then}
-use Rattle.asn1_model.specs.Value.{Value, item, members, bag, fields, chosen, Values, no_more, member, Parts, end,
-    absent, present, same}
-use Rattle.asn1_model.specs.Schema.{Presence, required, optional, by_default, Schema, cut, boolean, null, integer,
-    enumerated, bit_string, octet_string, character_string, object_identifier, sequence_of, set_of, sequence, set,
-    group, choice, Components, no_component, component, Alternatives, no_alternative, alternative}
+use Rattle.std.specs.Prelude.{◌≡◌, ℕ, zero, suc, Bool, true, false, cond, ◌||◌, List, ◌++◌, All, Contains, Option, Some}
+use Rattle.std.specs.Prelude.{None, is_some, option_map, option_and_then}
+use Rattle.asn1_model.specs.Value.{Value, item, members, bag, fields, chosen, Values, no_more, member, Parts, end}
+use Rattle.asn1_model.specs.Value.{absent, present, same}
+use Rattle.asn1_model.specs.Schema.{Presence, required, optional, by_default, Schema, cut, boolean, null, integer}
+use Rattle.asn1_model.specs.Schema.{enumerated, bit_string, octet_string, character_string, object_identifier}
+use Rattle.asn1_model.specs.Schema.{sequence_of, set_of, sequence, set, group, choice, Components, no_component}
+use Rattle.asn1_model.specs.Schema.{component, Alternatives, no_alternative, alternative}
 use Rattle.asn1_model.specs.Normal.{normal, item_place}
 
 abbrev pub map_each : (Value → Option Value) → Values → Option Values
