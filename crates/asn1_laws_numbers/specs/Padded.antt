@@ -35,7 +35,7 @@ abbrev pub PerNumbersAreSums : Type 0
 PerNumbersAreSums =
     (free : Per.Freedom → Bool) (al : Bool) → IsTrue (free Per.longer_number)
     → ((n : ℕ) → IsReadAsAny free (Per.semi_constrained al n) (Per.counted_octets al)
-        (λ os. number_from_digits 256 os ≡ n))
+    (λ os. number_from_digits 256 os ≡ n))
     × ((v : ℤ) → IsReadAsAny free (Per.unconstrained al v) (Per.counted_octets al) (λ os. StandsFor os v))
 
 -- Octets of a number of 0 to span, aligned, behind their number: a constrained whole number of 1 to the octets of span

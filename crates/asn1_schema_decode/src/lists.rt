@@ -7,13 +7,13 @@ ghost use Rattle.asn1_schema_constraints.specs.Bounds.{members_of};
 ghost use Rattle.asn1_schema_presented.specs.Parts.{values_of};
 ghost use Rattle.asn1_schema_types.specs.Told.{list_under};
 ghost use Rattle.asn1_schema_decode.specs.Reads.{Reads, Unread, ReadsMembers, UnreadMembers};
+ghost use Rattle.std.specs.Option.{option_map_or};
 
 use crate::decode::{Decode, Decoder};
 use asn1_schema_constraints::{Bounded, Constraints};
 use asn1_schema_faults::DecodeError;
 use asn1_schema_tags::Tag;
 use std::alloc::Global;
-ghost use Rattle.std.specs.Option.{option_map_or};
 
 /// How a list is read.
 pub trait DecodeList: Decoder {

@@ -4,11 +4,11 @@ ghost use Rattle.asn1_model.specs.Per as Per;
 ghost use Rattle.per_codec_reading.specs.Fronts as fronts;
 ghost use Rattle.per_codec_reading.specs.Fronts.{freedoms, Misses, to_octet};
 ghost use Rattle.per_codec_fronts.specs.Takes.{Front};
+ghost use Rattle.asn1_model.specs.Form.{exactly};
 
 use crate::{Cursor, Variant};
 use asn1_schema_faults::DecodeError;
 use asn1_values_bits::free_bits;
-ghost use Rattle.asn1_model.specs.Form.{exactly};
 
 /// Skips the padding up to the next octet of the message or open type, whatever its bits are (X.691 11.1).
 ///

@@ -10,6 +10,7 @@ ghost use Rattle.per_codec_reading.specs.Runs.{units_in, IsLent, InOneRun, EndsW
 ghost use Rattle.per_codec_reading.specs.Sizes.{contents_have_padding, determinant_form, sized_units};
 ghost use Rattle.per_codec_reading.specs.Sizes.{told_in_front, units_told};
 ghost use Rattle.per_codec_reading.specs.Sizes.{HoldsOneRun, IsDeterminant};
+ghost use Rattle.asn1_model.specs.Form.{exactly};
 
 use crate::padding::read_padding;
 use crate::runs::{Run, RunBits, read_units_behind};
@@ -19,7 +20,6 @@ use asn1_schema_constraints::{Bounded, Sizes};
 use asn1_schema_faults::DecodeError;
 use per_codec_limits::{characters_have_padding, string_has_padding};
 use std::alloc::Global;
-ghost use Rattle.asn1_model.specs.Form.{exactly};
 
 /// What units make up, which tells where padding stands in front of them.
 #[derive(Clone, Copy, Debug, PartialEq, Eq)]
