@@ -138,7 +138,7 @@ abbrev pub is_group : Schema → Bool
 is_group (group cs) = true
 is_group s = false
 
--- Groups stand among additions alone, and there as optional.
+-- Groups stand among additions (true) alone, and there as optional.
 abbrev pub are_groups_in_place : Bool → Components → Bool
 are_groups_in_place added no_component = true
 are_groups_in_place added (component t o s cs) =

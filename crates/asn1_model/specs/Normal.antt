@@ -1,5 +1,5 @@
 -- The normal form of a value: what is equal to its default is absent (X.691 19.5 and X.696 16 in their canonical
--- forms), and so is, by the project's choice, a group of absent additions. And what both rule sets use of tables.
+-- forms), and so is, by the project's choice, a group of absent additions. And what is asked of tables and bounds.
 use Rattle.std.specs.Prelude.{ℕ, zero, suc, ◌+◌, ℤ, Bool, true, false, cond, ◌||◌, List, [], ◌∷◌, Option, Some, None}
 use Rattle.std.specs.Prelude.{is_some, option_map}
 use Rattle.asn1_model.specs.Value.{Value, members, bag, fields, chosen, Parts, end, absent, present, same, same_number}

@@ -66,7 +66,7 @@ is_count_within c n = leb c.low n && option_map_or (λ high. leb n high) c.high 
 abbrev pub is_fixed_at : Counts → Option ℕ → Bool
 is_fixed_at c o = option_map_or (λ high. high == c.low) o false
 
--- Whether a length is one that the program's type holds and a size without an extension marker admits.
+-- Whether the program's type holds a length and the size admits it; a size with an extension marker admits any.
 abbrev pub admits : Size → Counts → ℕ → Bool
 admits z held n = is_count_within held n && (z.extensible || is_count_within z.counts n)
 

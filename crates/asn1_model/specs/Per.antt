@@ -189,12 +189,12 @@ string_form al k z a held cs = only_if (may_hold k cs) (cond (is_of_octets k)
     (only_if (is_count_within held (length cs)) (counted_octets al cs))
     (characters al z held (permitted k a) cs))
 
--- The extension marker, where the type has one.
+-- The extension bit, where the type has an extension marker.
 abbrev pub extension_bit_of : Bool → Bool → BitForm
 extension_bit_of false m = exactly []
 extension_bit_of true m = exactly (m ∷ [])
 
--- ENUMERATED: a root item by its place among these, and an added one by its own (X.691 14).
+-- ENUMERATED (X.691 14): an item by its place in the root, or behind a set extension bit by that among those added.
 unfoldable pub item_form : Bool → ℕ → Bool → Option ℕ → Option ℕ → BitForm
 item_form al roots e (Some i) j = both (extension_bit_of e false) (constrained al (roots - 1) i)
 item_form al roots true None (Some j) = both (exactly (true ∷ [])) (normally_small al j)
@@ -254,7 +254,7 @@ in_any_order xs f =
 unfoldable mutual
   -- The form of a value of a type: BOOLEAN (X.691 12), INTEGER (13), ENUMERATED (14), BIT STRING (16), OCTET STRING
   -- (17), NULL (18), SEQUENCE (19), SEQUENCE OF (20), SET (21), SET OF (22), CHOICE (23), OBJECT IDENTIFIER (24),
-  -- restricted character strings (30).
+  -- restricted character strings (30). No padding stands in front of the members of a list or a bag.
   pub form : Bool → Schema → Value → BitForm
   form al boolean (truth b) = exactly (b ∷ [])
   form al null nothing = exactly []
