@@ -201,14 +201,18 @@ impl<'a> Fields<'a> {
             .any(|field| field.is_not_optional_or_default())
     }
 
-    /// How many fields may be absent.
+    /// How many fields may be absent. The fields are gone through once, one by one, so that the compiler counts those of a
+    /// table of literals.
     pub fn number_of_optional_and_default_fields(&self) -> usize
         ensures { result ≡ length (filter is_optional self.now.fields.now) }
     {
-        self.fields
-            .iter()
-            .filter(|field| field.is_optional_or_default())
-            .count()
+        let mut count = 0;
+        for field in self.fields {
+            if field.is_optional_or_default() {
+                count += 1;
+            }
+        }
+        count
     }
 
     /// The fields in their order.

@@ -1,5 +1,5 @@
 //! Truth values (X.696 9).
-ghost use Rattle.std.specs.Prelude.{◌≡◌, MatchResult, OnErr};
+ghost use Rattle.std.specs.Prelude.{◌≡◌, MatchResult, OnErr, cond};
 ghost use Rattle.asn1_model.specs.Form.{written};
 ghost use Rattle.asn1_model.specs.Oer.{form};
 ghost use Rattle.asn1_model.specs.Schema.{boolean};
@@ -8,6 +8,15 @@ ghost use Rattle.asn1_model.specs.Versions.{Begins};
 ghost use Rattle.oer_codec_writing.specs.Writing.{Adds};
 
 use asn1_schema_faults::EncodeError;
+
+/// The octet of a truth value (X.696 9). It is made by arithmetic: a branch without a pattern would be foreseen wrongly
+/// for every second value.
+#[inline(always)]
+fn truth_octet(value: bool) -> u8
+    ensures { result ≡ cond value 255 0 }
+{
+    0_u8.wrapping_sub(u8::from(value))
+}
 
 /// Adds a BOOLEAN (X.696 9).
 ///
@@ -19,6 +28,6 @@ pub fn push_boolean(octets: &mut Vec<u8>, value: bool) -> Result<(), EncodeError
         octets.new.items) (λ e. e ≡ EncodeError.OutOfMemory) }
     ensures kept { OnErr result (Begins octets.old.items octets.new.items) }
 {
-    octets.push(if value { 0xFF } else { 0x00 })?;
+    octets.push(truth_octet(value))?;
     Ok(())
 }

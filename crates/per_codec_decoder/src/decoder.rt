@@ -499,6 +499,7 @@ impl<'input> asn1_schema_decode::Decoder for Decoder<'input> {
         )
     }
 
+    #[inline(always)]
     fn begin_list(
         &mut self,
         _tag: Tag,
@@ -508,6 +509,7 @@ impl<'input> asn1_schema_decode::Decoder for Decoder<'input> {
         self.enter_members(constraints.sizes(), held)
     }
 
+    #[inline(always)]
     fn begin_bag(
         &mut self,
         _tag: Tag,

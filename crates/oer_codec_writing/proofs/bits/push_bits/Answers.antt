@@ -1,8 +1,7 @@
-use Rattle.std.proofs.Common.{◌≡◌, ◌++◌, take, length, ap, ◌∙◌, arith}
+use Rattle.std.proofs.Common.{length, ap, arith}
 use Rattle.std.proofs.lemmas.List.{length-take}
-use Rattle.asn1_model.specs.Numbers.{octet_bits, packed}
+use Rattle.asn1_model.specs.Numbers.{octet_bits}
 use Rattle.asn1_values_bits.specs.BitStr.{bits_of}
-use Rattle.asn1_values_bits.specs.Octets.{padded}
 use Rattle.asn1_values_bits.proofs.Binary.{length-octet_bits}
 use Rattle.oer_codec_writing.proofs.bits.push_bits.Goals as goal
 
