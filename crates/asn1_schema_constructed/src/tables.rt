@@ -201,8 +201,8 @@ impl<'a> Fields<'a> {
             .any(|field| field.is_not_optional_or_default())
     }
 
-    /// How many fields may be absent. The fields are gone through once, one by one, so that the compiler counts those of a
-    /// table of literals.
+    /// How many fields may be absent. The fields are gone through by one loop, so that the compiler can count those of
+    /// a table of literals.
     pub fn number_of_optional_and_default_fields(&self) -> usize
         ensures { result ≡ length (filter is_optional self.now.fields.now) }
     {
