@@ -118,7 +118,7 @@ impl Encode for Nest {
         &self,
         encoder: &mut E,
         tag: Tag,
-        _constraints: Constraints,
+        _constraints: &Constraints,
     ) -> Result<(), EncodeError> {
         match self {
             Nest::Leaf => {
@@ -142,7 +142,7 @@ impl Decode for Nest {
         alloc: Global,
         decoder: &mut D,
         tag: Tag,
-        _constraints: Constraints,
+        _constraints: &Constraints,
     ) -> Result<Self, DecodeError> {
         let chosen = decoder.begin_alternatives::<Nest>(tag)?;
         if chosen.place == 0 {
@@ -150,7 +150,7 @@ impl Decode for Nest {
             decoder.end()?;
             return Ok(Nest::Leaf);
         }
-        let inner = Nest::decode_with_tag_and_constraints(alloc, decoder, MORE, Constraints::NONE)?;
+        let inner = Nest::decode_with_tag_and_constraints(alloc, decoder, MORE, &Constraints::NONE)?;
         let Ok(boxed) = Box::new(alloc, inner) else {
             return Err(decoder.refuse(DecodeError::OutOfMemory));
         };

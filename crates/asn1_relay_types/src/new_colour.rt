@@ -108,7 +108,7 @@ impl Encode for NewColour {
         &self,
         encoder: &mut E,
         tag: Tag,
-        _constraints: Constraints,
+        _constraints: &Constraints,
     ) -> Result<(), EncodeError> {
         encoder.encode_item(tag, self)
     }
@@ -119,7 +119,7 @@ impl Decode for NewColour {
         _alloc: Global,
         decoder: &mut D,
         tag: Tag,
-        _constraints: Constraints,
+        _constraints: &Constraints,
     ) -> Result<Self, DecodeError> {
         decoder.decode_item(tag)
     }

@@ -103,7 +103,7 @@ impl Encode for OldColour {
         &self,
         encoder: &mut E,
         tag: Tag,
-        _constraints: Constraints,
+        _constraints: &Constraints,
     ) -> Result<(), EncodeError> {
         encoder.encode_item(tag, self)
     }
@@ -114,7 +114,7 @@ impl Decode for OldColour {
         _alloc: Global,
         decoder: &mut D,
         tag: Tag,
-        _constraints: Constraints,
+        _constraints: &Constraints,
     ) -> Result<Self, DecodeError> {
         decoder.decode_item(tag)
     }

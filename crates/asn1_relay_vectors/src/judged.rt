@@ -152,7 +152,7 @@ fn run_type<T: Encode + Decode>(alloc: Global, way: Way, octets: Vec<u8>) -> Ran
 /// Reads a value of a type under constraints.
 fn read<T: Decode>(
     alloc: Global,
-    constraints: Constraints<'_>,
+    constraints: &Constraints<'_>,
     codec: Codec,
     octets: &[u8],
 ) -> Result<T, DecodeError> {
@@ -167,7 +167,7 @@ fn read<T: Decode>(
 /// Writes a value of a type under constraints.
 fn write<T: Encode>(
     alloc: Global,
-    constraints: Constraints<'_>,
+    constraints: &Constraints<'_>,
     codec: Codec,
     value: &T,
 ) -> Result<Vec<u8>, EncodeError> {

@@ -91,7 +91,7 @@ impl<C: Listed> Encode for Sequence<C> {
         &self,
         encoder: &mut E,
         tag: Tag,
-        _constraints: Constraints,
+        _constraints: &Constraints,
     ) -> Result<(), EncodeError> {
         self.components.write(encoder, tag)
     }
@@ -102,7 +102,7 @@ impl<C: Listed> Decode for Sequence<C> {
         alloc: Global,
         decoder: &mut D,
         tag: Tag,
-        _constraints: Constraints,
+        _constraints: &Constraints,
     ) -> Result<Self, DecodeError> {
         let components = C::read(alloc, decoder, tag)?;
         Ok(Sequence { components })

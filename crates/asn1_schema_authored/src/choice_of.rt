@@ -197,7 +197,7 @@ impl<T: ChoiceAlternatives> Encode for ChoiceOf<T> {
         &self,
         encoder: &mut E,
         tag: Tag,
-        constraints: Constraints,
+        constraints: &Constraints,
     ) -> Result<(), EncodeError> {
         encoder.encode_choice(tag, constraints, self)
     }
@@ -208,7 +208,7 @@ impl<T: ChoiceAlternatives> Decode for ChoiceOf<T> {
         alloc: Global,
         decoder: &mut D,
         tag: Tag,
-        constraints: Constraints,
+        constraints: &Constraints,
     ) -> Result<Self, DecodeError> {
         decoder.decode_choice(alloc, tag, constraints)
     }

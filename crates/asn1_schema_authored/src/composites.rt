@@ -193,7 +193,7 @@ impl<T: Components> Encode for Composite<T> {
         &self,
         encoder: &mut E,
         tag: Tag,
-        _constraints: Constraints,
+        _constraints: &Constraints,
     ) -> Result<(), EncodeError> {
         begin_written(encoder, tag, T::heading())?;
         self.value.write_components(encoder)?;
@@ -224,7 +224,7 @@ impl<T: Components> Decode for Composite<T> {
         alloc: Global,
         decoder: &mut D,
         tag: Tag,
-        _constraints: Constraints,
+        _constraints: &Constraints,
     ) -> Result<Self, DecodeError> {
         begin_read(decoder, tag, T::heading())?;
         let value = T::read_components(alloc, decoder)?;

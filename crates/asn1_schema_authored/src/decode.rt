@@ -154,7 +154,7 @@ pub trait DecodeExtension: Decoder {
         let value = self.decode_extension_addition_with_tag_and_constraints(
             alloc,
             tag,
-            T::constraints(),
+            &T::constraints(),
         )?;
         Ok(value)
     }
@@ -163,16 +163,16 @@ pub trait DecodeExtension: Decoder {
     final fn decode_extension_addition_with_constraints<T: Decode>(
         &mut self,
         alloc: Global,
-        constraints: Constraints,
+        constraints: &Constraints,
     ) -> Result<Option<T>, DecodeError>
     where
         Self: Sized,
         ensures ok { IfOk result
-            (λ x. ReadsExtension Self.step (T.under (meant constraints.entry)) (Self.levels self.old)
+            (λ x. ReadsExtension Self.step (T.under (meant constraints.now)) (Self.levels self.old)
             (part_of T.meaning x) self.old self.new) }
         ensures level { OnOk result (Self.levels self.new ≡ Self.levels self.old) }
         ensures only { IfErr result
-            (UnreadExtension Self.step (T.under (meant constraints.entry)) (Self.levels self.old) self.old) }
+            (UnreadExtension Self.step (T.under (meant constraints.now)) (Self.levels self.old) self.old) }
         ensures failed { OnErr result (Self.has_failed self.new) }
         ensures already { Self.has_failed self.old → result ≡ Err DecodeError.AlreadyFailed }
         ensures after { result ≡ Err DecodeError.AlreadyFailed → Self.has_failed self.old }
@@ -186,16 +186,16 @@ pub trait DecodeExtension: Decoder {
         &mut self,
         alloc: Global,
         _tag: Tag,
-        constraints: Constraints,
+        constraints: &Constraints,
     ) -> Result<Option<T>, DecodeError>
     where
         Self: Sized,
         ensures ok { IfOk result
-            (λ x. ReadsExtension Self.step (T.under (meant constraints.entry)) (Self.levels self.old)
+            (λ x. ReadsExtension Self.step (T.under (meant constraints.now)) (Self.levels self.old)
             (part_of T.meaning x) self.old self.new) }
         ensures level { OnOk result (Self.levels self.new ≡ Self.levels self.old) }
         ensures only { IfErr result
-            (UnreadExtension Self.step (T.under (meant constraints.entry)) (Self.levels self.old) self.old) }
+            (UnreadExtension Self.step (T.under (meant constraints.now)) (Self.levels self.old) self.old) }
         ensures failed { OnErr result (Self.has_failed self.new) }
         ensures already { Self.has_failed self.old → result ≡ Err DecodeError.AlreadyFailed }
         ensures after { result ≡ Err DecodeError.AlreadyFailed → Self.has_failed self.old }
@@ -208,16 +208,16 @@ pub trait DecodeExtension: Decoder {
         &mut self,
         alloc: Global,
         tag: Tag,
-        constraints: Constraints,
+        constraints: &Constraints,
     ) -> Result<Option<T>, DecodeError>
     where
         Self: Sized,
         ensures ok { IfOk result
-            (λ x. ReadsExtension Self.step (T.under (meant constraints.entry)) (Self.levels self.old)
+            (λ x. ReadsExtension Self.step (T.under (meant constraints.now)) (Self.levels self.old)
             (part_of T.meaning x) self.old self.new) }
         ensures level { OnOk result (Self.levels self.new ≡ Self.levels self.old) }
         ensures only { IfErr result
-            (UnreadExtension Self.step (T.under (meant constraints.entry)) (Self.levels self.old) self.old) }
+            (UnreadExtension Self.step (T.under (meant constraints.now)) (Self.levels self.old) self.old) }
         ensures failed { OnErr result (Self.has_failed self.new) }
         ensures already { Self.has_failed self.old → result ≡ Err DecodeError.AlreadyFailed }
         ensures after { result ≡ Err DecodeError.AlreadyFailed → Self.has_failed self.old }
@@ -274,7 +274,7 @@ pub trait DecodeExtension: Decoder {
         let value = self.decode_extension_addition_with_default_and_tag_and_constraints::<V, T>(
             alloc,
             tag,
-            T::constraints(),
+            &T::constraints(),
         )?;
         Ok(value)
     }
@@ -283,16 +283,16 @@ pub trait DecodeExtension: Decoder {
     final fn decode_extension_addition_with_default_and_constraints<V: DefaultOf<T>, T: Decode>(
         &mut self,
         alloc: Global,
-        constraints: Constraints,
+        constraints: &Constraints,
     ) -> Result<T, DecodeError>
     where
         Self: Sized,
         ensures ok { IfOk result
-            (λ x. ReadsExtensionDefault Self.step (T.under (meant constraints.entry)) (Self.levels self.old)
+            (λ x. ReadsExtensionDefault Self.step (T.under (meant constraints.now)) (Self.levels self.old)
             V.value (T.meaning x) self.old self.new) }
         ensures level { OnOk result (Self.levels self.new ≡ Self.levels self.old) }
         ensures only { IfErr result
-            (UnreadExtensionDefault Self.step (T.under (meant constraints.entry)) (Self.levels self.old) V.value
+            (UnreadExtensionDefault Self.step (T.under (meant constraints.now)) (Self.levels self.old) V.value
             self.old) }
         ensures failed { OnErr result (Self.has_failed self.new) }
         ensures already { Self.has_failed self.old → result ≡ Err DecodeError.AlreadyFailed }
@@ -309,15 +309,15 @@ pub trait DecodeExtension: Decoder {
     final fn decode_extension_addition_with_default_and_tag_and_constraints<
         V: DefaultOf<T>,
         T: Decode,
-    >(&mut self, alloc: Global, tag: Tag, constraints: Constraints) -> Result<T, DecodeError>
+    >(&mut self, alloc: Global, tag: Tag, constraints: &Constraints) -> Result<T, DecodeError>
     where
         Self: Sized,
         ensures ok { IfOk result
-            (λ x. ReadsExtensionDefault Self.step (T.under (meant constraints.entry)) (Self.levels self.old)
+            (λ x. ReadsExtensionDefault Self.step (T.under (meant constraints.now)) (Self.levels self.old)
             V.value (T.meaning x) self.old self.new) }
         ensures level { OnOk result (Self.levels self.new ≡ Self.levels self.old) }
         ensures only { IfErr result
-            (UnreadExtensionDefault Self.step (T.under (meant constraints.entry)) (Self.levels self.old) V.value
+            (UnreadExtensionDefault Self.step (T.under (meant constraints.now)) (Self.levels self.old) V.value
             self.old) }
         ensures failed { OnErr result (Self.has_failed self.new) }
         ensures already { Self.has_failed self.old → result ≡ Err DecodeError.AlreadyFailed }

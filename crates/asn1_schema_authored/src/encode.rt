@@ -99,7 +99,7 @@ pub trait EncodeExtension: Encoder {
         ensures already { Self.has_failed self.old → result ≡ Err EncodeError.AlreadyFailed }
         ensures after { result ≡ Err EncodeError.AlreadyFailed → Self.has_failed self.old }
     {
-        self.encode_present_addition(T::TAG, value, T::constraints())?;
+        self.encode_present_addition(T::TAG, value, &T::constraints())?;
         Ok(())
     }
 
@@ -108,14 +108,14 @@ pub trait EncodeExtension: Encoder {
         &mut self,
         tag: Tag,
         value: &T,
-        constraints: Constraints,
+        constraints: &Constraints,
     ) -> Result<(), EncodeError>
     where
         Self: Sized,
         ensures ok { OnOk result
-            (WritesEnclosed Self.step (T.under (meant constraints.entry)) (T.meaning value.now) self.old self.new) }
+            (WritesEnclosed Self.step (T.under (meant constraints.now)) (T.meaning value.now) self.old self.new) }
         ensures only { IfErr result
-            (CannotWriteEnclosed Self.step (T.under (meant constraints.entry)) (T.meaning value.now) self.old) }
+            (CannotWriteEnclosed Self.step (T.under (meant constraints.now)) (T.meaning value.now) self.old) }
         ensures failed { OnErr result (Self.has_failed self.new) }
         ensures front { Self.front self.new ≡ Self.front self.old }
         ensures already { Self.has_failed self.old → result ≡ Err EncodeError.AlreadyFailed }
@@ -147,7 +147,7 @@ pub trait EncodeExtension: Encoder {
             self.encode_addition(false)?;
             return Ok(());
         };
-        self.encode_present_addition(T::TAG, inner, T::constraints())?;
+        self.encode_present_addition(T::TAG, inner, &T::constraints())?;
         Ok(())
     }
 
@@ -174,7 +174,7 @@ pub trait EncodeExtension: Encoder {
             self.encode_addition(false)?;
             return Ok(());
         }
-        self.encode_present_addition(T::TAG, value, T::constraints())?;
+        self.encode_present_addition(T::TAG, value, &T::constraints())?;
         Ok(())
     }
 

@@ -21,18 +21,18 @@ pub trait DecodeBag: Decoder {
         &mut self,
         alloc: Global,
         tag: Tag,
-        constraints: Constraints,
+        constraints: &Constraints,
         held: Bounded<usize>,
     ) -> Result<Vec<T>, DecodeError>
     where
         Self: Sized,
         ensures ok { IfOk result
-            (λ x. Reads Self.step (bag_under constraints.entry held T.schema) (Self.levels self.old)
+            (λ x. Reads Self.step (bag_under constraints.now held T.schema) (Self.levels self.old)
             (bag (values_of T.meaning x.items)) self.old self.new) }
         ensures held { IfOk result (λ x. is_count_within (members_of held) (length x.items) ≡ true) }
         ensures level { OnOk result (Self.levels self.new ≡ Self.levels self.old) }
         ensures only { IfErr result
-            (Unread Self.step (bag_under constraints.entry held T.schema) (Self.levels self.old) self.old) }
+            (Unread Self.step (bag_under constraints.now held T.schema) (Self.levels self.old) self.old) }
         ensures failed { OnErr result (Self.has_failed self.new) }
         ensures already { Self.has_failed self.old → result ≡ Err DecodeError.AlreadyFailed }
         ensures after { result ≡ Err DecodeError.AlreadyFailed → Self.has_failed self.old }

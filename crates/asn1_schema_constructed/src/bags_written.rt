@@ -18,16 +18,16 @@ pub trait EncodeBag: Encoder {
         &mut self,
         tag: Tag,
         items: &[T],
-        constraints: Constraints,
+        constraints: &Constraints,
         held: Bounded<usize>,
     ) -> Result<(), EncodeError>
     where
         Self: Sized,
         ensures ok { OnOk result
-            (Writes Self.step (bag_under constraints.entry held T.schema) (bag (values_of T.meaning items.now))
+            (Writes Self.step (bag_under constraints.now held T.schema) (bag (values_of T.meaning items.now))
             self.old self.new) }
         ensures only { IfErr result
-            (CannotWrite Self.step (bag_under constraints.entry held T.schema) (bag (values_of T.meaning items.now))
+            (CannotWrite Self.step (bag_under constraints.now held T.schema) (bag (values_of T.meaning items.now))
             self.old) }
         ensures failed { OnErr result (Self.has_failed self.new) }
         ensures front { Self.front self.new ≡ Self.front self.old }

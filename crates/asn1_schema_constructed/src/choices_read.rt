@@ -73,16 +73,16 @@ pub trait DecodeAlternatives: Decoder {
         &mut self,
         alloc: Global,
         tag: Tag,
-        constraints: Constraints,
+        constraints: &Constraints,
     ) -> Result<T, DecodeError>
     where
         Self: Sized,
         ensures ok { IfOk result
-            (λ x. Reads Self.step (T.under (meant constraints.entry)) (Self.levels self.old) (T.meaning x)
+            (λ x. Reads Self.step (T.under (meant constraints.now)) (Self.levels self.old) (T.meaning x)
             self.old self.new) }
         ensures level { OnOk result (Self.levels self.new ≡ Self.levels self.old) }
         ensures only { IfErr result
-            (Unread Self.step (T.under (meant constraints.entry)) (Self.levels self.old) self.old) }
+            (Unread Self.step (T.under (meant constraints.now)) (Self.levels self.old) self.old) }
         ensures failed { OnErr result (Self.has_failed self.new) }
         ensures already { Self.has_failed self.old → result ≡ Err DecodeError.AlreadyFailed }
         ensures after { result ≡ Err DecodeError.AlreadyFailed → Self.has_failed self.old }

@@ -17,15 +17,15 @@ pub trait EncodeChoice: Encoder {
     final fn encode_choice<T: Choice>(
         &mut self,
         tag: Tag,
-        constraints: Constraints,
+        constraints: &Constraints,
         value: &T,
     ) -> Result<(), EncodeError>
     where
         Self: Sized,
         ensures ok { OnOk result
-            (Writes Self.step (T.under (meant constraints.entry)) (T.meaning value.now) self.old self.new) }
+            (Writes Self.step (T.under (meant constraints.now)) (T.meaning value.now) self.old self.new) }
         ensures only { IfErr result
-            (CannotWrite Self.step (T.under (meant constraints.entry)) (T.meaning value.now) self.old) }
+            (CannotWrite Self.step (T.under (meant constraints.now)) (T.meaning value.now) self.old) }
         ensures failed { OnErr result (Self.has_failed self.new) }
         ensures front { Self.front self.new ≡ Self.front self.old }
         ensures already { Self.has_failed self.old → result ≡ Err EncodeError.AlreadyFailed }

@@ -12,7 +12,7 @@ impl Decode for BmpString {
         alloc: Global,
         decoder: &mut D,
         tag: Tag,
-        constraints: Constraints,
+        constraints: &Constraints,
     ) -> Result<Self, DecodeError> {
         let value = decoder.decode_characters(alloc, tag, constraints)?;
         Ok(value)

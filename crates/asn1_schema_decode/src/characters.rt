@@ -14,7 +14,7 @@ impl<K: TaggedKind> Decode for RestrictedString<K> {
         alloc: Global,
         decoder: &mut D,
         tag: Tag,
-        constraints: Constraints,
+        constraints: &Constraints,
     ) -> Result<Self, DecodeError> {
         let value = decoder.decode_characters(alloc, tag, constraints)?;
         Ok(value)

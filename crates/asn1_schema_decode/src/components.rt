@@ -99,7 +99,7 @@ pub trait DecodeSequence: Decoder {
         ensures already { Self.has_failed self.old → result ≡ Err DecodeError.AlreadyFailed }
         ensures after { result ≡ Err DecodeError.AlreadyFailed → Self.has_failed self.old }
     {
-        let value = self.decode_optional_with_tag_and_constraints(alloc, tag, T::constraints())?;
+        let value = self.decode_optional_with_tag_and_constraints(alloc, tag, &T::constraints())?;
         Ok(value)
     }
 
@@ -107,16 +107,16 @@ pub trait DecodeSequence: Decoder {
     final fn decode_optional_with_constraints<T: Decode>(
         &mut self,
         alloc: Global,
-        constraints: Constraints,
+        constraints: &Constraints,
     ) -> Result<Option<T>, DecodeError>
     where
         Self: Sized,
         ensures ok { IfOk result
-            (λ x. ReadsOptional Self.step (T.under (meant constraints.entry)) (Self.levels self.old)
+            (λ x. ReadsOptional Self.step (T.under (meant constraints.now)) (Self.levels self.old)
             (part_of T.meaning x) self.old self.new) }
         ensures level { OnOk result (Self.levels self.new ≡ Self.levels self.old) }
         ensures only { IfErr result
-            (UnreadOptional Self.step (T.under (meant constraints.entry)) (Self.levels self.old) self.old) }
+            (UnreadOptional Self.step (T.under (meant constraints.now)) (Self.levels self.old) self.old) }
         ensures failed { OnErr result (Self.has_failed self.new) }
         ensures already { Self.has_failed self.old → result ≡ Err DecodeError.AlreadyFailed }
         ensures after { result ≡ Err DecodeError.AlreadyFailed → Self.has_failed self.old }
@@ -129,16 +129,16 @@ pub trait DecodeSequence: Decoder {
         &mut self,
         alloc: Global,
         tag: Tag,
-        constraints: Constraints,
+        constraints: &Constraints,
     ) -> Result<Option<T>, DecodeError>
     where
         Self: Sized,
         ensures ok { IfOk result
-            (λ x. ReadsOptional Self.step (T.under (meant constraints.entry)) (Self.levels self.old)
+            (λ x. ReadsOptional Self.step (T.under (meant constraints.now)) (Self.levels self.old)
             (part_of T.meaning x) self.old self.new) }
         ensures level { OnOk result (Self.levels self.new ≡ Self.levels self.old) }
         ensures only { IfErr result
-            (UnreadOptional Self.step (T.under (meant constraints.entry)) (Self.levels self.old) self.old) }
+            (UnreadOptional Self.step (T.under (meant constraints.now)) (Self.levels self.old) self.old) }
         ensures failed { OnErr result (Self.has_failed self.new) }
         ensures already { Self.has_failed self.old → result ≡ Err DecodeError.AlreadyFailed }
         ensures after { result ≡ Err DecodeError.AlreadyFailed → Self.has_failed self.old }
@@ -215,7 +215,7 @@ pub trait DecodeSequence: Decoder {
         let value = self.decode_default_with_tag_and_constraints::<V, T>(
             alloc,
             tag,
-            T::constraints(),
+            &T::constraints(),
         )?;
         Ok(value)
     }
@@ -224,16 +224,16 @@ pub trait DecodeSequence: Decoder {
     final fn decode_default_with_constraints<V: DefaultOf<T>, T: Decode>(
         &mut self,
         alloc: Global,
-        constraints: Constraints,
+        constraints: &Constraints,
     ) -> Result<T, DecodeError>
     where
         Self: Sized,
         ensures ok { IfOk result
-            (λ x. ReadsDefault Self.step (T.under (meant constraints.entry)) (Self.levels self.old) V.value
+            (λ x. ReadsDefault Self.step (T.under (meant constraints.now)) (Self.levels self.old) V.value
             (T.meaning x) self.old self.new) }
         ensures level { OnOk result (Self.levels self.new ≡ Self.levels self.old) }
         ensures only { IfErr result
-            (UnreadDefault Self.step (T.under (meant constraints.entry)) (Self.levels self.old) V.value self.old) }
+            (UnreadDefault Self.step (T.under (meant constraints.now)) (Self.levels self.old) V.value self.old) }
         ensures failed { OnErr result (Self.has_failed self.new) }
         ensures already { Self.has_failed self.old → result ≡ Err DecodeError.AlreadyFailed }
         ensures after { result ≡ Err DecodeError.AlreadyFailed → Self.has_failed self.old }
@@ -246,16 +246,16 @@ pub trait DecodeSequence: Decoder {
         &mut self,
         alloc: Global,
         tag: Tag,
-        constraints: Constraints,
+        constraints: &Constraints,
     ) -> Result<T, DecodeError>
     where
         Self: Sized,
         ensures ok { IfOk result
-            (λ x. ReadsDefault Self.step (T.under (meant constraints.entry)) (Self.levels self.old) V.value
+            (λ x. ReadsDefault Self.step (T.under (meant constraints.now)) (Self.levels self.old) V.value
             (T.meaning x) self.old self.new) }
         ensures level { OnOk result (Self.levels self.new ≡ Self.levels self.old) }
         ensures only { IfErr result
-            (UnreadDefault Self.step (T.under (meant constraints.entry)) (Self.levels self.old) V.value self.old) }
+            (UnreadDefault Self.step (T.under (meant constraints.now)) (Self.levels self.old) V.value self.old) }
         ensures failed { OnErr result (Self.has_failed self.new) }
         ensures already { Self.has_failed self.old → result ≡ Err DecodeError.AlreadyFailed }
         ensures after { result ≡ Err DecodeError.AlreadyFailed → Self.has_failed self.old }

@@ -16,14 +16,14 @@ impl<R: Ends> Decode for RangedInteger<R> {
         alloc: Global,
         decoder: &mut D,
         tag: Tag,
-        constraints: Constraints,
+        constraints: &Constraints,
     ) -> Result<Self, DecodeError> {
         if R::START > R::END {
-            let _octet: u8 = decoder.decode_integer(alloc, tag, no_number())?;
+            let _octet: u8 = decoder.decode_integer(alloc, tag, &no_number())?;
             unreachable!()
         }
         let range = within_range(constraints, R::START, R::END);
-        let number: i128 = decoder.decode_integer(alloc, tag, range)?;
+        let number: i128 = decoder.decode_integer(alloc, tag, &range)?;
         let value = ranged_integer(number);
         Ok(value)
     }

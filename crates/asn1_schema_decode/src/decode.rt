@@ -156,12 +156,12 @@ pub trait Decoder {
         &mut self,
         alloc: Global,
         tag: Tag,
-        constraints: Constraints,
+        constraints: &Constraints,
     ) -> Result<I, DecodeError>
-        ensures ok { IfOk result (λ x. step self.old (whole_under constraints.entry I.held (I.value x)) self.new) }
-        ensures within { IfOk result (λ x. is_admitted constraints.entry (I.value x) ≡ true) }
+        ensures ok { IfOk result (λ x. step self.old (whole_under constraints.now I.held (I.value x)) self.new) }
+        ensures within { IfOk result (λ x. is_admitted constraints.now (I.value x) ≡ true) }
         ensures level { OnOk result (levels self.new ≡ levels self.old) }
-        ensures only { IfErr result (NoRecord step (asks_whole_under constraints.entry I.held) self.old) }
+        ensures only { IfErr result (NoRecord step (asks_whole_under constraints.now I.held) self.old) }
         ensures failed { OnErr result (has_failed self.new) }
         ensures already { has_failed self.old → result ≡ Err DecodeError.AlreadyFailed }
         ensures after { result ≡ Err DecodeError.AlreadyFailed → has_failed self.old };
@@ -180,13 +180,13 @@ pub trait Decoder {
         &mut self,
         alloc: Global,
         tag: Tag,
-        constraints: Constraints,
+        constraints: &Constraints,
         held: Bounded<usize>,
     ) -> Result<BitString, DecodeError>
-        ensures ok { IfOk result (λ x. step self.old (bits_under constraints.entry held x) self.new) }
+        ensures ok { IfOk result (λ x. step self.old (bits_under constraints.now held x) self.new) }
         ensures held { IfOk result (λ x. is_count_within (counts_of held) (length x) ≡ true) }
         ensures level { OnOk result (levels self.new ≡ levels self.old) }
-        ensures only { IfErr result (NoRecord step (asks_bits_under constraints.entry held) self.old) }
+        ensures only { IfErr result (NoRecord step (asks_bits_under constraints.now held) self.old) }
         ensures failed { OnErr result (has_failed self.new) }
         ensures already { has_failed self.old → result ≡ Err DecodeError.AlreadyFailed }
         ensures after { result ≡ Err DecodeError.AlreadyFailed → has_failed self.old };
@@ -197,17 +197,17 @@ pub trait Decoder {
         &mut self,
         alloc: Global,
         tag: Tag,
-        constraints: Constraints,
+        constraints: &Constraints,
         held: Bounded<usize>,
     ) -> Result<Self::Octets, DecodeError>
         ensures ok { IfOk result
-            (λ x. step self.old (octets_under constraints.entry held (Self.Octets.items x)) self.new) }
+            (λ x. step self.old (octets_under constraints.now held (Self.Octets.items x)) self.new) }
         ensures held { IfOk result (λ x. is_count_within (counts_of held) (length (Self.Octets.items x)) ≡ true) }
         ensures lent { IfOk result
-            (λ x. lends self.old (octets_under constraints.entry held (Self.Octets.items x)) self.new
+            (λ x. lends self.old (octets_under constraints.now held (Self.Octets.items x)) self.new
             → Self.Octets.is_lent x) }
         ensures level { OnOk result (levels self.new ≡ levels self.old) }
-        ensures only { IfErr result (NoRecord step (asks_octets_under constraints.entry held) self.old) }
+        ensures only { IfErr result (NoRecord step (asks_octets_under constraints.now held) self.old) }
         ensures failed { OnErr result (has_failed self.new) }
         ensures already { has_failed self.old → result ≡ Err DecodeError.AlreadyFailed }
         ensures after { result ≡ Err DecodeError.AlreadyFailed → has_failed self.old };
@@ -217,12 +217,12 @@ pub trait Decoder {
         &mut self,
         alloc: Global,
         tag: Tag,
-        constraints: Constraints,
+        constraints: &Constraints,
     ) -> Result<String, DecodeError>
         ensures ok { IfOk result
-            (λ x. step self.old (characters_under utf8 constraints.entry (string_bytes x)) self.new) }
+            (λ x. step self.old (characters_under utf8 constraints.now (string_bytes x)) self.new) }
         ensures level { OnOk result (levels self.new ≡ levels self.old) }
-        ensures only { IfErr result (NoRecord step (asks_characters_under utf8 constraints.entry) self.old) }
+        ensures only { IfErr result (NoRecord step (asks_characters_under utf8 constraints.now) self.old) }
         ensures failed { OnErr result (has_failed self.new) }
         ensures already { has_failed self.old → result ≡ Err DecodeError.AlreadyFailed }
         ensures after { result ≡ Err DecodeError.AlreadyFailed → has_failed self.old };
@@ -233,12 +233,12 @@ pub trait Decoder {
         &mut self,
         alloc: Global,
         tag: Tag,
-        constraints: Constraints,
+        constraints: &Constraints,
     ) -> Result<S, DecodeError>
         ensures ok { IfOk result
-            (λ x. step self.old (characters_under S.kind constraints.entry (S.characters x)) self.new) }
+            (λ x. step self.old (characters_under S.kind constraints.now (S.characters x)) self.new) }
         ensures level { OnOk result (levels self.new ≡ levels self.old) }
-        ensures only { IfErr result (NoRecord step (asks_characters_under S.kind constraints.entry) self.old) }
+        ensures only { IfErr result (NoRecord step (asks_characters_under S.kind constraints.now) self.old) }
         ensures failed { OnErr result (has_failed self.new) }
         ensures already { has_failed self.old → result ≡ Err DecodeError.AlreadyFailed }
         ensures after { result ≡ Err DecodeError.AlreadyFailed → has_failed self.old };
@@ -261,13 +261,13 @@ pub trait Decoder {
     fn begin_list(
         &mut self,
         tag: Tag,
-        constraints: Constraints,
+        constraints: &Constraints,
         held: Bounded<usize>,
     ) -> Result<(), DecodeError>
-        ensures ok { OnOk result (Begins step held (list_begins_under constraints.entry held) self.old self.new) }
+        ensures ok { OnOk result (Begins step held (list_begins_under constraints.now held) self.old self.new) }
         ensures begun { OnOk result (has_failed self.new → ⊥) }
         ensures level { OnOk result (levels self.old ≡ levels self.new + 1) }
-        ensures only { IfErr result (NoLevel step (asks_list_under constraints.entry held) (levels self.old) self.old) }
+        ensures only { IfErr result (NoLevel step (asks_list_under constraints.now held) (levels self.old) self.old) }
         ensures failed { OnErr result (has_failed self.new) }
         ensures already { has_failed self.old → result ≡ Err DecodeError.AlreadyFailed }
         ensures after { result ≡ Err DecodeError.AlreadyFailed → has_failed self.old };
@@ -277,13 +277,13 @@ pub trait Decoder {
     fn begin_bag(
         &mut self,
         tag: Tag,
-        constraints: Constraints,
+        constraints: &Constraints,
         held: Bounded<usize>,
     ) -> Result<(), DecodeError>
-        ensures ok { OnOk result (Begins step held (bag_begins_under constraints.entry held) self.old self.new) }
+        ensures ok { OnOk result (Begins step held (bag_begins_under constraints.now held) self.old self.new) }
         ensures begun { OnOk result (has_failed self.new → ⊥) }
         ensures level { OnOk result (levels self.old ≡ levels self.new + 1) }
-        ensures only { IfErr result (NoLevel step (asks_bag_under constraints.entry held) (levels self.old) self.old) }
+        ensures only { IfErr result (NoLevel step (asks_bag_under constraints.now held) (levels self.old) self.old) }
         ensures failed { OnErr result (has_failed self.new) }
         ensures already { has_failed self.old → result ≡ Err DecodeError.AlreadyFailed }
         ensures after { result ≡ Err DecodeError.AlreadyFailed → has_failed self.old };
@@ -448,14 +448,14 @@ pub trait Decode: AsnType + Drop {
         alloc: Global,
         decoder: &mut D,
         tag: Tag,
-        constraints: Constraints,
+        constraints: &Constraints,
     ) -> Result<Self, DecodeError>
         ensures ok { IfOk result
-            (λ x. Reads D.step (Self.under (meant constraints.entry)) (D.levels decoder.old) (Self.meaning x)
+            (λ x. Reads D.step (Self.under (meant constraints.now)) (D.levels decoder.old) (Self.meaning x)
             decoder.old decoder.new) }
         ensures level { OnOk result (D.levels decoder.new ≡ D.levels decoder.old) }
         ensures only { IfErr result
-            (Unread D.step (Self.under (meant constraints.entry)) (D.levels decoder.old) decoder.old) }
+            (Unread D.step (Self.under (meant constraints.now)) (D.levels decoder.old) decoder.old) }
         ensures failed { OnErr result (D.has_failed decoder.new) }
         ensures already { D.has_failed decoder.old → result ≡ Err DecodeError.AlreadyFailed }
         ensures after { result ≡ Err DecodeError.AlreadyFailed → D.has_failed decoder.old };
@@ -498,7 +498,7 @@ pub trait Decode: AsnType + Drop {
             alloc,
             decoder,
             tag,
-            Self::constraints(),
+            &Self::constraints(),
         )?;
         Ok(value)
     }
@@ -508,16 +508,16 @@ pub trait Decode: AsnType + Drop {
     final fn decode_with_constraints<D: Decoder>(
         alloc: Global,
         decoder: &mut D,
-        constraints: Constraints,
+        constraints: &Constraints,
     ) -> Result<Self, DecodeError>
     where
         Self: Sized,
         ensures ok { IfOk result
-            (λ x. Reads D.step (Self.under (meant constraints.entry)) (D.levels decoder.old) (Self.meaning x)
+            (λ x. Reads D.step (Self.under (meant constraints.now)) (D.levels decoder.old) (Self.meaning x)
             decoder.old decoder.new) }
         ensures level { OnOk result (D.levels decoder.new ≡ D.levels decoder.old) }
         ensures only { IfErr result
-            (Unread D.step (Self.under (meant constraints.entry)) (D.levels decoder.old) decoder.old) }
+            (Unread D.step (Self.under (meant constraints.now)) (D.levels decoder.old) decoder.old) }
         ensures failed { OnErr result (D.has_failed decoder.new) }
         ensures already { D.has_failed decoder.old → result ≡ Err DecodeError.AlreadyFailed }
         ensures after { result ≡ Err DecodeError.AlreadyFailed → D.has_failed decoder.old }

@@ -15,7 +15,7 @@ impl<const N: usize> Decode for FixedBitString<N> {
         alloc: Global,
         decoder: &mut D,
         tag: Tag,
-        constraints: Constraints,
+        constraints: &Constraints,
     ) -> Result<Self, DecodeError> {
         let held = Bounded::single_value(N);
         let value = decoder.decode_bit_string(alloc, tag, constraints, held)?;
@@ -29,7 +29,7 @@ impl<const N: usize> Decode for FixedOctetString<N> {
         alloc: Global,
         decoder: &mut D,
         tag: Tag,
-        constraints: Constraints,
+        constraints: &Constraints,
     ) -> Result<Self, DecodeError> {
         let held = Bounded::single_value(N);
         let value = decoder.decode_octet_string(alloc, tag, constraints, held)?;

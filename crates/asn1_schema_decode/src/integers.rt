@@ -13,7 +13,7 @@ impl Decode for Integer {
         alloc: Global,
         decoder: &mut D,
         tag: Tag,
-        constraints: Constraints,
+        constraints: &Constraints,
     ) -> Result<Self, DecodeError> {
         let value = decoder.decode_integer(alloc, tag, constraints)?;
         Ok(value)
@@ -26,7 +26,7 @@ impl Decode for u8 {
         alloc: Global,
         decoder: &mut D,
         tag: Tag,
-        constraints: Constraints,
+        constraints: &Constraints,
     ) -> Result<Self, DecodeError> {
         let value = decoder.decode_integer(alloc, tag, constraints)?;
         Ok(value)

@@ -12,7 +12,7 @@ impl<'a, T: Decode> Decode for Cow<'a, T> {
         alloc: Global,
         decoder: &mut D,
         tag: Tag,
-        constraints: Constraints,
+        constraints: &Constraints,
     ) -> Result<Self, DecodeError> {
         let value = T::decode_with_tag_and_constraints(alloc, decoder, tag, constraints)?;
         Ok(Cow::Owned(value))
@@ -24,7 +24,7 @@ impl<'a, T: Decode> Decode for CowSlice<'a, T, Global> {
         alloc: Global,
         decoder: &mut D,
         tag: Tag,
-        constraints: Constraints,
+        constraints: &Constraints,
     ) -> Result<Self, DecodeError> {
         let items = decoder.decode_sequence_of(alloc, tag, constraints, Bounded::None)?;
         Ok(CowSlice::Owned(items))
@@ -36,7 +36,7 @@ impl<'a> Decode for CowStr<'a, Global> {
         alloc: Global,
         decoder: &mut D,
         tag: Tag,
-        constraints: Constraints,
+        constraints: &Constraints,
     ) -> Result<Self, DecodeError> {
         let value = decoder.decode_utf8_string(alloc, tag, constraints)?;
         Ok(CowStr::Owned(value))

@@ -23,18 +23,18 @@ pub trait DecodeList: Decoder {
         &mut self,
         alloc: Global,
         tag: Tag,
-        constraints: Constraints,
+        constraints: &Constraints,
         held: Bounded<usize>,
     ) -> Result<Vec<T>, DecodeError>
     where
         Self: Sized,
         ensures ok { IfOk result
-            (λ x. Reads Self.step (list_under constraints.entry held T.schema) (Self.levels self.old)
+            (λ x. Reads Self.step (list_under constraints.now held T.schema) (Self.levels self.old)
             (members (values_of T.meaning x.items)) self.old self.new) }
         ensures held { IfOk result (λ x. is_count_within (members_of held) (length x.items) ≡ true) }
         ensures level { OnOk result (Self.levels self.new ≡ Self.levels self.old) }
         ensures only { IfErr result
-            (Unread Self.step (list_under constraints.entry held T.schema) (Self.levels self.old) self.old) }
+            (Unread Self.step (list_under constraints.now held T.schema) (Self.levels self.old) self.old) }
         ensures failed { OnErr result (Self.has_failed self.new) }
         ensures already { Self.has_failed self.old → result ≡ Err DecodeError.AlreadyFailed }
         ensures after { result ≡ Err DecodeError.AlreadyFailed → Self.has_failed self.old }

@@ -12,7 +12,7 @@ impl<T> Decode for PhantomData<T> {
         _alloc: Global,
         decoder: &mut D,
         tag: Tag,
-        _constraints: Constraints,
+        _constraints: &Constraints,
     ) -> Result<Self, DecodeError> {
         decoder.decode_null(tag)?;
         Ok(PhantomData)

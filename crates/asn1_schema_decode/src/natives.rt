@@ -12,7 +12,7 @@ impl Decode for u16 {
         alloc: Global,
         decoder: &mut D,
         tag: Tag,
-        constraints: Constraints,
+        constraints: &Constraints,
     ) -> Result<Self, DecodeError> {
         let value = decoder.decode_integer(alloc, tag, constraints)?;
         Ok(value)
@@ -25,7 +25,7 @@ impl Decode for u32 {
         alloc: Global,
         decoder: &mut D,
         tag: Tag,
-        constraints: Constraints,
+        constraints: &Constraints,
     ) -> Result<Self, DecodeError> {
         let value = decoder.decode_integer(alloc, tag, constraints)?;
         Ok(value)
@@ -38,7 +38,7 @@ impl Decode for u64 {
         alloc: Global,
         decoder: &mut D,
         tag: Tag,
-        constraints: Constraints,
+        constraints: &Constraints,
     ) -> Result<Self, DecodeError> {
         let value = decoder.decode_integer(alloc, tag, constraints)?;
         Ok(value)

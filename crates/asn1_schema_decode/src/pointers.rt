@@ -10,7 +10,7 @@ impl<T: Decode> Decode for Box<T> {
         alloc: Global,
         decoder: &mut D,
         tag: Tag,
-        constraints: Constraints,
+        constraints: &Constraints,
     ) -> Result<Self, DecodeError> {
         let inner = T::decode_with_tag_and_constraints(alloc, decoder, tag, constraints)?;
         match Box::new(alloc, inner) {

@@ -12,7 +12,7 @@ impl Decode for bool {
         _alloc: Global,
         decoder: &mut D,
         tag: Tag,
-        _constraints: Constraints,
+        _constraints: &Constraints,
     ) -> Result<Self, DecodeError> {
         let value = decoder.decode_bool(tag)?;
         Ok(value)
@@ -25,7 +25,7 @@ impl Decode for () {
         _alloc: Global,
         decoder: &mut D,
         tag: Tag,
-        _constraints: Constraints,
+        _constraints: &Constraints,
     ) -> Result<Self, DecodeError> {
         decoder.decode_null(tag)?;
         Ok(())

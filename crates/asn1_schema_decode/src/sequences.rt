@@ -11,7 +11,7 @@ impl<T: Decode> Decode for Vec<T> {
         alloc: Global,
         decoder: &mut D,
         tag: Tag,
-        constraints: Constraints,
+        constraints: &Constraints,
     ) -> Result<Self, DecodeError> {
         let items = decoder.decode_sequence_of(alloc, tag, constraints, Bounded::None)?;
         Ok(items)
@@ -23,7 +23,7 @@ impl<T: Decode, const N: usize> Decode for [T; N] {
         alloc: Global,
         decoder: &mut D,
         tag: Tag,
-        constraints: Constraints,
+        constraints: &Constraints,
     ) -> Result<Self, DecodeError> {
         let items = decoder.decode_sequence_of(alloc, tag, constraints, Bounded::Single(N))?;
         match <[T; N]>::try_from(items) {

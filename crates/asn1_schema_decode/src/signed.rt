@@ -12,7 +12,7 @@ impl Decode for i8 {
         alloc: Global,
         decoder: &mut D,
         tag: Tag,
-        constraints: Constraints,
+        constraints: &Constraints,
     ) -> Result<Self, DecodeError> {
         let value: i8 = decoder.decode_integer(alloc, tag, constraints)?;
         Ok(value)
@@ -25,7 +25,7 @@ impl Decode for i16 {
         alloc: Global,
         decoder: &mut D,
         tag: Tag,
-        constraints: Constraints,
+        constraints: &Constraints,
     ) -> Result<Self, DecodeError> {
         let value: i16 = decoder.decode_integer(alloc, tag, constraints)?;
         Ok(value)
@@ -38,7 +38,7 @@ impl Decode for i32 {
         alloc: Global,
         decoder: &mut D,
         tag: Tag,
-        constraints: Constraints,
+        constraints: &Constraints,
     ) -> Result<Self, DecodeError> {
         let value: i32 = decoder.decode_integer(alloc, tag, constraints)?;
         Ok(value)
@@ -51,7 +51,7 @@ impl Decode for i64 {
         alloc: Global,
         decoder: &mut D,
         tag: Tag,
-        constraints: Constraints,
+        constraints: &Constraints,
     ) -> Result<Self, DecodeError> {
         let value: i64 = decoder.decode_integer(alloc, tag, constraints)?;
         Ok(value)

@@ -15,7 +15,7 @@ impl Decode for BitString {
         alloc: Global,
         decoder: &mut D,
         tag: Tag,
-        constraints: Constraints,
+        constraints: &Constraints,
     ) -> Result<Self, DecodeError> {
         let value = decoder.decode_bit_string(alloc, tag, constraints, Bounded::None)?;
         Ok(value)
@@ -28,7 +28,7 @@ impl Decode for OctetString {
         alloc: Global,
         decoder: &mut D,
         tag: Tag,
-        constraints: Constraints,
+        constraints: &Constraints,
     ) -> Result<Self, DecodeError> {
         let value = decoder.decode_octet_string(alloc, tag, constraints, Bounded::None)?;
         match octet_string(alloc, value) {
@@ -43,7 +43,7 @@ impl Decode for String {
         alloc: Global,
         decoder: &mut D,
         tag: Tag,
-        constraints: Constraints,
+        constraints: &Constraints,
     ) -> Result<Self, DecodeError> {
         let value = decoder.decode_utf8_string(alloc, tag, constraints)?;
         Ok(value)
@@ -55,7 +55,7 @@ impl Decode for ObjectIdentifier {
         alloc: Global,
         decoder: &mut D,
         tag: Tag,
-        _constraints: Constraints,
+        _constraints: &Constraints,
     ) -> Result<Self, DecodeError> {
         let value = decoder.decode_object_identifier(alloc, tag)?;
         Ok(value)

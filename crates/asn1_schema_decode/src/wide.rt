@@ -11,7 +11,7 @@ impl Decode for i128 {
         alloc: Global,
         decoder: &mut D,
         tag: Tag,
-        constraints: Constraints,
+        constraints: &Constraints,
     ) -> Result<Self, DecodeError> {
         let value: i128 = decoder.decode_integer(alloc, tag, constraints)?;
         Ok(value)
@@ -23,7 +23,7 @@ impl Decode for u128 {
         alloc: Global,
         decoder: &mut D,
         tag: Tag,
-        constraints: Constraints,
+        constraints: &Constraints,
     ) -> Result<Self, DecodeError> {
         let value: u128 = decoder.decode_integer(alloc, tag, constraints)?;
         Ok(value)
@@ -35,7 +35,7 @@ impl Decode for isize {
         alloc: Global,
         decoder: &mut D,
         tag: Tag,
-        constraints: Constraints,
+        constraints: &Constraints,
     ) -> Result<Self, DecodeError> {
         let value: isize = decoder.decode_integer(alloc, tag, constraints)?;
         Ok(value)
@@ -47,7 +47,7 @@ impl Decode for usize {
         alloc: Global,
         decoder: &mut D,
         tag: Tag,
-        constraints: Constraints,
+        constraints: &Constraints,
     ) -> Result<Self, DecodeError> {
         let value: usize = decoder.decode_integer(alloc, tag, constraints)?;
         Ok(value)

@@ -10,7 +10,7 @@ impl Encode for BmpString {
         &self,
         encoder: &mut E,
         tag: Tag,
-        constraints: Constraints,
+        constraints: &Constraints,
     ) -> Result<(), EncodeError> {
         encoder.encode_characters(tag, constraints, self, Identifier::BMP_STRING)?;
         Ok(())

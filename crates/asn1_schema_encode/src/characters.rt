@@ -12,7 +12,7 @@ impl<K: TaggedKind> Encode for RestrictedString<K> {
         &self,
         encoder: &mut E,
         tag: Tag,
-        constraints: Constraints,
+        constraints: &Constraints,
     ) -> Result<(), EncodeError> {
         encoder.encode_characters(tag, constraints, self, K::IDENTIFIER)?;
         Ok(())

@@ -97,7 +97,7 @@ pub trait EncodeSequence: Encoder {
         ensures already { Self.has_failed self.old → result ≡ Err EncodeError.AlreadyFailed }
         ensures after { result ≡ Err EncodeError.AlreadyFailed → Self.has_failed self.old }
     {
-        self.encode_some_with_tag_and_constraints(tag, value, T::constraints())?;
+        self.encode_some_with_tag_and_constraints(tag, value, &T::constraints())?;
         Ok(())
     }
 
@@ -106,14 +106,14 @@ pub trait EncodeSequence: Encoder {
         &mut self,
         tag: Tag,
         value: &T,
-        constraints: Constraints,
+        constraints: &Constraints,
     ) -> Result<(), EncodeError>
     where
         Self: Sized,
         ensures ok { OnOk result
-            (WritesPresent Self.step (T.under (meant constraints.entry)) (T.meaning value.now) self.old self.new) }
+            (WritesPresent Self.step (T.under (meant constraints.now)) (T.meaning value.now) self.old self.new) }
         ensures only { IfErr result
-            (CannotWritePresent Self.step (T.under (meant constraints.entry)) (T.meaning value.now) self.old) }
+            (CannotWritePresent Self.step (T.under (meant constraints.now)) (T.meaning value.now) self.old) }
         ensures failed { OnErr result (Self.has_failed self.new) }
         ensures front { Self.front self.new ≡ Self.front self.old }
         ensures already { Self.has_failed self.old → result ≡ Err EncodeError.AlreadyFailed }
@@ -213,7 +213,7 @@ pub trait EncodeSequence: Encoder {
         ensures already { Self.has_failed self.old → result ≡ Err EncodeError.AlreadyFailed }
         ensures after { result ≡ Err EncodeError.AlreadyFailed → Self.has_failed self.old }
     {
-        self.encode_default_with_tag_and_constraints::<V, T>(tag, value, T::constraints())?;
+        self.encode_default_with_tag_and_constraints::<V, T>(tag, value, &T::constraints())?;
         Ok(())
     }
 
@@ -221,15 +221,15 @@ pub trait EncodeSequence: Encoder {
     final fn encode_default_with_constraints<V: DefaultOf<T>, T: Encode>(
         &mut self,
         value: &T,
-        constraints: Constraints,
+        constraints: &Constraints,
     ) -> Result<(), EncodeError>
     where
         Self: Sized,
         ensures ok { OnOk result
-            (WritesUnless (same (T.meaning value.now) V.value) Self.step (T.under (meant constraints.entry))
+            (WritesUnless (same (T.meaning value.now) V.value) Self.step (T.under (meant constraints.now))
             (T.meaning value.now) self.old self.new) }
         ensures only { IfErr result
-            (CannotWriteUnless (same (T.meaning value.now) V.value) Self.step (T.under (meant constraints.entry))
+            (CannotWriteUnless (same (T.meaning value.now) V.value) Self.step (T.under (meant constraints.now))
             (T.meaning value.now) self.old) }
         ensures failed { OnErr result (Self.has_failed self.new) }
         ensures front { Self.front self.new ≡ Self.front self.old }
@@ -244,15 +244,15 @@ pub trait EncodeSequence: Encoder {
         &mut self,
         tag: Tag,
         value: &T,
-        constraints: Constraints,
+        constraints: &Constraints,
     ) -> Result<(), EncodeError>
     where
         Self: Sized,
         ensures ok { OnOk result
-            (WritesUnless (same (T.meaning value.now) V.value) Self.step (T.under (meant constraints.entry))
+            (WritesUnless (same (T.meaning value.now) V.value) Self.step (T.under (meant constraints.now))
             (T.meaning value.now) self.old self.new) }
         ensures only { IfErr result
-            (CannotWriteUnless (same (T.meaning value.now) V.value) Self.step (T.under (meant constraints.entry))
+            (CannotWriteUnless (same (T.meaning value.now) V.value) Self.step (T.under (meant constraints.now))
             (T.meaning value.now) self.old) }
         ensures failed { OnErr result (Self.has_failed self.new) }
         ensures front { Self.front self.new ≡ Self.front self.old }

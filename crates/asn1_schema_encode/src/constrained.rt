@@ -12,11 +12,11 @@ impl<R: Ends> Encode for RangedInteger<R> {
         &self,
         encoder: &mut E,
         tag: Tag,
-        constraints: Constraints,
+        constraints: &Constraints,
     ) -> Result<(), EncodeError> {
         let number: &Integer = self;
         let range = within_range(constraints, R::START, R::END);
-        encoder.encode_integer(tag, range, number, Identifier::INTEGER)?;
+        encoder.encode_integer(tag, &range, number, Identifier::INTEGER)?;
         Ok(())
     }
 }

@@ -73,12 +73,12 @@ pub trait Encoder {
     fn encode_integer<I: IntegerType>(
         &mut self,
         tag: Tag,
-        constraints: Constraints,
+        constraints: &Constraints,
         value: &I,
         identifier: Identifier,
     ) -> Result<(), EncodeError>
-        ensures ok { OnOk result (step self.old (whole_under constraints.entry I.held (I.value value.now)) self.new) }
-        ensures only { IfErr result (Refused step (whole_under constraints.entry I.held (I.value value.now)) self.old) }
+        ensures ok { OnOk result (step self.old (whole_under constraints.now I.held (I.value value.now)) self.new) }
+        ensures only { IfErr result (Refused step (whole_under constraints.now I.held (I.value value.now)) self.old) }
         ensures failed { OnErr result (has_failed self.new) }
         ensures front { front self.new ≡ front self.old }
         ensures already { has_failed self.old → result ≡ Err EncodeError.AlreadyFailed }
@@ -104,13 +104,13 @@ pub trait Encoder {
     fn encode_bit_string(
         &mut self,
         tag: Tag,
-        constraints: Constraints,
+        constraints: &Constraints,
         held: Bounded<usize>,
         value: BitStr,
         identifier: Identifier,
     ) -> Result<(), EncodeError>
-        ensures ok { OnOk result (step self.old (bits_under constraints.entry held (bits_of value.entry)) self.new) }
-        ensures only { IfErr result (Refused step (bits_under constraints.entry held (bits_of value.entry)) self.old) }
+        ensures ok { OnOk result (step self.old (bits_under constraints.now held (bits_of value.entry)) self.new) }
+        ensures only { IfErr result (Refused step (bits_under constraints.now held (bits_of value.entry)) self.old) }
         ensures failed { OnErr result (has_failed self.new) }
         ensures front { front self.new ≡ front self.old }
         ensures already { has_failed self.old → result ≡ Err EncodeError.AlreadyFailed }
@@ -120,13 +120,13 @@ pub trait Encoder {
     fn encode_octet_string(
         &mut self,
         tag: Tag,
-        constraints: Constraints,
+        constraints: &Constraints,
         held: Bounded<usize>,
         value: &[u8],
         identifier: Identifier,
     ) -> Result<(), EncodeError>
-        ensures ok { OnOk result (step self.old (octets_under constraints.entry held value.now) self.new) }
-        ensures only { IfErr result (Refused step (octets_under constraints.entry held value.now) self.old) }
+        ensures ok { OnOk result (step self.old (octets_under constraints.now held value.now) self.new) }
+        ensures only { IfErr result (Refused step (octets_under constraints.now held value.now) self.old) }
         ensures failed { OnErr result (has_failed self.new) }
         ensures front { front self.new ≡ front self.old }
         ensures already { has_failed self.old → result ≡ Err EncodeError.AlreadyFailed }
@@ -136,12 +136,12 @@ pub trait Encoder {
     fn encode_utf8_string(
         &mut self,
         tag: Tag,
-        constraints: Constraints,
+        constraints: &Constraints,
         value: &str,
         identifier: Identifier,
     ) -> Result<(), EncodeError>
-        ensures ok { OnOk result (step self.old (characters_under utf8 constraints.entry value.now) self.new) }
-        ensures only { IfErr result (Refused step (characters_under utf8 constraints.entry value.now) self.old) }
+        ensures ok { OnOk result (step self.old (characters_under utf8 constraints.now value.now) self.new) }
+        ensures only { IfErr result (Refused step (characters_under utf8 constraints.now value.now) self.old) }
         ensures failed { OnErr result (has_failed self.new) }
         ensures front { front self.new ≡ front self.old }
         ensures already { has_failed self.old → result ≡ Err EncodeError.AlreadyFailed }
@@ -152,14 +152,14 @@ pub trait Encoder {
     fn encode_characters<S: StaticPermittedAlphabet>(
         &mut self,
         tag: Tag,
-        constraints: Constraints,
+        constraints: &Constraints,
         value: &S,
         identifier: Identifier,
     ) -> Result<(), EncodeError>
         ensures ok { OnOk result
-            (step self.old (characters_under S.kind constraints.entry (S.characters value.now)) self.new) }
+            (step self.old (characters_under S.kind constraints.now (S.characters value.now)) self.new) }
         ensures only { IfErr result
-            (Refused step (characters_under S.kind constraints.entry (S.characters value.now)) self.old) }
+            (Refused step (characters_under S.kind constraints.now (S.characters value.now)) self.old) }
         ensures failed { OnErr result (has_failed self.new) }
         ensures front { front self.new ≡ front self.old }
         ensures already { has_failed self.old → result ≡ Err EncodeError.AlreadyFailed }
@@ -184,12 +184,12 @@ pub trait Encoder {
     fn begin_list(
         &mut self,
         tag: Tag,
-        constraints: Constraints,
+        constraints: &Constraints,
         held: Bounded<usize>,
         count: usize,
     ) -> Result<(), EncodeError>
-        ensures ok { OnOk result (step self.old (list_begins_under constraints.entry held count) self.new) }
-        ensures only { IfErr result (Refused step (list_begins_under constraints.entry held count) self.old) }
+        ensures ok { OnOk result (step self.old (list_begins_under constraints.now held count) self.new) }
+        ensures only { IfErr result (Refused step (list_begins_under constraints.now held count) self.old) }
         ensures failed { OnErr result (has_failed self.new) }
         ensures front { front self.new ≡ front self.old }
         ensures already { has_failed self.old → result ≡ Err EncodeError.AlreadyFailed }
@@ -201,12 +201,12 @@ pub trait Encoder {
     fn begin_bag(
         &mut self,
         tag: Tag,
-        constraints: Constraints,
+        constraints: &Constraints,
         held: Bounded<usize>,
         count: usize,
     ) -> Result<(), EncodeError>
-        ensures ok { OnOk result (step self.old (bag_begins_under constraints.entry held count) self.new) }
-        ensures only { IfErr result (Refused step (bag_begins_under constraints.entry held count) self.old) }
+        ensures ok { OnOk result (step self.old (bag_begins_under constraints.now held count) self.new) }
+        ensures only { IfErr result (Refused step (bag_begins_under constraints.now held count) self.old) }
         ensures failed { OnErr result (has_failed self.new) }
         ensures front { front self.new ≡ front self.old }
         ensures already { has_failed self.old → result ≡ Err EncodeError.AlreadyFailed }
@@ -338,12 +338,12 @@ pub trait Encode: AsnType {
         &self,
         encoder: &mut E,
         tag: Tag,
-        constraints: Constraints,
+        constraints: &Constraints,
     ) -> Result<(), EncodeError>
         ensures ok { OnOk result
-            (Writes E.step (Self.under (meant constraints.entry)) (Self.meaning self.now) encoder.old encoder.new) }
+            (Writes E.step (Self.under (meant constraints.now)) (Self.meaning self.now) encoder.old encoder.new) }
         ensures only { IfErr result
-            (CannotWrite E.step (Self.under (meant constraints.entry)) (Self.meaning self.now) encoder.old) }
+            (CannotWrite E.step (Self.under (meant constraints.now)) (Self.meaning self.now) encoder.old) }
         ensures failed { OnErr result (E.has_failed encoder.new) }
         ensures front { E.front encoder.new ≡ E.front encoder.old }
         ensures already { E.has_failed encoder.old → result ≡ Err EncodeError.AlreadyFailed }
@@ -380,7 +380,7 @@ pub trait Encode: AsnType {
         ensures already { E.has_failed encoder.old → result ≡ Err EncodeError.AlreadyFailed }
         ensures after { result ≡ Err EncodeError.AlreadyFailed → E.has_failed encoder.old }
     {
-        self.encode_with_tag_and_constraints(encoder, tag, Self::constraints())?;
+        self.encode_with_tag_and_constraints(encoder, tag, &Self::constraints())?;
         Ok(())
     }
 
@@ -389,14 +389,14 @@ pub trait Encode: AsnType {
     final fn encode_with_constraints<E: Encoder>(
         &self,
         encoder: &mut E,
-        constraints: Constraints,
+        constraints: &Constraints,
     ) -> Result<(), EncodeError>
     where
         Self: Sized,
         ensures ok { OnOk result
-            (Writes E.step (Self.under (meant constraints.entry)) (Self.meaning self.now) encoder.old encoder.new) }
+            (Writes E.step (Self.under (meant constraints.now)) (Self.meaning self.now) encoder.old encoder.new) }
         ensures only { IfErr result
-            (CannotWrite E.step (Self.under (meant constraints.entry)) (Self.meaning self.now) encoder.old) }
+            (CannotWrite E.step (Self.under (meant constraints.now)) (Self.meaning self.now) encoder.old) }
         ensures failed { OnErr result (E.has_failed encoder.new) }
         ensures front { E.front encoder.new ≡ E.front encoder.old }
         ensures already { E.has_failed encoder.old → result ≡ Err EncodeError.AlreadyFailed }

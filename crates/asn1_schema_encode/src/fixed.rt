@@ -11,7 +11,7 @@ impl<const N: usize> Encode for FixedBitString<N> {
         &self,
         encoder: &mut E,
         tag: Tag,
-        constraints: Constraints,
+        constraints: &Constraints,
     ) -> Result<(), EncodeError> {
         encoder.encode_bit_string(
             tag,
@@ -29,7 +29,7 @@ impl<const N: usize> Encode for FixedOctetString<N> {
         &self,
         encoder: &mut E,
         tag: Tag,
-        constraints: Constraints,
+        constraints: &Constraints,
     ) -> Result<(), EncodeError> {
         encoder.encode_octet_string(
             tag,

@@ -12,7 +12,7 @@ impl Encode for Integer {
         &self,
         encoder: &mut E,
         tag: Tag,
-        constraints: Constraints,
+        constraints: &Constraints,
     ) -> Result<(), EncodeError> {
         encoder.encode_integer(tag, constraints, self, Identifier::INTEGER)?;
         Ok(())
@@ -25,7 +25,7 @@ impl Encode for u8 {
         &self,
         encoder: &mut E,
         tag: Tag,
-        constraints: Constraints,
+        constraints: &Constraints,
     ) -> Result<(), EncodeError> {
         encoder.encode_integer(tag, constraints, self, Identifier::INTEGER)?;
         Ok(())

@@ -12,7 +12,7 @@ impl<T: Encode> Encode for &T {
         &self,
         encoder: &mut E,
         tag: Tag,
-        constraints: Constraints,
+        constraints: &Constraints,
     ) -> Result<(), EncodeError> {
         T::encode_with_tag_and_constraints(*self, encoder, tag, constraints)
     }
@@ -23,7 +23,7 @@ impl Encode for &str {
         &self,
         encoder: &mut E,
         tag: Tag,
-        constraints: Constraints,
+        constraints: &Constraints,
     ) -> Result<(), EncodeError> {
         encoder.encode_utf8_string(tag, constraints, *self, Identifier::UTF8_STRING)?;
         Ok(())
@@ -35,7 +35,7 @@ impl<'a, T: Encode> Encode for Cow<'a, T> {
         &self,
         encoder: &mut E,
         tag: Tag,
-        constraints: Constraints,
+        constraints: &Constraints,
     ) -> Result<(), EncodeError> {
         let value: &T = self.as_ref();
         T::encode_with_tag_and_constraints(value, encoder, tag, constraints)
@@ -47,7 +47,7 @@ impl<'a, T: Encode> Encode for CowSlice<'a, T, Global> {
         &self,
         encoder: &mut E,
         tag: Tag,
-        constraints: Constraints,
+        constraints: &Constraints,
     ) -> Result<(), EncodeError> {
         encoder.encode_sequence_of(tag, self.as_slice(), constraints, Bounded::None)
     }
@@ -58,7 +58,7 @@ impl<'a> Encode for CowStr<'a, Global> {
         &self,
         encoder: &mut E,
         tag: Tag,
-        constraints: Constraints,
+        constraints: &Constraints,
     ) -> Result<(), EncodeError> {
         encoder.encode_utf8_string(tag, constraints, self.as_str(), Identifier::UTF8_STRING)?;
         Ok(())

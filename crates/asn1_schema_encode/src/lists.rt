@@ -18,14 +18,14 @@ pub trait EncodeList: Encoder {
         &mut self,
         tag: Tag,
         items: &[T],
-        constraints: Constraints,
+        constraints: &Constraints,
         held: Bounded<usize>,
     ) -> Result<(), EncodeError>
     where
         Self: Sized,
-        ensures ok { OnOk result (Writes Self.step (list_under constraints.entry held T.schema)
+        ensures ok { OnOk result (Writes Self.step (list_under constraints.now held T.schema)
             (members (values_of T.meaning items.now)) self.old self.new) }
-        ensures only { IfErr result (CannotWrite Self.step (list_under constraints.entry held T.schema)
+        ensures only { IfErr result (CannotWrite Self.step (list_under constraints.now held T.schema)
             (members (values_of T.meaning items.now)) self.old) }
         ensures failed { OnErr result (Self.has_failed self.new) }
         ensures front { Self.front self.new ≡ Self.front self.old }

@@ -10,7 +10,7 @@ impl<T> Encode for PhantomData<T> {
         &self,
         encoder: &mut E,
         tag: Tag,
-        _constraints: Constraints,
+        _constraints: &Constraints,
     ) -> Result<(), EncodeError> {
         encoder.encode_null(tag, Identifier::NULL)?;
         Ok(())

@@ -10,7 +10,7 @@ impl Encode for i8 {
         &self,
         encoder: &mut E,
         tag: Tag,
-        constraints: Constraints,
+        constraints: &Constraints,
     ) -> Result<(), EncodeError> {
         encoder.encode_integer(tag, constraints, self, Identifier::INTEGER)?;
         Ok(())
@@ -23,7 +23,7 @@ impl Encode for i16 {
         &self,
         encoder: &mut E,
         tag: Tag,
-        constraints: Constraints,
+        constraints: &Constraints,
     ) -> Result<(), EncodeError> {
         encoder.encode_integer(tag, constraints, self, Identifier::INTEGER)?;
         Ok(())
@@ -36,7 +36,7 @@ impl Encode for i32 {
         &self,
         encoder: &mut E,
         tag: Tag,
-        constraints: Constraints,
+        constraints: &Constraints,
     ) -> Result<(), EncodeError> {
         encoder.encode_integer(tag, constraints, self, Identifier::INTEGER)?;
         Ok(())
@@ -49,7 +49,7 @@ impl Encode for i64 {
         &self,
         encoder: &mut E,
         tag: Tag,
-        constraints: Constraints,
+        constraints: &Constraints,
     ) -> Result<(), EncodeError> {
         encoder.encode_integer(tag, constraints, self, Identifier::INTEGER)?;
         Ok(())
@@ -62,7 +62,7 @@ impl Encode for u16 {
         &self,
         encoder: &mut E,
         tag: Tag,
-        constraints: Constraints,
+        constraints: &Constraints,
     ) -> Result<(), EncodeError> {
         encoder.encode_integer(tag, constraints, self, Identifier::INTEGER)?;
         Ok(())
@@ -75,7 +75,7 @@ impl Encode for u32 {
         &self,
         encoder: &mut E,
         tag: Tag,
-        constraints: Constraints,
+        constraints: &Constraints,
     ) -> Result<(), EncodeError> {
         encoder.encode_integer(tag, constraints, self, Identifier::INTEGER)?;
         Ok(())
@@ -88,7 +88,7 @@ impl Encode for u64 {
         &self,
         encoder: &mut E,
         tag: Tag,
-        constraints: Constraints,
+        constraints: &Constraints,
     ) -> Result<(), EncodeError> {
         encoder.encode_integer(tag, constraints, self, Identifier::INTEGER)?;
         Ok(())

@@ -9,7 +9,7 @@ impl<T: Encode> Encode for Box<T> {
         &self,
         encoder: &mut E,
         tag: Tag,
-        constraints: Constraints,
+        constraints: &Constraints,
     ) -> Result<(), EncodeError> {
         T::encode_with_tag_and_constraints(&**self, encoder, tag, constraints)
     }

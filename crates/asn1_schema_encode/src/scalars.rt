@@ -11,7 +11,7 @@ impl Encode for bool {
         &self,
         encoder: &mut E,
         tag: Tag,
-        _constraints: Constraints,
+        _constraints: &Constraints,
     ) -> Result<(), EncodeError> {
         encoder.encode_bool(tag, *self, Identifier::BOOL)?;
         Ok(())
@@ -24,7 +24,7 @@ impl Encode for () {
         &self,
         encoder: &mut E,
         tag: Tag,
-        _constraints: Constraints,
+        _constraints: &Constraints,
     ) -> Result<(), EncodeError> {
         encoder.encode_null(tag, Identifier::NULL)?;
         Ok(())

@@ -10,7 +10,7 @@ impl<T: Encode> Encode for Vec<T> {
         &self,
         encoder: &mut E,
         tag: Tag,
-        constraints: Constraints,
+        constraints: &Constraints,
     ) -> Result<(), EncodeError> {
         encoder.encode_sequence_of(tag, self.as_slice(), constraints, Bounded::None)
     }
@@ -21,7 +21,7 @@ impl<T: Encode, const N: usize> Encode for [T; N] {
         &self,
         encoder: &mut E,
         tag: Tag,
-        constraints: Constraints,
+        constraints: &Constraints,
     ) -> Result<(), EncodeError> {
         encoder.encode_sequence_of(tag, self.as_slice(), constraints, Bounded::Single(N))
     }
@@ -32,7 +32,7 @@ impl<T: Encode> Encode for &[T] {
         &self,
         encoder: &mut E,
         tag: Tag,
-        constraints: Constraints,
+        constraints: &Constraints,
     ) -> Result<(), EncodeError> {
         encoder.encode_sequence_of(tag, *self, constraints, Bounded::None)
     }

@@ -12,7 +12,7 @@ impl Encode for BitString {
         &self,
         encoder: &mut E,
         tag: Tag,
-        constraints: Constraints,
+        constraints: &Constraints,
     ) -> Result<(), EncodeError> {
         encoder.encode_bit_string(
             tag,
@@ -31,7 +31,7 @@ impl Encode for OctetString {
         &self,
         encoder: &mut E,
         tag: Tag,
-        constraints: Constraints,
+        constraints: &Constraints,
     ) -> Result<(), EncodeError> {
         encoder.encode_octet_string(
             tag,
@@ -49,7 +49,7 @@ impl Encode for String {
         &self,
         encoder: &mut E,
         tag: Tag,
-        constraints: Constraints,
+        constraints: &Constraints,
     ) -> Result<(), EncodeError> {
         encoder.encode_utf8_string(tag, constraints, self.as_str(), Identifier::UTF8_STRING)?;
         Ok(())
@@ -61,7 +61,7 @@ impl Encode for ObjectIdentifier {
         &self,
         encoder: &mut E,
         tag: Tag,
-        _constraints: Constraints,
+        _constraints: &Constraints,
     ) -> Result<(), EncodeError> {
         encoder.encode_object_identifier(tag, self.as_oid(), Identifier::OBJECT_IDENTIFIER)?;
         Ok(())

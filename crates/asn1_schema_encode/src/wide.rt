@@ -9,7 +9,7 @@ impl Encode for i128 {
         &self,
         encoder: &mut E,
         tag: Tag,
-        constraints: Constraints,
+        constraints: &Constraints,
     ) -> Result<(), EncodeError> {
         encoder.encode_integer(tag, constraints, self, Identifier::INTEGER)?;
         Ok(())
@@ -21,7 +21,7 @@ impl Encode for u128 {
         &self,
         encoder: &mut E,
         tag: Tag,
-        constraints: Constraints,
+        constraints: &Constraints,
     ) -> Result<(), EncodeError> {
         encoder.encode_integer(tag, constraints, self, Identifier::INTEGER)?;
         Ok(())
@@ -33,7 +33,7 @@ impl Encode for isize {
         &self,
         encoder: &mut E,
         tag: Tag,
-        constraints: Constraints,
+        constraints: &Constraints,
     ) -> Result<(), EncodeError> {
         encoder.encode_integer(tag, constraints, self, Identifier::INTEGER)?;
         Ok(())
@@ -45,7 +45,7 @@ impl Encode for usize {
         &self,
         encoder: &mut E,
         tag: Tag,
-        constraints: Constraints,
+        constraints: &Constraints,
     ) -> Result<(), EncodeError> {
         encoder.encode_integer(tag, constraints, self, Identifier::INTEGER)?;
         Ok(())

@@ -119,7 +119,7 @@ impl Encode for Chain {
         &self,
         encoder: &mut E,
         tag: Tag,
-        _constraints: Constraints,
+        _constraints: &Constraints,
     ) -> Result<(), EncodeError> {
         let optional = Chain::fields().number_of_optional_and_default_fields();
         encoder.begin_sequence(tag, false, optional)?;
@@ -133,7 +133,7 @@ impl Decode for Chain {
         alloc: Global,
         decoder: &mut D,
         tag: Tag,
-        _constraints: Constraints,
+        _constraints: &Constraints,
     ) -> Result<Self, DecodeError> {
         let optional = Chain::fields().number_of_optional_and_default_fields();
         decoder.begin_sequence(tag, false, optional)?;

@@ -138,7 +138,7 @@ impl Encode for Colour {
         &self,
         encoder: &mut E,
         tag: Tag,
-        _constraints: Constraints,
+        _constraints: &Constraints,
     ) -> Result<(), EncodeError> {
         encoder.encode_item(tag, self)
     }
@@ -149,7 +149,7 @@ impl Decode for Colour {
         _alloc: Global,
         decoder: &mut D,
         tag: Tag,
-        _constraints: Constraints,
+        _constraints: &Constraints,
     ) -> Result<Self, DecodeError> {
         decoder.decode_item(tag)
     }

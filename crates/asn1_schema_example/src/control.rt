@@ -118,7 +118,7 @@ impl Encode for Control {
         &self,
         encoder: &mut E,
         tag: Tag,
-        _constraints: Constraints,
+        _constraints: &Constraints,
     ) -> Result<(), EncodeError> {
         encoder.encode_set_fields_of(tag, self)
     }
@@ -129,7 +129,7 @@ impl Decode for Control {
         alloc: Global,
         decoder: &mut D,
         tag: Tag,
-        _constraints: Constraints,
+        _constraints: &Constraints,
     ) -> Result<Self, DecodeError> {
         decoder.decode_set_fields_of(alloc, tag)
     }

@@ -133,7 +133,7 @@ impl Encode for Measure {
         &self,
         encoder: &mut E,
         tag: Tag,
-        _constraints: Constraints,
+        _constraints: &Constraints,
     ) -> Result<(), EncodeError> {
         encoder.encode_fields_of(tag, self)
     }
@@ -144,7 +144,7 @@ impl Decode for Measure {
         alloc: Global,
         decoder: &mut D,
         tag: Tag,
-        _constraints: Constraints,
+        _constraints: &Constraints,
     ) -> Result<Self, DecodeError> {
         decoder.decode_fields_of(alloc, tag)
     }

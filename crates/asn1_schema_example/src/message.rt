@@ -185,7 +185,7 @@ impl Encode for Message {
         &self,
         encoder: &mut E,
         tag: Tag,
-        constraints: Constraints,
+        constraints: &Constraints,
     ) -> Result<(), EncodeError> {
         encoder.encode_choice(tag, constraints, self)
     }
@@ -196,7 +196,7 @@ impl Decode for Message {
         alloc: Global,
         decoder: &mut D,
         tag: Tag,
-        constraints: Constraints,
+        constraints: &Constraints,
     ) -> Result<Self, DecodeError> {
         decoder.decode_choice(alloc, tag, constraints)
     }

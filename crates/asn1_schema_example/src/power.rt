@@ -160,7 +160,7 @@ impl Encode for Power {
         &self,
         encoder: &mut E,
         tag: Tag,
-        constraints: Constraints,
+        constraints: &Constraints,
     ) -> Result<(), EncodeError> {
         encoder.encode_choice(tag, constraints, self)
     }
@@ -171,7 +171,7 @@ impl Decode for Power {
         alloc: Global,
         decoder: &mut D,
         tag: Tag,
-        constraints: Constraints,
+        constraints: &Constraints,
     ) -> Result<Self, DecodeError> {
         decoder.decode_choice(alloc, tag, constraints)
     }

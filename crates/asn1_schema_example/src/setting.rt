@@ -111,7 +111,7 @@ impl Encode for Setting {
         &self,
         encoder: &mut E,
         tag: Tag,
-        _constraints: Constraints,
+        _constraints: &Constraints,
     ) -> Result<(), EncodeError> {
         encoder.encode_fields_of(tag, self)
     }
@@ -122,7 +122,7 @@ impl Decode for Setting {
         alloc: Global,
         decoder: &mut D,
         tag: Tag,
-        _constraints: Constraints,
+        _constraints: &Constraints,
     ) -> Result<Self, DecodeError> {
         decoder.decode_fields_of(alloc, tag)
     }

@@ -113,14 +113,14 @@ fn read_branches<D: Decoder>(alloc: Global, decoder: &mut D) -> Result<Vec<Tree>
     ensures failed { OnErr result (D.has_failed decoder.new) }
     ensures after { result ≡ Err DecodeError.AlreadyFailed → D.has_failed decoder.old }
 {
-    decoder.begin_list(Tag::SEQUENCE, Constraints::NONE, Bounded::None)?;
+    decoder.begin_list(Tag::SEQUENCE, &Constraints::NONE, Bounded::None)?;
     let mut branches = Vec::new(alloc);
     while decoder.get_further()? {
         let branch = Tree::decode_with_tag_and_constraints(
             alloc,
             decoder,
             Tag::SEQUENCE,
-            Constraints::NONE,
+            &Constraints::NONE,
         )?;
         let Ok(()) = branches.push(branch) else {
             return Err(decoder.refuse(DecodeError::OutOfMemory));
@@ -136,7 +136,7 @@ impl Encode for Tree {
         &self,
         encoder: &mut E,
         tag: Tag,
-        _constraints: Constraints,
+        _constraints: &Constraints,
     ) -> Result<(), EncodeError> {
         let optional = Tree::fields().number_of_optional_and_default_fields();
         encoder.begin_sequence(tag, false, optional)?;
@@ -151,7 +151,7 @@ impl Decode for Tree {
         alloc: Global,
         decoder: &mut D,
         tag: Tag,
-        _constraints: Constraints,
+        _constraints: &Constraints,
     ) -> Result<Self, DecodeError> {
         let optional = Tree::fields().number_of_optional_and_default_fields();
         decoder.begin_sequence(tag, false, optional)?;

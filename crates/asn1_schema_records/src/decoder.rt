@@ -227,17 +227,17 @@ impl Decoder for RecordDecoder {
         &mut self,
         alloc: Global,
         _tag: Tag,
-        constraints: Constraints,
+        constraints: &Constraints,
     ) -> Result<I, DecodeError>
-        ensures ok { IfOk result (λ x. Takes self.old (whole_under constraints.entry I.held (I.value x)) self.new) }
-        ensures within { IfOk result (λ x. ((bounds_of constraints.entry.value).extensible
-            || is_within ((bounds_of constraints.entry.value).range) (I.value x)) ≡ true) }
+        ensures ok { IfOk result (λ x. Takes self.old (whole_under constraints.now I.held (I.value x)) self.new) }
+        ensures within { IfOk result (λ x. ((bounds_of constraints.now.value).extensible
+            || is_within ((bounds_of constraints.now.value).range) (I.value x)) ≡ true) }
         ensures level { OnOk result (self.new.levels ≡ self.old.levels) }
-        ensures only { IfErr result (NoRecord Takes (asks_whole_under constraints.entry I.held) self.old) }
+        ensures only { IfErr result (NoRecord Takes (asks_whole_under constraints.now I.held) self.old) }
         ensures failed { OnErr result (self.new.failed ≡ true) }
         ensures already { self.old.failed ≡ true → result ≡ Err DecodeError.AlreadyFailed }
         ensures after { result ≡ Err DecodeError.AlreadyFailed → self.old.failed ≡ true }
-        ensures kind { IfErr result (IsRefused self.old (IsMisfitNumber constraints.entry.value I.held)) }
+        ensures kind { IfErr result (IsRefused self.old (IsMisfitNumber constraints.now.value I.held)) }
     {
         let item = self.take_next()?;
         let Some((limits, number)) = item.into_integer() else {
@@ -275,18 +275,18 @@ impl Decoder for RecordDecoder {
         &mut self,
         _alloc: Global,
         _tag: Tag,
-        constraints: Constraints,
+        constraints: &Constraints,
         held: Bounded<usize>,
     ) -> Result<BitString, DecodeError>
-        ensures ok { IfOk result (λ x. Takes self.old (bits_under constraints.entry held x) self.new) }
+        ensures ok { IfOk result (λ x. Takes self.old (bits_under constraints.now held x) self.new) }
         ensures held { IfOk result (λ x. is_count_within (counts_of held) (length x) ≡ true) }
         ensures level { OnOk result (self.new.levels ≡ self.old.levels) }
-        ensures only { IfErr result (NoRecord Takes (asks_bits_under constraints.entry held) self.old) }
+        ensures only { IfErr result (NoRecord Takes (asks_bits_under constraints.now held) self.old) }
         ensures failed { OnErr result (self.new.failed ≡ true) }
         ensures already { self.old.failed ≡ true → result ≡ Err DecodeError.AlreadyFailed }
         ensures after { result ≡ Err DecodeError.AlreadyFailed → self.old.failed ≡ true }
         ensures kind { IfErr result
-            (IsRefused self.old (IsMisfit kept_bits length (sizes_of constraints.entry.size) (counts_of held))) }
+            (IsRefused self.old (IsMisfit kept_bits length (sizes_of constraints.now.size) (counts_of held))) }
     {
         let item = self.take_next()?;
         let Some((sizes, bits)) = item.into_bits() else {
@@ -302,19 +302,19 @@ impl Decoder for RecordDecoder {
         &mut self,
         _alloc: Global,
         _tag: Tag,
-        constraints: Constraints,
+        constraints: &Constraints,
         held: Bounded<usize>,
     ) -> Result<Vec<u8>, DecodeError>
-        ensures ok { IfOk result (λ x. Takes self.old (octets_under constraints.entry held x.items) self.new) }
+        ensures ok { IfOk result (λ x. Takes self.old (octets_under constraints.now held x.items) self.new) }
         ensures held { IfOk result (λ x. is_count_within (counts_of held) (length x.items) ≡ true) }
         ensures lent { IfOk result (λ x. ⊥ → ⊥) }
         ensures level { OnOk result (self.new.levels ≡ self.old.levels) }
-        ensures only { IfErr result (NoRecord Takes (asks_octets_under constraints.entry held) self.old) }
+        ensures only { IfErr result (NoRecord Takes (asks_octets_under constraints.now held) self.old) }
         ensures failed { OnErr result (self.new.failed ≡ true) }
         ensures already { self.old.failed ≡ true → result ≡ Err DecodeError.AlreadyFailed }
         ensures after { result ≡ Err DecodeError.AlreadyFailed → self.old.failed ≡ true }
         ensures kind { IfErr result
-            (IsRefused self.old (IsMisfit kept_octets length (sizes_of constraints.entry.size) (counts_of held))) }
+            (IsRefused self.old (IsMisfit kept_octets length (sizes_of constraints.now.size) (counts_of held))) }
     {
         let item = self.take_next()?;
         let Some((sizes, octets)) = item.into_octets() else {
@@ -330,17 +330,17 @@ impl Decoder for RecordDecoder {
         &mut self,
         _alloc: Global,
         _tag: Tag,
-        constraints: Constraints,
+        constraints: &Constraints,
     ) -> Result<String, DecodeError>
         ensures ok { IfOk result
-            (λ x. Takes self.old (characters_under utf8 constraints.entry (string_bytes x)) self.new) }
+            (λ x. Takes self.old (characters_under utf8 constraints.now (string_bytes x)) self.new) }
         ensures level { OnOk result (self.new.levels ≡ self.old.levels) }
-        ensures only { IfErr result (NoRecord Takes (asks_characters_under utf8 constraints.entry) self.old) }
+        ensures only { IfErr result (NoRecord Takes (asks_characters_under utf8 constraints.now) self.old) }
         ensures failed { OnErr result (self.new.failed ≡ true) }
         ensures already { self.old.failed ≡ true → result ≡ Err DecodeError.AlreadyFailed }
         ensures after { result ≡ Err DecodeError.AlreadyFailed → self.old.failed ≡ true }
         ensures kind { IfErr result
-            (IsRefused self.old (IsMisfit kept_text length (sizes_of constraints.entry.size) any_count)) }
+            (IsRefused self.old (IsMisfit kept_text length (sizes_of constraints.now.size) any_count)) }
     {
         let item = self.take_next()?;
         let Some((sizes, text)) = item.into_text() else {
@@ -356,16 +356,16 @@ impl Decoder for RecordDecoder {
         &mut self,
         alloc: Global,
         _tag: Tag,
-        constraints: Constraints,
+        constraints: &Constraints,
     ) -> Result<S, DecodeError>
         ensures ok { IfOk result
-            (λ x. Takes self.old (characters_under S.kind constraints.entry (S.characters x)) self.new) }
+            (λ x. Takes self.old (characters_under S.kind constraints.now (S.characters x)) self.new) }
         ensures level { OnOk result (self.new.levels ≡ self.old.levels) }
-        ensures only { IfErr result (NoRecord Takes (asks_characters_under S.kind constraints.entry) self.old) }
+        ensures only { IfErr result (NoRecord Takes (asks_characters_under S.kind constraints.now) self.old) }
         ensures failed { OnErr result (self.new.failed ≡ true) }
         ensures already { self.old.failed ≡ true → result ≡ Err DecodeError.AlreadyFailed }
         ensures after { result ≡ Err DecodeError.AlreadyFailed → self.old.failed ≡ true }
-        ensures kind { IfErr result (IsRefused self.old (IsMisfitText S.kind (sizes_of constraints.entry.size))) }
+        ensures kind { IfErr result (IsRefused self.old (IsMisfitText S.kind (sizes_of constraints.now.size))) }
     {
         let item = self.take_next()?;
         let Some((sizes, characters)) = item.into_characters() else {
@@ -403,20 +403,20 @@ impl Decoder for RecordDecoder {
     fn begin_list(
         &mut self,
         _tag: Tag,
-        constraints: Constraints,
+        constraints: &Constraints,
         held: Bounded<usize>,
     ) -> Result<(), DecodeError>
         ensures ok { OnOk result ((n : ℕ) → is_count_within (members_of held) n ≡ true
-            → Takes self.old (list_begins_under constraints.entry held n) self.new) }
+            → Takes self.old (list_begins_under constraints.now held n) self.new) }
         ensures begun { OnOk result (self.new.failed ≡ true → ⊥) }
         ensures level { OnOk result (self.old.levels ≡ self.new.levels + 1) }
         ensures only { IfErr result
-            (NoLevel Takes (asks_list_under constraints.entry held) self.old.levels self.old) }
+            (NoLevel Takes (asks_list_under constraints.now held) self.old.levels self.old) }
         ensures failed { OnErr result (self.new.failed ≡ true) }
         ensures already { self.old.failed ≡ true → result ≡ Err DecodeError.AlreadyFailed }
         ensures after { result ≡ Err DecodeError.AlreadyFailed → self.old.failed ≡ true }
         ensures kind { IfErr result (IsRefusedFirst self.old
-            (IsMisfit kept_list (λ n. n) (sizes_of constraints.entry.size) (members_of held))) }
+            (IsMisfit kept_list (λ n. n) (sizes_of constraints.now.size) (members_of held))) }
     {
         let item = self.take_first()?;
         let Some((sizes, count)) = item.into_list() else {
@@ -431,20 +431,20 @@ impl Decoder for RecordDecoder {
     fn begin_bag(
         &mut self,
         _tag: Tag,
-        constraints: Constraints,
+        constraints: &Constraints,
         held: Bounded<usize>,
     ) -> Result<(), DecodeError>
         ensures ok { OnOk result ((n : ℕ) → is_count_within (members_of held) n ≡ true
-            → Takes self.old (bag_begins_under constraints.entry held n) self.new) }
+            → Takes self.old (bag_begins_under constraints.now held n) self.new) }
         ensures begun { OnOk result (self.new.failed ≡ true → ⊥) }
         ensures level { OnOk result (self.old.levels ≡ self.new.levels + 1) }
         ensures only { IfErr result
-            (NoLevel Takes (asks_bag_under constraints.entry held) self.old.levels self.old) }
+            (NoLevel Takes (asks_bag_under constraints.now held) self.old.levels self.old) }
         ensures failed { OnErr result (self.new.failed ≡ true) }
         ensures already { self.old.failed ≡ true → result ≡ Err DecodeError.AlreadyFailed }
         ensures after { result ≡ Err DecodeError.AlreadyFailed → self.old.failed ≡ true }
         ensures kind { IfErr result (IsRefusedFirst self.old
-            (IsMisfit kept_bag (λ n. n) (sizes_of constraints.entry.size) (members_of held))) }
+            (IsMisfit kept_bag (λ n. n) (sizes_of constraints.now.size) (members_of held))) }
     {
         let item = self.take_first()?;
         let Some((sizes, count)) = item.into_bag() else {
@@ -706,8 +706,8 @@ impl Decoder for RecordDecoder {
 }
 
 // Whether the constraints have just these sizes, and the program's type holds so many.
-fn are_sizes(sizes: Sizes, constraints: Constraints, held: Bounded<usize>, count: usize) -> bool
-    ensures { IsTrue result ↔ ((sizes_in sizes ≡ sizes_of constraints.entry.size)
+fn are_sizes(sizes: Sizes, constraints: &Constraints, held: Bounded<usize>, count: usize) -> bool
+    ensures { IsTrue result ↔ ((sizes_in sizes ≡ sizes_of constraints.now.size)
         × (is_count_within (counts_of held) count ≡ true)) }
 {
     sizes.are_among(constraints) && held.contains(&count)
@@ -727,8 +727,8 @@ fn is_alternative(tables: &TagTables<'_>, chosen: Chosen) -> bool
 
 // Whether a number is one of 128 bits and within bounds that have no extension marker, where there is a value
 // constraint.
-fn is_admitted(constraints: Constraints, number: &Integer) -> bool
-    ensures { result ≡ admits_whole constraints.entry.value number.now }
+fn is_admitted(constraints: &Constraints, number: &Integer) -> bool
+    ensures { result ≡ admits_whole constraints.now.value number.now }
 {
     match constraints.value {
         None => true,
@@ -743,12 +743,12 @@ fn is_admitted(constraints: Constraints, number: &Integer) -> bool
 fn number_within<I: IntegerType>(
     alloc: Global,
     number: &Integer,
-    constraints: Constraints,
+    constraints: &Constraints,
 ) -> Result<I, DecodeError>
     ensures value { IfOk result (λ x. I.value x ≡ number.now) }
     ensures held { OnOk result (is_within I.held number.now ≡ true) }
-    ensures admitted { OnOk result (admits_whole constraints.entry.value number.now ≡ true) }
-    ensures refused { IfErr result (IsUntaken constraints.entry.value I.held number.now) }
+    ensures admitted { OnOk result (admits_whole constraints.now.value number.now ≡ true) }
+    ensures refused { IfErr result (IsUntaken constraints.now.value I.held number.now) }
 {
     if !is_admitted(constraints, number) {
         return Err(DecodeError::ValueConstraintNotSatisfied);

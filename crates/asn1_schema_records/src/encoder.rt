@@ -126,7 +126,7 @@ impl Encoder for RecordEncoder {
     fn encode_integer<I: IntegerType>(
         &mut self,
         _tag: Tag,
-        constraints: Constraints,
+        constraints: &Constraints,
         value: &I,
         _identifier: Identifier,
     ) -> Result<(), EncodeError> {
@@ -157,7 +157,7 @@ impl Encoder for RecordEncoder {
     fn encode_bit_string(
         &mut self,
         _tag: Tag,
-        constraints: Constraints,
+        constraints: &Constraints,
         _held: Bounded<usize>,
         value: BitStr,
         _identifier: Identifier,
@@ -171,7 +171,7 @@ impl Encoder for RecordEncoder {
     fn encode_octet_string(
         &mut self,
         _tag: Tag,
-        constraints: Constraints,
+        constraints: &Constraints,
         _held: Bounded<usize>,
         value: &[u8],
         _identifier: Identifier,
@@ -185,7 +185,7 @@ impl Encoder for RecordEncoder {
     fn encode_utf8_string(
         &mut self,
         _tag: Tag,
-        constraints: Constraints,
+        constraints: &Constraints,
         value: &str,
         _identifier: Identifier,
     ) -> Result<(), EncodeError> {
@@ -198,7 +198,7 @@ impl Encoder for RecordEncoder {
     fn encode_characters<S: StaticPermittedAlphabet>(
         &mut self,
         _tag: Tag,
-        constraints: Constraints,
+        constraints: &Constraints,
         value: &S,
         _identifier: Identifier,
     ) -> Result<(), EncodeError> {
@@ -223,7 +223,7 @@ impl Encoder for RecordEncoder {
     fn begin_list(
         &mut self,
         _tag: Tag,
-        constraints: Constraints,
+        constraints: &Constraints,
         _held: Bounded<usize>,
         count: usize,
     ) -> Result<(), EncodeError> {
@@ -233,7 +233,7 @@ impl Encoder for RecordEncoder {
     fn begin_bag(
         &mut self,
         _tag: Tag,
-        constraints: Constraints,
+        constraints: &Constraints,
         _held: Bounded<usize>,
         count: usize,
     ) -> Result<(), EncodeError> {

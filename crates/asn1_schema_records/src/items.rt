@@ -29,8 +29,8 @@ pub struct Limits {
 
 impl Limits {
     /// The value constraint among these constraints.
-    pub fn among(constraints: Constraints) -> Limits
-        ensures { bounds_in result ≡ bounds_of constraints.entry.value }
+    pub fn among(constraints: &Constraints) -> Limits
+        ensures { bounds_in result ≡ bounds_of constraints.now.value }
     {
         match constraints.value {
             None => Limits {
@@ -47,8 +47,8 @@ impl Limits {
     }
 
     /// Whether these constraints have just this value constraint.
-    pub fn are_among(&self, constraints: Constraints) -> bool
-        ensures { IsTrue result ↔ (bounds_in self.now ≡ bounds_of constraints.entry.value) }
+    pub fn are_among(&self, constraints: &Constraints) -> bool
+        ensures { IsTrue result ↔ (bounds_in self.now ≡ bounds_of constraints.now.value) }
     {
         *self == Limits::among(constraints)
     }
@@ -67,8 +67,8 @@ pub struct Sizes {
 
 impl Sizes {
     /// The size constraint among these constraints.
-    pub fn among(constraints: Constraints) -> Sizes
-        ensures { sizes_in result ≡ sizes_of constraints.entry.size }
+    pub fn among(constraints: &Constraints) -> Sizes
+        ensures { sizes_in result ≡ sizes_of constraints.now.size }
     {
         match constraints.size {
             None => Sizes {
@@ -85,8 +85,8 @@ impl Sizes {
     }
 
     /// Whether these constraints have just this size constraint.
-    pub fn are_among(&self, constraints: Constraints) -> bool
-        ensures { IsTrue result ↔ (sizes_in self.now ≡ sizes_of constraints.entry.size) }
+    pub fn are_among(&self, constraints: &Constraints) -> bool
+        ensures { IsTrue result ↔ (sizes_in self.now ≡ sizes_of constraints.now.size) }
     {
         *self == Sizes::among(constraints)
     }

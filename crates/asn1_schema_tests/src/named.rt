@@ -28,88 +28,88 @@ trait Named: Encode + Decode + StaticPermittedAlphabet + PartialEq {
 impl Named for NumericString {
     fn write<E: EncodeNamed>(&self, encoder: &mut E) -> Result<(), EncodeError> {
         let (tag, identifier) = (Tag::NUMERIC_STRING, Identifier::NUMERIC_STRING);
-        encoder.encode_numeric_string(tag, Constraints::NONE, self, identifier)
+        encoder.encode_numeric_string(tag, &Constraints::NONE, self, identifier)
     }
 
     fn read<D: DecodeNamed>(alloc: Global, decoder: &mut D) -> Result<Self, DecodeError> {
-        decoder.decode_numeric_string(alloc, Tag::NUMERIC_STRING, Constraints::NONE)
+        decoder.decode_numeric_string(alloc, Tag::NUMERIC_STRING, &Constraints::NONE)
     }
 }
 
 impl Named for PrintableString {
     fn write<E: EncodeNamed>(&self, encoder: &mut E) -> Result<(), EncodeError> {
         let (tag, identifier) = (Tag::PRINTABLE_STRING, Identifier::PRINTABLE_STRING);
-        encoder.encode_printable_string(tag, Constraints::NONE, self, identifier)
+        encoder.encode_printable_string(tag, &Constraints::NONE, self, identifier)
     }
 
     fn read<D: DecodeNamed>(alloc: Global, decoder: &mut D) -> Result<Self, DecodeError> {
-        decoder.decode_printable_string(alloc, Tag::PRINTABLE_STRING, Constraints::NONE)
+        decoder.decode_printable_string(alloc, Tag::PRINTABLE_STRING, &Constraints::NONE)
     }
 }
 
 impl Named for VisibleString {
     fn write<E: EncodeNamed>(&self, encoder: &mut E) -> Result<(), EncodeError> {
         let (tag, identifier) = (Tag::VISIBLE_STRING, Identifier::VISIBLE_STRING);
-        encoder.encode_visible_string(tag, Constraints::NONE, self, identifier)
+        encoder.encode_visible_string(tag, &Constraints::NONE, self, identifier)
     }
 
     fn read<D: DecodeNamed>(alloc: Global, decoder: &mut D) -> Result<Self, DecodeError> {
-        decoder.decode_visible_string(alloc, Tag::VISIBLE_STRING, Constraints::NONE)
+        decoder.decode_visible_string(alloc, Tag::VISIBLE_STRING, &Constraints::NONE)
     }
 }
 
 impl Named for Ia5String {
     fn write<E: EncodeNamed>(&self, encoder: &mut E) -> Result<(), EncodeError> {
         let (tag, identifier) = (Tag::IA5_STRING, Identifier::IA5_STRING);
-        encoder.encode_ia5_string(tag, Constraints::NONE, self, identifier)
+        encoder.encode_ia5_string(tag, &Constraints::NONE, self, identifier)
     }
 
     fn read<D: DecodeNamed>(alloc: Global, decoder: &mut D) -> Result<Self, DecodeError> {
-        decoder.decode_ia5_string(alloc, Tag::IA5_STRING, Constraints::NONE)
+        decoder.decode_ia5_string(alloc, Tag::IA5_STRING, &Constraints::NONE)
     }
 }
 
 impl Named for GeneralString {
     fn write<E: EncodeNamed>(&self, encoder: &mut E) -> Result<(), EncodeError> {
         let (tag, identifier) = (Tag::GENERAL_STRING, Identifier::GENERAL_STRING);
-        encoder.encode_general_string(tag, Constraints::NONE, self, identifier)
+        encoder.encode_general_string(tag, &Constraints::NONE, self, identifier)
     }
 
     fn read<D: DecodeNamed>(alloc: Global, decoder: &mut D) -> Result<Self, DecodeError> {
-        decoder.decode_general_string(alloc, Tag::GENERAL_STRING, Constraints::NONE)
+        decoder.decode_general_string(alloc, Tag::GENERAL_STRING, &Constraints::NONE)
     }
 }
 
 impl Named for GraphicString {
     fn write<E: EncodeNamed>(&self, encoder: &mut E) -> Result<(), EncodeError> {
         let (tag, identifier) = (Tag::GRAPHIC_STRING, Identifier::GRAPHIC_STRING);
-        encoder.encode_graphic_string(tag, Constraints::NONE, self, identifier)
+        encoder.encode_graphic_string(tag, &Constraints::NONE, self, identifier)
     }
 
     fn read<D: DecodeNamed>(alloc: Global, decoder: &mut D) -> Result<Self, DecodeError> {
-        decoder.decode_graphic_string(alloc, Tag::GRAPHIC_STRING, Constraints::NONE)
+        decoder.decode_graphic_string(alloc, Tag::GRAPHIC_STRING, &Constraints::NONE)
     }
 }
 
 impl Named for TeletexString {
     fn write<E: EncodeNamed>(&self, encoder: &mut E) -> Result<(), EncodeError> {
         let (tag, identifier) = (Tag::TELETEX_STRING, Identifier::TELETEX_STRING);
-        encoder.encode_teletex_string(tag, Constraints::NONE, self, identifier)
+        encoder.encode_teletex_string(tag, &Constraints::NONE, self, identifier)
     }
 
     fn read<D: DecodeNamed>(alloc: Global, decoder: &mut D) -> Result<Self, DecodeError> {
-        decoder.decode_teletex_string(alloc, Tag::TELETEX_STRING, Constraints::NONE)
+        decoder.decode_teletex_string(alloc, Tag::TELETEX_STRING, &Constraints::NONE)
     }
 }
 
 impl Named for BmpString {
     fn write<E: EncodeNamed>(&self, encoder: &mut E) -> Result<(), EncodeError> {
         let (tag, identifier) = (Tag::BMP_STRING, Identifier::BMP_STRING);
-        encoder.encode_bmp_string(tag, Constraints::NONE, self, identifier)
+        encoder.encode_bmp_string(tag, &Constraints::NONE, self, identifier)
     }
 
     fn read<D: DecodeNamed>(alloc: Global, decoder: &mut D) -> Result<Self, DecodeError> {
-        decoder.decode_bmp_string(alloc, Tag::BMP_STRING, Constraints::NONE)
+        decoder.decode_bmp_string(alloc, Tag::BMP_STRING, &Constraints::NONE)
     }
 }
 
@@ -204,7 +204,7 @@ fn is_any_kept(alloc: Global) -> Result<bool, DecodeError> {
 /// Writes components that may be absent to an encoder: 1, 2, none and 4.
 fn write_optional<E: EncodeSequence>(encoder: &mut E, tag: Tag) -> Result<(), EncodeError> {
     encoder.encode_some_with_tag(tag, &1_u8)?;
-    encoder.encode_some_with_tag_and_constraints(tag, &2_u8, Constraints::NONE)?;
+    encoder.encode_some_with_tag_and_constraints(tag, &2_u8, &Constraints::NONE)?;
     encoder.encode_none_with_tag::<u8>(tag)?;
     encoder.encode_some(&4_u8)
 }

@@ -89,7 +89,7 @@ impl Encode for Pair {
         &self,
         encoder: &mut E,
         tag: Tag,
-        _constraints: Constraints,
+        _constraints: &Constraints,
     ) -> Result<(), EncodeError> {
         encoder.encode_sequence(
             tag,
@@ -107,7 +107,7 @@ impl Decode for Pair {
         alloc: Global,
         decoder: &mut D,
         tag: Tag,
-        _constraints: Constraints,
+        _constraints: &Constraints,
     ) -> Result<Self, DecodeError> {
         let form = decoder.decode_sequence::<Form>(alloc, tag, 0)?;
         let RequiredComponent(a, RequiredComponent(b, End)) = form;

@@ -308,7 +308,7 @@ fn unconstrained<D: Decoder>(
     alloc: Global,
     decoder: &mut D,
 ) -> (Result<u8, DecodeError>, Result<u8, DecodeError>) {
-    let first = u8::decode_with_constraints(alloc, decoder, Constraints::NONE);
+    let first = u8::decode_with_constraints(alloc, decoder, &Constraints::NONE);
     (first, found(alloc, decoder))
 }
 

@@ -13,8 +13,8 @@ use asn1_schema_tags::{Identifier, Tag, TagTree};
 use asn1_values_integers::{Ends, RangedInteger};
 
 // The constraint to what the root of a value constraint, where there is one, and the range from `start` to `end` admit.
-fn limited(constraints: Constraints, start: i64, end: i64) -> Constraints<'static>
-    ensures { result ≡ to_root (met_root constraints.entry.value (root_between start end)) }
+fn limited(constraints: &Constraints, start: i64, end: i64) -> Constraints<'static>
+    ensures { result ≡ to_root (met_root constraints.now.value (root_between start end)) }
 {
     let range = Value::new(Bounded::const_new(start as i128, end as i128));
     let root = match constraints.value {
@@ -30,8 +30,8 @@ fn limited(constraints: Constraints, start: i64, end: i64) -> Constraints<'stati
 /// Constraints, and then the range from `start` to `end`: what both admit. The extension marker of an earlier
 /// constraint is no extension marker of a later one (X.680 50.8), so there is none.
 #[tactic(auto, using(crate::proofs::Ranges::range_meant))]
-pub fn within_range(constraints: Constraints, start: i64, end: i64) -> Constraints<'static>
-    ensures { meant result ≡ within_range start end (meant constraints.entry) }
+pub fn within_range(constraints: &Constraints, start: i64, end: i64) -> Constraints<'static>
+    ensures { meant result ≡ within_range start end (meant constraints.now) }
 {
     limited(constraints, start, end)
 }

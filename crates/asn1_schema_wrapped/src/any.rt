@@ -128,11 +128,11 @@ impl Encode for Any {
         &self,
         encoder: &mut E,
         tag: Tag,
-        _constraints: Constraints,
+        _constraints: &Constraints,
     ) -> Result<(), EncodeError> {
         encoder.encode_octet_string(
             tag,
-            Constraints::NONE,
+            &Constraints::NONE,
             Bounded::None,
             self.as_bytes(),
             Identifier::OCTET_STRING,
@@ -146,9 +146,9 @@ impl Decode for Any {
         alloc: Global,
         decoder: &mut D,
         tag: Tag,
-        _constraints: Constraints,
+        _constraints: &Constraints,
     ) -> Result<Self, DecodeError> {
-        let octets = decoder.decode_octet_string(alloc, tag, Constraints::NONE, Bounded::None)?;
+        let octets = decoder.decode_octet_string(alloc, tag, &Constraints::NONE, Bounded::None)?;
         let Ok(owned) = octets.into_vec(alloc) else {
             return Err(decoder.refuse(DecodeError::OutOfMemory));
         };

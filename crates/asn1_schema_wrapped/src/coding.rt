@@ -57,7 +57,7 @@ impl<T: Encode> Encode for SetOf<T> {
         &self,
         encoder: &mut E,
         tag: Tag,
-        constraints: Constraints,
+        constraints: &Constraints,
     ) -> Result<(), EncodeError> {
         encoder.encode_set_of(tag, self.as_slice(), constraints, Bounded::None)
     }
@@ -68,7 +68,7 @@ impl<T: Decode> Decode for SetOf<T> {
         alloc: Global,
         decoder: &mut D,
         tag: Tag,
-        constraints: Constraints,
+        constraints: &Constraints,
     ) -> Result<Self, DecodeError> {
         let items = decoder.decode_set_of(alloc, tag, constraints, Bounded::None)?;
         Ok(SetOf::from_vec(items))

@@ -153,7 +153,7 @@ impl<C: ConstraintsOf<V>, V: Encode> Encode for Constrained<C, V> {
         &self,
         encoder: &mut E,
         tag: Tag,
-        constraints: Constraints,
+        constraints: &Constraints,
     ) -> Result<(), EncodeError> {
         V::encode_with_tag_and_constraints(&self.value, encoder, tag, constraints)?;
         Ok(())
@@ -165,7 +165,7 @@ impl<C: ConstraintsOf<V> + Drop, V: Decode> Decode for Constrained<C, V> {
         alloc: Global,
         decoder: &mut D,
         tag: Tag,
-        constraints: Constraints,
+        constraints: &Constraints,
     ) -> Result<Self, DecodeError> {
         let value = V::decode_with_tag_and_constraints(alloc, decoder, tag, constraints)?;
         Ok(Constrained::new(value))

@@ -81,7 +81,7 @@ impl<T: Encode> Encode for InstanceOf<T> {
         &self,
         encoder: &mut E,
         tag: Tag,
-        _constraints: Constraints,
+        _constraints: &Constraints,
     ) -> Result<(), EncodeError> {
         encoder.encode_sequence(
             tag,
@@ -99,7 +99,7 @@ impl<T: Decode> Decode for InstanceOf<T> {
         alloc: Global,
         decoder: &mut D,
         tag: Tag,
-        _constraints: Constraints,
+        _constraints: &Constraints,
     ) -> Result<Self, DecodeError> {
         let form = decoder.decode_sequence::<Form<T>>(alloc, tag, 0)?;
         let RequiredComponent(type_id, RequiredComponent(value, End)) = form;

@@ -31,7 +31,7 @@ pub trait DecodeNamed: Decoder {
         ensures already { Self.has_failed self.old → result ≡ Err DecodeError.AlreadyFailed }
         ensures after { result ≡ Err DecodeError.AlreadyFailed → Self.has_failed self.old }
     {
-        let octets = self.decode_octet_string(alloc, tag, Constraints::NONE, Bounded::None)?;
+        let octets = self.decode_octet_string(alloc, tag, &Constraints::NONE, Bounded::None)?;
         let Ok(owned) = octets.into_vec(alloc) else {
             return Err(self.refuse(DecodeError::OutOfMemory));
         };
@@ -63,13 +63,13 @@ pub trait DecodeNamed: Decoder {
         &mut self,
         alloc: Global,
         tag: Tag,
-        constraints: Constraints,
+        constraints: &Constraints,
     ) -> Result<VisibleString, DecodeError>
     where
         Self: Sized,
-        ensures ok { IfOk result (λ x. Self.step self.old (characters_under visible constraints.entry x) self.new) }
+        ensures ok { IfOk result (λ x. Self.step self.old (characters_under visible constraints.now x) self.new) }
         ensures level { OnOk result (Self.levels self.new ≡ Self.levels self.old) }
-        ensures only { IfErr result (NoRecord Self.step (asks_characters_under visible constraints.entry) self.old) }
+        ensures only { IfErr result (NoRecord Self.step (asks_characters_under visible constraints.now) self.old) }
         ensures failed { OnErr result (Self.has_failed self.new) }
         ensures already { Self.has_failed self.old → result ≡ Err DecodeError.AlreadyFailed }
         ensures after { result ≡ Err DecodeError.AlreadyFailed → Self.has_failed self.old }
@@ -82,13 +82,13 @@ pub trait DecodeNamed: Decoder {
         &mut self,
         alloc: Global,
         tag: Tag,
-        constraints: Constraints,
+        constraints: &Constraints,
     ) -> Result<Ia5String, DecodeError>
     where
         Self: Sized,
-        ensures ok { IfOk result (λ x. Self.step self.old (characters_under ia5 constraints.entry x) self.new) }
+        ensures ok { IfOk result (λ x. Self.step self.old (characters_under ia5 constraints.now x) self.new) }
         ensures level { OnOk result (Self.levels self.new ≡ Self.levels self.old) }
-        ensures only { IfErr result (NoRecord Self.step (asks_characters_under ia5 constraints.entry) self.old) }
+        ensures only { IfErr result (NoRecord Self.step (asks_characters_under ia5 constraints.now) self.old) }
         ensures failed { OnErr result (Self.has_failed self.new) }
         ensures already { Self.has_failed self.old → result ≡ Err DecodeError.AlreadyFailed }
         ensures after { result ≡ Err DecodeError.AlreadyFailed → Self.has_failed self.old }
@@ -101,13 +101,13 @@ pub trait DecodeNamed: Decoder {
         &mut self,
         alloc: Global,
         tag: Tag,
-        constraints: Constraints,
+        constraints: &Constraints,
     ) -> Result<PrintableString, DecodeError>
     where
         Self: Sized,
-        ensures ok { IfOk result (λ x. Self.step self.old (characters_under printable constraints.entry x) self.new) }
+        ensures ok { IfOk result (λ x. Self.step self.old (characters_under printable constraints.now x) self.new) }
         ensures level { OnOk result (Self.levels self.new ≡ Self.levels self.old) }
-        ensures only { IfErr result (NoRecord Self.step (asks_characters_under printable constraints.entry) self.old) }
+        ensures only { IfErr result (NoRecord Self.step (asks_characters_under printable constraints.now) self.old) }
         ensures failed { OnErr result (Self.has_failed self.new) }
         ensures already { Self.has_failed self.old → result ≡ Err DecodeError.AlreadyFailed }
         ensures after { result ≡ Err DecodeError.AlreadyFailed → Self.has_failed self.old }
@@ -120,13 +120,13 @@ pub trait DecodeNamed: Decoder {
         &mut self,
         alloc: Global,
         tag: Tag,
-        constraints: Constraints,
+        constraints: &Constraints,
     ) -> Result<NumericString, DecodeError>
     where
         Self: Sized,
-        ensures ok { IfOk result (λ x. Self.step self.old (characters_under numeric constraints.entry x) self.new) }
+        ensures ok { IfOk result (λ x. Self.step self.old (characters_under numeric constraints.now x) self.new) }
         ensures level { OnOk result (Self.levels self.new ≡ Self.levels self.old) }
-        ensures only { IfErr result (NoRecord Self.step (asks_characters_under numeric constraints.entry) self.old) }
+        ensures only { IfErr result (NoRecord Self.step (asks_characters_under numeric constraints.now) self.old) }
         ensures failed { OnErr result (Self.has_failed self.new) }
         ensures already { Self.has_failed self.old → result ≡ Err DecodeError.AlreadyFailed }
         ensures after { result ≡ Err DecodeError.AlreadyFailed → Self.has_failed self.old }
@@ -139,13 +139,13 @@ pub trait DecodeNamed: Decoder {
         &mut self,
         alloc: Global,
         tag: Tag,
-        constraints: Constraints,
+        constraints: &Constraints,
     ) -> Result<GeneralString, DecodeError>
     where
         Self: Sized,
-        ensures ok { IfOk result (λ x. Self.step self.old (characters_under general constraints.entry x) self.new) }
+        ensures ok { IfOk result (λ x. Self.step self.old (characters_under general constraints.now x) self.new) }
         ensures level { OnOk result (Self.levels self.new ≡ Self.levels self.old) }
-        ensures only { IfErr result (NoRecord Self.step (asks_characters_under general constraints.entry) self.old) }
+        ensures only { IfErr result (NoRecord Self.step (asks_characters_under general constraints.now) self.old) }
         ensures failed { OnErr result (Self.has_failed self.new) }
         ensures already { Self.has_failed self.old → result ≡ Err DecodeError.AlreadyFailed }
         ensures after { result ≡ Err DecodeError.AlreadyFailed → Self.has_failed self.old }
@@ -158,13 +158,13 @@ pub trait DecodeNamed: Decoder {
         &mut self,
         alloc: Global,
         tag: Tag,
-        constraints: Constraints,
+        constraints: &Constraints,
     ) -> Result<GraphicString, DecodeError>
     where
         Self: Sized,
-        ensures ok { IfOk result (λ x. Self.step self.old (characters_under graphic constraints.entry x) self.new) }
+        ensures ok { IfOk result (λ x. Self.step self.old (characters_under graphic constraints.now x) self.new) }
         ensures level { OnOk result (Self.levels self.new ≡ Self.levels self.old) }
-        ensures only { IfErr result (NoRecord Self.step (asks_characters_under graphic constraints.entry) self.old) }
+        ensures only { IfErr result (NoRecord Self.step (asks_characters_under graphic constraints.now) self.old) }
         ensures failed { OnErr result (Self.has_failed self.new) }
         ensures already { Self.has_failed self.old → result ≡ Err DecodeError.AlreadyFailed }
         ensures after { result ≡ Err DecodeError.AlreadyFailed → Self.has_failed self.old }
@@ -177,13 +177,13 @@ pub trait DecodeNamed: Decoder {
         &mut self,
         alloc: Global,
         tag: Tag,
-        constraints: Constraints,
+        constraints: &Constraints,
     ) -> Result<TeletexString, DecodeError>
     where
         Self: Sized,
-        ensures ok { IfOk result (λ x. Self.step self.old (characters_under teletex constraints.entry x) self.new) }
+        ensures ok { IfOk result (λ x. Self.step self.old (characters_under teletex constraints.now x) self.new) }
         ensures level { OnOk result (Self.levels self.new ≡ Self.levels self.old) }
-        ensures only { IfErr result (NoRecord Self.step (asks_characters_under teletex constraints.entry) self.old) }
+        ensures only { IfErr result (NoRecord Self.step (asks_characters_under teletex constraints.now) self.old) }
         ensures failed { OnErr result (Self.has_failed self.new) }
         ensures already { Self.has_failed self.old → result ≡ Err DecodeError.AlreadyFailed }
         ensures after { result ≡ Err DecodeError.AlreadyFailed → Self.has_failed self.old }
@@ -196,13 +196,13 @@ pub trait DecodeNamed: Decoder {
         &mut self,
         alloc: Global,
         tag: Tag,
-        constraints: Constraints,
+        constraints: &Constraints,
     ) -> Result<BmpString, DecodeError>
     where
         Self: Sized,
-        ensures ok { IfOk result (λ x. Self.step self.old (characters_under bmp constraints.entry x) self.new) }
+        ensures ok { IfOk result (λ x. Self.step self.old (characters_under bmp constraints.now x) self.new) }
         ensures level { OnOk result (Self.levels self.new ≡ Self.levels self.old) }
-        ensures only { IfErr result (NoRecord Self.step (asks_characters_under bmp constraints.entry) self.old) }
+        ensures only { IfErr result (NoRecord Self.step (asks_characters_under bmp constraints.now) self.old) }
         ensures failed { OnErr result (Self.has_failed self.new) }
         ensures already { Self.has_failed self.old → result ≡ Err DecodeError.AlreadyFailed }
         ensures after { result ≡ Err DecodeError.AlreadyFailed → Self.has_failed self.old }

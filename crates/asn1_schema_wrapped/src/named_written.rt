@@ -36,7 +36,7 @@ pub trait EncodeNamed: Encoder {
     {
         self.encode_octet_string(
             tag,
-            Constraints::NONE,
+            &Constraints::NONE,
             Bounded::None,
             value.as_bytes(),
             identifier,
@@ -67,15 +67,15 @@ pub trait EncodeNamed: Encoder {
     final fn encode_visible_string(
         &mut self,
         tag: Tag,
-        constraints: Constraints,
+        constraints: &Constraints,
         value: &VisibleString,
         identifier: Identifier,
     ) -> Result<(), EncodeError>
     where
         Self: Sized,
-        ensures ok { OnOk result (Self.step self.old (characters_under visible constraints.entry value.now) self.new) }
+        ensures ok { OnOk result (Self.step self.old (characters_under visible constraints.now value.now) self.new) }
         ensures only { IfErr result
-            (Refused Self.step (characters_under visible constraints.entry value.now) self.old) }
+            (Refused Self.step (characters_under visible constraints.now value.now) self.old) }
         ensures failed { OnErr result (Self.has_failed self.new) }
         ensures front { Self.front self.new ≡ Self.front self.old }
         ensures already { Self.has_failed self.old → result ≡ Err EncodeError.AlreadyFailed }
@@ -88,14 +88,14 @@ pub trait EncodeNamed: Encoder {
     final fn encode_ia5_string(
         &mut self,
         tag: Tag,
-        constraints: Constraints,
+        constraints: &Constraints,
         value: &Ia5String,
         identifier: Identifier,
     ) -> Result<(), EncodeError>
     where
         Self: Sized,
-        ensures ok { OnOk result (Self.step self.old (characters_under ia5 constraints.entry value.now) self.new) }
-        ensures only { IfErr result (Refused Self.step (characters_under ia5 constraints.entry value.now) self.old) }
+        ensures ok { OnOk result (Self.step self.old (characters_under ia5 constraints.now value.now) self.new) }
+        ensures only { IfErr result (Refused Self.step (characters_under ia5 constraints.now value.now) self.old) }
         ensures failed { OnErr result (Self.has_failed self.new) }
         ensures front { Self.front self.new ≡ Self.front self.old }
         ensures already { Self.has_failed self.old → result ≡ Err EncodeError.AlreadyFailed }
@@ -108,16 +108,16 @@ pub trait EncodeNamed: Encoder {
     final fn encode_printable_string(
         &mut self,
         tag: Tag,
-        constraints: Constraints,
+        constraints: &Constraints,
         value: &PrintableString,
         identifier: Identifier,
     ) -> Result<(), EncodeError>
     where
         Self: Sized,
         ensures ok { OnOk result
-            (Self.step self.old (characters_under printable constraints.entry value.now) self.new) }
+            (Self.step self.old (characters_under printable constraints.now value.now) self.new) }
         ensures only { IfErr result
-            (Refused Self.step (characters_under printable constraints.entry value.now) self.old) }
+            (Refused Self.step (characters_under printable constraints.now value.now) self.old) }
         ensures failed { OnErr result (Self.has_failed self.new) }
         ensures front { Self.front self.new ≡ Self.front self.old }
         ensures already { Self.has_failed self.old → result ≡ Err EncodeError.AlreadyFailed }
@@ -130,15 +130,15 @@ pub trait EncodeNamed: Encoder {
     final fn encode_numeric_string(
         &mut self,
         tag: Tag,
-        constraints: Constraints,
+        constraints: &Constraints,
         value: &NumericString,
         identifier: Identifier,
     ) -> Result<(), EncodeError>
     where
         Self: Sized,
-        ensures ok { OnOk result (Self.step self.old (characters_under numeric constraints.entry value.now) self.new) }
+        ensures ok { OnOk result (Self.step self.old (characters_under numeric constraints.now value.now) self.new) }
         ensures only { IfErr result
-            (Refused Self.step (characters_under numeric constraints.entry value.now) self.old) }
+            (Refused Self.step (characters_under numeric constraints.now value.now) self.old) }
         ensures failed { OnErr result (Self.has_failed self.new) }
         ensures front { Self.front self.new ≡ Self.front self.old }
         ensures already { Self.has_failed self.old → result ≡ Err EncodeError.AlreadyFailed }
@@ -151,15 +151,15 @@ pub trait EncodeNamed: Encoder {
     final fn encode_general_string(
         &mut self,
         tag: Tag,
-        constraints: Constraints,
+        constraints: &Constraints,
         value: &GeneralString,
         identifier: Identifier,
     ) -> Result<(), EncodeError>
     where
         Self: Sized,
-        ensures ok { OnOk result (Self.step self.old (characters_under general constraints.entry value.now) self.new) }
+        ensures ok { OnOk result (Self.step self.old (characters_under general constraints.now value.now) self.new) }
         ensures only { IfErr result
-            (Refused Self.step (characters_under general constraints.entry value.now) self.old) }
+            (Refused Self.step (characters_under general constraints.now value.now) self.old) }
         ensures failed { OnErr result (Self.has_failed self.new) }
         ensures front { Self.front self.new ≡ Self.front self.old }
         ensures already { Self.has_failed self.old → result ≡ Err EncodeError.AlreadyFailed }
@@ -172,15 +172,15 @@ pub trait EncodeNamed: Encoder {
     final fn encode_graphic_string(
         &mut self,
         tag: Tag,
-        constraints: Constraints,
+        constraints: &Constraints,
         value: &GraphicString,
         identifier: Identifier,
     ) -> Result<(), EncodeError>
     where
         Self: Sized,
-        ensures ok { OnOk result (Self.step self.old (characters_under graphic constraints.entry value.now) self.new) }
+        ensures ok { OnOk result (Self.step self.old (characters_under graphic constraints.now value.now) self.new) }
         ensures only { IfErr result
-            (Refused Self.step (characters_under graphic constraints.entry value.now) self.old) }
+            (Refused Self.step (characters_under graphic constraints.now value.now) self.old) }
         ensures failed { OnErr result (Self.has_failed self.new) }
         ensures front { Self.front self.new ≡ Self.front self.old }
         ensures already { Self.has_failed self.old → result ≡ Err EncodeError.AlreadyFailed }
@@ -193,15 +193,15 @@ pub trait EncodeNamed: Encoder {
     final fn encode_teletex_string(
         &mut self,
         tag: Tag,
-        constraints: Constraints,
+        constraints: &Constraints,
         value: &TeletexString,
         identifier: Identifier,
     ) -> Result<(), EncodeError>
     where
         Self: Sized,
-        ensures ok { OnOk result (Self.step self.old (characters_under teletex constraints.entry value.now) self.new) }
+        ensures ok { OnOk result (Self.step self.old (characters_under teletex constraints.now value.now) self.new) }
         ensures only { IfErr result
-            (Refused Self.step (characters_under teletex constraints.entry value.now) self.old) }
+            (Refused Self.step (characters_under teletex constraints.now value.now) self.old) }
         ensures failed { OnErr result (Self.has_failed self.new) }
         ensures front { Self.front self.new ≡ Self.front self.old }
         ensures already { Self.has_failed self.old → result ≡ Err EncodeError.AlreadyFailed }
@@ -214,14 +214,14 @@ pub trait EncodeNamed: Encoder {
     final fn encode_bmp_string(
         &mut self,
         tag: Tag,
-        constraints: Constraints,
+        constraints: &Constraints,
         value: &BmpString,
         identifier: Identifier,
     ) -> Result<(), EncodeError>
     where
         Self: Sized,
-        ensures ok { OnOk result (Self.step self.old (characters_under bmp constraints.entry value.now) self.new) }
-        ensures only { IfErr result (Refused Self.step (characters_under bmp constraints.entry value.now) self.old) }
+        ensures ok { OnOk result (Self.step self.old (characters_under bmp constraints.now value.now) self.new) }
+        ensures only { IfErr result (Refused Self.step (characters_under bmp constraints.now value.now) self.old) }
         ensures failed { OnErr result (Self.has_failed self.new) }
         ensures front { Self.front self.new ≡ Self.front self.old }
         ensures already { Self.has_failed self.old → result ≡ Err EncodeError.AlreadyFailed }

@@ -115,7 +115,7 @@ impl<T: AsnType, V: Encode> Encode for Implicit<T, V> {
         &self,
         encoder: &mut E,
         tag: Tag,
-        constraints: Constraints,
+        constraints: &Constraints,
     ) -> Result<(), EncodeError> {
         V::encode_with_tag_and_constraints(&self.value, encoder, tag, constraints)
     }
@@ -126,7 +126,7 @@ impl<T: AsnType + Drop, V: Decode> Decode for Implicit<T, V> {
         alloc: Global,
         decoder: &mut D,
         tag: Tag,
-        constraints: Constraints,
+        constraints: &Constraints,
     ) -> Result<Self, DecodeError> {
         let value = V::decode_with_tag_and_constraints(alloc, decoder, tag, constraints)?;
         Ok(Implicit::new(value))
@@ -232,7 +232,7 @@ impl<T: AsnType, V: Encode> Encode for Explicit<T, V> {
         &self,
         encoder: &mut E,
         _tag: Tag,
-        constraints: Constraints,
+        constraints: &Constraints,
     ) -> Result<(), EncodeError> {
         V::encode_with_tag_and_constraints(&self.value, encoder, V::TAG, constraints)
     }
@@ -243,7 +243,7 @@ impl<T: AsnType + Drop, V: Decode> Decode for Explicit<T, V> {
         alloc: Global,
         decoder: &mut D,
         _tag: Tag,
-        constraints: Constraints,
+        constraints: &Constraints,
     ) -> Result<Self, DecodeError> {
         let value = V::decode_with_tag_and_constraints(alloc, decoder, V::TAG, constraints)?;
         Ok(Explicit::new(value))

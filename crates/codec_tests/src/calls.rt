@@ -88,7 +88,7 @@ fn buffers(rt: HostRuntime) -> Result<(), Fail> {
 /// Why a value has no canonical encoding under one constraint.
 fn refusal<T: Encode>(alloc: Global, constraint: Constraint<'_>, value: &T) -> Option<EncodeError> {
     let list = [constraint];
-    coer::encode_with_constraints(alloc, Constraints::new(&list), value).err()
+    coer::encode_with_constraints(alloc, &Constraints::new(&list), value).err()
 }
 
 /// Whether OCTET STRING has none, as its size is not one of these.
@@ -134,7 +134,7 @@ fn is_true_before(alloc: Global, input: &[u8], rest: &[u8]) -> Result<bool, Deco
 /// Whether this is 7 under these constraints.
 fn is_seven_under(
     alloc: Global,
-    constraints: Constraints,
+    constraints: &Constraints,
     input: &[u8],
 ) -> Result<bool, DecodeError> {
     let rules = EncodingRules::Coer;
@@ -148,8 +148,8 @@ fn octets_behind_a_value(rt: HostRuntime) -> Result<(), Fail> {
     let alloc = rt.alloc();
     assert!(rt; is_true_before(alloc, &[0xFF, 0x01, 0x02], &[0x01, 0x02])?);
     assert!(rt; is_true_before(alloc, &[0xFF], &[])?);
-    assert!(rt; is_seven_under(alloc, Constraints::NONE, &[0x01, 0x07])?);
+    assert!(rt; is_seven_under(alloc, &Constraints::NONE, &[0x01, 0x07])?);
     let octet = Constraint::Value(Extensible::new(Value::new(Bounded::const_new(0, 255))));
-    assert!(rt; is_seven_under(alloc, Constraints::new(&[octet]), &[0x07, 0x01])?);
+    assert!(rt; is_seven_under(alloc, &Constraints::new(&[octet]), &[0x07, 0x01])?);
     Ok(())
 }

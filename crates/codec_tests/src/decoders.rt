@@ -142,7 +142,7 @@ fn a_decoder_that_has_failed(rt: HostRuntime) {
 
 /// Begins a list.
 fn begin_list(decoder: &mut Decoder<'_>) -> Result<(), DecodeError> {
-    decoder.begin_list(Tag::SEQUENCE, Constraints::NONE, Bounded::None)
+    decoder.begin_list(Tag::SEQUENCE, &Constraints::NONE, Bounded::None)
 }
 
 /// Begins 128 lists, each in a member of the one before: whether all of them have a member, and one more is refused.

@@ -182,7 +182,7 @@ fn put_value<E: Encoder>(encoder: &mut E, step: Step, string: &[u8]) -> Result<(
         Step::Truth(value) => value.encode(encoder),
         Step::Octet(value) => value.encode(encoder),
         Step::Word(value) => value.encode(encoder),
-        Step::Number(value) => value.encode_with_constraints(encoder, Constraints::NONE),
+        Step::Number(value) => value.encode_with_constraints(encoder, &Constraints::NONE),
         Step::String(is_sized) => {
             let constraints = constraints_of(is_sized, string);
             let (tag, name) = (Tag::OCTET_STRING, Identifier::EMPTY);
@@ -295,7 +295,7 @@ fn is_found<D: Decoder>(
         Step::Octet(value) => Ok(u8::decode(alloc, decoder)? == value),
         Step::Word(value) => Ok(u16::decode(alloc, decoder)? == value),
         Step::Number(value) => {
-            Ok(i64::decode_with_constraints(alloc, decoder, Constraints::NONE)? == value)
+            Ok(i64::decode_with_constraints(alloc, decoder, &Constraints::NONE)? == value)
         }
         Step::String(is_sized) => is_string(alloc, decoder, is_sized, lent.string),
         frame => {

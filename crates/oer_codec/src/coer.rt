@@ -58,12 +58,12 @@ pub fn encode_buf<T: Encode>(
 /// Those of `encode`.
 pub fn encode_with_constraints<T: Encode>(
     alloc: Global,
-    constraints: Constraints,
+    constraints: &Constraints,
     value: &T,
 ) -> Result<Vec<u8>, EncodeError>
     ensures ok { IfOk result
-        (λ octets. IsEncoded (T.under (meant constraints.entry)) (T.meaning value.now) octets.items) }
-    ensures only { IfErr result (NotEncoded (T.under (meant constraints.entry)) (T.meaning value.now)) }
+        (λ octets. IsEncoded (T.under (meant constraints.now)) (T.meaning value.now) octets.items) }
+    ensures only { IfErr result (NotEncoded (T.under (meant constraints.now)) (T.meaning value.now)) }
     ensures fresh { IfErr result (λ e. e ≡ EncodeError.AlreadyFailed → ⊥) }
     ensures fits { IfErr result (λ e. e ≡ EncodeError.LengthExceedsPlatformSize → ⊥) }
     ensures in_place { IfErr result (λ e. e ≡ EncodeError.CallOutOfPlace → ⊥) }
@@ -108,14 +108,14 @@ pub fn decode_with_remainder<'input, T: Decode>(
 /// Those of `decode`, if the type under these constraints is a lawful one.
 pub fn decode_with_constraints<T: Decode>(
     alloc: Global,
-    constraints: Constraints,
+    constraints: &Constraints,
     input: &[u8],
 ) -> Result<T, DecodeError>
     ensures ok { IfOk result
-        (λ x. (rest : List ℕ) × Tells coer (T.under (meant constraints.entry)) (T.meaning x) input.now rest) }
+        (λ x. (rest : List ℕ) × Tells coer (T.under (meant constraints.now)) (T.meaning x) input.now rest) }
     ensures only { IfErr result
-        (λ error. IsLawful (T.under (meant constraints.entry) 128)
-        → NoMessage coer (T.under (meant constraints.entry)) input.now error) }
+        (λ error. IsLawful (T.under (meant constraints.now) 128)
+        → NoMessage coer (T.under (meant constraints.now)) input.now error) }
     ensures fresh { IfErr result (λ e. e ≡ DecodeError.AlreadyFailed → ⊥) }
 {
     crate::reading::decode_with_constraints(alloc, constraints, input, EncodingRules::Coer)

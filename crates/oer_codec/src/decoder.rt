@@ -263,7 +263,7 @@ impl<'input> asn1_schema_decode::Decoder for Decoder<'input> {
         &mut self,
         alloc: Global,
         _tag: Tag,
-        constraints: Constraints,
+        constraints: &Constraints,
     ) -> Result<I, DecodeError> {
         record!(
             self,
@@ -288,7 +288,7 @@ impl<'input> asn1_schema_decode::Decoder for Decoder<'input> {
         &mut self,
         alloc: Global,
         _tag: Tag,
-        constraints: Constraints,
+        constraints: &Constraints,
         held: Bounded<usize>,
     ) -> Result<BitString, DecodeError> {
         record!(
@@ -303,7 +303,7 @@ impl<'input> asn1_schema_decode::Decoder for Decoder<'input> {
         &mut self,
         _alloc: Global,
         _tag: Tag,
-        constraints: Constraints,
+        constraints: &Constraints,
         held: Bounded<usize>,
     ) -> Result<&'input [u8], DecodeError> {
         record!(
@@ -316,7 +316,7 @@ impl<'input> asn1_schema_decode::Decoder for Decoder<'input> {
         &mut self,
         alloc: Global,
         _tag: Tag,
-        constraints: Constraints,
+        constraints: &Constraints,
     ) -> Result<String, DecodeError> {
         record!(
             self,
@@ -329,7 +329,7 @@ impl<'input> asn1_schema_decode::Decoder for Decoder<'input> {
         &mut self,
         alloc: Global,
         _tag: Tag,
-        constraints: Constraints,
+        constraints: &Constraints,
     ) -> Result<S, DecodeError> {
         record!(
             self,
@@ -352,7 +352,7 @@ impl<'input> asn1_schema_decode::Decoder for Decoder<'input> {
     fn begin_list(
         &mut self,
         _tag: Tag,
-        _constraints: Constraints,
+        _constraints: &Constraints,
         held: Bounded<usize>,
     ) -> Result<(), DecodeError> {
         scope!(self, read_members(&mut self.cursor, self.rules, held))
@@ -362,7 +362,7 @@ impl<'input> asn1_schema_decode::Decoder for Decoder<'input> {
     fn begin_bag(
         &mut self,
         _tag: Tag,
-        _constraints: Constraints,
+        _constraints: &Constraints,
         held: Bounded<usize>,
     ) -> Result<(), DecodeError> {
         scope!(self, read_members(&mut self.cursor, self.rules, held))

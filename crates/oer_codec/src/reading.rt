@@ -65,16 +65,16 @@ pub fn decode_with_remainder<'input, T: Decode>(
 /// octets in front, fewer than 2^60, are an encoding of a value of it that nests at most 128 levels.
 pub fn decode_with_constraints<T: Decode>(
     alloc: Global,
-    constraints: Constraints,
+    constraints: &Constraints,
     input: &[u8],
     rules: EncodingRules,
 ) -> Result<T, DecodeError>
     ensures ok { IfOk result
         (λ x. (rest : List ℕ)
-        × Tells (rules_of rules) (T.under (meant constraints.entry)) (T.meaning x) input.now rest) }
+        × Tells (rules_of rules) (T.under (meant constraints.now)) (T.meaning x) input.now rest) }
     ensures only { IfErr result
-        (λ error. IsLawful (T.under (meant constraints.entry) 128)
-        → NoMessage (rules_of rules) (T.under (meant constraints.entry)) input.now error) }
+        (λ error. IsLawful (T.under (meant constraints.now) 128)
+        → NoMessage (rules_of rules) (T.under (meant constraints.now)) input.now error) }
     ensures fresh { IfErr result (λ e. e ≡ DecodeError.AlreadyFailed → ⊥) }
 {
     let mut decoder = Decoder::new(alloc, input, DecoderOptions { rules });

@@ -39,12 +39,12 @@ pub fn encode<T: Encode>(alloc: Global, value: &T) -> Result<Vec<u8>, EncodeErro
 /// Those of `encode`.
 pub fn encode_with_constraints<T: Encode>(
     alloc: Global,
-    constraints: Constraints,
+    constraints: &Constraints,
     value: &T,
 ) -> Result<Vec<u8>, EncodeError>
     ensures ok { IfOk result
-        (λ octets. IsEncoded (T.under (meant constraints.entry)) (T.meaning value.now) octets.items) }
-    ensures only { IfErr result (NotEncoded (T.under (meant constraints.entry)) (T.meaning value.now)) }
+        (λ octets. IsEncoded (T.under (meant constraints.now)) (T.meaning value.now) octets.items) }
+    ensures only { IfErr result (NotEncoded (T.under (meant constraints.now)) (T.meaning value.now)) }
     ensures fresh { IfErr result (λ e. e ≡ EncodeError.AlreadyFailed → ⊥) }
     ensures fits { IfErr result (λ e. e ≡ EncodeError.LengthExceedsPlatformSize → ⊥) }
     ensures in_place { IfErr result (λ e. e ≡ EncodeError.CallOutOfPlace → ⊥) }

@@ -32,14 +32,14 @@ pub(crate) fn begin_bag(
     octets: &mut Vec<u8>,
     frames: &mut Frames,
     alloc: Global,
-    constraints: Constraints,
+    constraints: &Constraints,
     held: Bounded<usize>,
     count: usize,
 ) -> Result<(), EncodeError>
     ensures step { MatchResult result
-        (λ _. Does (bag_begins (sizes_of constraints.entry.size) (members_of held) count)
+        (λ _. Does (bag_begins (sizes_of constraints.now.size) (members_of held) count)
         frames.old octets.old.items frames.new octets.new.items)
-        (Cannot (bag_begins (sizes_of constraints.entry.size) (members_of held) count) frames.old octets.old.items) }
+        (Cannot (bag_begins (sizes_of constraints.now.size) (members_of held) count) frames.old octets.old.items) }
     ensures kept { OnErr result (Keeps frames.old octets.old.items frames.new octets.new.items) }
 {
     push_count(octets, held, count)?;

@@ -178,7 +178,7 @@ impl<'buffer> asn1_schema_encode::Encoder for Encoder<'buffer> {
     fn encode_integer<I: IntegerType>(
         &mut self,
         _tag: Tag,
-        constraints: Constraints,
+        constraints: &Constraints,
         value: &I,
         _identifier: Identifier,
     ) -> Result<(), EncodeError> {
@@ -206,7 +206,7 @@ impl<'buffer> asn1_schema_encode::Encoder for Encoder<'buffer> {
     fn encode_bit_string(
         &mut self,
         _tag: Tag,
-        constraints: Constraints,
+        constraints: &Constraints,
         held: Bounded<usize>,
         value: BitStr,
         _identifier: Identifier,
@@ -218,7 +218,7 @@ impl<'buffer> asn1_schema_encode::Encoder for Encoder<'buffer> {
     fn encode_octet_string(
         &mut self,
         _tag: Tag,
-        constraints: Constraints,
+        constraints: &Constraints,
         held: Bounded<usize>,
         value: &[u8],
         _identifier: Identifier,
@@ -232,7 +232,7 @@ impl<'buffer> asn1_schema_encode::Encoder for Encoder<'buffer> {
     fn encode_utf8_string(
         &mut self,
         _tag: Tag,
-        constraints: Constraints,
+        constraints: &Constraints,
         value: &str,
         _identifier: Identifier,
     ) -> Result<(), EncodeError> {
@@ -243,7 +243,7 @@ impl<'buffer> asn1_schema_encode::Encoder for Encoder<'buffer> {
     fn encode_characters<S: StaticPermittedAlphabet>(
         &mut self,
         _tag: Tag,
-        constraints: Constraints,
+        constraints: &Constraints,
         value: &S,
         _identifier: Identifier,
     ) -> Result<(), EncodeError> {
@@ -263,7 +263,7 @@ impl<'buffer> asn1_schema_encode::Encoder for Encoder<'buffer> {
     fn begin_list(
         &mut self,
         _tag: Tag,
-        constraints: Constraints,
+        constraints: &Constraints,
         held: Bounded<usize>,
         count: usize,
     ) -> Result<(), EncodeError> {
@@ -277,7 +277,7 @@ impl<'buffer> asn1_schema_encode::Encoder for Encoder<'buffer> {
     fn begin_bag(
         &mut self,
         _tag: Tag,
-        constraints: Constraints,
+        constraints: &Constraints,
         held: Bounded<usize>,
         count: usize,
     ) -> Result<(), EncodeError> {

@@ -114,14 +114,14 @@ pub(crate) fn encode_presence_bit(
 pub(crate) fn begin_members(
     octets: &mut Vec<u8>,
     frames: &mut Frames,
-    constraints: Constraints,
+    constraints: &Constraints,
     held: Bounded<usize>,
     count: usize,
 ) -> Result<(), EncodeError>
     ensures step { MatchResult result
-        (λ _. Does (list_begins (sizes_of constraints.entry.size) (members_of held) count)
+        (λ _. Does (list_begins (sizes_of constraints.now.size) (members_of held) count)
         frames.old octets.old.items frames.new octets.new.items)
-        (Cannot (list_begins (sizes_of constraints.entry.size) (members_of held) count) frames.old octets.old.items) }
+        (Cannot (list_begins (sizes_of constraints.now.size) (members_of held) count) frames.old octets.old.items) }
     ensures kept { OnErr result (Keeps frames.old octets.old.items frames.new octets.new.items) }
 {
     push_count(octets, held, count)?;

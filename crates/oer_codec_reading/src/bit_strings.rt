@@ -146,14 +146,14 @@ pub fn read_bit_string(
     alloc: Global,
     cursor: &mut Cursor<'_>,
     rules: EncodingRules,
-    constraints: Constraints,
+    constraints: &Constraints,
     held: Bounded<usize>,
 ) -> Result<BitString, DecodeError>
     ensures ok { IfOk result (λ x. Front (freedoms rules)
-        (Asn1.bit_string (sizes_of constraints.entry.size) (counts_of held)) (Asn1Value.bit_list x) cursor.old
+        (Asn1.bit_string (sizes_of constraints.now.size) (counts_of held)) (Asn1Value.bit_list x) cursor.old
         cursor.new) }
     ensures only { IfErr result (NoFront (freedoms rules)
-        (Asn1.bit_string (sizes_of constraints.entry.size) (counts_of held)) cursor.old) }
+        (Asn1.bit_string (sizes_of constraints.now.size) (counts_of held)) cursor.old) }
 {
     let sizes = constraints.sizes();
     let bits = read_sized_bits(cursor, rules, sizes.fixed())?;

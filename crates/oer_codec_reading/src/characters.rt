@@ -106,15 +106,15 @@ pub fn read_characters<S: StaticPermittedAlphabet>(
     alloc: Global,
     cursor: &mut Cursor<'_>,
     rules: EncodingRules,
-    constraints: Constraints,
+    constraints: &Constraints,
 ) -> Result<S, DecodeError>
     ensures ok { IfOk result (λ x. Front (freedoms rules)
-        (Asn1.character_string S.kind (sizes_of constraints.entry.size)
-        (alphabet_of constraints.entry.permitted_alphabet) any_count) (Asn1Value.text (S.characters x)) cursor.old
+        (Asn1.character_string S.kind (sizes_of constraints.now.size)
+        (alphabet_of constraints.now.permitted_alphabet) any_count) (Asn1Value.text (S.characters x)) cursor.old
         cursor.new) }
     ensures only { IfErr result (NoFront (freedoms rules)
-        (Asn1.character_string S.kind (sizes_of constraints.entry.size)
-        (alphabet_of constraints.entry.permitted_alphabet) any_count) cursor.old) }
+        (Asn1.character_string S.kind (sizes_of constraints.now.size)
+        (alphabet_of constraints.now.permitted_alphabet) any_count) cursor.old) }
 {
     let wide = S::contains_char(0x100);
     let sizes = constraints.sizes();

@@ -22,9 +22,9 @@ use std::alloc::Global;
 /// The form of numbers under a value constraint (X.696 10): whether they have a sign, and in how many octets they
 /// stand, if that is fixed.
 #[inline(always)]
-fn form_under(constraints: Constraints) -> (bool, Option<usize>)
-    ensures sign { result.0 ≡ sign_under (bounds_of constraints.entry.value) }
-    ensures width { result.1 ≡ width_under (bounds_of constraints.entry.value) }
+fn form_under(constraints: &Constraints) -> (bool, Option<usize>)
+    ensures sign { result.0 ≡ sign_under (bounds_of constraints.now.value) }
+    ensures width { result.1 ≡ width_under (bounds_of constraints.now.value) }
     ensures some { IfSome result.1 (λ k. 1 ≤ k) }
 {
     let Some(constraint) = constraints.value else {
@@ -78,8 +78,8 @@ fn long_number(signed: bool, octets: &[u8]) -> Option<i128>
 /// Whether a value constraint, where there is one, admits a number of 128 bits: one within its bounds, if they have
 /// no extension marker.
 #[inline(always)]
-fn is_admitted(constraints: Constraints, number: i128) -> bool
-    ensures { result ≡ admits_whole constraints.entry.value number }
+fn is_admitted(constraints: &Constraints, number: i128) -> bool
+    ensures { result ≡ admits_whole constraints.now.value number }
 {
     let Some(constraint) = constraints.value else {
         return true;
@@ -91,17 +91,17 @@ fn is_admitted(constraints: Constraints, number: i128) -> bool
 #[inline(never)]
 fn value_past<I: IntegerType>(
     alloc: Global,
-    constraints: Constraints,
+    constraints: &Constraints,
     signed: bool,
     octets: &[u8],
 ) -> Result<I, DecodeError>
     requires past { is_within wide_range (own_number signed octets.now) ≡ false }
     requires some { 0 < length octets.now }
     ensures value { IfOk result (λ x. I.value x ≡ own_number signed octets.now) }
-    ensures admitted { OnOk result (admits_whole constraints.entry.value (own_number signed octets.now) ≡ true) }
+    ensures admitted { OnOk result (admits_whole constraints.now.value (own_number signed octets.now) ≡ true) }
     ensures held { OnOk result (is_within I.held (own_number signed octets.now) ≡ true) }
     ensures refused { IfErr result (λ e. (e ≡ DecodeError.OutOfMemory)
-        ⊎ ((admits_whole constraints.entry.value (own_number signed octets.now) ≡ false)
+        ⊎ ((admits_whole constraints.now.value (own_number signed octets.now) ≡ false)
         ⊎ (is_within I.held (own_number signed octets.now) ≡ false))) }
     ensures fresh { IfErr result (λ e. e ≡ DecodeError.AlreadyFailed → ⊥) }
 {
@@ -115,17 +115,17 @@ fn value_past<I: IntegerType>(
 #[inline(always)]
 fn further_value<I: IntegerType>(
     alloc: Global,
-    constraints: Constraints,
+    constraints: &Constraints,
     signed: bool,
     octets: &[u8],
 ) -> Result<I, DecodeError>
     requires past { is_within wide_range (own_number signed octets.now) ≡ false }
     requires some { 0 < length octets.now }
     ensures value { IfOk result (λ x. I.value x ≡ own_number signed octets.now) }
-    ensures admitted { OnOk result (admits_whole constraints.entry.value (own_number signed octets.now) ≡ true) }
+    ensures admitted { OnOk result (admits_whole constraints.now.value (own_number signed octets.now) ≡ true) }
     ensures held { OnOk result (is_within I.held (own_number signed octets.now) ≡ true) }
     ensures refused { IfErr result (λ e. (e ≡ DecodeError.OutOfMemory)
-        ⊎ ((admits_whole constraints.entry.value (own_number signed octets.now) ≡ false)
+        ⊎ ((admits_whole constraints.now.value (own_number signed octets.now) ≡ false)
         ⊎ (is_within I.held (own_number signed octets.now) ≡ false))) }
     ensures fresh { IfErr result (λ e. e ≡ DecodeError.AlreadyFailed → ⊥) }
 {
@@ -138,16 +138,16 @@ fn further_value<I: IntegerType>(
 #[inline(always)]
 fn admitted_value<I: IntegerType>(
     alloc: Global,
-    constraints: Constraints,
+    constraints: &Constraints,
     signed: bool,
     octets: &[u8],
 ) -> Result<I, DecodeError>
     requires { 0 < length octets.now }
     ensures value { IfOk result (λ x. I.value x ≡ own_number signed octets.now) }
-    ensures admitted { OnOk result (admits_whole constraints.entry.value (own_number signed octets.now) ≡ true) }
+    ensures admitted { OnOk result (admits_whole constraints.now.value (own_number signed octets.now) ≡ true) }
     ensures held { OnOk result (is_within I.held (own_number signed octets.now) ≡ true) }
     ensures refused { IfErr result (λ e. (e ≡ DecodeError.OutOfMemory)
-        ⊎ ((admits_whole constraints.entry.value (own_number signed octets.now) ≡ false)
+        ⊎ ((admits_whole constraints.now.value (own_number signed octets.now) ≡ false)
         ⊎ (is_within I.held (own_number signed octets.now) ≡ false))) }
     ensures fresh { IfErr result (λ e. e ≡ DecodeError.AlreadyFailed → ⊥) }
 {
@@ -172,13 +172,13 @@ pub fn read_integer<I: IntegerType>(
     alloc: Global,
     cursor: &mut Cursor<'_>,
     rules: EncodingRules,
-    constraints: Constraints,
+    constraints: &Constraints,
 ) -> Result<I, DecodeError>
     ensures ok { IfOk result (λ x. Front (freedoms rules)
-        (Asn1.integer (bounds_of constraints.entry.value) (held_of constraints.entry.value I.held))
+        (Asn1.integer (bounds_of constraints.now.value) (held_of constraints.now.value I.held))
         (Asn1Value.number (I.value x)) cursor.old cursor.new) }
     ensures only { IfErr result (NoFront (freedoms rules)
-        (Asn1.integer (bounds_of constraints.entry.value) (held_of constraints.entry.value I.held)) cursor.old) }
+        (Asn1.integer (bounds_of constraints.now.value) (held_of constraints.now.value I.held)) cursor.old) }
 {
     let (signed, width) = form_under(constraints);
     let octets = read_number(cursor, rules, signed, width)?;

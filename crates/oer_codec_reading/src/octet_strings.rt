@@ -49,14 +49,14 @@ pub fn read_sized<'input>(
 pub fn read_octet_string<'input>(
     cursor: &mut Cursor<'input>,
     rules: EncodingRules,
-    constraints: Constraints,
+    constraints: &Constraints,
     held: Bounded<usize>,
 ) -> Result<&'input [u8], DecodeError>
     ensures ok { IfOk result (λ octets. Front (freedoms rules)
-        (Asn1.octet_string (sizes_of constraints.entry.size) (counts_of held)) (Asn1Value.octet_list octets.now)
+        (Asn1.octet_string (sizes_of constraints.now.size) (counts_of held)) (Asn1Value.octet_list octets.now)
         cursor.old cursor.new) }
     ensures only { IfErr result (NoFront (freedoms rules)
-        (Asn1.octet_string (sizes_of constraints.entry.size) (counts_of held)) cursor.old) }
+        (Asn1.octet_string (sizes_of constraints.now.size) (counts_of held)) cursor.old) }
 {
     let sizes = constraints.sizes();
     let octets = read_sized(cursor, rules, sizes.fixed())?;

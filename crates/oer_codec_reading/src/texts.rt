@@ -23,15 +23,15 @@ pub fn read_utf8_string(
     alloc: Global,
     cursor: &mut Cursor<'_>,
     rules: EncodingRules,
-    constraints: Constraints,
+    constraints: &Constraints,
 ) -> Result<String, DecodeError>
     ensures ok { IfOk result (λ x. Front (freedoms rules)
-        (Asn1.character_string Asn1.utf8 (sizes_of constraints.entry.size)
-        (alphabet_of constraints.entry.permitted_alphabet) any_count) (Asn1Value.text (string_bytes x)) cursor.old
+        (Asn1.character_string Asn1.utf8 (sizes_of constraints.now.size)
+        (alphabet_of constraints.now.permitted_alphabet) any_count) (Asn1Value.text (string_bytes x)) cursor.old
         cursor.new) }
     ensures only { IfErr result (NoFront (freedoms rules)
-        (Asn1.character_string Asn1.utf8 (sizes_of constraints.entry.size)
-        (alphabet_of constraints.entry.permitted_alphabet) any_count) cursor.old) }
+        (Asn1.character_string Asn1.utf8 (sizes_of constraints.now.size)
+        (alphabet_of constraints.now.permitted_alphabet) any_count) cursor.old) }
 {
     let octets = read_octet_string(cursor, rules, constraints, Bounded::None)?;
     let Some(text) = text_of(octets) else {

@@ -110,14 +110,14 @@ fn push_sized_bits(octets: &mut Vec<u8>, fixed: bool, value: BitStr) -> Result<(
 /// `OutOfMemory`; any other only where the value has no encoding in this form.
 pub fn push_bit_string(
     octets: &mut Vec<u8>,
-    constraints: Constraints,
+    constraints: &Constraints,
     held: Bounded<usize>,
     value: BitStr,
 ) -> Result<(), EncodeError>
     ensures text { MatchResult result (λ _. Adds
-        (written (form (bit_string (sizes_of constraints.entry.size) (counts_of held))
+        (written (form (bit_string (sizes_of constraints.now.size) (counts_of held))
         (bit_list (bits_of value.entry))) 0) octets.old.items octets.new.items)
-        (Refuses (written (form (bit_string (sizes_of constraints.entry.size) (counts_of held))
+        (Refuses (written (form (bit_string (sizes_of constraints.now.size) (counts_of held))
         (bit_list (bits_of value.entry))) 0)) }
     ensures kept { OnErr result (Begins octets.old.items octets.new.items) }
 {

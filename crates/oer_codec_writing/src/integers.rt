@@ -121,13 +121,13 @@ fn push_number(
 #[inline(always)]
 pub fn push_integer<I: IntegerType>(
     octets: &mut Vec<u8>,
-    constraints: Constraints,
+    constraints: &Constraints,
     value: &I,
 ) -> Result<(), EncodeError>
     ensures text { MatchResult result (λ _. Adds
-        (written (integer_form (bounds_of constraints.entry.value) (held_of constraints.entry.value I.held)
+        (written (integer_form (bounds_of constraints.now.value) (held_of constraints.now.value I.held)
         (I.value value.now)) 0) octets.old.items octets.new.items)
-        (Refuses (written (integer_form (bounds_of constraints.entry.value) (held_of constraints.entry.value I.held)
+        (Refuses (written (integer_form (bounds_of constraints.now.value) (held_of constraints.now.value I.held)
         (I.value value.now)) 0)) }
     ensures kept { OnErr result (Begins octets.old.items octets.new.items) }
 {

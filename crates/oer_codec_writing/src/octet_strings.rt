@@ -40,14 +40,14 @@ pub(crate) fn push_sized(
 #[inline(always)]
 pub fn push_octet_string(
     octets: &mut Vec<u8>,
-    constraints: Constraints,
+    constraints: &Constraints,
     held: Bounded<usize>,
     value: &[u8],
 ) -> Result<(), EncodeError>
     ensures text { MatchResult result (λ _. Adds
-        (written (form (octet_string (sizes_of constraints.entry.size) (counts_of held)) (octet_list value.now)) 0)
+        (written (form (octet_string (sizes_of constraints.now.size) (counts_of held)) (octet_list value.now)) 0)
         octets.old.items octets.new.items)
-        (Refuses (written (form (octet_string (sizes_of constraints.entry.size) (counts_of held))
+        (Refuses (written (form (octet_string (sizes_of constraints.now.size) (counts_of held))
         (octet_list value.now)) 0)) }
     ensures kept { OnErr result (Begins octets.old.items octets.new.items) }
 {

@@ -25,15 +25,15 @@ use asn1_values_alphabets::StaticPermittedAlphabet;
 /// `OutOfMemory`; any other only where the value has no encoding in this form.
 pub fn push_utf8(
     octets: &mut Vec<u8>,
-    constraints: Constraints,
+    constraints: &Constraints,
     value: &str,
 ) -> Result<(), EncodeError>
     ensures text { MatchResult result (λ _. Adds
-        (written (form (character_string utf8 (sizes_of constraints.entry.size)
-        (alphabet_of constraints.entry.permitted_alphabet) any_count) (text value.now)) 0) octets.old.items
+        (written (form (character_string utf8 (sizes_of constraints.now.size)
+        (alphabet_of constraints.now.permitted_alphabet) any_count) (text value.now)) 0) octets.old.items
         octets.new.items) (Refuses (written
-        (form (character_string utf8 (sizes_of constraints.entry.size)
-        (alphabet_of constraints.entry.permitted_alphabet) any_count) (text value.now)) 0)) }
+        (form (character_string utf8 (sizes_of constraints.now.size)
+        (alphabet_of constraints.now.permitted_alphabet) any_count) (text value.now)) 0)) }
     ensures kept { OnErr result (Begins octets.old.items octets.new.items) }
 {
     let sizes = constraints.sizes();
@@ -134,15 +134,15 @@ fn push_wide_string<S: StaticPermittedAlphabet>(
 #[inline(always)]
 pub fn push_characters<S: StaticPermittedAlphabet>(
     octets: &mut Vec<u8>,
-    constraints: Constraints,
+    constraints: &Constraints,
     value: &S,
 ) -> Result<(), EncodeError>
     ensures text { MatchResult result (λ _. Adds
-        (written (form (character_string S.kind (sizes_of constraints.entry.size)
-        (alphabet_of constraints.entry.permitted_alphabet) any_count) (text (S.characters value.now))) 0)
+        (written (form (character_string S.kind (sizes_of constraints.now.size)
+        (alphabet_of constraints.now.permitted_alphabet) any_count) (text (S.characters value.now))) 0)
         octets.old.items octets.new.items)
-        (Refuses (written (form (character_string S.kind (sizes_of constraints.entry.size)
-        (alphabet_of constraints.entry.permitted_alphabet) any_count) (text (S.characters value.now))) 0)) }
+        (Refuses (written (form (character_string S.kind (sizes_of constraints.now.size)
+        (alphabet_of constraints.now.permitted_alphabet) any_count) (text (S.characters value.now))) 0)) }
     ensures kept { OnErr result (Begins octets.old.items octets.new.items) }
 {
     let sizes = constraints.sizes();

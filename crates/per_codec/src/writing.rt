@@ -76,14 +76,14 @@ fn encode_into<T: Encode>(
 pub fn encode_with_constraints<T: Encode>(
     alloc: Global,
     options: EncoderOptions,
-    constraints: Constraints,
+    constraints: &Constraints,
     value: &T,
 ) -> Result<Vec<u8>, EncodeError>
     ensures ok { IfOk result
-        (λ octets. IsEncoded (variant_of options) (T.under (meant constraints.entry))
+        (λ octets. IsEncoded (variant_of options) (T.under (meant constraints.now))
         (T.meaning value.now) octets.items) }
     ensures only { IfErr result
-        (NotEncoded (variant_of options) (T.under (meant constraints.entry)) (T.meaning value.now)) }
+        (NotEncoded (variant_of options) (T.under (meant constraints.now)) (T.meaning value.now)) }
     ensures fresh { IfErr result (λ e. e ≡ EncodeError.AlreadyFailed → ⊥) }
     ensures fits { IfErr result (λ e. e ≡ EncodeError.LengthExceedsPlatformSize → ⊥) }
     ensures in_place { IfErr result (λ e. e ≡ EncodeError.CallOutOfPlace → ⊥) }

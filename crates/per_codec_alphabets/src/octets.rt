@@ -35,10 +35,10 @@ fn alphabet_counts(alphabet: Option<Extensible<PermittedAlphabet>>) -> bool
 #[inline(always)]
 pub fn is_encoded_as_octets<S: StaticPermittedAlphabet>(
     variant: Variant,
-    constraints: Constraints,
+    constraints: &Constraints,
 ) -> bool
-    ensures { result ≡ as_octets (is_aligned variant) S.kind constraints.entry.size
-        constraints.entry.permitted_alphabet }
+    ensures { result ≡ as_octets (is_aligned variant) S.kind constraints.now.size
+        constraints.now.permitted_alphabet }
 {
     variant.is_aligned()
         && have_octet_codes::<S>()

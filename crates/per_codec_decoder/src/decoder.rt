@@ -417,7 +417,7 @@ impl<'input> asn1_schema_decode::Decoder for Decoder<'input> {
         &mut self,
         alloc: Global,
         _tag: Tag,
-        constraints: Constraints,
+        constraints: &Constraints,
     ) -> Result<I, DecodeError> {
         record!(
             self,
@@ -438,7 +438,7 @@ impl<'input> asn1_schema_decode::Decoder for Decoder<'input> {
         &mut self,
         alloc: Global,
         _tag: Tag,
-        constraints: Constraints,
+        constraints: &Constraints,
         held: Bounded<usize>,
     ) -> Result<BitString, DecodeError> {
         let sizes = constraints.sizes();
@@ -454,7 +454,7 @@ impl<'input> asn1_schema_decode::Decoder for Decoder<'input> {
         &mut self,
         alloc: Global,
         _tag: Tag,
-        constraints: Constraints,
+        constraints: &Constraints,
         held: Bounded<usize>,
     ) -> Result<CowSlice<'input, u8>, DecodeError> {
         self.find_octets(alloc, constraints.sizes(), held)
@@ -464,7 +464,7 @@ impl<'input> asn1_schema_decode::Decoder for Decoder<'input> {
         &mut self,
         alloc: Global,
         _tag: Tag,
-        constraints: Constraints,
+        constraints: &Constraints,
     ) -> Result<String, DecodeError> {
         record!(
             self,
@@ -478,7 +478,7 @@ impl<'input> asn1_schema_decode::Decoder for Decoder<'input> {
         &mut self,
         alloc: Global,
         _tag: Tag,
-        constraints: Constraints,
+        constraints: &Constraints,
     ) -> Result<S, DecodeError> {
         record!(
             self,
@@ -503,7 +503,7 @@ impl<'input> asn1_schema_decode::Decoder for Decoder<'input> {
     fn begin_list(
         &mut self,
         _tag: Tag,
-        constraints: Constraints,
+        constraints: &Constraints,
         held: Bounded<usize>,
     ) -> Result<(), DecodeError> {
         self.enter_members(constraints.sizes(), held)
@@ -513,7 +513,7 @@ impl<'input> asn1_schema_decode::Decoder for Decoder<'input> {
     fn begin_bag(
         &mut self,
         _tag: Tag,
-        constraints: Constraints,
+        constraints: &Constraints,
         held: Bounded<usize>,
     ) -> Result<(), DecodeError> {
         self.enter_members(constraints.sizes(), held)

@@ -192,7 +192,7 @@ impl asn1_schema_encode::Encoder for Encoder {
     fn encode_integer<I: IntegerType>(
         &mut self,
         _tag: Tag,
-        constraints: Constraints,
+        constraints: &Constraints,
         value: &I,
         _identifier: Identifier,
     ) -> Result<(), EncodeError> {
@@ -224,7 +224,7 @@ impl asn1_schema_encode::Encoder for Encoder {
     fn encode_bit_string(
         &mut self,
         _tag: Tag,
-        constraints: Constraints,
+        constraints: &Constraints,
         held: Bounded<usize>,
         value: BitStr,
         _identifier: Identifier,
@@ -239,7 +239,7 @@ impl asn1_schema_encode::Encoder for Encoder {
     fn encode_octet_string(
         &mut self,
         _tag: Tag,
-        constraints: Constraints,
+        constraints: &Constraints,
         held: Bounded<usize>,
         value: &[u8],
         _identifier: Identifier,
@@ -254,7 +254,7 @@ impl asn1_schema_encode::Encoder for Encoder {
     fn encode_utf8_string(
         &mut self,
         _tag: Tag,
-        constraints: Constraints,
+        constraints: &Constraints,
         value: &str,
         _identifier: Identifier,
     ) -> Result<(), EncodeError> {
@@ -268,7 +268,7 @@ impl asn1_schema_encode::Encoder for Encoder {
     fn encode_characters<S: StaticPermittedAlphabet>(
         &mut self,
         _tag: Tag,
-        constraints: Constraints,
+        constraints: &Constraints,
         value: &S,
         _identifier: Identifier,
     ) -> Result<(), EncodeError> {
@@ -300,7 +300,7 @@ impl asn1_schema_encode::Encoder for Encoder {
     fn begin_list(
         &mut self,
         _tag: Tag,
-        constraints: Constraints,
+        constraints: &Constraints,
         held: Bounded<usize>,
         count: usize,
     ) -> Result<(), EncodeError> {
@@ -321,7 +321,7 @@ impl asn1_schema_encode::Encoder for Encoder {
     fn begin_bag(
         &mut self,
         _tag: Tag,
-        constraints: Constraints,
+        constraints: &Constraints,
         held: Bounded<usize>,
         count: usize,
     ) -> Result<(), EncodeError> {

@@ -26,17 +26,17 @@ pub fn read_utf8_string(
     alloc: Global,
     cursor: &mut Cursor<'_>,
     variant: Variant,
-    _constraints: Constraints,
+    _constraints: &Constraints,
 ) -> Result<String, DecodeError>
     ensures ok { IfOk result (λ x. Front (freedoms variant)
         (Per.form (fronts.is_aligned variant)
-        (Asn1.character_string Asn1.utf8 (sizes_of _constraints.entry.size)
-        (alphabet_of _constraints.entry.permitted_alphabet) any_count) (Asn1Value.text (string_bytes x))) cursor.old
+        (Asn1.character_string Asn1.utf8 (sizes_of _constraints.now.size)
+        (alphabet_of _constraints.now.permitted_alphabet) any_count) (Asn1Value.text (string_bytes x))) cursor.old
         cursor.new) }
     ensures only { IfErr result (Misses (freedoms variant)
         (Per.form (fronts.is_aligned variant)
-        (Asn1.character_string Asn1.utf8 (sizes_of _constraints.entry.size)
-        (alphabet_of _constraints.entry.permitted_alphabet) any_count)) cursor.old) }
+        (Asn1.character_string Asn1.utf8 (sizes_of _constraints.now.size)
+        (alphabet_of _constraints.now.permitted_alphabet) any_count)) cursor.old) }
 {
     let octets = read_counted_octets(alloc, cursor, variant)?;
     let Some(text) = text_of(octets.as_slice()) else {

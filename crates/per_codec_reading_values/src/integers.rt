@@ -28,15 +28,15 @@ pub fn read_integer<I: IntegerType>(
     alloc: Global,
     cursor: &mut Cursor<'_>,
     variant: Variant,
-    constraints: Constraints,
+    constraints: &Constraints,
 ) -> Result<I, DecodeError>
     ensures ok { IfOk result (λ x. Front (freedoms variant)
         (Per.form (fronts.is_aligned variant)
-        (Asn1.integer (bounds_of constraints.entry.value) (held_of constraints.entry.value I.held))
+        (Asn1.integer (bounds_of constraints.now.value) (held_of constraints.now.value I.held))
         (Asn1Value.number (I.value x))) cursor.old cursor.new) }
     ensures only { IfErr result (Misses (freedoms variant)
         (Per.form (fronts.is_aligned variant)
-        (Asn1.integer (bounds_of constraints.entry.value) (held_of constraints.entry.value I.held))) cursor.old) }
+        (Asn1.integer (bounds_of constraints.now.value) (held_of constraints.now.value I.held))) cursor.old) }
 {
     let Some(constraint) = constraints.value else {
         let octets = read_number_octets(alloc, cursor, variant)?;

@@ -37,11 +37,11 @@ fn read_octets<S: StaticPermittedAlphabet>(
     alloc: Global,
     cursor: &mut Cursor<'_>,
     variant: Variant,
-    _constraints: Constraints,
+    _constraints: &Constraints,
 ) -> Result<S, DecodeError>
     requires kind { holds_octets S.kind ≡ true }
-    ensures ok { IfOk result (λ s. Stands variant S.kind _constraints.entry (S.characters s) cursor.old cursor.new) }
-    ensures only { IfErr result (MissesString variant S.kind _constraints.entry cursor.old) }
+    ensures ok { IfOk result (λ s. Stands variant S.kind _constraints.now (S.characters s) cursor.old cursor.new) }
+    ensures only { IfErr result (MissesString variant S.kind _constraints.now cursor.old) }
 {
     let octets = read_counted_octets(alloc, cursor, variant)?;
     match string_of_octets(alloc, octets.as_slice()) {
@@ -74,11 +74,11 @@ fn read_octet_codes<S: StaticPermittedAlphabet>(
     alloc: Global,
     cursor: &mut Cursor<'_>,
     variant: Variant,
-    _constraints: Constraints,
+    _constraints: &Constraints,
 ) -> Result<S, DecodeError>
     requires codes { as_octets (is_aligned variant) S.kind _constraints.size _constraints.permitted_alphabet ≡ true }
-    ensures ok { IfOk result (λ s. Stands variant S.kind _constraints.entry (S.characters s) cursor.old cursor.new) }
-    ensures only { IfErr result (MissesString variant S.kind _constraints.entry cursor.old) }
+    ensures ok { IfOk result (λ s. Stands variant S.kind _constraints.now (S.characters s) cursor.old cursor.new) }
+    ensures only { IfErr result (MissesString variant S.kind _constraints.now cursor.old) }
 {
     let octets = read_counted_octets(alloc, cursor, variant)?;
     match string_of_characters(alloc, octets.as_slice()) {
@@ -114,11 +114,11 @@ fn read_codes<S: StaticPermittedAlphabet>(
     alloc: Global,
     cursor: &mut Cursor<'_>,
     variant: Variant,
-    constraints: Constraints,
+    constraints: &Constraints,
 ) -> Result<S, DecodeError>
     requires kind { holds_octets S.kind ≡ false }
-    ensures ok { IfOk result (λ s. Stands variant S.kind constraints.entry (S.characters s) cursor.old cursor.new) }
-    ensures only { IfErr result (MissesString variant S.kind constraints.entry cursor.old) }
+    ensures ok { IfOk result (λ s. Stands variant S.kind constraints.now (S.characters s) cursor.old cursor.new) }
+    ensures only { IfErr result (MissesString variant S.kind constraints.now cursor.old) }
     ensures fresh { IfErr result IsFresh }
 {
     let alphabet = EffectiveAlphabet::new::<S>(alloc, variant, constraints.permitted_alphabet)?;
@@ -149,10 +149,10 @@ pub fn read_characters<S: StaticPermittedAlphabet>(
     alloc: Global,
     cursor: &mut Cursor<'_>,
     variant: Variant,
-    constraints: Constraints,
+    constraints: &Constraints,
 ) -> Result<S, DecodeError>
-    ensures ok { IfOk result (λ s. Stands variant S.kind constraints.entry (S.characters s) cursor.old cursor.new) }
-    ensures only { IfErr result (MissesString variant S.kind constraints.entry cursor.old) }
+    ensures ok { IfOk result (λ s. Stands variant S.kind constraints.now (S.characters s) cursor.old cursor.new) }
+    ensures only { IfErr result (MissesString variant S.kind constraints.now cursor.old) }
     ensures fresh { IfErr result IsFresh }
 {
     if is_of_octets::<S>() {

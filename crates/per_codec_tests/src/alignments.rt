@@ -205,7 +205,7 @@ fn skip(decoder: &mut Decoder<'_>, count: usize) -> Result<(), DecodeError> {
 fn read_under<T: Decode>(
     alloc: Global,
     decoder: &mut Decoder<'_>,
-    constraints: Constraints<'_>,
+    constraints: &Constraints<'_>,
 ) -> Result<T, DecodeError> {
     T::decode_with_constraints(alloc, decoder, constraints)
 }

@@ -193,7 +193,7 @@ fn is_lent(found: &CowSlice<u8, Global>, octets: &[u8]) -> bool {
 /// Whether the string of octets that comes next is lent by the message, and is these octets.
 fn lends(alloc: Global, decoder: &mut Decoder<'_>, octets: &[u8]) -> Result<bool, DecodeError> {
     let tag = Tag::OCTET_STRING;
-    let found = decoder.decode_octet_string(alloc, tag, Constraints::NONE, Bounded::None)?;
+    let found = decoder.decode_octet_string(alloc, tag, &Constraints::NONE, Bounded::None)?;
     Ok(is_lent(&found, octets))
 }
 

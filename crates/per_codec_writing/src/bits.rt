@@ -27,14 +27,14 @@ use per_codec_packing::Packing;
 pub fn push_bit_string(
     output: &mut Packing,
     variant: Variant,
-    constraints: Constraints,
+    constraints: &Constraints,
     held: Bounded<usize>,
     value: BitStr,
 ) -> Result<(), EncodeError>
     ensures { MatchResult result (λ _. Adds
-        (text_at (form (is_aligned variant) (bit_string (sizes_of constraints.entry.size) (counts_of held))
+        (text_at (form (is_aligned variant) (bit_string (sizes_of constraints.now.size) (counts_of held))
         (bit_list (bits_of value.entry))) (place output.old)) output.old output.new)
-        (Refuses (text_at (form (is_aligned variant) (bit_string (sizes_of constraints.entry.size) (counts_of held))
+        (Refuses (text_at (form (is_aligned variant) (bit_string (sizes_of constraints.now.size) (counts_of held))
         (bit_list (bits_of value.entry))) (place output.old))) }
 {
     let sizes = constraints.sizes();

@@ -141,15 +141,15 @@ fn push_codes<S: StaticPermittedAlphabet>(
     output: &mut Packing,
     variant: Variant,
     alloc: Global,
-    constraints: Constraints,
+    constraints: &Constraints,
     value: &S,
 ) -> Result<(), EncodeError>
     ensures { MatchResult result (λ _. Adds
-        (text_at (characters (is_aligned variant) (sizes_of constraints.entry.size) any_count
-        (permitted S.kind (alphabet_of constraints.entry.permitted_alphabet)) (S.characters value.now))
+        (text_at (characters (is_aligned variant) (sizes_of constraints.now.size) any_count
+        (permitted S.kind (alphabet_of constraints.now.permitted_alphabet)) (S.characters value.now))
         (place output.old)) output.old output.new)
-        (Refuses (text_at (characters (is_aligned variant) (sizes_of constraints.entry.size) any_count
-        (permitted S.kind (alphabet_of constraints.entry.permitted_alphabet)) (S.characters value.now))
+        (Refuses (text_at (characters (is_aligned variant) (sizes_of constraints.now.size) any_count
+        (permitted S.kind (alphabet_of constraints.now.permitted_alphabet)) (S.characters value.now))
         (place output.old))) }
 {
     let permitted = constraints.permitted_alphabet;
@@ -178,16 +178,16 @@ pub fn push_characters<S: StaticPermittedAlphabet>(
     output: &mut Packing,
     variant: Variant,
     alloc: Global,
-    constraints: Constraints,
+    constraints: &Constraints,
     value: &S,
 ) -> Result<(), EncodeError>
     ensures { MatchResult result (λ _. Adds
-        (text_at (form (is_aligned variant) (character_string S.kind (sizes_of constraints.entry.size)
-        (alphabet_of constraints.entry.permitted_alphabet) any_count) (text (S.characters value.now)))
+        (text_at (form (is_aligned variant) (character_string S.kind (sizes_of constraints.now.size)
+        (alphabet_of constraints.now.permitted_alphabet) any_count) (text (S.characters value.now)))
         (place output.old)) output.old output.new)
         (Refuses (text_at (form (is_aligned variant)
-        (character_string S.kind (sizes_of constraints.entry.size)
-        (alphabet_of constraints.entry.permitted_alphabet) any_count) (text (S.characters value.now)))
+        (character_string S.kind (sizes_of constraints.now.size)
+        (alphabet_of constraints.now.permitted_alphabet) any_count) (text (S.characters value.now)))
         (place output.old))) }
 {
     // The proof alone needs it: all characters of a string are those of its kind.

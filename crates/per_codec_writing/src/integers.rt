@@ -126,15 +126,15 @@ fn push_bounded(
 pub fn push_integer<I: IntegerType>(
     output: &mut Packing,
     variant: Variant,
-    constraints: Constraints,
+    constraints: &Constraints,
     value: &I,
 ) -> Result<(), EncodeError>
     ensures { MatchResult result (λ _. Adds
-        (text_at (form (is_aligned variant) (integer (bounds_of constraints.entry.value)
-        (held_of constraints.entry.value I.held)) (number_value (I.value value.now))) (place output.old))
+        (text_at (form (is_aligned variant) (integer (bounds_of constraints.now.value)
+        (held_of constraints.now.value I.held)) (number_value (I.value value.now))) (place output.old))
         output.old output.new)
         (Refuses (text_at (form (is_aligned variant)
-        (integer (bounds_of constraints.entry.value) (held_of constraints.entry.value I.held))
+        (integer (bounds_of constraints.now.value) (held_of constraints.now.value I.held))
         (number_value (I.value value.now))) (place output.old))) }
 {
     let Some(limits) = constraints.value else {

@@ -25,14 +25,14 @@ use per_codec_packing::Packing;
 pub fn push_octet_string(
     output: &mut Packing,
     variant: Variant,
-    constraints: Constraints,
+    constraints: &Constraints,
     held: Bounded<usize>,
     value: &[u8],
 ) -> Result<(), EncodeError>
     ensures { MatchResult result (λ _. Adds
-        (text_at (form (is_aligned variant) (octet_string (sizes_of constraints.entry.size) (counts_of held))
+        (text_at (form (is_aligned variant) (octet_string (sizes_of constraints.now.size) (counts_of held))
         (octet_list value.now)) (place output.old)) output.old output.new)
-        (Refuses (text_at (form (is_aligned variant) (octet_string (sizes_of constraints.entry.size) (counts_of held))
+        (Refuses (text_at (form (is_aligned variant) (octet_string (sizes_of constraints.now.size) (counts_of held))
         (octet_list value.now)) (place output.old))) }
 {
     let sizes = constraints.sizes();

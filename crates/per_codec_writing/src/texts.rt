@@ -24,12 +24,12 @@ use per_codec_packing::Packing;
 pub fn push_utf8(
     output: &mut Packing,
     variant: Variant,
-    _constraints: Constraints,
+    _constraints: &Constraints,
     value: &str,
 ) -> Result<(), EncodeError>
     ensures { MatchResult result (λ _. Adds
-        (text_at (form (is_aligned variant) (character_string utf8 (sizes_of _constraints.entry.size)
-        (alphabet_of _constraints.entry.permitted_alphabet) any_count) (text value.now)) (place output.old))
+        (text_at (form (is_aligned variant) (character_string utf8 (sizes_of _constraints.now.size)
+        (alphabet_of _constraints.now.permitted_alphabet) any_count) (text value.now)) (place output.old))
         output.old output.new) (λ e. e ≡ EncodeError.OutOfMemory) }
 {
     push_counted_octets(output, variant, value.as_bytes())?;

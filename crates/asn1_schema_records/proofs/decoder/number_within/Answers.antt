@@ -22,7 +22,7 @@ returns-in-Err-Memory-clause-refused g c =
 pub returns-in-Err-Overflow-clause-refused : goal.returns-in-Err-Overflow-clause-refused
 returns-in-Err-Overflow-clause-refused g c =
     let s : c.as_slice.result.now ≡ signed_octets_of c.args.number.now = search rules in
-    let a : admits_whole c.args.constraints.value c.args.number.now ≡ true = sym c.is_admitted.ensures ∙ c.if-not-is_admitted.false in
+    let a : admits_whole c.args.constraints.now.value c.args.number.now ≡ true = sym c.is_admitted.ensures ∙ c.if-not-is_admitted.false in
     (a, not_held_by c.try_from_signed_bytes.result _ _ _ s (cc) c.try_from_signed_bytes.ensures.overflow.0)
 
 pub returns-in-Err-Empty-clause-refused : goal.returns-in-Err-Empty-clause-refused

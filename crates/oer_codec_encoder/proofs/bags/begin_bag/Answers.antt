@@ -13,7 +13,7 @@ use Rattle.oer_codec_encoder.proofs.bags.begin_bag.Goals as goal
 
 pub returns-in_err-push_count-clause-step : goal.returns-in_err-push_count-clause-step
 returns-in_err-push_count-clause-step c =
-    let z = sizes_of c.args.constraints.size in
+    let z = sizes_of c.args.constraints.now.size in
     let h = members_of c.args.held in
     let fs = c.args.frames.now in
     let o = c.args.octets.now.items in
@@ -27,7 +27,7 @@ returns-clause-step c =
     let outer = c.push_count.new.octets in
     let held = c.in_ok-boxed.ensures.ok in
     let t = c.set_aside.ensures c.in_ok-boxed.boxed c.args.frames.now c.in_ok-open.ensures.ok in
-    does_begin_bag c.args.frames.now c.set_aside.new.self c.args.octets.now.items outer.items c.set_aside.new.octets.items (sizes_of c.args.constraints.size) (members_of c.args.held) c.args.count outer t.0 c.in_ok-push_count.ensures.text refl
+    does_begin_bag c.args.frames.now c.set_aside.new.self c.args.octets.now.items outer.items c.set_aside.new.octets.items (sizes_of c.args.constraints.now.size) (members_of c.args.held) c.args.count outer t.0 c.in_ok-push_count.ensures.text refl
     (ap (λ v. v.items) t.3 ∙ ap (λ (b : Bag). b.outer.items) held ∙ c.new.ensures.items) (t.2 ∙ ap (λ (b : Bag). record b { outer = outer }) held) t.1
 
 pub returns-in_err-push_count-clause-kept : goal.returns-in_err-push_count-clause-kept

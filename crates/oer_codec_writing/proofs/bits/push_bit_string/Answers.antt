@@ -14,13 +14,13 @@ use Rattle.oer_codec_writing.proofs.bits.push_bit_string.Goals as goal
 
 pub returns-then-not-admits-clause-text : goal.returns-then-not-admits-clause-text
 returns-then-not-admits-clause-text c =
-    let z = sizes_of c.args.constraints.size in
+    let z = sizes_of c.args.constraints.now.size in
     let h = counts_of c.args.held in
     bit_string_none z h (bits_of c.args.value) (ap (admits z h) (sym c.len.ensures) ∙ ap (λ y. admits y h c.len.result) (sym c.sizes-sizes.ensures) ∙ sym c.admits.ensures ∙ c.if-not-admits.true)
 
 pub returns-clause-text : goal.returns-clause-text
 returns-clause-text c =
-    let z = sizes_of c.args.constraints.size in
+    let z = sizes_of c.args.constraints.now.size in
     let h = counts_of c.args.held in
     adds_same _ _ c.args.octets.now.items c.push_sized_bits.new.octets.items (bit_string_text z h (bits_of c.args.value) (ap (admits z h) (sym c.len.ensures) ∙ ap (λ y. admits y h c.len.result) (sym c.sizes-sizes.ensures) ∙ sym c.admits.ensures ∙ c.if-not-admits.false))
     (subst (λ b. Adds (written (Oer.bit_string_form b (bits_of c.args.value)) 0) c.args.octets.now.items c.push_sized_bits.new.octets.items) (c.is_fixed.ensures ∙ ap Oer.is_fixed c.sizes-sizes.ensures) c.in_ok-push_sized_bits.ensures.text)

@@ -25,7 +25,7 @@ unbounded (Some c) h v e w = cc
 pub returns-in-Some-clause-text : goal.returns-in-Some-clause-text
 returns-in-Some-clause-text g c =
     let h = g.I.IntegerType.held in
-    let o = c.args.constraints.value in
+    let o = c.args.constraints.now.value in
     let e = c.in-Some.ensures.number in
     let fits : FitsSigned w128 c.in-Some.number = subst (λ (z : ℤ). FitsSigned w128 z) (sym e) (held_within_wide (g.I.IntegerType.value c.args.value.now) (sym c.in-Some.ensures.fits)) in
     let t = to_z-of_z fits ∙ e in
@@ -35,13 +35,13 @@ returns-in-Some-clause-text g c =
 pub returns-then-is_some-clause-text : goal.returns-then-is_some-clause-text
 returns-then-is_some-clause-text g c =
     let v = g.I.IntegerType.value c.args.value.now in
-    refused c.args.constraints.value g.I.IntegerType.held v (sym c.is_some.ensures ∙ c.if-is_some.true) (many_past v (sym c.to_i128.ensures.fits ∙ ap is_some c.in_default.is))
+    refused c.args.constraints.now.value g.I.IntegerType.held v (sym c.is_some.ensures ∙ c.if-is_some.true) (many_past v (sym c.to_i128.ensures.fits ∙ ap is_some c.in_default.is))
 
 pub returns-clause-text : goal.returns-clause-text
 returns-clause-text g c =
     let old = c.args.octets.now.items in
     let new = c.push_counted.new.octets.items in
-    subst (λ t. Adds t old new) (sym (unbounded c.args.constraints.value g.I.IntegerType.held (g.I.IntegerType.value c.args.value.now) (sym c.is_some.ensures ∙ c.if-is_some.false) c.to_i128.ensures.within))
+    subst (λ t. Adds t old new) (sym (unbounded c.args.constraints.now.value g.I.IntegerType.held (g.I.IntegerType.value c.args.value.now) (sym c.is_some.ensures ∙ c.if-is_some.false) c.to_i128.ensures.within))
     (subst (λ l. Adds (written (Oer.counted l) 0) old new) (c.as_slice.ensures ∙ c.to_signed_bytes_be.ensures.octets) c.in_ok-push_counted.ensures.text)
 
 pub returns-in_err-push_counted-clause-kept : goal.returns-in_err-push_counted-clause-kept

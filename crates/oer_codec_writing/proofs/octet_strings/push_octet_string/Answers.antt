@@ -14,7 +14,7 @@ pub returns-then-not-admits-clause-text : goal.returns-then-not-admits-clause-te
 returns-then-not-admits-clause-text c =
     let h = counts_of c.args.held in
     let os = c.args.value.now in
-    octet_string_none (sizes_of c.args.constraints.size) h os (ap (λ y. admits y h (length os)) (sym c.sizes-sizes.ensures) ∙ sym c.admits.ensures ∙ c.if-not-admits.true)
+    octet_string_none (sizes_of c.args.constraints.now.size) h os (ap (λ y. admits y h (length os)) (sym c.sizes-sizes.ensures) ∙ sym c.admits.ensures ∙ c.if-not-admits.true)
 
 pub returns-clause-text : goal.returns-clause-text
 returns-clause-text c =
@@ -22,7 +22,7 @@ returns-clause-text c =
     let os = c.args.value.now in
     let new = c.push_sized.new.octets.items in
     adds_same _ _ c.args.octets.now.items new
-    (octet_string_text (sizes_of c.args.constraints.size) h os (ap (λ y. admits y h (length os)) (sym c.sizes-sizes.ensures) ∙ sym c.admits.ensures ∙ c.if-not-admits.false))
+    (octet_string_text (sizes_of c.args.constraints.now.size) h os (ap (λ y. admits y h (length os)) (sym c.sizes-sizes.ensures) ∙ sym c.admits.ensures ∙ c.if-not-admits.false))
     (subst (λ b. Adds (written (Oer.octets_form b os) 0) c.args.octets.now.items new) (c.is_fixed.ensures ∙ ap Oer.is_fixed c.sizes-sizes.ensures) c.in_ok-push_sized.ensures.text)
 
 pub returns-in_err-push_sized-clause-kept : goal.returns-in_err-push_sized-clause-kept

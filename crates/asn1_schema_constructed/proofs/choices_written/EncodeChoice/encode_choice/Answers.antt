@@ -20,5 +20,5 @@ pub returns-in_err-end-clause-after : goal.returns-in_err-end-clause-after
 returns-in_err-end-clause-after g c =
     let law = g.met.Self.Encoder.goes_on in
     let t = g.met.T in
-    let before = failed_before_chosen law _ (t.Alternatives.is_of (meant c.args.constraints)) _ (t.Choice.means _) (g.T.Described.valued_under (meant c.args.constraints) _) c.in_ok-write_chosen.ensures.ok in
+    let before = failed_before_chosen law _ (t.Alternatives.is_of (meant c.args.constraints.now)) _ (t.Choice.means _) (g.T.Described.valued_under (meant c.args.constraints.now) _) c.in_ok-write_chosen.ensures.ok in
     passed c.from_residual-in_err-end.ensures.1 (λ e. absurd (law _ _ _ c.in_ok-begin_alternative.ensures.ok (before (c.in_err-end.ensures.after e))))

@@ -6,7 +6,7 @@ use Rattle.oer_codec.proofs.Finding.{none_found, asked_bits, bits_within}
 use Rattle.oer_codec.proofs.decoder.DecoderDecoder.decode_bit_string.Goals as goal
 
 pub returns-in-Ok-clause-held : goal.returns-in-Ok-clause-held
-returns-in-Ok-clause-held c = bits_within (freedoms c.self.inside.rules) (sizes_of c.args.constraints.size) (counts_of c.args.held) _ _ _ c.in-Ok.ensures.ok
+returns-in-Ok-clause-held c = bits_within (freedoms c.self.inside.rules) (sizes_of c.args.constraints.now.size) (counts_of c.args.held) _ _ _ c.in-Ok.ensures.ok
 
 pub returns-in-Err-clause-only : goal.returns-in-Err-clause-only
-returns-in-Err-clause-only c = none_found _ _ _ (bit_string (sizes_of c.args.constraints.size) (counts_of c.args.held)) _ _ c.self.view_is c.refuse.ensures.refused c.in-Err.ensures.only (λ free a b. asked_bits free a b (sizes_of c.args.constraints.size) (counts_of c.args.held))
+returns-in-Err-clause-only c = none_found _ _ _ (bit_string (sizes_of c.args.constraints.now.size) (counts_of c.args.held)) _ _ c.self.view_is c.refuse.ensures.refused c.in-Err.ensures.only (λ free a b. asked_bits free a b (sizes_of c.args.constraints.now.size) (counts_of c.args.held))

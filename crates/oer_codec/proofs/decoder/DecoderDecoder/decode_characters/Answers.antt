@@ -5,4 +5,4 @@ use Rattle.oer_codec.proofs.Finding.{none_found, asked_characters}
 use Rattle.oer_codec.proofs.decoder.DecoderDecoder.decode_characters.Goals as goal
 
 pub returns-in-Err-clause-only : goal.returns-in-Err-clause-only
-returns-in-Err-clause-only g c = none_found _ _ _ (character_string g.S.StaticPermittedAlphabet.kind (sizes_of c.args.constraints.size) (alphabet_of c.args.constraints.permitted_alphabet) any_count) _ _ c.self.view_is c.refuse.ensures.refused c.in-Err.ensures.only (λ free a b. asked_characters free a b g.S.StaticPermittedAlphabet.kind (sizes_of c.args.constraints.size) (alphabet_of c.args.constraints.permitted_alphabet) any_count)
+returns-in-Err-clause-only g c = none_found _ _ _ (character_string g.S.StaticPermittedAlphabet.kind (sizes_of c.args.constraints.now.size) (alphabet_of c.args.constraints.now.permitted_alphabet) any_count) _ _ c.self.view_is c.refuse.ensures.refused c.in-Err.ensures.only (λ free a b. asked_characters free a b g.S.StaticPermittedAlphabet.kind (sizes_of c.args.constraints.now.size) (alphabet_of c.args.constraints.now.permitted_alphabet) any_count)

@@ -5,10 +5,10 @@ use Rattle.oer_codec_encoder.proofs.Stepped.{adds_sound, adds_puts, text_kept}
 use Rattle.oer_codec_encoder.proofs.encoder.EncoderEncoder.encode_integer.Goals as goal
 
 pub invariant_of-self-2 : goal.invariant_of-self-2
-invariant_of-self-2 g c _ = adds_sound (whole (bounds_of c.args.constraints.value) (held_of c.args.constraints.value g.I.IntegerType.held) (g.I.IntegerType.value c.args.value.now)) _ c.self.inside.frames c.self.inside.output.now.items c.push_integer.new.octets.items (λ s. refl) (c.self.invariant c.in_ok-begin_record.ensures.ok) c.in_ok-push_integer.ensures.text
+invariant_of-self-2 g c _ = adds_sound (whole (bounds_of c.args.constraints.now.value) (held_of c.args.constraints.now.value g.I.IntegerType.held) (g.I.IntegerType.value c.args.value.now)) _ c.self.inside.frames c.self.inside.output.now.items c.push_integer.new.octets.items (λ s. refl) (c.self.invariant c.in_ok-begin_record.ensures.ok) c.in_ok-push_integer.ensures.text
 
 pub returns-clause-ok : goal.returns-clause-ok
-returns-clause-ok g c = adds_puts (whole (bounds_of c.args.constraints.value) (held_of c.args.constraints.value g.I.IntegerType.held) (g.I.IntegerType.value c.args.value.now)) _ c.self.inside.frames c.self.inside.output.now.items c.push_integer.new.octets.items c.self.inside.failed c.args.self.now (λ s. refl) c.self.view_is c.in_ok-begin_record.ensures.ok (c.self.invariant c.in_ok-begin_record.ensures.ok) c.in_ok-push_integer.ensures.text
+returns-clause-ok g c = adds_puts (whole (bounds_of c.args.constraints.now.value) (held_of c.args.constraints.now.value g.I.IntegerType.held) (g.I.IntegerType.value c.args.value.now)) _ c.self.inside.frames c.self.inside.output.now.items c.push_integer.new.octets.items c.self.inside.failed c.args.self.now (λ s. refl) c.self.view_is c.in_ok-begin_record.ensures.ok (c.self.invariant c.in_ok-begin_record.ensures.ok) c.in_ok-push_integer.ensures.text
 
 pub returns-clause-front : goal.returns-clause-front
 returns-clause-front g c = (returns-clause-ok g c).3

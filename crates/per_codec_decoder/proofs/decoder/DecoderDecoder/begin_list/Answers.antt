@@ -4,4 +4,4 @@ use Rattle.per_codec_decoder.proofs.Opening.{on_err, no_list}
 use Rattle.per_codec_decoder.proofs.decoder.DecoderDecoder.begin_list.Goals as goal
 
 pub returns-clause-only : goal.returns-clause-only
-returns-clause-only c = on_err c.enter_members.result c.enter_members.ensures.only (λ e m. no_list _ (sizes_of c.args.constraints.size) (size_of c.sizes.result) (members_of c.args.held) e c.sizes.ensures m)
+returns-clause-only c = on_err c.enter_members.result c.enter_members.ensures.only (λ e m. no_list _ (sizes_of c.args.constraints.now.size) (size_of c.sizes.result) (members_of c.args.held) e c.sizes.ensures m)

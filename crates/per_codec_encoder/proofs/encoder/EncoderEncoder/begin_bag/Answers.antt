@@ -21,7 +21,7 @@ returns-clause-ok c =
 pub returns-in_err-begin_bag-clause-only : goal.returns-in_err-begin_bag-clause-only
 returns-in_err-begin_bag-clause-only c =
     let cannot = subst (λ z. Cannot (is_aligned c.self.inside.variant) (bag_begins z (members_of c.args.held) c.args.count) c.self.inside.frames c.self.inside.output c.in_err-begin_bag.field-0.0) c.sizes.ensures (c.in_err-begin_bag.ensures (is_aligned c.self.inside.variant)) in
-    raised _ _ _ c.from_residual-in_err-begin_bag.ensures.1 (is_refused (is_aligned c.self.inside.variant) (bag_begins (sizes_of c.args.constraints.size) (members_of c.args.held) c.args.count) c.self.inside.frames c.self.inside.output c.self.inside.failed c.args.self.now _ c.self.view_is (c.self.invariant c.in_ok-begin_record.ensures.ok) cannot)
+    raised _ _ _ c.from_residual-in_err-begin_bag.ensures.1 (is_refused (is_aligned c.self.inside.variant) (bag_begins (sizes_of c.args.constraints.now.size) (members_of c.args.held) c.args.count) c.self.inside.frames c.self.inside.output c.self.inside.failed c.args.self.now _ c.self.view_is (c.self.invariant c.in_ok-begin_record.ensures.ok) cannot)
 
 pub returns-in_err-begin_bag-clause-after : goal.returns-in_err-begin_bag-clause-after
 returns-in_err-begin_bag-clause-after c = never_after (is_aligned c.self.inside.variant) (bag_begins (size_of c.sizes.result) (members_of c.args.held) c.args.count) c.self.inside.frames c.self.inside.output _ c.from_residual-in_err-begin_bag.result c.from_residual-in_err-begin_bag.ensures.1 (c.in_err-begin_bag.ensures (is_aligned c.self.inside.variant))

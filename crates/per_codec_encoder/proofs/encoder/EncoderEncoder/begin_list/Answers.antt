@@ -21,4 +21,4 @@ returns-clause-ok c =
 pub returns-in_err-begin_members-clause-only : goal.returns-in_err-begin_members-clause-only
 returns-in_err-begin_members-clause-only c =
     let cannot = subst (λ z. Cannot (is_aligned c.self.inside.variant) (list_begins z (members_of c.args.held) c.args.count) c.self.inside.frames c.self.inside.output c.in_err-begin_members.field-0.0) c.sizes.ensures (c.in_err-begin_members.ensures) in
-    raised _ _ _ c.from_residual-in_err-begin_members.ensures.1 (is_refused (is_aligned c.self.inside.variant) (list_begins (sizes_of c.args.constraints.size) (members_of c.args.held) c.args.count) c.self.inside.frames c.self.inside.output c.self.inside.failed c.args.self.now _ c.self.view_is (c.self.invariant c.in_ok-begin_record.ensures.ok) cannot)
+    raised _ _ _ c.from_residual-in_err-begin_members.ensures.1 (is_refused (is_aligned c.self.inside.variant) (list_begins (sizes_of c.args.constraints.now.size) (members_of c.args.held) c.args.count) c.self.inside.frames c.self.inside.output c.self.inside.failed c.args.self.now _ c.self.view_is (c.self.invariant c.in_ok-begin_record.ensures.ok) cannot)
