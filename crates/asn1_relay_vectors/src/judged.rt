@@ -103,8 +103,8 @@ fn translate_type<T: Encode + Decode>(
     if limits.is_none() {
         return recode::<T>(alloc, rules.from, rules.to, octets);
     }
-    let value: T = read(alloc, limits.constraints(), rules.from, octets)?;
-    Ok(write(alloc, limits.constraints(), rules.to, &value)?)
+    let value: T = read(alloc, &limits.constraints(), rules.from, octets)?;
+    Ok(write(alloc, &limits.constraints(), rules.to, &value)?)
 }
 
 /// Feeds the pieces of a stream of messages of a type to a relay.

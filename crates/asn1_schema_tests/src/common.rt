@@ -114,7 +114,7 @@ fn records_of<T: Encode>(
 ) -> Option<Vec<Item>> {
     let mut encoder = RecordEncoder::new(alloc, kind);
     let answer = match constraints {
-        Some(constraints) => value.encode_with_constraints(&mut encoder, constraints),
+        Some(constraints) => value.encode_with_constraints(&mut encoder, &constraints),
         None => value.encode(&mut encoder),
     };
     match answer {

@@ -219,8 +219,8 @@ fn optional<D: DecodeSequence>(
     let under = Constraints::NONE;
     Ok([
         decoder.decode_optional_with_tag(alloc, tag)?,
-        decoder.decode_optional_with_tag_and_constraints(alloc, tag, under)?,
-        decoder.decode_optional_with_constraints(alloc, under)?,
+        decoder.decode_optional_with_tag_and_constraints(alloc, tag, &under)?,
+        decoder.decode_optional_with_constraints(alloc, &under)?,
         decoder.decode_optional_with_explicit_prefix(alloc, tag)?,
     ])
 }
@@ -243,8 +243,8 @@ fn write_defaults<E: EncodeSequence>(
 ) -> Result<(), EncodeError> {
     let under = Constraints::NONE;
     encoder.encode_default_with_tag::<Zero, Integer>(tag, first)?;
-    encoder.encode_default_with_constraints::<Zero, Integer>(second, under)?;
-    encoder.encode_default_with_tag_and_constraints::<Zero, Integer>(tag, second, under)
+    encoder.encode_default_with_constraints::<Zero, Integer>(second, &under)?;
+    encoder.encode_default_with_tag_and_constraints::<Zero, Integer>(tag, second, &under)
 }
 
 /// Whether a decoder finds these numbers in such components.
@@ -256,10 +256,10 @@ fn are_defaults<D: DecodeSequence>(
 ) -> Result<bool, DecodeError> {
     let under = Constraints::NONE;
     let is_first = decoder.decode_default_with_tag::<Zero, Integer>(alloc, tag)? == *first;
-    let is_second = decoder.decode_default_with_constraints::<Zero, Integer>(alloc, under)?
+    let is_second = decoder.decode_default_with_constraints::<Zero, Integer>(alloc, &under)?
         == *second;
     let third = decoder.decode_default_with_tag_and_constraints::<Zero, Integer>(
-        alloc, tag, under,
+        alloc, tag, &under,
     )?;
     Ok(is_first && is_second && third == *second)
 }

@@ -186,7 +186,7 @@ fn put_value<E: Encoder>(encoder: &mut E, step: Step, string: &[u8]) -> Result<(
         Step::String(is_sized) => {
             let constraints = constraints_of(is_sized, string);
             let (tag, name) = (Tag::OCTET_STRING, Identifier::EMPTY);
-            encoder.encode_octet_string(tag, constraints, Bounded::None, string, name)
+            encoder.encode_octet_string(tag, &constraints, Bounded::None, string, name)
         }
         _ => Err(EncodeError::CallOutOfPlace),
     }
@@ -199,7 +199,7 @@ fn put<E: Encoder>(encoder: &mut E, step: Step, lent: Lent<'_>) -> Result<(), En
             encoder.begin_sequence(Tag::SEQUENCE, is_extensible, optional)
         }
         Step::Set(is_extensible, optional) => encoder.begin_set(Tag::SET, is_extensible, optional),
-        Step::Bag(count) => encoder.begin_bag(Tag::SET, sized(1, 2), Bounded::None, count),
+        Step::Bag(count) => encoder.begin_bag(Tag::SET, &sized(1, 2), Bounded::None, count),
         Step::Choice(choice, chosen) => {
             let (roots, additions, _) = tags_of(choice, lent);
             encoder.begin_choice(Tag::CHOICE, roots, is_extensible(choice), additions, chosen)
@@ -259,7 +259,7 @@ fn is_string<D: Decoder>(
 ) -> Result<bool, DecodeError> {
     let constraints = constraints_of(is_sized, string);
     let tag = Tag::OCTET_STRING;
-    let found = decoder.decode_octet_string(alloc, tag, constraints, Bounded::None)?;
+    let found = decoder.decode_octet_string(alloc, tag, &constraints, Bounded::None)?;
     Ok(found.octets() == string)
 }
 
@@ -270,7 +270,7 @@ fn find<D: Decoder>(decoder: &mut D, step: Step) -> Result<(), DecodeError> {
             decoder.begin_sequence(Tag::SEQUENCE, is_extensible, optional)
         }
         Step::Set(is_extensible, optional) => decoder.begin_set(Tag::SET, is_extensible, optional),
-        Step::Bag(_) => decoder.begin_bag(Tag::SET, sized(1, 2), Bounded::None),
+        Step::Bag(_) => decoder.begin_bag(Tag::SET, &sized(1, 2), Bounded::None),
         Step::Additions(count) => decoder.begin_additions(count),
         Step::EndOfAddition => decoder.end_addition(),
         Step::Null => decoder.decode_null(Tag::NULL),

@@ -161,7 +161,7 @@ fn write_bits(encoder: &mut Encoder, count: usize) -> Result<(), EncodeError> {
 /// Writes a value.
 fn write<T: Encode>(encoder: &mut Encoder, value: &T, limit: Limit) -> Result<(), EncodeError> {
     match constraints_of(limit) {
-        Some(constraints) => value.encode_with_constraints(encoder, constraints),
+        Some(constraints) => value.encode_with_constraints(encoder, &constraints),
         None => value.encode(encoder),
     }
 }
@@ -217,7 +217,7 @@ fn read<T: Decode>(
     limit: Limit,
 ) -> Result<T, DecodeError> {
     match constraints_of(limit) {
-        Some(constraints) => read_under(alloc, decoder, constraints),
+        Some(constraints) => read_under(alloc, decoder, &constraints),
         None => T::decode(alloc, decoder),
     }
 }

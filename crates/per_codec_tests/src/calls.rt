@@ -82,8 +82,8 @@ fn is_unwritten<T: Encode>(
     error: EncodeError,
 ) -> bool {
     let constraints = Constraints::new(&[constraint]);
-    uper::encode_with_constraints(alloc, constraints, value).err() == Some(error)
-        && aper::encode_with_constraints(alloc, constraints, value).err() == Some(error)
+    uper::encode_with_constraints(alloc, &constraints, value).err() == Some(error)
+        && aper::encode_with_constraints(alloc, &constraints, value).err() == Some(error)
 }
 
 /// Numbers, and bounds that they are not in.
