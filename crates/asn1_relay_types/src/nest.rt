@@ -150,7 +150,12 @@ impl Decode for Nest {
             decoder.end()?;
             return Ok(Nest::Leaf);
         }
-        let inner = Nest::decode_with_tag_and_constraints(alloc, decoder, MORE, &Constraints::NONE)?;
+        let inner = Nest::decode_with_tag_and_constraints(
+            alloc,
+            decoder,
+            MORE,
+            &Constraints::NONE,
+        )?;
         let Ok(boxed) = Box::new(alloc, inner) else {
             return Err(decoder.refuse(DecodeError::OutOfMemory));
         };
