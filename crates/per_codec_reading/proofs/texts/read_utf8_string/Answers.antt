@@ -16,8 +16,8 @@ returns-in_err-octets-clause-only c =
     let p = err_from_is_err_and c.from_residual.result c.from_residual.ensures.1 in
     let f = freedoms c.args.variant in
     let al = is_aligned c.args.variant in
-    let z = sizes_of c.args._constraints.size in
-    let l = alphabet_of c.args._constraints.permitted_alphabet in
+    let z = sizes_of c.args._constraints.now.size in
+    let l = alphabet_of c.args._constraints.now.permitted_alphabet in
     let a = c.args.cursor.now in
     rw (p.1, p.2) (misses_also f (Per.counted_octets al) (Per.form al (character_string utf8 z l any_count)) a a _ (no_text_octets f al z l a) c.in_err-octets.ensures.only)
 
@@ -28,14 +28,14 @@ returns-in_default-clause-only c =
     let a = c.args.cursor.now in
     let b = c.read_counted_octets.new.cursor in
     let front = subst (λ os. Front f (Per.counted_octets al os) a b) (sym c.as_slice.ensures.value) c.in_ok-octets.ensures.ok in
-    no_text f al (sizes_of c.args._constraints.size) (alphabet_of c.args._constraints.permitted_alphabet) c.as_slice.result.now a b (sym c.in_default.ensures.utf8) front
+    no_text f al (sizes_of c.args._constraints.now.size) (alphabet_of c.args._constraints.now.permitted_alphabet) c.as_slice.result.now a b (sym c.in_default.ensures.utf8) front
 
 pub returns-clause-ok : goal.returns-clause-ok
 returns-clause-ok c =
     let f = freedoms c.args.variant in
     let al = is_aligned c.args.variant in
-    let z = sizes_of c.args._constraints.size in
-    let l = alphabet_of c.args._constraints.permitted_alphabet in
+    let z = sizes_of c.args._constraints.now.size in
+    let l = alphabet_of c.args._constraints.now.permitted_alphabet in
     let a = c.args.cursor.now in
     let b = c.read_counted_octets.new.cursor in
     let front = subst (λ os. Front f (Per.counted_octets al os) a b) (sym c.as_slice.ensures.value) c.in_ok-octets.ensures.ok in

@@ -18,8 +18,8 @@ returns-in_err-octets-clause-only g c =
     let S = g.S.StaticPermittedAlphabet in
     let f = freedoms c.args.variant in
     let al = is_aligned c.args.variant in
-    let z = sizes_of c.args._constraints.size in
-    let l = alphabet_of c.args._constraints.permitted_alphabet in
+    let z = sizes_of c.args._constraints.now.size in
+    let l = alphabet_of c.args._constraints.now.permitted_alphabet in
     let a = c.args.cursor.now in
     rw (p.1, p.2) (misses_also f (Per.counted_octets al) (Per.form al (character_string S.kind z l any_count)) a a _ (no_octets f al S.kind z l c.requires.kind a) c.in_err-octets.ensures.only)
 
@@ -28,8 +28,8 @@ returns-in-Ok-clause-ok g c =
     let S = g.S.StaticPermittedAlphabet in
     let f = freedoms c.args.variant in
     let al = is_aligned c.args.variant in
-    let z = sizes_of c.args._constraints.size in
-    let l = alphabet_of c.args._constraints.permitted_alphabet in
+    let z = sizes_of c.args._constraints.now.size in
+    let l = alphabet_of c.args._constraints.now.permitted_alphabet in
     let a = c.args.cursor.now in
     let b = c.read_counted_octets.new.cursor in
     subst (λ x. Front f (Per.form al (character_string S.kind z l any_count) (text x)) a b) (sym (c.in-Ok.ensures.characters ∙ c.as_slice.ensures.value)) (octets_stand f al S.kind z l c.requires.kind g.met.S.StaticPermittedAlphabet.holds (cow_slice_items c.in_ok-octets.octets) a b c.in_ok-octets.ensures.ok)
