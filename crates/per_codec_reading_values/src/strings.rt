@@ -76,7 +76,8 @@ fn read_octet_codes<S: StaticPermittedAlphabet>(
     variant: Variant,
     _constraints: &Constraints,
 ) -> Result<S, DecodeError>
-    requires codes { as_octets (is_aligned variant) S.kind _constraints.size _constraints.permitted_alphabet ≡ true }
+    requires codes { as_octets (is_aligned variant) S.kind _constraints.now.size _constraints.now.permitted_alphabet
+        ≡ true }
     ensures ok { IfOk result (λ s. Stands variant S.kind _constraints.now (S.characters s) cursor.old cursor.new) }
     ensures only { IfErr result (MissesString variant S.kind _constraints.now cursor.old) }
 {
