@@ -77,12 +77,6 @@ APART static int read_11(struct input *in, uint64_t *sum) { return read_numbers(
 APART static int read_16(struct input *in, uint64_t *sum) { return read_numbers(in, 16, sum); }
 APART static int read_64(struct input *in, uint64_t *sum) { return read_numbers(in, 64, sum); }
 
-/* The same works once more, beside the calls that take numbers off. */
-APART static int take_bits(struct input *in, uint64_t *sum) { return read_numbers(in, 1, sum); }
-APART static int take_11(struct input *in, uint64_t *sum) { return read_numbers(in, 11, sum); }
-APART static int take_16(struct input *in, uint64_t *sum) { return read_numbers(in, 16, sum); }
-APART static int take_64(struct input *in, uint64_t *sum) { return read_numbers(in, 64, sum); }
-
 APART static int read_runs(struct input *in, uint8_t *run)
 {
     uint32_t bit;
@@ -114,8 +108,8 @@ static int appended(struct buffer *b)
     return reserve(b, TURNS * 16) && append_bits(&o) && append_11(&o) && append_16(&o) && append_64(&o);
 }
 
-/* What the bits and the numbers of each width say, read and taken, and the octets. */
-static int numbers(uint64_t *read, uint64_t *taken, uint64_t *octets)
+/* What the bits and the numbers of each width say, and the octets. */
+static int numbers(uint64_t *read, uint64_t *octets)
 {
     struct buffer b = { 0 };
     struct input in;
@@ -126,11 +120,6 @@ static int numbers(uint64_t *read, uint64_t *taken, uint64_t *octets)
     if (!read_bits(&in, &bits) || !read_11(&in, &elevens) || !read_16(&in, &sixteens) || !read_64(&in, &wide))
         return 0;
     *read = bits ^ elevens ^ sixteens ^ wide;
-    bits = elevens = sixteens = wide = 0;
-    in = all_of(&b);
-    if (!take_bits(&in, &bits) || !take_11(&in, &elevens) || !take_16(&in, &sixteens) || !take_64(&in, &wide))
-        return 0;
-    *taken = bits ^ elevens ^ sixteens ^ wide;
     *octets = sum_of(b.octets, b.count);
     return 1;
 }
@@ -156,10 +145,9 @@ static int octets(uint64_t *sum)
 
 int main(void)
 {
-    uint64_t read, taken, appended, run;
-    if (!numbers(&read, &taken, &appended) || !octets(&run))
+    uint64_t read, appended, run;
+    if (!numbers(&read, &appended) || !octets(&run))
         return 1;
-    printf("%llu %llu %llu %llu\n", (unsigned long long)read, (unsigned long long)taken, (unsigned long long)appended,
-        (unsigned long long)run);
+    printf("%llu %llu %llu\n", (unsigned long long)read, (unsigned long long)appended, (unsigned long long)run);
     return 0;
 }

@@ -82,7 +82,7 @@ count_meet_admits a b n = count_ends (meet leb a b) n
 -- ---- the same where there may be nothing common
 
 -- the ends of a meet are those that are compared
-inverted_meet : {X : Type 0} (le : X → X → Bool) → IsOrder le → (a b : Bounded X) (t : Bool)
+pub inverted_meet : {X : Type 0} (le : X → X → Bool) → IsOrder le → (a b : Bounded X) (t : Bool)
     → is_inverted le (later le (lower a) (lower b)) (earlier le (upper a) (upper b)) ≡ t → is_inverted le (lower (meet le a b)) (upper (meet le a b)) ≡ t
 inverted_meet le o a b t e = ap (λ low. is_inverted le low (upper (meet le a b))) (lower_meet le a b)
     ∙ (ap (is_inverted le (later le (lower a) (lower b))) (upper_meet le o a b) ∙ e)

@@ -4,3 +4,4 @@ pub mod Meets
 pub mod Common
 pub mod WidthLaws
 pub mod Held
+pub mod ByNumber

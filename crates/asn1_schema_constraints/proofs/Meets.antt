@@ -21,11 +21,11 @@ and_left true q f = sym (f refl)
 and_left false q f = refl
 
 -- false is not true
-differ : {A : Type 0} → false ≡ true → A
+pub differ : {A : Type 0} → false ≡ true → A
 differ e = cc
 
 -- two truths
-both_true : (p q : Bool) → (p && q) ≡ true → (p ≡ true) × (q ≡ true)
+pub both_true : (p q : Bool) → (p && q) ≡ true → (p ≡ true) × (q ≡ true)
 both_true true q e = (refl, e)
 both_true false q e = differ e
 

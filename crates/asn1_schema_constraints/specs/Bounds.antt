@@ -1,10 +1,10 @@
 -- What bounds mean: their ends, what they admit, and what two of them admit together.
 use Rattle.std.specs.Prelude.{ℕ, ◌+◌, ◌-◌, ◌^◌, ltb, leb, ℤ, pos, ◌+ℤ◌, ◌-ℤ◌, ◌≤ℤ◌, ◌≤◌, FitsSigned, ◌≡◌, Bool, false}
-use Rattle.std.specs.Prelude.{not, cond, ◌&&◌, ◌||◌, Option, Some, None, unwrap_or, is_some}
-use Rattle.std.specs.Option.{SomeIff}
+use Rattle.std.specs.Prelude.{not, cond, ◌&&◌, ◌||◌, Option, Some, None, unwrap_or, is_some, true}
+use Rattle.std.specs.Option.{SomeIff, option_map}
 use Rattle.std.specs.Int.{w128}
 use Rattle.asn1_model.specs.Schema.{Range, Counts}
-use Rattle.asn1_model.specs.Numbers.{is_within, is_count_within}
+use Rattle.asn1_model.specs.Numbers.{is_at_most, is_within, is_count_within}
 use Rattle.asn1_model.specs.Numbers.{is_fixed_at}
 use Rattle.asn1_schema_constraints.specs.declared.bounds.Bounded.{Bounded}
 use Rattle.asn1_schema_constraints.specs.declared.bounds.Effective.{Effective}
@@ -122,3 +122,35 @@ CanOffsetCount b n = Unit {0}
 abbrev pub effective_count : Bounded ℕ → ℕ → Effective ℕ
 effective_count (Between (Some start) end) n = Offset (n - start)
 effective_count b n = Plain n
+
+-- ---- values of any type, by the numbers that they are
+
+-- Whether a value is not above another, by their numbers.
+abbrev pub at_most_by : {X : Type 0} → (X → ℤ) → X → X → Bool
+at_most_by number a b = is_at_most (number a) (number b)
+
+-- The numbers of the bounds as the model has them (X.680 51.4).
+abbrev pub range_by : {X : Type 0} → (X → ℤ) → Bounded X → Range
+range_by number b = record { low = option_map number (lower b); high = option_map number (upper b) }
+
+-- Whether bounds admit a value (X.680 51.4).
+abbrev pub admits_by : {X : Type 0} → (X → ℤ) → Bounded X → X → Bool
+admits_by number b v = is_within (range_by number b) (number v)
+
+-- How many numbers there are from one to another, where both are there and a range has that number.
+abbrev pub counted_within : Range → Option ℤ → Option ℤ → Option ℤ
+counted_within held (Some low) (Some high) = cond (is_within held ((high -ℤ low) +ℤ pos 1))
+    (Some ((high -ℤ low) +ℤ pos 1)) None
+counted_within held low high = None
+
+-- The number less the start of a range that has one is not negative, and a range of numbers has it.
+abbrev pub CanOffsetBy : {X : Type 0} → Range → (X → ℤ) → Bounded X → X → Type 0
+CanOffsetBy held number (Between (Some start) end) v = (number start ≤ℤ number v)
+    × (is_within held (number v -ℤ number start) ≡ true)
+CanOffsetBy held number b v = Unit {0}
+
+-- A value as it is written under bounds: its number less the start of a range that has one, else as it is.
+abbrev pub IsEffectiveBy : {X : Type 0} → (X → ℤ) → Bounded X → X → Effective X → Type 0
+IsEffectiveBy number (Between (Some start) end) v (Offset d) = number d ≡ number v -ℤ number start
+IsEffectiveBy number (Between (Some start) end) v (Plain d) = ⊥
+IsEffectiveBy number b v e = e ≡ Plain v

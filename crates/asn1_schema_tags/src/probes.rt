@@ -19,7 +19,7 @@ pub struct TagPlace {
 }
 
 /// A table of tags that tells of its tags by comparisons alone, and counts these.
-#[derive(Debug, Drop)]
+#[derive(Drop)]
 pub struct TagProbe<'a> {
     places: &'a [TagPlace],
     count: u64,

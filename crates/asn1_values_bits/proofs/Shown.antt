@@ -1,5 +1,5 @@
 -- The first binary digits of a number of 128.
-use Rattle.std.proofs.Common.{◌≡◌, ℕ, ◌+◌, ◌-◌, ◌*◌, ◌/◌, ◌%◌, ◌^◌, ◌<◌, ◌≤◌, Bool, false, List, length, replicate, take, drop, min, ap, refl, sym, ◌∙◌, arith}
+use Rattle.std.proofs.Common.{◌≡◌, ℕ, ◌+◌, ◌-◌, ◌*◌, ◌/◌, ◌%◌, ◌^◌, ◌<◌, ◌≤◌, Bool, false, List, length, replicate, take, drop, min, ap, sym, ◌∙◌, arith}
 use Rattle.std.proofs.lemmas.Nat.{shr_below, shr-shr}
 use Rattle.std.proofs.lemmas.List.{take_at, drop_at, drop-take, take-take, take-append-le, length-drop, length-take-le}
 use Rattle.asn1_model.specs.Numbers.{binary}
@@ -58,17 +58,9 @@ window_behind bits rest w v c k e h s n =
     record {
       narrow = v.narrow;
       within = omega (arith, k.within, ap length e, length-drop c bits);
+      some = λ _. omega arith;
       front = s ∙ ap (drop c) (k.front ∙ ap (λ i. take i bits) all) ∙ drop-take c v.width bits ∙ ap (take v.width) (sym e);
     }
-
--- a window without bits is one of any list
-pub window_empty : (bits : List Bool) (w : BitWindow) → w.width ≡ 0 → IsWindowOf bits w
-unfolding shown
-window_empty bits w e = record {
-  narrow = w.narrow;
-  within = omega (arith, e);
-  front = rw (e) refl;
-}
 
 -- a window of the first bits alone
 pub window_front : (bits front : List Bool) (w v : BitWindow) (c : ℕ) → IsWindowOf bits w → front ≡ take c bits → c ≤ length bits → v.width ≡ min c w.width → shown v ≡ take v.width (shown w) → IsWindowOf front v
@@ -77,6 +69,7 @@ window_front bits front w v c k e h n s =
     record {
       narrow = v.narrow;
       within = omega (arith, long, n);
+      some = λ some. omega (arith, long, n, k.some);
       front = s ∙ ap (take v.width) k.front ∙ take-take v.width w.width bits (omega arith)
           ∙ sym (ap (take v.width) e ∙ take-take v.width c bits (omega arith));
     }

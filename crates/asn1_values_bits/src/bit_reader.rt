@@ -1,6 +1,6 @@
 //! Bits that are read from their front.
 ghost use Rattle.std.specs.Prelude.{◌≡◌, ◌+◌, ◌*◌, ◌%◌, ◌^◌, ◌<◌, ◌≤◌, [], ◌∷◌, length, take, drop, IsTrue, ◌↔◌};
-ghost use Rattle.std.specs.Prelude.{IsSome, IfSome, IfNone, IfOk, IfErr, IsOk, OnErr, IsOkAnd};
+ghost use Rattle.std.specs.Prelude.{IsSome, IfSome, IfOk, IfErr, IsOk, OnErr, IsOkAnd};
 ghost use Rattle.std.specs.Cow.{cow_slice_items, IsBorrowedSlice};
 ghost use Rattle.asn1_model.specs.Numbers.{binary, octet_bits};
 ghost use Rattle.asn1_values_bits.specs.Octets.{padded};
@@ -13,8 +13,7 @@ use std::borrow::CowSlice;
 use std::marker::Model;
 
 /// Bits that are still to be read, in octets that stand elsewhere. The first of them, up to 128, stand in a window as
-/// one number as well, from which they are answered: it is filled where bits are taken off as numbers (`take_bits`),
-/// and empty before.
+/// one number as well, from which they are answered.
 #[derive(Drop)]
 pub struct BitReader<'a> {
     rest: BitStr<'a>,
@@ -41,10 +40,8 @@ impl<'a> BitReader<'a> {
         ensures bits { result.bits ≡ bits_of bits.entry }
         ensures offset { result.offset ≡ offset_of bits.entry }
     {
-        BitReader {
-            rest: bits,
-            window: BitWindow::empty(),
-        }
+        let window = BitWindow::new(bits);
+        BitReader { rest: bits, window }
     }
 
     /// Reads all bits of the octets.
@@ -104,7 +101,7 @@ impl<'a> BitReader<'a> {
         Ok(BitReader { rest, window })
     }
 
-    // Takes the first bits off, off the window too, which is empty where it has no more.
+    // Takes the first bits off: off the window, or a new one is filled where it has no more.
     #[inline(always)]
     fn pass(&mut self, count: usize)
         requires { count ≤ length self.old.bits }
@@ -116,7 +113,7 @@ impl<'a> BitReader<'a> {
         if count < self.window.width() as usize {
             self.window.pass(count as u32);
         } else {
-            self.window = BitWindow::empty();
+            self.window = BitWindow::new(rest);
         }
     }
 
@@ -126,7 +123,7 @@ impl<'a> BitReader<'a> {
         requires { 0 < length self.now.bits }
         ensures { take 1 self.now.bits ≡ result ∷ [] }
     {
-        self.first_bits(1) == 1
+        self.window.first_bits(1) == 1
     }
 
     /// The number whose binary digits are the first bits, at most 64.
@@ -155,29 +152,6 @@ impl<'a> BitReader<'a> {
             return self.window.first_u128(width);
         }
         self.rest.first_number(width)
-    }
-
-    /// Takes the first bits off as a number, at most 64 of them. `None` where there are fewer; the reader is then as it
-    /// was.
-    #[inline(always)]
-    pub fn take_bits(&mut self, width: u32) -> Option<u64>
-        requires { width ≤ 64 }
-        ensures some { IsSome result ↔ (width ≤ length self.old.bits) }
-        ensures digits { IfSome result (λ number. binary width number ≡ take width self.old.bits) }
-        ensures fits { IfSome result (λ number. number < 2 ^ width) }
-        ensures rest { IfSome result (λ _. self.new.bits ≡ drop width self.old.bits) }
-        ensures rest_offset { IfSome result (λ _. self.new.offset ≡ (self.old.offset + width) % 8) }
-        ensures unchanged { IfNone result (self.new ≡ self.old) }
-    {
-        if width > self.window.width() {
-            if width as usize > self.rest.len() {
-                return None;
-            }
-            self.window = BitWindow::new(self.rest);
-        }
-        let number = self.first_bits(width);
-        self.pass(width as usize);
-        Some(number)
     }
 
     /// The octets that hold the unread bits, where these begin at an octet and end at one.

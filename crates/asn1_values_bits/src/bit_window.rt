@@ -16,17 +16,6 @@ impl BitWindow {
     ghost use Rattle.asn1_values_bits.specs.BitStr.{bits_of, offset_of};
     ghost use Rattle.asn1_values_bits.specs.BitWindow.{shown};
 
-    /// No bits.
-    #[inline(always)]
-    pub(crate) fn empty() -> Self
-        ensures { result.width ≡ 0 }
-    {
-        BitWindow {
-            number: 0,
-            width: 0,
-        }
-    }
-
     /// The first bits of a view, up to the end of an octet. It is empty where the view is.
     #[inline(never)]
     pub(crate) fn new(bits: BitStr<'_>) -> Self

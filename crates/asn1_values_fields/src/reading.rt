@@ -311,8 +311,10 @@ pub fn read_fields<'a>(
     ensures err { OnErr result (reader.new ≡ reader.old) }
     ensures wrong { IfErr result (λ e. IsFirstUnread shapes.now reader.old.bits e.field e.kind) }
 {
-    let mut rest = BitReader::new(reader.bits());
-    let values = read_all(alloc, &mut rest, shapes)?;
-    *reader = rest;
-    Ok(values)
+    let start = reader.bits();
+    let values = read_all(alloc, reader, shapes);
+    if values.is_err() {
+        *reader = BitReader::new(start);
+    }
+    values
 }

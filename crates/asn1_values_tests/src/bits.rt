@@ -51,17 +51,29 @@ fn read_behind(mut reader: BitReader<'_>, alignment: u32, width: u32) -> Option<
     Some(field.first_u128(width))
 }
 
-/// Whether two readers of the same bits, of which one has the first of them in a window, say the same of these.
-fn say_the_same(filled: &BitReader<'_>, plain: &BitReader<'_>, width: u32) -> bool
+/// Whether two readers of the same bits say the same of the first of them.
+fn say_the_same(one: &BitReader<'_>, other: &BitReader<'_>, width: u32) -> bool
     requires narrow { width ≤ 128 }
 {
-    if filled.len() != plain.len() || plain.len() < width as usize {
+    if one.len() != other.len() || other.len() < width as usize {
         return false;
     }
-    filled.bits() == plain.bits()
-        && filled.first_u128(width) == plain.first_u128(width)
-        && (width > 64 || filled.first_bits(width) == plain.first_bits(width))
-        && (width == 0 || filled.first_bit() == plain.first_bit())
+    one.bits() == other.bits()
+        && one.first_u128(width) == other.first_u128(width)
+        && (width > 64 || one.first_bits(width) == other.first_bits(width))
+        && (width == 0 || one.first_bit() == other.first_bit())
+}
+
+/// The number of the first bits, at most 64, which are taken off.
+fn take_number(reader: &mut BitReader<'_>, width: u32) -> Option<u64>
+    requires narrow { width ≤ 64 }
+{
+    if reader.len() < width as usize {
+        return None;
+    }
+    let number = reader.first_bits(width);
+    let _front = reader.split(width as usize).ok()?;
+    Some(number)
 }
 
 /// The number that is taken in two steps, of which the first takes at most 64 bits.
@@ -69,8 +81,8 @@ fn taken(reader: &mut BitReader<'_>, width: u32) -> Option<u128>
     requires narrow { width ≤ 128 }
 {
     let few = width.min(64);
-    let high = reader.take_bits(few)?;
-    let low = reader.take_bits(width - few)?;
+    let high = take_number(reader, few)?;
+    let low = take_number(reader, width - few)?;
     Some(u128::from(high) << (width - few) | u128::from(low))
 }
 
@@ -80,45 +92,46 @@ fn is_taken(all: BitStr<'_>, alignment: u32, value: u128, width: u32) -> bool
     requires few { alignment ≤ 8 }
 {
     let mut reader = BitReader::new(all);
-    reader.take_bits(alignment).is_some()
+    take_number(&mut reader, alignment).is_some()
         && taken(&mut reader, width) == Some(low_bits(value, width))
-        && reader.take_bits(3) == Some(0b101)
-        && reader.take_bits(1).is_none()
+        && take_number(&mut reader, 3) == Some(0b101)
+        && take_number(&mut reader, 1).is_none()
 }
 
 /// Takes so many bits off both readers. Whether they say the same of these, which are taken as the value, and of those
 /// behind them.
 fn split_the_same(
-    filled: &mut BitReader<'_>,
-    plain: &mut BitReader<'_>,
+    one: &mut BitReader<'_>,
+    other: &mut BitReader<'_>,
     value: u128,
     width: u32,
 ) -> bool
     requires narrow { width ≤ 128 }
 {
-    let Ok(mut front) = filled.split(width as usize) else {
+    let Ok(mut front) = one.split(width as usize) else {
         return false;
     };
-    let Ok(same) = plain.split(width as usize) else {
+    let Ok(same) = other.split(width as usize) else {
         return false;
     };
     say_the_same(&front, &same, width)
-        && say_the_same(filled, plain, 3)
+        && say_the_same(one, other, 3)
         && taken(&mut front, width) == Some(low_bits(value, width))
-        && front.take_bits(1).is_none()
+        && take_number(&mut front, 1).is_none()
 }
 
-/// Whether a window that is filled in front of the value changes nothing of what is read there.
+/// Whether a reader that was made in front of the value, with a window filled there, reads what one reads that is made
+/// at the value.
 fn is_read_the_same(all: BitStr<'_>, alignment: u32, value: u128, width: u32) -> bool
     requires narrow { width ≤ 128 }
     requires few { alignment ≤ 8 }
 {
-    let mut filled = BitReader::new(all);
-    let mut plain = BitReader::new(all);
-    filled.take_bits(alignment).is_some()
-        && plain.split(alignment as usize).is_ok()
-        && say_the_same(&filled, &plain, width)
-        && split_the_same(&mut filled, &mut plain, value, width)
+    let mut one = BitReader::new(all);
+    if one.split(alignment as usize).is_err() {
+        return false;
+    }
+    let mut other = BitReader::new(one.bits());
+    say_the_same(&one, &other, width) && split_the_same(&mut one, &mut other, value, width)
 }
 
 /// Whether the value stands where it was written, in no more octets than it takes, and is read from there.
