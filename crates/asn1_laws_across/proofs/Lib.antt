@@ -8,6 +8,7 @@ pub mod OerRigid
 pub mod OfRigid
 pub mod InOrder
 pub mod Orders
+pub mod Sorted
 pub mod Gives
 pub mod Bags
 pub mod PerGives

@@ -18,7 +18,7 @@ members_less_deep g (member v vs) us k e =
     subst (λ us. depth_of_members us ≤ depth_of_members (member v vs)) a.4 (omega arith)
 
 -- what stays as it is, or is not there
-if_known : (b : Bool) (x u : Value) → cond b (Some x) None ≡ Some u → x ≡ u
+pub if_known : (b : Bool) (x u : Value) → cond b (Some x) None ≡ Some u → x ≡ u
 if_known true x u e = some_parts e
 if_known false x u e = cc
 

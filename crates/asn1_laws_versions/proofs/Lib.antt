@@ -10,6 +10,7 @@ pub mod Transitive
 pub mod Normals
 pub mod Lifted
 pub mod Levels
+pub mod Losses
 pub mod Back
 pub mod Taken
 pub mod Parts

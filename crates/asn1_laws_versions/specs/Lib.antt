@@ -2,6 +2,8 @@ pub mod ExactLaws
 pub mod ExtendingLaws
 pub mod Answers
 pub mod Routes
+pub mod Losses
+pub mod LossLaws
 pub mod Relays
 pub mod RouteLaws
 pub mod RouteRows

@@ -5,4 +5,5 @@
 
 pub mod exact_laws;
 pub mod extending_laws;
+pub mod loss_laws;
 pub mod route_laws;
