@@ -66,7 +66,6 @@ pub use asn1_schema_constructed::EnumeratedType;
 pub use asn1_schema_constructed::Field;
 pub use asn1_schema_constructed::FieldPresence;
 pub use asn1_schema_constructed::Fields;
-pub use asn1_schema_constructed::NamedItems;
 pub use asn1_schema_constructed::OptionalAndDefaultFields;
 pub use asn1_schema_constructed::alternative_of;
 pub use asn1_schema_decode::Decode;
