@@ -6,9 +6,8 @@ use asn1_relay_core::{
     Codec, DecodeError, MemorySink, MemorySource, Relay, RelayFault, RelayFaultKind, RunFault, run,
 };
 use asn1_relay_types::{New, Small};
-use asn1_schema_decode::making::iter;
-use asn1_schema_decode::{Decode, FrontReader, Iter};
-use asn1_schema_encode::Encode;
+use asn1_schema::making::iter;
+use asn1_schema::{Decode, Encode, FrontReader, Iter};
 use asn1_values_integers::Integer;
 use asn1_values_octets::OctetString;
 use oer_codec::{CoerFront, OerFront};

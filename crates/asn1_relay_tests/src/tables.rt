@@ -2,7 +2,7 @@
 use crate::assertions::assert_same;
 use asn1_relay_types::{Extra, ExtraFields, New, Set};
 use asn1_schema_authored::Group;
-use asn1_schema_constructed::{Alternatives, Choice, Constructed, Fields, NamedItems};
+use asn1_schema_constructed::{Alternatives, Choice, Constructed, Fields};
 use asn1_schema_example::answer::Answer;
 use asn1_schema_example::colour::Colour;
 use asn1_schema_example::control::Control;

@@ -1,5 +1,5 @@
 //! ENUMERATED {red, ..., blue}.
-ghost use Rattle.std.specs.Prelude.{◌∷◌, [], refl, pos, true, false};
+ghost use Rattle.std.specs.Prelude.{◌∷◌, [], refl, pos, true, false, codes};
 ghost use Rattle.asn1_schema.specs.Author.{enumerated, item, no_constraint};
 ghost use Rattle.asn1_schema.proofs.Author.{one_number_of, type_enumerated, value_enumerated};
 
@@ -67,6 +67,8 @@ impl Enumerated for NewColour {
 
     ghost number = { elim [ Red ↦ pos 0 | Blue ↦ pos 1 ] };
 
+    ghost names = { codes "red" ∷ codes "blue" ∷ [] };
+
     fn variants<'a>() -> &'a [Self]
     where
         Self: 'a,
@@ -88,7 +90,16 @@ impl Enumerated for NewColour {
         }
     }
 
+    fn identifier(&self) -> &'static str {
+        match self {
+            NewColour::Red => "red",
+            NewColour::Blue => "blue",
+        }
+    }
+
     ghost distinct = { refl };
+
+    ghost named = { (refl, refl) };
 
     ghost one_number = { one_number_of _ (Red ∷ Blue ∷ []) (elim [ Red ↦ (0, refl) | Blue ↦ (1, refl) ]) refl };
 

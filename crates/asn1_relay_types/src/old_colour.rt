@@ -1,5 +1,5 @@
 //! ENUMERATED {red, ...}.
-ghost use Rattle.std.specs.Prelude.{◌∷◌, [], refl, pos, true, false};
+ghost use Rattle.std.specs.Prelude.{◌∷◌, [], refl, pos, true, false, codes};
 ghost use Rattle.asn1_schema.specs.Author.{enumerated, item, no_constraint};
 ghost use Rattle.asn1_schema.proofs.Author.{one_number_of, type_enumerated, value_enumerated};
 
@@ -63,6 +63,8 @@ impl Enumerated for OldColour {
 
     ghost number = { elim [ Red ↦ pos 0 ] };
 
+    ghost names = { codes "red" ∷ [] };
+
     fn variants<'a>() -> &'a [Self]
     where
         Self: 'a,
@@ -83,7 +85,15 @@ impl Enumerated for OldColour {
         }
     }
 
+    fn identifier(&self) -> &'static str {
+        match self {
+            OldColour::Red => "red",
+        }
+    }
+
     ghost distinct = { refl };
+
+    ghost named = { (refl, refl) };
 
     ghost one_number = { one_number_of _ (Red ∷ []) (elim [ Red ↦ (0, refl) ]) refl };
 

@@ -31,11 +31,11 @@ impl Listed for NotedForm {
     ghost each = { λ x. value_sequence _ (⟦<NotedForm as ComponentsOf>⟧.valued tt x) };
 
     fn write<E: Encoder>(&self, encoder: &mut E, tag: Tag) -> Result<(), EncodeError> {
-        encoder.encode_extensible_sequence(tag, 1, &Lent(self))
+        encoder.encode_extensible_components(tag, 1, &Lent(self))
     }
 
     fn read<D: Decoder>(alloc: Global, decoder: &mut D, tag: Tag) -> Result<Self, DecodeError> {
-        decoder.decode_extensible_sequence(alloc, tag, 1)
+        decoder.decode_extensible_components(alloc, tag, 1)
     }
 }
 
@@ -61,10 +61,10 @@ impl Listed for ScheduleForm {
     ghost each = { λ x. value_sequence _ (⟦<ScheduleForm as ComponentsOf>⟧.valued tt x) };
 
     fn write<E: Encoder>(&self, encoder: &mut E, tag: Tag) -> Result<(), EncodeError> {
-        encoder.encode_extensible_sequence(tag, 2, &Lent(self))
+        encoder.encode_extensible_components(tag, 2, &Lent(self))
     }
 
     fn read<D: Decoder>(alloc: Global, decoder: &mut D, tag: Tag) -> Result<Self, DecodeError> {
-        decoder.decode_extensible_sequence(alloc, tag, 2)
+        decoder.decode_extensible_components(alloc, tag, 2)
     }
 }

@@ -1,5 +1,5 @@
 //! Enumerations.
-ghost use Rattle.std.specs.Prelude.{◌∷◌, [], refl, pos, negsuc, false};
+ghost use Rattle.std.specs.Prelude.{◌∷◌, [], refl, pos, negsuc, false, codes};
 ghost use Rattle.asn1_schema.specs.Author.{enumerated, item, no_constraint};
 ghost use Rattle.asn1_schema.proofs.Author.{one_number_of, type_enumerated, value_enumerated};
 
@@ -110,6 +110,9 @@ impl Enumerated for Scale {
       | Highest ↦ pos 2147483647
     ] };
 
+    ghost names = { codes "lowest" ∷ codes "below" ∷ codes "least" ∷ codes "zero" ∷
+        codes "most" ∷ codes "above" ∷ codes "highest" ∷ [] };
+
     fn variants<'a>() -> &'a [Self]
     where
         Self: 'a,
@@ -144,7 +147,21 @@ impl Enumerated for Scale {
         }
     }
 
+    fn identifier(&self) -> &'static str {
+        match self {
+            Scale::Lowest => "lowest",
+            Scale::Below => "below",
+            Scale::Least => "least",
+            Scale::Zero => "zero",
+            Scale::Most => "most",
+            Scale::Above => "above",
+            Scale::Highest => "highest",
+        }
+    }
+
     ghost distinct = { refl };
+
+    ghost named = { (refl, refl) };
 
     ghost one_number = { one_number_of _ (Lowest ∷ Below ∷ Least ∷ Zero ∷ Most ∷ Above ∷ Highest ∷ [])
         (elim [

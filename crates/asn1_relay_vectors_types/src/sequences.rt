@@ -33,11 +33,11 @@ impl Listed for PersonForm {
     ghost each = { λ x. value_sequence _ (⟦<PersonForm as ComponentsOf>⟧.valued tt x) };
 
     fn write<E: Encoder>(&self, encoder: &mut E, tag: Tag) -> Result<(), EncodeError> {
-        encoder.encode_sequence(tag, 0, &Lent(self))
+        encoder.encode_sequence_components(tag, 0, &Lent(self))
     }
 
     fn read<D: Decoder>(alloc: Global, decoder: &mut D, tag: Tag) -> Result<Self, DecodeError> {
-        decoder.decode_sequence(alloc, tag, 0)
+        decoder.decode_sequence_components(alloc, tag, 0)
     }
 }
 
@@ -54,11 +54,11 @@ impl Listed for End {
     ghost each = { λ x. value_sequence _ (⟦<End as ComponentsOf>⟧.valued tt x) };
 
     fn write<E: Encoder>(&self, encoder: &mut E, tag: Tag) -> Result<(), EncodeError> {
-        encoder.encode_sequence(tag, 0, &Lent(self))
+        encoder.encode_sequence_components(tag, 0, &Lent(self))
     }
 
     fn read<D: Decoder>(alloc: Global, decoder: &mut D, tag: Tag) -> Result<Self, DecodeError> {
-        decoder.decode_sequence(alloc, tag, 0)
+        decoder.decode_sequence_components(alloc, tag, 0)
     }
 }
 
@@ -100,11 +100,11 @@ impl Listed for OffsetForm {
     ghost each = { λ x. value_sequence _ (⟦<OffsetForm as ComponentsOf>⟧.valued (integer_default _ _ _ refl, tt) x) };
 
     fn write<E: Encoder>(&self, encoder: &mut E, tag: Tag) -> Result<(), EncodeError> {
-        encoder.encode_sequence(tag, 2, &Lent(self))
+        encoder.encode_sequence_components(tag, 2, &Lent(self))
     }
 
     fn read<D: Decoder>(alloc: Global, decoder: &mut D, tag: Tag) -> Result<Self, DecodeError> {
-        decoder.decode_sequence(alloc, tag, 2)
+        decoder.decode_sequence_components(alloc, tag, 2)
     }
 }
 
@@ -124,11 +124,11 @@ impl Listed for OuterForm {
     ghost each = { λ x. value_sequence _ (⟦<OuterForm as ComponentsOf>⟧.valued tt x) };
 
     fn write<E: Encoder>(&self, encoder: &mut E, tag: Tag) -> Result<(), EncodeError> {
-        encoder.encode_sequence(tag, 0, &Lent(self))
+        encoder.encode_sequence_components(tag, 0, &Lent(self))
     }
 
     fn read<D: Decoder>(alloc: Global, decoder: &mut D, tag: Tag) -> Result<Self, DecodeError> {
-        decoder.decode_sequence(alloc, tag, 0)
+        decoder.decode_sequence_components(alloc, tag, 0)
     }
 }
 
@@ -144,11 +144,11 @@ impl Listed for MiddleForm {
     ghost each = { λ x. value_sequence _ (⟦<MiddleForm as ComponentsOf>⟧.valued tt x) };
 
     fn write<E: Encoder>(&self, encoder: &mut E, tag: Tag) -> Result<(), EncodeError> {
-        encoder.encode_sequence(tag, 1, &Lent(self))
+        encoder.encode_sequence_components(tag, 1, &Lent(self))
     }
 
     fn read<D: Decoder>(alloc: Global, decoder: &mut D, tag: Tag) -> Result<Self, DecodeError> {
-        decoder.decode_sequence(alloc, tag, 1)
+        decoder.decode_sequence_components(alloc, tag, 1)
     }
 }
 
@@ -164,11 +164,11 @@ impl Listed for InnerForm {
     ghost each = { λ x. value_sequence _ (⟦<InnerForm as ComponentsOf>⟧.valued tt x) };
 
     fn write<E: Encoder>(&self, encoder: &mut E, tag: Tag) -> Result<(), EncodeError> {
-        encoder.encode_sequence(tag, 1, &Lent(self))
+        encoder.encode_sequence_components(tag, 1, &Lent(self))
     }
 
     fn read<D: Decoder>(alloc: Global, decoder: &mut D, tag: Tag) -> Result<Self, DecodeError> {
-        decoder.decode_sequence(alloc, tag, 1)
+        decoder.decode_sequence_components(alloc, tag, 1)
     }
 }
 
@@ -198,11 +198,11 @@ impl Listed for TwelveForm {
         (⟦<TwelveForm as ComponentsOf>⟧.valued tt x) };
 
     fn write<E: Encoder>(&self, encoder: &mut E, tag: Tag) -> Result<(), EncodeError> {
-        encoder.encode_sequence(tag, 12, &Lent(self))
+        encoder.encode_sequence_components(tag, 12, &Lent(self))
     }
 
     fn read<D: Decoder>(alloc: Global, decoder: &mut D, tag: Tag) -> Result<Self, DecodeError> {
-        decoder.decode_sequence(alloc, tag, 12)
+        decoder.decode_sequence_components(alloc, tag, 12)
     }
 }
 
@@ -230,10 +230,10 @@ impl Listed for BlocksForm {
     ghost each = { λ x. value_sequence _ (⟦<BlocksForm as ComponentsOf>⟧.valued tt x) };
 
     fn write<E: Encoder>(&self, encoder: &mut E, tag: Tag) -> Result<(), EncodeError> {
-        encoder.encode_sequence(tag, 0, &Lent(self))
+        encoder.encode_sequence_components(tag, 0, &Lent(self))
     }
 
     fn read<D: Decoder>(alloc: Global, decoder: &mut D, tag: Tag) -> Result<Self, DecodeError> {
-        decoder.decode_sequence(alloc, tag, 0)
+        decoder.decode_sequence_components(alloc, tag, 0)
     }
 }

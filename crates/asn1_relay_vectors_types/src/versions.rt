@@ -47,11 +47,11 @@ impl Listed for NestedForm {
     ghost each = { λ x. value_sequence _ (⟦<NestedForm as ComponentsOf>⟧.valued tt x) };
 
     fn write<E: Encoder>(&self, encoder: &mut E, tag: Tag) -> Result<(), EncodeError> {
-        encoder.encode_extensible_sequence(tag, 0, &Lent(self))
+        encoder.encode_extensible_components(tag, 0, &Lent(self))
     }
 
     fn read<D: Decoder>(alloc: Global, decoder: &mut D, tag: Tag) -> Result<Self, DecodeError> {
-        decoder.decode_extensible_sequence(alloc, tag, 0)
+        decoder.decode_extensible_components(alloc, tag, 0)
     }
 }
 
@@ -84,11 +84,11 @@ impl Listed for NewestForm {
     ghost each = { λ x. value_sequence _ (⟦<NewestForm as ComponentsOf>⟧.valued tt x) };
 
     fn write<E: Encoder>(&self, encoder: &mut E, tag: Tag) -> Result<(), EncodeError> {
-        encoder.encode_extensible_sequence(tag, 0, &Lent(self))
+        encoder.encode_extensible_components(tag, 0, &Lent(self))
     }
 
     fn read<D: Decoder>(alloc: Global, decoder: &mut D, tag: Tag) -> Result<Self, DecodeError> {
-        decoder.decode_extensible_sequence(alloc, tag, 0)
+        decoder.decode_extensible_components(alloc, tag, 0)
     }
 }
 
@@ -132,11 +132,11 @@ impl Listed for OldListForm {
     ghost each = { λ x. value_sequence _ (⟦<OldListForm as ComponentsOf>⟧.valued tt x) };
 
     fn write<E: Encoder>(&self, encoder: &mut E, tag: Tag) -> Result<(), EncodeError> {
-        encoder.encode_extensible_sequence(tag, 0, &Lent(self))
+        encoder.encode_extensible_components(tag, 0, &Lent(self))
     }
 
     fn read<D: Decoder>(alloc: Global, decoder: &mut D, tag: Tag) -> Result<Self, DecodeError> {
-        decoder.decode_extensible_sequence(alloc, tag, 0)
+        decoder.decode_extensible_components(alloc, tag, 0)
     }
 }
 
@@ -160,11 +160,11 @@ impl Listed for NewListForm {
     ghost each = { λ x. value_sequence _ (⟦<NewListForm as ComponentsOf>⟧.valued tt x) };
 
     fn write<E: Encoder>(&self, encoder: &mut E, tag: Tag) -> Result<(), EncodeError> {
-        encoder.encode_extensible_sequence(tag, 0, &Lent(self))
+        encoder.encode_extensible_components(tag, 0, &Lent(self))
     }
 
     fn read<D: Decoder>(alloc: Global, decoder: &mut D, tag: Tag) -> Result<Self, DecodeError> {
-        decoder.decode_extensible_sequence(alloc, tag, 0)
+        decoder.decode_extensible_components(alloc, tag, 0)
     }
 }
 
@@ -195,11 +195,11 @@ impl Listed for OldBagForm {
     ghost each = { λ x. value_sequence _ (⟦<OldBagForm as ComponentsOf>⟧.valued tt x) };
 
     fn write<E: Encoder>(&self, encoder: &mut E, tag: Tag) -> Result<(), EncodeError> {
-        encoder.encode_sequence(tag, 0, &Lent(self))
+        encoder.encode_sequence_components(tag, 0, &Lent(self))
     }
 
     fn read<D: Decoder>(alloc: Global, decoder: &mut D, tag: Tag) -> Result<Self, DecodeError> {
-        decoder.decode_sequence(alloc, tag, 0)
+        decoder.decode_sequence_components(alloc, tag, 0)
     }
 }
 
@@ -220,11 +220,11 @@ impl Listed for NewBagForm {
     ghost each = { λ x. value_sequence _ (⟦<NewBagForm as ComponentsOf>⟧.valued tt x) };
 
     fn write<E: Encoder>(&self, encoder: &mut E, tag: Tag) -> Result<(), EncodeError> {
-        encoder.encode_sequence(tag, 0, &Lent(self))
+        encoder.encode_sequence_components(tag, 0, &Lent(self))
     }
 
     fn read<D: Decoder>(alloc: Global, decoder: &mut D, tag: Tag) -> Result<Self, DecodeError> {
-        decoder.decode_sequence(alloc, tag, 0)
+        decoder.decode_sequence_components(alloc, tag, 0)
     }
 }
 
@@ -259,11 +259,11 @@ impl Listed for OldHolderForm {
     ghost each = { λ x. value_sequence _ (⟦<OldHolderForm as ComponentsOf>⟧.valued tt x) };
 
     fn write<E: Encoder>(&self, encoder: &mut E, tag: Tag) -> Result<(), EncodeError> {
-        encoder.encode_extensible_sequence(tag, 0, &Lent(self))
+        encoder.encode_extensible_components(tag, 0, &Lent(self))
     }
 
     fn read<D: Decoder>(alloc: Global, decoder: &mut D, tag: Tag) -> Result<Self, DecodeError> {
-        decoder.decode_extensible_sequence(alloc, tag, 0)
+        decoder.decode_extensible_components(alloc, tag, 0)
     }
 }
 
@@ -283,11 +283,11 @@ impl Listed for NewHolderForm {
     ghost each = { λ x. value_sequence _ (⟦<NewHolderForm as ComponentsOf>⟧.valued tt x) };
 
     fn write<E: Encoder>(&self, encoder: &mut E, tag: Tag) -> Result<(), EncodeError> {
-        encoder.encode_extensible_sequence(tag, 0, &Lent(self))
+        encoder.encode_extensible_components(tag, 0, &Lent(self))
     }
 
     fn read<D: Decoder>(alloc: Global, decoder: &mut D, tag: Tag) -> Result<Self, DecodeError> {
-        decoder.decode_extensible_sequence(alloc, tag, 0)
+        decoder.decode_extensible_components(alloc, tag, 0)
     }
 }
 
@@ -322,11 +322,11 @@ impl Listed for OldBracketForm {
     ghost each = { λ x. value_sequence _ (⟦<OldBracketForm as ComponentsOf>⟧.valued tt x) };
 
     fn write<E: Encoder>(&self, encoder: &mut E, tag: Tag) -> Result<(), EncodeError> {
-        encoder.encode_extensible_sequence(tag, 0, &Lent(self))
+        encoder.encode_extensible_components(tag, 0, &Lent(self))
     }
 
     fn read<D: Decoder>(alloc: Global, decoder: &mut D, tag: Tag) -> Result<Self, DecodeError> {
-        decoder.decode_extensible_sequence(alloc, tag, 0)
+        decoder.decode_extensible_components(alloc, tag, 0)
     }
 }
 
@@ -346,11 +346,11 @@ impl Listed for NewBracketForm {
     ghost each = { λ x. value_sequence _ (⟦<NewBracketForm as ComponentsOf>⟧.valued tt x) };
 
     fn write<E: Encoder>(&self, encoder: &mut E, tag: Tag) -> Result<(), EncodeError> {
-        encoder.encode_extensible_sequence(tag, 0, &Lent(self))
+        encoder.encode_extensible_components(tag, 0, &Lent(self))
     }
 
     fn read<D: Decoder>(alloc: Global, decoder: &mut D, tag: Tag) -> Result<Self, DecodeError> {
-        decoder.decode_extensible_sequence(alloc, tag, 0)
+        decoder.decode_extensible_components(alloc, tag, 0)
     }
 }
 

@@ -7,7 +7,6 @@ use Rattle.asn1_schema_tags.specs.declared.tags.Tag.{Tag}
 use Rattle.asn1_schema_tags.specs.declared.trees.TagTree.TheVariants.{Leaf}
 use Rattle.asn1_schema_tags.proofs.TreeLaws.{leaves_leaf}
 pub use Rattle.asn1_schema_constructed.proofs.Counting.{count_presence_bits}
-pub use Rattle.asn1_schema_constructed.proofs.Distinct.{one_name_of}
 pub use Rattle.asn1_schema_constructed.proofs.SetValues.{type_set, value_set}
 pub use Rattle.asn1_schema_authored.proofs.ChoiceShaping.{choice_of, none, of_addition, of_root, one}
 pub use Rattle.asn1_schema_authored.proofs.Shaping.{sequence_of, set_of}

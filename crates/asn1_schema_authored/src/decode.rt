@@ -391,7 +391,7 @@ pub trait DecodeExtension: Decoder {
 
     /// SEQUENCE (X.680 25) of these components with an extension marker, of whose root components so many may be
     /// absent.
-    final fn decode_extensible_sequence<C: DecodeComponents>(
+    final fn decode_extensible_components<C: DecodeComponents>(
         &mut self,
         alloc: Global,
         tag: Tag,

@@ -247,7 +247,7 @@ pub trait EncodeExtension: Encoder {
 
     /// SEQUENCE (X.680 25) of these components with an extension marker, of whose root components so many may be
     /// absent.
-    final fn encode_extensible_sequence<C: EncodeComponents>(
+    final fn encode_extensible_components<C: EncodeComponents>(
         &mut self,
         tag: Tag,
         optional: usize,

@@ -11,7 +11,7 @@ use crate::Fields;
 use asn1_schema_decode::Decoder;
 use asn1_schema_encode::Encoder;
 use asn1_schema_faults::{DecodeError, EncodeError};
-use asn1_schema_tags::Tag;
+use asn1_schema_tags::{Identifier, Tag};
 use asn1_schema_types::AsnType;
 use std::alloc::Global;
 
@@ -69,11 +69,13 @@ pub trait Constructed: AsnType + Drop {
 
 /// How types with components are written.
 pub trait EncodeConstructed: Encoder {
-    /// SEQUENCE (X.680 25).
-    final fn encode_fields_of<T: Constructed>(
+    /// SEQUENCE (X.680 25): its table of fields tells how many of its root components may be absent, and whether
+    /// there is an extension marker.
+    final fn encode_sequence<T: Constructed>(
         &mut self,
         tag: Tag,
         value: &T,
+        _identifier: Identifier,
     ) -> Result<(), EncodeError>
     where
         Self: Sized,
@@ -99,8 +101,9 @@ impl<E: Encoder> EncodeConstructed for E {}
 
 /// How types with components are read.
 pub trait DecodeConstructed: Decoder {
-    /// SEQUENCE (X.680 25).
-    final fn decode_fields_of<T: Constructed>(
+    /// SEQUENCE (X.680 25): its table of fields tells how many of its root components may be absent, and whether
+    /// there is an extension marker.
+    final fn decode_sequence<T: Constructed>(
         &mut self,
         alloc: Global,
         tag: Tag,

@@ -15,7 +15,7 @@ use std::alloc::Global;
 pub trait DecodeSet: Decoder {
     /// SET (X.680 27) of these components, with or without an extension marker, of whose root components so many
     /// may be absent.
-    final fn decode_set<C: DecodeComponents>(
+    final fn decode_set_components<C: DecodeComponents>(
         &mut self,
         alloc: Global,
         tag: Tag,
@@ -40,8 +40,9 @@ pub trait DecodeSet: Decoder {
         Ok(components)
     }
 
-    /// SET (X.680 27) of a type with components.
-    final fn decode_set_fields_of<T: Constructed>(
+    /// SET (X.680 27): its table of fields tells how many of its root components may be absent, and whether there is
+    /// an extension marker.
+    final fn decode_set<T: Constructed>(
         &mut self,
         alloc: Global,
         tag: Tag,

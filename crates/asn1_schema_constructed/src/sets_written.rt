@@ -8,13 +8,13 @@ ghost use Rattle.asn1_schema_constructed.specs.Sets.{set_type};
 use crate::Constructed;
 use asn1_schema_encode::{EncodeComponents, Encoder};
 use asn1_schema_faults::EncodeError;
-use asn1_schema_tags::Tag;
+use asn1_schema_tags::{Identifier, Tag};
 
 /// How sets are written.
 pub trait EncodeSet: Encoder {
     /// SET (X.680 27) of these components, with or without an extension marker, of whose root components so many
     /// may be absent.
-    final fn encode_set<C: EncodeComponents>(
+    final fn encode_set_components<C: EncodeComponents>(
         &mut self,
         tag: Tag,
         extensible: bool,
@@ -41,11 +41,13 @@ pub trait EncodeSet: Encoder {
         Ok(())
     }
 
-    /// SET (X.680 27) of a type with components.
-    final fn encode_set_fields_of<T: Constructed>(
+    /// SET (X.680 27): its table of fields tells how many of its root components may be absent, and whether there is
+    /// an extension marker.
+    final fn encode_set<T: Constructed>(
         &mut self,
         tag: Tag,
         value: &T,
+        _identifier: Identifier,
     ) -> Result<(), EncodeError>
     where
         Self: Sized,

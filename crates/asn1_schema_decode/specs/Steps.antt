@@ -7,11 +7,12 @@ use Rattle.asn1_schema_faults.specs.declared.DecodeError.{DecodeError}
 use Rattle.asn1_schema_faults.specs.declared.DecodeError.TheVariants.{AlreadyFailed}
 use Rattle.asn1_schema_decode.specs.Messages.{NoMessage, Tells}
 
--- The value of the message in front of the unread octets is told, and just that message is dropped; or an error says
--- that none is in front, and the unread octets stay. Each call begins anew, so none tells of an earlier refusal.
-abbrev pub ReadsNext : {T : Type 0} → Rules → (ℕ → Schema) → (T → Value) → List ℕ → Option (Result T DecodeError)
-    → List ℕ → Type 0
-ReadsNext r schema meaning before None after = ⊥
-ReadsNext r schema meaning before (Some (Ok x)) after = Tells r schema (meaning x) before after
-ReadsNext r schema meaning before (Some (Err e)) after =
-    NoMessage r schema before e × ¬ (e ≡ AlreadyFailed) × (after ≡ before)
+-- The value of the message in front of the unread octets is told, and just that message is dropped; or the error with
+-- which the reader refuses them says that none is in front, and the unread octets stay. Each call begins anew, so none
+-- tells of an earlier refusal.
+abbrev pub ReadsNext : {T : Type 0} → Rules → (ℕ → Schema) → (T → Value) → (List ℕ → DecodeError → Type 0) → List ℕ
+    → Option (Result T DecodeError) → List ℕ → Type 0
+ReadsNext r schema meaning refuses before None after = ⊥
+ReadsNext r schema meaning refuses before (Some (Ok x)) after = Tells r schema (meaning x) before after
+ReadsNext r schema meaning refuses before (Some (Err e)) after =
+    refuses before e × NoMessage r schema before e × ¬ (e ≡ AlreadyFailed) × (after ≡ before)

@@ -276,7 +276,7 @@ pub trait DecodeSequence: Decoder {
     }
 
     /// SEQUENCE (X.680 25) of these components, of which so many may be absent.
-    final fn decode_sequence<C: DecodeComponents>(
+    final fn decode_sequence_components<C: DecodeComponents>(
         &mut self,
         alloc: Global,
         tag: Tag,

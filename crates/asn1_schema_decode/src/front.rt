@@ -1,7 +1,8 @@
 //! Readers of the message in front of octets.
-ghost use Rattle.std.specs.Prelude.{◌≡◌, ◌≤◌, IfErr, IfOk, drop, length};
+ghost use Rattle.std.specs.Prelude.{◌≡◌, ◌≤◌, ℕ, List, IfErr, IfOk, drop, length};
 ghost use Rattle.asn1_model.specs.Rules.{Rules};
 ghost use Rattle.asn1_schema_decode.specs.Messages.{NoMessage, Tells};
+ghost use Rattle.asn1_schema_faults.specs.declared.DecodeError.{DecodeError};
 
 use crate::Decode;
 use asn1_schema_faults::DecodeError;
@@ -12,6 +13,9 @@ pub trait FrontReader<T: Decode> {
     /// The rules.
     ghost rules: { Rules };
 
+    /// With which errors it refuses octets.
+    ghost refuses: { List ℕ → DecodeError → Type 0 };
+
     /// The value whose encoding stands in front, and how many octets it took.
     ///
     /// # Errors
@@ -21,6 +25,9 @@ pub trait FrontReader<T: Decode> {
     fn read_front(&self, alloc: Global, input: &[u8]) -> Result<(T, usize), DecodeError>
         ensures within { IfOk result (λ x. x.1 ≤ length input.now) }
         ensures ok { IfOk result (λ x. Tells rules T.schema (T.meaning x.0) input.now (drop x.1 input.now)) }
-        ensures only { IfErr result (NoMessage rules T.schema input.now) }
+        ensures only { IfErr result (refuses input.now) }
         ensures fresh { IfErr result (λ e. e ≡ DecodeError.AlreadyFailed → ⊥) };
+
+    /// It refuses octets only for want of memory, or because no message stands in front.
+    ghost none: { (input : List ℕ) (e : DecodeError) → refuses input e → NoMessage rules T.schema input e };
 }

@@ -68,7 +68,7 @@ impl<T: Decode, R: FrontReader<T> + Drop> Iterator for Iter<T, R> {
 
     type Item = Result<T, DecodeError>;
 
-    ghost next_gives = { λ before item after. ReadsNext R.rules T.schema T.meaning before item after };
+    ghost next_gives = { λ before item after. ReadsNext R.rules T.schema T.meaning R.refuses before item after };
 
     fn next(&mut self) -> Option<Result<T, DecodeError>> {
         match self.reader.read_front(self.alloc, self.unread.as_slice()) {

@@ -269,7 +269,7 @@ pub trait EncodeSequence: Encoder {
     }
 
     /// SEQUENCE (X.680 25) of these components, of which so many may be absent.
-    final fn encode_sequence<C: EncodeComponents>(
+    final fn encode_sequence_components<C: EncodeComponents>(
         &mut self,
         tag: Tag,
         optional: usize,

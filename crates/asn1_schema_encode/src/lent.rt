@@ -4,6 +4,8 @@ use crate::lists::EncodeList;
 use asn1_schema_constraints::{Bounded, Constraints};
 use asn1_schema_faults::EncodeError;
 use asn1_schema_tags::{Identifier, Tag};
+use asn1_values_bits::BitStr;
+use asn1_values_identifiers::Oid;
 use std::alloc::Global;
 use std::borrow::{Cow, CowSlice, CowStr};
 
@@ -61,6 +63,37 @@ impl<'a> Encode for CowStr<'a, Global> {
         constraints: &Constraints,
     ) -> Result<(), EncodeError> {
         encoder.encode_utf8_string(tag, constraints, self.as_str(), Identifier::UTF8_STRING)?;
+        Ok(())
+    }
+}
+
+impl<'a> Encode for BitStr<'a> {
+    fn encode_with_tag_and_constraints<E: Encoder>(
+        &self,
+        encoder: &mut E,
+        tag: Tag,
+        constraints: &Constraints,
+    ) -> Result<(), EncodeError> {
+        encoder.encode_bit_string(
+            tag,
+            constraints,
+            Bounded::None,
+            *self,
+            Identifier::BIT_STRING,
+        )?;
+        Ok(())
+    }
+}
+
+impl<'a> Encode for Oid<'a> {
+    fn encode_with_tag_and_constraints<E: Encoder>(
+        &self,
+        encoder: &mut E,
+        tag: Tag,
+        _constraints: &Constraints,
+    ) -> Result<(), EncodeError> {
+        let oid = Oid::new_unchecked(self.as_slice());
+        encoder.encode_object_identifier(tag, oid, Identifier::OBJECT_IDENTIFIER)?;
         Ok(())
     }
 }

@@ -1,5 +1,5 @@
 //! ENUMERATED {yes (1000), no (-1000)}.
-ghost use Rattle.std.specs.Prelude.{◌∷◌, [], refl, pos, negsuc, false};
+ghost use Rattle.std.specs.Prelude.{◌∷◌, [], refl, pos, negsuc, false, codes};
 ghost use Rattle.asn1_schema.specs.Author.{enumerated, item, no_constraint};
 ghost use Rattle.asn1_schema.proofs.Author.{one_number_of, type_enumerated, value_enumerated};
 
@@ -63,6 +63,8 @@ impl Enumerated for Answer {
 
     ghost number = { elim [ Yes ↦ pos 1000 | No ↦ negsuc 999 ] };
 
+    ghost names = { codes "no" ∷ codes "yes" ∷ [] };
+
     fn variants<'a>() -> &'a [Self]
     where
         Self: 'a,
@@ -84,7 +86,16 @@ impl Enumerated for Answer {
         }
     }
 
+    fn identifier(&self) -> &'static str {
+        match self {
+            Answer::Yes => "yes",
+            Answer::No => "no",
+        }
+    }
+
     ghost distinct = { refl };
+
+    ghost named = { (refl, refl) };
 
     ghost one_number = { one_number_of _ (No ∷ Yes ∷ []) (elim [ Yes ↦ (1, refl) | No ↦ (0, refl) ]) refl };
 

@@ -1,12 +1,12 @@
 //! ENUMERATED {red, green, ..., blue}.
 ghost use Rattle.std.specs.Prelude.{◌∷◌, [], refl, pos, true, false, codes};
 ghost use Rattle.asn1_schema.specs.Author.{enumerated, item, no_constraint};
-ghost use Rattle.asn1_schema.proofs.Author.{one_name_of, one_number_of, type_enumerated, value_enumerated};
+ghost use Rattle.asn1_schema.proofs.Author.{one_number_of, type_enumerated, value_enumerated};
 
 use asn1_schema::{
     AsnType, Constraints, Decode, DecodeError, DecodeItems, Decoder, Described, Encode,
-    EncodeError, EncodeItems, Encoder, Enumerated, EnumeratedType, Global, Identifier, NamedItems,
-    Tag, TagTree,
+    EncodeError, EncodeItems, Encoder, Enumerated, EnumeratedType, Global, Identifier, Tag,
+    TagTree,
 };
 
 /// A colour.
@@ -74,6 +74,8 @@ impl Enumerated for Colour {
 
     ghost number = { elim [ Red ↦ pos 0 | Green ↦ pos 1 | Blue ↦ pos 2 ] };
 
+    ghost names = { codes "red" ∷ codes "green" ∷ codes "blue" ∷ [] };
+
     fn variants<'a>() -> &'a [Self]
     where
         Self: 'a,
@@ -96,7 +98,17 @@ impl Enumerated for Colour {
         }
     }
 
+    fn identifier(&self) -> &'static str {
+        match self {
+            Colour::Red => "red",
+            Colour::Green => "green",
+            Colour::Blue => "blue",
+        }
+    }
+
     ghost distinct = { refl };
+
+    ghost named = { (refl, refl) };
 
     ghost one_number = { one_number_of _ (Red ∷ Green ∷ Blue ∷ [])
         (elim [ Red ↦ (0, refl) | Green ↦ (1, refl) | Blue ↦ (2, refl) ]) refl };
@@ -114,23 +126,6 @@ impl EnumeratedType for Colour {
     ghost is_of = { λ _. refl };
 
     ghost means = { elim [ Red ↦ refl | Green ↦ refl | Blue ↦ refl ] };
-}
-
-impl NamedItems for Colour {
-    ghost use Rattle.asn1_schema_example.specs.declared.colour.Colour.TheVariants.{Red, Green, Blue};
-
-    ghost name = { elim [ Red ↦ codes "red" | Green ↦ codes "green" | Blue ↦ codes "blue" ] };
-
-    fn identifier(&self) -> &'static str {
-        match self {
-            Colour::Red => "red",
-            Colour::Green => "green",
-            Colour::Blue => "blue",
-        }
-    }
-
-    ghost one_name = { one_name_of _ (Red ∷ Green ∷ Blue ∷ [])
-        (elim [ Red ↦ (0, refl) | Green ↦ (1, refl) | Blue ↦ (2, refl) ]) refl };
 }
 
 impl Encode for Colour {

@@ -120,7 +120,7 @@ impl Encode for Gauge {
         tag: Tag,
         _constraints: &Constraints,
     ) -> Result<(), EncodeError> {
-        encoder.encode_set_fields_of(tag, self)
+        encoder.encode_set(tag, self, Self::IDENTIFIER)
     }
 }
 
@@ -131,6 +131,6 @@ impl Decode for Gauge {
         tag: Tag,
         _constraints: &Constraints,
     ) -> Result<Self, DecodeError> {
-        decoder.decode_set_fields_of(alloc, tag)
+        decoder.decode_set(alloc, tag)
     }
 }

@@ -135,7 +135,7 @@ impl Encode for Measure {
         tag: Tag,
         _constraints: &Constraints,
     ) -> Result<(), EncodeError> {
-        encoder.encode_fields_of(tag, self)
+        encoder.encode_sequence(tag, self, Self::IDENTIFIER)
     }
 }
 
@@ -146,6 +146,6 @@ impl Decode for Measure {
         tag: Tag,
         _constraints: &Constraints,
     ) -> Result<Self, DecodeError> {
-        decoder.decode_fields_of(alloc, tag)
+        decoder.decode_sequence(alloc, tag)
     }
 }

@@ -113,7 +113,7 @@ impl Encode for Setting {
         tag: Tag,
         _constraints: &Constraints,
     ) -> Result<(), EncodeError> {
-        encoder.encode_fields_of(tag, self)
+        encoder.encode_sequence(tag, self, Self::IDENTIFIER)
     }
 }
 
@@ -124,6 +124,6 @@ impl Decode for Setting {
         tag: Tag,
         _constraints: &Constraints,
     ) -> Result<Self, DecodeError> {
-        decoder.decode_fields_of(alloc, tag)
+        decoder.decode_sequence(alloc, tag)
     }
 }

@@ -1,5 +1,5 @@
 //! ENUMERATED {red(0), blue(2), ..., green(1)}, which no type of the program stands under.
-ghost use Rattle.std.specs.Prelude.{◌∷◌, [], refl, pos, true, false};
+ghost use Rattle.std.specs.Prelude.{◌∷◌, [], refl, pos, true, false, codes};
 ghost use Rattle.asn1_schema_variants.proofs.Distinct.{one_number_of};
 
 use asn1_schema::Enumerated;
@@ -26,6 +26,8 @@ impl Enumerated for Colour {
 
     ghost number = { elim [ Red ↦ pos 0 | Blue ↦ pos 2 | Green ↦ pos 1 ] };
 
+    ghost names = { codes "red" ∷ codes "blue" ∷ codes "green" ∷ [] };
+
     fn variants<'a>() -> &'a [Self]
     where
         Self: 'a,
@@ -48,7 +50,17 @@ impl Enumerated for Colour {
         }
     }
 
+    fn identifier(&self) -> &'static str {
+        match self {
+            Colour::Red => "red",
+            Colour::Blue => "blue",
+            Colour::Green => "green",
+        }
+    }
+
     ghost distinct = { refl };
+
+    ghost named = { (refl, refl) };
 
     ghost one_number = { one_number_of _ (Red ∷ Blue ∷ Green ∷ [])
         (elim [ Red ↦ (0, refl) | Blue ↦ (1, refl) | Green ↦ (2, refl) ]) refl };

@@ -14,6 +14,8 @@ mod pair;
 #[cfg(test)]
 mod records;
 #[cfg(test)]
+mod told;
+#[cfg(test)]
 mod up_to_ten;
 #[cfg(test)]
 mod values;

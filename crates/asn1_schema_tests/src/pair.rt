@@ -91,7 +91,7 @@ impl Encode for Pair {
         tag: Tag,
         _constraints: &Constraints,
     ) -> Result<(), EncodeError> {
-        encoder.encode_sequence(
+        encoder.encode_sequence_components(
             tag,
             0,
             &Required(
@@ -109,7 +109,7 @@ impl Decode for Pair {
         tag: Tag,
         _constraints: &Constraints,
     ) -> Result<Self, DecodeError> {
-        let form = decoder.decode_sequence::<Form>(alloc, tag, 0)?;
+        let form = decoder.decode_sequence_components::<Form>(alloc, tag, 0)?;
         let RequiredComponent(a, RequiredComponent(b, End)) = form;
         Ok(Pair {
             a: a.value,

@@ -12,6 +12,7 @@ use asn1_schema::{
 };
 use asn1_schema_example::chain::Chain;
 use asn1_values_bit_strings::FixedBitString;
+use asn1_values_bits::BitStr;
 use asn1_values_identifiers::{ObjectIdentifier, Oid};
 use asn1_values_integers::{ConstrainedInteger, Integer};
 use asn1_values_octets::FixedOctetString;
@@ -252,7 +253,9 @@ fn lists_texts_and_values_around_others(rt: HostRuntime) {
 fn are_strings(alloc: Global) -> bool {
     let four = FixedBitString::<4>::new([0xAF, 0, 0, 0]);
     let three = FixedOctetString::new([1, 2, 3]);
+    let lent = BitStr::front_of(&[0xA0], 4);
     is_kept(alloc, &four, &[Wanted::Bits(4, &[0xA0])])
+        && is_written(alloc, &lent, &[Wanted::Bits(4, &[0xA0])])
         && is_kept(alloc, &three, &[Wanted::Octets(&[1, 2, 3])])
 }
 
@@ -260,6 +263,11 @@ fn are_strings(alloc: Global) -> bool {
 fn is_lent_identifier(alloc: Global) -> bool {
     let identifier = ObjectIdentifier::new_unchecked(CowSlice::Borrowed(&[1, 2, 3321]));
     is_kept(alloc, &identifier, &[Wanted::Identifier(&[1, 2, 3321])])
+        && is_written(
+            alloc,
+            &identifier.as_oid(),
+            &[Wanted::Identifier(&[1, 2, 3321])],
+        )
 }
 
 /// Whether an identifier whose arcs are held is read back.

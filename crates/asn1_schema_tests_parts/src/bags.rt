@@ -81,7 +81,7 @@ fn are_hashed_alike(one: &SetOf<u8>, other: &SetOf<u8>) -> bool {
 fn compared(alloc: Global, one: &[u8], other: &[u8]) -> Result<[bool; 3], AllocError> {
     let one = bag_of(alloc, one)?;
     let other = bag_of(alloc, other)?;
-    let is_same = one.is_same(&other, alloc)?;
+    let is_same = one.is_same(alloc, &other)?;
     Ok([one == other, is_same, are_hashed_alike(&one, &other)])
 }
 

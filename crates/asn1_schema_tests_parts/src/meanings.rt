@@ -1,5 +1,7 @@
 //! Equality by meaning, through its bound; and values under tags, of any type, and those that validate their
 //! components.
+ghost use Rattle.std.specs.Prelude.{◌≡◌, ◌%◌, None, IfOk, IfErr, OnErr, ⊥, codes};
+
 use asn1_schema::tag::{self, Context};
 use asn1_schema::{
     Any, CodecKind, EqualByMeaning, Explicit, Implicit, InnerSubtypeConstraint,
@@ -174,6 +176,11 @@ fn is_held(alloc: Global) -> Result<bool, AllocError> {
 struct Even(u8);
 
 impl InnerSubtypeConstraint for Even {
+    ghost validates = { λ even codec answer.
+        IfOk answer (λ x. (x ≡ even) × (even.0 % 2 ≡ 0) × (codec ≡ None))
+        × IfErr answer (λ e. e.component.now ≡ codes "even")
+        × OnErr answer (even.0 % 2 ≡ 0 → codec ≡ None → ⊥) };
+
     fn validate_and_decode_containing(
         self,
         codec: Option<CodecKind>,

@@ -1,19 +1,23 @@
 //! Values that are lent, or lent until they have to be owned.
 ghost use Rattle.std.specs.Prelude.{◌≡◌, refl, [], ◌∷◌, None};
 ghost use Rattle.std.specs.Cow.{cow_value, cow_slice_items, cow_str_bytes};
-ghost use Rattle.asn1_model.specs.Value.{members, text};
-ghost use Rattle.asn1_model.specs.Schema.{utf8};
-ghost use Rattle.asn1_schema_constraints.specs.Terms.{no_constraint, meant, character_string_under};
+ghost use Rattle.asn1_model.specs.Value.{members, text, bit_list, arcs};
+ghost use Rattle.asn1_model.specs.Schema.{utf8, object_identifier};
+ghost use Rattle.asn1_schema_constraints.specs.Terms.{no_constraint, meant, character_string_under, bit_string_under};
 ghost use Rattle.asn1_schema_presented.specs.Parts.{values_of};
 ghost use Rattle.asn1_schema_presented.specs.Tables.{list_type};
 ghost use Rattle.asn1_schema_presented.proofs.TypesByKind.{type_list, value_list, character_string_type};
-ghost use Rattle.asn1_schema_presented.proofs.TypesByKind.{character_string_value};
+ghost use Rattle.asn1_schema_presented.proofs.TypesByKind.{character_string_value, bit_string_type, bit_string_value};
+ghost use Rattle.asn1_schema_presented.proofs.TypesByKind.{identifier_type, identifier_value};
 ghost use Rattle.asn1_schema_tags.specs.Trees.{leaves};
 ghost use Rattle.asn1_schema_types.specs.Counts.{any_number_held};
+ghost use Rattle.asn1_values_bits.specs.BitStr.{bits_of};
 
 use crate::described::{AsnType, Described};
 use asn1_schema_constraints::Constraints;
 use asn1_schema_tags::{Identifier, Tag, TagTree};
+use asn1_values_bits::BitStr;
+use asn1_values_identifiers::Oid;
 use std::alloc::Global;
 use std::borrow::{Cow, CowSlice, CowStr};
 
@@ -188,6 +192,82 @@ impl<'a> AsnType for CowStr<'a, Global> {
 
     fn tag_tree() -> TagTree<'static>
         ensures { leaves result ≡ record { class = 0; number = 12 } ∷ [] }
+    {
+        TagTree::of(Self::TAG)
+    }
+
+    fn constraints() -> Constraints<'static>
+        ensures { meant result ≡ no_constraint }
+    {
+        Constraints::NONE
+    }
+}
+
+impl<'a> Described for BitStr<'a> {
+    ghost tags = { record { class = 0; number = 3 } ∷ [] };
+
+    ghost own = { no_constraint };
+
+    ghost under = { λ c _. bit_string_under c (record { low = 0; high = None }) };
+
+    ghost schema = { λ _. bit_string_under no_constraint (record { low = 0; high = None }) };
+
+    ghost is_own = { λ _. refl };
+
+    ghost meaning = { λ s. bit_list (bits_of s) };
+
+    ghost typed = { bit_string_type _ _ refl refl };
+
+    ghost valued = { λ s. bit_string_value _ _ _ };
+
+    ghost valued_under = { λ c s. bit_string_value _ _ _ };
+}
+
+impl<'a> AsnType for BitStr<'a> {
+    const TAG: Tag = Tag::BIT_STRING;
+
+    const IDENTIFIER: Identifier = Identifier::BIT_STRING;
+
+    fn tag_tree() -> TagTree<'static>
+        ensures { leaves result ≡ record { class = 0; number = 3 } ∷ [] }
+    {
+        TagTree::of(Self::TAG)
+    }
+
+    fn constraints() -> Constraints<'static>
+        ensures { meant result ≡ no_constraint }
+    {
+        Constraints::NONE
+    }
+}
+
+impl<'a> Described for Oid<'a> {
+    ghost tags = { record { class = 0; number = 6 } ∷ [] };
+
+    ghost own = { no_constraint };
+
+    ghost under = { λ _ _. object_identifier };
+
+    ghost schema = { λ _. object_identifier };
+
+    ghost is_own = { λ _. refl };
+
+    ghost meaning = { λ s. arcs s };
+
+    ghost typed = { identifier_type refl };
+
+    ghost valued = { λ s. identifier_value s };
+
+    ghost valued_under = { λ c s. identifier_value s };
+}
+
+impl<'a> AsnType for Oid<'a> {
+    const TAG: Tag = Tag::OBJECT_IDENTIFIER;
+
+    const IDENTIFIER: Identifier = Identifier::OBJECT_IDENTIFIER;
+
+    fn tag_tree() -> TagTree<'static>
+        ensures { leaves result ≡ record { class = 0; number = 6 } ∷ [] }
     {
         TagTree::of(Self::TAG)
     }

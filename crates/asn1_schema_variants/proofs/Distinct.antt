@@ -1,5 +1,5 @@
 -- Items that differ in what each has.
-use Rattle.std.proofs.Common.{◌≡◌, ◌∙◌, sym, ap, ℕ, zero, suc, ℤ, Bool, true, false, not, List, [], ◌∷◌, map, slice_get, Some}
+use Rattle.std.proofs.Common.{◌≡◌, ◌∙◌, refl, sym, ap, ℕ, zero, suc, ℤ, Bool, true, false, not, List, [], ◌∷◌, map, slice_get, Some}
 use Rattle.asn1_model.specs.Value.{same_number}
 use Rattle.std.specs.List.{list_all}
 use Rattle.asn1_model.specs.Lawful.{are_distinct}
@@ -35,3 +35,23 @@ module _ {A X : Type 0} (f : A → X) (same : X → X → Bool) (self : (x : X) 
 -- two items with one number are the same item, where all items are listed and no number repeats
 pub one_number_of : {A : Type 0} (f : A → ℤ) (xs : List A) → ((x : A) → (i : ℕ) × (slice_get xs i ≡ Some x)) → are_distinct same_number (map f xs) ≡ true → (x y : A) → f x ≡ f y → x ≡ y
 one_number_of f = one_by f same_number same_number_self
+
+-- an element of distinct ones has one place
+module _ {X : Type 0} (same : X → X → Bool) (self : (x : X) → same x x ≡ true) where
+  each_in : (p : X → Bool) (xs : List X) (i : ℕ) (y : X) → list_all p xs ≡ true → slice_get xs i ≡ Some y → p y ≡ true
+  each_in p [] i y a e = cc
+  each_in p (x ∷ xs) zero y a e = let s : x ≡ y = cc in ap p (sym s) ∙ (both_true (p x) (list_all p xs) a).0
+  each_in p (x ∷ xs) (suc i) y a e = each_in p xs i y (both_true (p x) (list_all p xs) a).1 e
+
+  not_behind : (z x : X) (zs : List X) (i : ℕ) → are_distinct same (z ∷ zs) ≡ true → slice_get zs i ≡ Some x → z ≡ x → ⊥
+  not_behind z x zs i d e s =
+      let n : not (same z x) ≡ true = each_in (λ w. not (same z w)) zs i x (both_true (list_all (λ w. not (same z w)) zs) (are_distinct same zs) d).0 e in
+      let t : same z x ≡ true = ap (same z) (sym s) ∙ self z in
+      let c : false ≡ true = sym (ap not t) ∙ n in cc
+
+  pub one_place : (xs : List X) (i j : ℕ) (x : X) → are_distinct same xs ≡ true → slice_get xs i ≡ Some x → slice_get xs j ≡ Some x → i ≡ j
+  one_place [] i j x d e g = cc
+  one_place (z ∷ zs) zero zero x d e g = refl
+  one_place (z ∷ zs) zero (suc j) x d e g = absurd (not_behind z x zs j d g cc)
+  one_place (z ∷ zs) (suc i) zero x d e g = absurd (not_behind z x zs i d e cc)
+  one_place (z ∷ zs) (suc i) (suc j) x d e g = ap suc (one_place zs i j x (both_true (list_all (λ w. not (same z w)) zs) (are_distinct same zs) d).1 e g)

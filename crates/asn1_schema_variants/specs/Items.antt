@@ -1,5 +1,5 @@
 -- Items of enumerations.
-use Rattle.std.specs.Prelude.{◌≡◌, ℕ, ℤ, Bool, true, false, List, Some, None}
+use Rattle.std.specs.Prelude.{◌≡◌, ℕ, ℤ, Bool, true, false, List, [], ◌∷◌, Some, None, get_or}
 use Rattle.asn1_model.specs.Normal.{item_place}
 
 -- Where the number of an item stands: among the root items, or, if it is an added one, among those behind the extension
@@ -11,3 +11,12 @@ IsPlaced roots e others v true i = (item_place v roots ≡ None) × (e ≡ true)
 -- The number stands in no table that the type has.
 abbrev pub IsNone : List ℤ → Bool → List ℤ → ℤ → Type 0
 IsNone roots e others v = (item_place v roots ≡ None) × (e ≡ true → item_place v others ≡ None)
+
+-- The name of the item of a number (X.680 20.1): the names stand in the order of the numbers.
+abbrev pub item_name : List ℤ → List (List ℕ) → ℤ → List ℕ
+item_name numbers names v = elim (item_place v numbers) [ None ↦ [] | Some i ↦ get_or names i [] ]
+
+-- None of these items has the name.
+abbrev pub IsUnnamed : {A : Type 0} → (A → List ℕ) → List ℕ → List A → Type 0
+IsUnnamed f name [] = Unit {0}
+IsUnnamed f name (x ∷ xs) = (f x ≡ name → ⊥) × IsUnnamed f name xs

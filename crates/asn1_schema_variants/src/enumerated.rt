@@ -1,14 +1,15 @@
 //! Enumerations.
 ghost use Rattle.std.specs.Prelude.{◌≡◌, ℕ, ℤ, Bool, true, false, cond, List};
 ghost use Rattle.std.specs.Prelude.{◌++◌, length, map, min, ◌+◌, ◌≤◌, Some, MatchOption};
+ghost use Rattle.std.specs.Str.{bytes_eq};
 ghost use Rattle.asn1_model.specs.Lawful.{are_distinct};
 ghost use Rattle.asn1_model.specs.Normal.{item_place};
 ghost use Rattle.asn1_model.specs.Value.{same_number};
-ghost use Rattle.asn1_schema_variants.specs.Items.{IsPlaced, IsNone};
+ghost use Rattle.asn1_schema_variants.specs.Items.{IsPlaced, IsNone, IsUnnamed, item_name};
 
 use crate::chosen::Chosen;
 
-/// ENUMERATED (X.680 20): a type whose values are items, each with a number.
+/// ENUMERATED (X.680 20): a type whose values are items, each with a number and a name.
 pub trait Enumerated: Copy {
     /// The numbers of the root items, in ascending order.
     ghost roots: { List ℤ };
@@ -21,6 +22,10 @@ pub trait Enumerated: Copy {
 
     /// The number of an item.
     ghost number: { Self → ℤ };
+
+    /// The names of the items, in octets of UTF-8: those of the root items, and behind them those of the added ones, in
+    /// the order of their numbers.
+    ghost names: { List (List ℕ) };
 
     /// The root items, in the ascending order of their numbers.
     fn variants<'a>() -> &'a [Self]
@@ -39,8 +44,15 @@ pub trait Enumerated: Copy {
     fn discriminant(&self) -> isize
         ensures { result ≡ number self.now };
 
+    /// The name of the item.
+    fn identifier(&self) -> &'static str
+        ensures { result.now ≡ item_name (roots ++ additions) names (number self.now) };
+
     /// No number occurs twice (X.680 20.6).
     ghost distinct: { are_distinct same_number (roots ++ additions) ≡ true };
+
+    /// Each number has a name, and no name occurs twice (X.680 20.1).
+    ghost named: { (length names ≡ length (roots ++ additions)) × (are_distinct bytes_eq names ≡ true) };
 
     /// No two items have one number.
     ghost one_number: { (x y : Self) → number x ≡ number y → x ≡ y };
@@ -149,6 +161,21 @@ pub trait Enumerated: Copy {
         let place = place_of(items, wanted)?;
         items.get(place).copied()
     }
+
+    /// The item of a name, if there is one. So an item's name gives that item back.
+    final fn from_identifier(wanted: &str) -> Option<Self>
+    where
+        Self: Sized,
+        ensures found { MatchOption result
+            ((x : Self) → item_name (roots ++ additions) names (number x) ≡ wanted.now → ⊥)
+            (λ x. item_name (roots ++ additions) names (number x) ≡ wanted.now) }
+        ensures back { (x : Self) → item_name (roots ++ additions) names (number x) ≡ wanted.now → result ≡ Some x }
+    {
+        if let Some(item) = named(Self::variants(), wanted) {
+            return Some(item);
+        }
+        named(Self::extended_variants()?, wanted)
+    }
 }
 
 /// The place of the first item of a number.
@@ -158,6 +185,20 @@ fn place_of<T: Enumerated>(items: &[T], number: isize) -> Option<usize>
     for (place, item) in items.iter().enumerate() {
         if item.discriminant() == number {
             return Some(place);
+        }
+    }
+    None
+}
+
+/// The first of some items that has a name.
+fn named<T: Enumerated>(items: &[T], wanted: &str) -> Option<T>
+    ensures { MatchOption result
+        (IsUnnamed (λ x. item_name (T.roots ++ T.additions) T.names (T.number x)) wanted.now items.now)
+        (λ x. item_name (T.roots ++ T.additions) T.names (T.number x) ≡ wanted.now) }
+{
+    for item in items.iter() {
+        if item.identifier() == wanted {
+            return Some(*item);
         }
     }
     None

@@ -33,7 +33,7 @@ impl<T: Ord> SetOf<T> {
     /// # Errors
     ///
     /// Want of memory, for the places of the members.
-    pub fn is_same(&self, other: &Self, alloc: Global) -> Result<bool, AllocError>
+    pub fn is_same(&self, alloc: Global, other: &Self) -> Result<bool, AllocError>
         ensures { IfOk result (λ same. same ≡ same_items T.PartialEq.eq self.now.items.items other.now.items.items) }
     {
         let mut left = self.to_vec(alloc)?;

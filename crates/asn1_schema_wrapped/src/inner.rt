@@ -1,5 +1,5 @@
 //! Constraints on what a value's components hold (X.680 51.8).
-ghost use Rattle.std.specs.Prelude.{Option, None, Result, ⊤};
+ghost use Rattle.std.specs.Prelude.{Option, None, Result};
 ghost use Rattle.asn1_schema_faults.specs.declared.CodecKind.{CodecKind};
 ghost use Rattle.asn1_schema_wrapped.specs.declared.inner.InnerSubtypeConstraintError.{InnerSubtypeConstraintError};
 
@@ -16,8 +16,9 @@ pub struct InnerSubtypeConstraintError {
 
 /// A type with constraints on what its components hold (X.680 51.8).
 pub trait InnerSubtypeConstraint: Sized {
-    // Holds of a value, the rules of what its components contain, if that is to be read, and each answer.
-    ghost validates: { Self → Option CodecKind → Result Self InnerSubtypeConstraintError → Type 0 } = { λ _ _ _. ⊤ };
+    /// What holds of a value, the rules of what its components contain, if that is to be read, and the answer: which
+    /// values are answered, and which component is the wrong one where none is.
+    ghost validates: { Self → Option CodecKind → Result Self InnerSubtypeConstraintError → Type 0 };
 
     /// The value, if its components satisfy their constraints, and, where rules are given, what they contain
     /// is an encoding in these; else the component that does not.

@@ -83,7 +83,7 @@ impl<T: Encode> Encode for InstanceOf<T> {
         tag: Tag,
         _constraints: &Constraints,
     ) -> Result<(), EncodeError> {
-        encoder.encode_sequence(
+        encoder.encode_sequence_components(
             tag,
             0,
             &Required(
@@ -101,7 +101,7 @@ impl<T: Decode> Decode for InstanceOf<T> {
         tag: Tag,
         _constraints: &Constraints,
     ) -> Result<Self, DecodeError> {
-        let form = decoder.decode_sequence::<Form<T>>(alloc, tag, 0)?;
+        let form = decoder.decode_sequence_components::<Form<T>>(alloc, tag, 0)?;
         let RequiredComponent(type_id, RequiredComponent(value, End)) = form;
         Ok(InstanceOf {
             type_id,

@@ -10,8 +10,13 @@ pub struct OerFront;
 
 impl<T: Decode> FrontReader<T> for OerFront {
     ghost use Rattle.asn1_model.specs.Rules.{oer};
+    ghost use Rattle.asn1_schema_decode.specs.Messages.{NoMessage};
 
     ghost rules = { oer };
+
+    ghost refuses = { NoMessage oer T.schema };
+
+    ghost none = { λ _ _ h. h };
 
     fn read_front(&self, alloc: Global, input: &[u8]) -> Result<(T, usize), DecodeError> {
         let (value, rest): (T, &[u8]) = crate::oer::decode_with_remainder(alloc, input)?;
@@ -25,8 +30,13 @@ pub struct CoerFront;
 
 impl<T: Decode> FrontReader<T> for CoerFront {
     ghost use Rattle.asn1_model.specs.Rules.{coer};
+    ghost use Rattle.asn1_schema_decode.specs.Messages.{NoMessage};
 
     ghost rules = { coer };
+
+    ghost refuses = { NoMessage coer T.schema };
+
+    ghost none = { λ _ _ h. h };
 
     fn read_front(&self, alloc: Global, input: &[u8]) -> Result<(T, usize), DecodeError> {
         let (value, rest): (T, &[u8]) = crate::coer::decode_with_remainder(alloc, input)?;

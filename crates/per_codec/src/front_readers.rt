@@ -10,8 +10,13 @@ pub struct UperFront;
 
 impl<T: Decode> FrontReader<T> for UperFront {
     ghost use Rattle.asn1_model.specs.Rules.{uper};
+    ghost use Rattle.asn1_schema_decode.specs.Messages.{NoMessage};
 
     ghost rules = { uper };
+
+    ghost refuses = { NoMessage uper T.schema };
+
+    ghost none = { λ _ _ h. h };
 
     fn read_front(&self, alloc: Global, input: &[u8]) -> Result<(T, usize), DecodeError> {
         let (value, rest): (T, &[u8]) = crate::uper::decode_with_remainder(alloc, input)?;
@@ -25,8 +30,13 @@ pub struct AperFront;
 
 impl<T: Decode> FrontReader<T> for AperFront {
     ghost use Rattle.asn1_model.specs.Rules.{aper};
+    ghost use Rattle.asn1_schema_decode.specs.Messages.{NoMessage};
 
     ghost rules = { aper };
+
+    ghost refuses = { NoMessage aper T.schema };
+
+    ghost none = { λ _ _ h. h };
 
     fn read_front(&self, alloc: Global, input: &[u8]) -> Result<(T, usize), DecodeError> {
         let (value, rest): (T, &[u8]) = crate::aper::decode_with_remainder(alloc, input)?;

@@ -1,6 +1,6 @@
 use Rattle.asn1_schema_presented.proofs.Joined.{raised}
 use Rattle.asn1_schema_decode.proofs.Reading.{reads_sequence, unread_sequence, unread_sequence_here}
-use Rattle.asn1_schema_decode.proofs.components.DecodeSequence.decode_sequence.Goals as goal
+use Rattle.asn1_schema_decode.proofs.components.DecodeSequence.decode_sequence_components.Goals as goal
 
 pub returns-in_err-begin_sequence-clause-only : goal.returns-in_err-begin_sequence-clause-only
 returns-in_err-begin_sequence-clause-only g c = raised _ _ _ c.from_residual.ensures.1 (unread_sequence_here _ _ c.requires.presence_bits c.requires.plain c.in_err-begin_sequence.ensures.only)

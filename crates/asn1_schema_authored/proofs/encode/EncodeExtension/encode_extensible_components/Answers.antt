@@ -1,6 +1,6 @@
 use Rattle.asn1_schema_presented.proofs.Joined.{raised}
 use Rattle.asn1_schema_encode.proofs.Writing.{writes_this, cannot_this, cannot_this_here}
-use Rattle.asn1_schema_authored.proofs.encode.EncodeExtension.encode_extensible_sequence.Goals as goal
+use Rattle.asn1_schema_authored.proofs.encode.EncodeExtension.encode_extensible_components.Goals as goal
 
 pub returns-in_err-begin_sequence-clause-only : goal.returns-in_err-begin_sequence-clause-only
 returns-in_err-begin_sequence-clause-only g c = raised _ _ _ c.from_residual.ensures.1 (cannot_this_here _ _ c.requires.presence_bits c.requires.extensible _ _ c.in_err-begin_sequence.ensures.only)

@@ -2,7 +2,7 @@ use Rattle.std.proofs.Common.{◌∙◌, sym}
 use Rattle.asn1_schema_presented.proofs.Joined.{raised}
 use Rattle.asn1_schema_decode.proofs.Reading.{reads_sequence, unread_sequence, unread_sequence_here}
 use Rattle.asn1_schema_constructed.proofs.Counting.{count_presence_bits}
-use Rattle.asn1_schema_constructed.proofs.constructed.DecodeConstructed.decode_fields_of.Goals as goal
+use Rattle.asn1_schema_constructed.proofs.constructed.DecodeConstructed.decode_sequence.Goals as goal
 
 pub returns-in_err-begin_sequence-clause-only : goal.returns-in_err-begin_sequence-clause-only
 returns-in_err-begin_sequence-clause-only g c = raised _ _ _ c.from_residual.ensures.1 (unread_sequence_here _ _ (c.number_of_optional_and_default_fields-optional.ensures ∙ count_presence_bits _ _ c.fields.ensures) (sym c.is_extensible-extensible.ensures) c.in_err-begin_sequence.ensures.only)
