@@ -1,0 +1,4 @@
+pub mod Behind
+pub mod Steps
+pub mod Chained
+pub mod Empty
