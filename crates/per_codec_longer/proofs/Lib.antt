@@ -1,0 +1,5 @@
+pub mod Behind
+pub mod Steps
+pub mod Chained
+pub mod Steady
+pub mod Empty
