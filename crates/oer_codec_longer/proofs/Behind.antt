@@ -71,7 +71,7 @@ pub more_none : (a : State) → with_more [] a ≡ a
 more_none a = state_same (with_more [] a) a (octets_none a.1 a.0) (scopes_none a.1)
 
 -- outside all open types the octets in front are those behind all
-outside : (e : List ℕ) (k : List Scope) (os : List ℕ) → is_within k ≡ false → octets_behind os (scopes_with e k) ≡ os
+pub outside : (e : List ℕ) (k : List Scope) (os : List ℕ) → is_within k ≡ false → octets_behind os (scopes_with e k) ≡ os
 outside e [] os q = refl
 outside e (open_type rest ∷ k) os q = cc
 outside e (s ∷ k) os q = outside e k os q

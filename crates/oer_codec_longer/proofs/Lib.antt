@@ -2,3 +2,4 @@ pub mod Behind
 pub mod Steps
 pub mod Chained
 pub mod Empty
+pub mod Lacking

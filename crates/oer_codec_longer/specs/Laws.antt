@@ -1,14 +1,14 @@
 -- What more octets behind change for a reader of the octet encoding rules (X.696), and which of them it takes.
-use Rattle.std.specs.Prelude.{◌≡◌, ◌≤◌, ◌<◌, ℕ, Bool, true, IsTrue, List, [], ◌++◌, length}
+use Rattle.std.specs.Prelude.{◌≡◌, ◌≤◌, ◌<◌, ℕ, ◌+◌, Bool, true, false, IsTrue, List, [], ◌∷◌, ◌++◌, length}
 use Rattle.asn1_model.specs.Schema.{Schema}
-use Rattle.asn1_model.specs.Value.{Value, same}
+use Rattle.asn1_model.specs.Value.{Value, Values, same}
 use Rattle.asn1_model.specs.Lawful.{IsLawful}
 use Rattle.asn1_model.specs.Oer
 use Rattle.asn1_schema_presented.specs.Records.{Record}
-use Rattle.asn1_schema_presented.specs.Presents.{presents}
+use Rattle.asn1_schema_presented.specs.Presents.{presents, member_records}
 use Rattle.asn1_schema_presented.specs.Chains.{Chain}
-use Rattle.oer_codec_fronts.specs.Takes.{State, Takes}
-use Rattle.oer_codec_longer.specs.More.{with_more, outermost}
+use Rattle.oer_codec_fronts.specs.Takes.{State, Scope, members, Takes}
+use Rattle.oer_codec_longer.specs.More.{is_within, with_more, outermost}
 
 -- Records that are next are still next, and the octets that came later stand behind what is left then.
 abbrev pub MoreChangesNothing : Type 0
@@ -49,3 +49,16 @@ TakesSome =
     → IsTrue (free Oer.other_order) → IsLawful s
     → ((w : Value) (d : State) → Chain (Takes free) (presents s w) c d → ⊥)
     → (v : Value) (a b : State) → Chain (Takes free) (presents s v) a b → length (b.0) < length (a.0)
+
+-- Where no member is next, not even with n octets more behind, and j members are to come behind that one, the members
+-- are not next with n + j octets more: each takes at least one octet. Outside all open types, since what stands within
+-- one is there by its length.
+abbrev pub MembersAreLacking : Type 0
+MembersAreLacking =
+    (free : Oer.Freedom → Bool) (s : Schema) (n j : ℕ) (os : List ℕ) (k : List Scope) → IsTrue (free Oer.other_bitmap)
+    → IsTrue (free Oer.other_order) → IsLawful s → is_within k ≡ false
+    → ((e : List ℕ) (v : Value) (c : State) → length e ≤ n
+    → Chain (Takes free) (presents s v) (with_more e (os, members j ∷ k)) c → ⊥)
+    → (e : List ℕ) (v : Value) (vs : Values) (c : State) → length e ≤ n + j
+    → Chain (Takes free) (presents s v ++ member_records (λ w. presents s w) vs) (with_more e (os, members j ∷ k)) c
+    → ⊥
