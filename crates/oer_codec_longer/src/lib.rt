@@ -36,8 +36,8 @@ pub fn values_take_some()
     ensures { TakesSome }
 {}
 
-/// Where no member of a list is next, not even with some octets more, and further members are to come, the list wants at
-/// least one octet more for each of them.
+/// Where no member of a list is next, not even with some octets more, and further members are to come, the list lacks at
+/// least one more for each of them.
 pub fn members_are_lacking()
     ensures { MembersAreLacking }
 {}

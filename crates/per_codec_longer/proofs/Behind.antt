@@ -73,7 +73,7 @@ pub more_none : (a : State) → with_more [] a ≡ a
 more_none a = state_same (with_more [] a) a (place_none a.1 a.0) (scopes_none a.1)
 
 -- outside all open types the bits in front are those behind all
-outside : (e : List Bool) (k : List Scope) (p : Place) → is_within k ≡ false → bits_behind p (scopes_with e k) ≡ p.1
+pub outside : (e : List Bool) (k : List Scope) (p : Place) → is_within k ≡ false → bits_behind p (scopes_with e k) ≡ p.1
 outside e [] p q = refl
 outside e (open_type rest ∷ k) p q = cc
 outside e (s ∷ k) p q = outside e k p q

@@ -3,3 +3,4 @@ pub mod Steps
 pub mod Chained
 pub mod Steady
 pub mod Empty
+pub mod Lacking

@@ -1,14 +1,14 @@
 -- What more bits behind change for a reader of the packed encoding rules (X.691), and which of them it takes.
-use Rattle.std.specs.Prelude.{◌≡◌, ◌≤◌, ◌<◌, Bool, true, IsTrue, List, [], ◌++◌, length}
+use Rattle.std.specs.Prelude.{◌≡◌, ◌≤◌, ◌<◌, ℕ, ◌+◌, Bool, true, false, IsTrue, List, [], ◌∷◌, ◌++◌, length, Option}
 use Rattle.asn1_model.specs.Schema.{Schema}
-use Rattle.asn1_model.specs.Value.{Value, same}
+use Rattle.asn1_model.specs.Value.{Value, Values, same}
 use Rattle.asn1_model.specs.Lawful.{IsLawful}
 use Rattle.asn1_model.specs.Per
 use Rattle.asn1_schema_presented.specs.Records.{Record}
-use Rattle.asn1_schema_presented.specs.Presents.{presents}
+use Rattle.asn1_schema_presented.specs.Presents.{presents, member_records}
 use Rattle.asn1_schema_presented.specs.Chains.{Chain}
-use Rattle.per_codec_fronts.specs.Takes.{State, Takes}
-use Rattle.per_codec_longer.specs.More.{with_more, outermost}
+use Rattle.per_codec_fronts.specs.Takes.{Place, State, Tally, Scope, members, Takes}
+use Rattle.per_codec_longer.specs.More.{is_within, with_more, outermost}
 
 -- Records that are next are still next, and the bits that came later stand behind what is left then.
 abbrev pub MoreChangesNothing : Type 0
@@ -20,7 +20,8 @@ MoreChangesNothing =
 abbrev pub LeftIsNotNeeded : Type 0
 LeftIsNotNeeded =
     (al : Bool) (free : Per.Freedom → Bool) (e : List Bool) (rs : List Record) (a c : State)
-    → Chain (Takes al free) rs (with_more e a) c → length e ≤ length (outermost c) → (b : State) × (c ≡ with_more e b) × Chain (Takes al free) rs a b
+    → Chain (Takes al free) rs (with_more e a) c → length e ≤ length (outermost c)
+    → (b : State) × (c ≡ with_more e b) × Chain (Takes al free) rs a b
 
 -- Bits that come in two pieces are the same as in one, and none are none.
 abbrev pub MoreInPieces : Type 0
@@ -49,3 +50,16 @@ TakesSome =
     → IsTrue (free Per.other_order) → IsLawful s
     → ((w : Value) (d : State) → Chain (Takes al free) (presents s w) c d → ⊥)
     → (v : Value) (a b : State) → Chain (Takes al free) (presents s v) a b → length (b.0.1) < length (a.0.1)
+
+-- Where no member is next, not even with n bits more behind, and j members are to come behind that one, the members
+-- are not next with n + j bits more: each takes at least one bit. Outside all open types, since what stands within
+-- one is there by its length.
+abbrev pub MembersAreLacking : Type 0
+MembersAreLacking =
+    (al : Bool) (free : Per.Freedom → Bool) (s : Schema) (n j : ℕ) (hs : Option Tally) (p : Place)
+    (k : List Scope) → IsTrue (free Per.other_bitmap) → IsTrue (free Per.other_order) → IsLawful s → is_within k ≡ false
+    → ((e : List Bool) (v : Value) (c : State) → length e ≤ n
+    → Chain (Takes al free) (presents s v) (with_more e (p, members j hs ∷ k)) c → ⊥)
+    → (e : List Bool) (v : Value) (vs : Values) (c : State) → length e ≤ n + j
+    → Chain (Takes al free) (presents s v ++ member_records (λ w. presents s w) vs)
+    (with_more e (p, members j hs ∷ k)) c → ⊥

@@ -2,8 +2,8 @@
 //! them. Each function does nothing; its contract is a law.
 #![tactic(auto)]
 
-ghost use Rattle.per_codec_longer.specs.Laws.{EmptyEverywhere, LeftIsNotNeeded, MoreChangesNothing, MoreInPieces};
-ghost use Rattle.per_codec_longer.specs.Laws.{NothingGrows, TakesSome};
+ghost use Rattle.per_codec_longer.specs.Laws.{EmptyEverywhere, LeftIsNotNeeded, MembersAreLacking, MoreChangesNothing};
+ghost use Rattle.per_codec_longer.specs.Laws.{MoreInPieces, NothingGrows, TakesSome};
 
 /// Records that are next are still next when more bits come, and these stand behind what is left then.
 pub fn more_changes_nothing()
@@ -34,4 +34,10 @@ pub fn empty_everywhere()
 /// Where no value of a lawful type is next in some state, the records of each take at least one bit at every position.
 pub fn values_take_some()
     ensures { TakesSome }
+{}
+
+/// Where no member of a list is next, not even with some bits more, and further members are to come, the list lacks at
+/// least one more for each of them.
+pub fn members_are_lacking()
+    ensures { MembersAreLacking }
 {}
