@@ -3,3 +3,4 @@ pub mod Steps
 pub mod Chained
 pub mod Empty
 pub mod Lacking
+pub mod Lengths

@@ -7,7 +7,7 @@ use Rattle.asn1_model.specs.Oer
 use Rattle.asn1_schema_presented.specs.Records.{Record}
 use Rattle.asn1_schema_presented.specs.Presents.{presents, member_records}
 use Rattle.asn1_schema_presented.specs.Chains.{Chain}
-use Rattle.oer_codec_fronts.specs.Takes.{State, Scope, members, Takes}
+use Rattle.oer_codec_fronts.specs.Takes.{State, Scope, members, Front, Takes}
 use Rattle.oer_codec_longer.specs.More.{is_within, with_more, outermost}
 
 -- Records that are next are still next, and the octets that came later stand behind what is left then.
@@ -62,3 +62,10 @@ MembersAreLacking =
     → (e : List ℕ) (v : Value) (vs : Values) (c : State) → length e ≤ n + j
     → Chain (Takes free) (presents s v ++ member_records (λ w. presents s w) vs) (with_more e (os, members j ∷ k)) c
     → ⊥
+
+-- Where a length determinant for n octets is in front, no octets behind their number are, those of a string or of an
+-- open type, before n octets stand behind it.
+abbrev pub LengthsAreLacking : Type 0
+LengthsAreLacking =
+    (free : Oer.Freedom → Bool) (n : ℕ) (os behind : List ℕ) → Front free (Oer.length_form n) os behind
+    → (e ts rest : List ℕ) → length behind + length e < n → Front free (Oer.counted ts) (os ++ e) rest → ⊥
