@@ -1,0 +1,6 @@
+pub mod Behind
+pub mod Steps
+pub mod Chained
+pub mod Steady
+pub mod Empty
+pub mod Lacking

@@ -1,0 +1,43 @@
+//! What more bits behind change for a reader of the packed encoding rules (X.691): nothing, where it takes none of
+//! them. Each function does nothing; its contract is a law.
+#![tactic(auto)]
+
+ghost use Rattle.per_codec_longer.specs.Laws.{EmptyEverywhere, LeftIsNotNeeded, MembersAreLacking, MoreChangesNothing};
+ghost use Rattle.per_codec_longer.specs.Laws.{MoreInPieces, NothingGrows, TakesSome};
+
+/// Records that are next are still next when more bits come, and these stand behind what is left then.
+pub fn more_changes_nothing()
+    ensures { MoreChangesNothing }
+{}
+
+/// Where as many bits are left behind records as came last, the records are next without these.
+pub fn what_is_left_is_not_needed()
+    ensures { LeftIsNotNeeded }
+{}
+
+/// Bits that come in two pieces are the same as in one.
+pub fn more_comes_in_pieces()
+    ensures { MoreInPieces }
+{}
+
+/// No record adds a bit to those that stand outside all open types.
+pub fn nothing_grows()
+    ensures { NothingGrows }
+{}
+
+/// Where a value of a lawful type takes no bit at one position, one that is the same up to the order of bags takes none
+/// at every position.
+pub fn empty_everywhere()
+    ensures { EmptyEverywhere }
+{}
+
+/// Where no value of a lawful type is next in some state, the records of each take at least one bit at every position.
+pub fn values_take_some()
+    ensures { TakesSome }
+{}
+
+/// Where no member of a list is next, not even with some bits more, and further members are to come, the list lacks at
+/// least one more for each of them.
+pub fn members_are_lacking()
+    ensures { MembersAreLacking }
+{}
