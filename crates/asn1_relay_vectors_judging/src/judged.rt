@@ -31,6 +31,9 @@ pub type Ran = (Result<(), RunFault>, MemorySink);
 /// The canonical encoding of a value, or why it has none.
 pub type Encoded = Result<Vec<u8>, EncodeError>;
 
+/// Of a remainder so many octets are compared at either end.
+const COMPARED: usize = 64;
+
 /// What was read in front of octets.
 #[derive(Drop)]
 pub struct Told {
@@ -178,13 +181,14 @@ pub fn front_of_type<T: Encode + Decode>(
     Ok(Told { taken, encoded })
 }
 
-/// How many octets stand in front of a rest of them, if it is one.
+/// How many octets stand in front of a rest of them, if it is one. Of a long rest the ends are compared.
 fn taken_before(octets: &[u8], rest: &[u8]) -> Option<usize> {
     let taken = octets.len().checked_sub(rest.len())?;
-    if part(octets, taken, octets.len()) == rest {
-        return Some(taken);
-    }
-    None
+    let behind = part(octets, taken, octets.len());
+    let last = rest.len().saturating_sub(COMPARED);
+    let is_rest = part(behind, 0, COMPARED) == part(rest, 0, COMPARED)
+        && part(behind, last, rest.len()) == part(rest, last, rest.len());
+    is_rest.then_some(taken)
 }
 
 /// The octets from one place up to another.
