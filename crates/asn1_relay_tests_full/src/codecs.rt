@@ -104,7 +104,10 @@ fn wrong_calls(alloc: Global, kept: Kept) -> Option<&'static str> {
     let found = [
         ("oer", are_octets_found(alloc, oer::DecoderOptions::oer())),
         ("coer", are_octets_found(alloc, oer::DecoderOptions::coer())),
-        ("uper", is_bit_found(alloc, uper::DecoderOptions::unaligned())),
+        (
+            "uper",
+            is_bit_found(alloc, uper::DecoderOptions::unaligned()),
+        ),
         ("aper", is_bit_found(alloc, uper::DecoderOptions::aligned())),
         ("options", are_options()),
         ("a new relay", is_new_idle(alloc)),

@@ -1,8 +1,8 @@
 //! Calls on values and on the schema that take no memory.
 use asn1_relay_types::Nest;
 use asn1_schema::{
-    Alternatives, Bounded, Constraint, Constraints, Effective, Extensible, Field, Fields, Size, Tag,
-    TagPlace, TagProbe, TagTree, Value, find_place, is_place_table, place, tagged,
+    Alternatives, Bounded, Constraint, Constraints, Effective, Extensible, Field, Fields, Size,
+    Tag, TagProbe, TagTree, Value, find_place, is_place_table, tagged,
 };
 use asn1_values::{BitReader, BitStr, Integer, IntegerType};
 use std::alloc::Global;
@@ -66,17 +66,12 @@ fn are_tags() -> bool {
 /// Whether places are listed, and a tag is looked up among them.
 fn are_places() -> bool {
     let places = Nest::places();
+    if !is_place_table(places, Nest::variants(), &[]) {
+        return false;
+    }
     let mut probe = TagProbe::new(places);
-    is_place_table(places, Nest::variants(), &[])
-        && is_place_table(&[place!(FIRST, 1), place!(THIRD, 0)], &[THIRD, FIRST], &[])
-        && probe.len() == 2
-        && find_one(places, &mut probe)
-}
-
-/// Whether the tag [1] is looked up.
-fn find_one(places: &[TagPlace], _probe: &mut TagProbe<'_>) -> bool {
-    let mut probe = TagProbe::new(places);
-    find_place(&mut probe, FIRST) == Some(1)
+    let found = find_place(&mut probe, FIRST);
+    found == Some(1) && probe.count() <= 2 && probe.len() == 2
 }
 
 /// Whether bounds, sizes and values are made, told and met.

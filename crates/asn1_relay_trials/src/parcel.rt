@@ -34,7 +34,10 @@ type Additions = AddedOptionalComponent<Integer, NoMore>;
 
 type Marks = RequiredComponent<SetOf<u8>, ExtensibleComponents<OneAddition, Additions>>;
 
-type Form = RequiredComponent<bool, RequiredComponent<String, RequiredComponent<ObjectIdentifier, Marks>>>;
+type Form = RequiredComponent<
+    bool,
+    RequiredComponent<String, RequiredComponent<ObjectIdentifier, Marks>>,
+>;
 
 impl Components for ParcelFields {
     const TAG: Tag = Tag::SEQUENCE;
