@@ -10,9 +10,9 @@ use per_codec::UperFront;
 use std::alloc::{AllocError, Global};
 
 /// How many octets are left free, time after time, until a call is granted all that it requests.
-const ROOMS: [usize; 30] = [
-    0, 16, 36, 60, 92, 132, 180, 240, 316, 412, 532, 680, 868, 1100, 1388, 1752, 2208, 2776, 3484,
-    4372, 5480, 6868, 8600, 10768, 13476, 16860, 21092, 26380, 32992, 41256,
+const ROOMS: [usize; 20] = [
+    0, 24, 48, 96, 144, 208, 304, 448, 672, 1008, 1520, 2288, 3440, 5168, 7760, 11648, 17472,
+    26208, 39312, 58976,
 ];
 
 /// What came of a call, with all memory taken but so many octets.
@@ -114,9 +114,21 @@ fn run(rt: HostRuntime) {
 }
 
 #[test]
-fn parts_of_values(rt: HostRuntime) {
+fn write_fields(rt: HostRuntime) {
     assert!(rt; is_right::<WritesFields>(rt.alloc(), ()));
+}
+
+#[test]
+fn read_fields(rt: HostRuntime) {
     assert!(rt; is_right::<ReadsFields>(rt.alloc(), ()));
+}
+
+#[test]
+fn set_of_insert(rt: HostRuntime) {
     assert!(rt; is_right::<Inserts>(rt.alloc(), ()));
+}
+
+#[test]
+fn oid_octets(rt: HostRuntime) {
     assert!(rt; is_right::<WritesIdentifier>(rt.alloc(), ()));
 }

@@ -22,7 +22,8 @@ fn take_all(alloc: Global, blocks: &mut Vec<Vec<u8>>, size: usize) {
     }
 }
 
-/// Takes all memory, in blocks of 2^46, 2^45 and so on to 16 octets. It is let go with them.
+/// Takes all memory, in blocks of 2^46, 2^45 and so on to 16 octets, and then of each size of which the heap keeps
+/// blocks that were let go. It is let go with them.
 ///
 /// # Errors
 ///
@@ -31,6 +32,9 @@ pub fn take_memory(alloc: Global) -> Result<Vec<Vec<u8>>, AllocError> {
     let mut blocks = Vec::with_capacity(alloc, BLOCKS)?;
     for place in 0..43u32 {
         take_all(alloc, &mut blocks, 1usize << (46 - place));
+    }
+    for place in 0..65usize {
+        take_all(alloc, &mut blocks, 1048 - 16 * place);
     }
     Ok(blocks)
 }

@@ -50,11 +50,6 @@ impl<S> Starving<S> {
             },
         }
     }
-
-    /// Lets the memory go.
-    pub fn let_go(&mut self) {
-        self.hunger.taken = Vec::new(self.hunger.alloc);
-    }
 }
 
 impl<S: Source> Source for Starving<S> {
