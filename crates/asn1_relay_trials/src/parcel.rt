@@ -1,5 +1,6 @@
 //! SEQUENCE {fragile BOOLEAN, label UTF8String, owner OBJECT IDENTIFIER, marks SET OF INTEGER (0..255), ..., weight
 //! INTEGER OPTIONAL}: a type whose values take memory at several places, in each set of rules.
+ghost use Rattle.std.specs.Prelude.{◌≤◌};
 ghost use Rattle.asn1_schema.proofs.Author.{refl, sequence_of, sequence_tag};
 
 use asn1_relay_core::Codec;
