@@ -84,23 +84,23 @@ fn is_stopped(relay: &Relay<Small>) -> bool {
 
 /// What the calls are made on, which took memory.
 #[derive(Drop)]
-struct Kept {
+struct Prepared {
     records: Vec<Item>,
     relay: Relay<Small>,
 }
 
 /// It, with a relay that waits.
-fn kept(alloc: Global) -> Result<Kept, EncodeError> {
+fn prepare(alloc: Global) -> Result<Prepared, EncodeError> {
     let records = records(alloc)?;
     let mut relay = Relay::new(alloc, Codec::Coer, Codec::Uper, 1);
     match relay.feed(&[0x06], &mut Vec::new(alloc)) {
-        Ok(()) => Ok(Kept { records, relay }),
+        Ok(()) => Ok(Prepared { records, relay }),
         Err(_) => Err(EncodeError::OutOfMemory),
     }
 }
 
 /// The first calls of codecs and relays that are not right, if there are such.
-fn wrong_calls(alloc: Global, kept: Kept) -> Option<&'static str> {
+fn wrong_calls(alloc: Global, prepared: Prepared) -> Option<&'static str> {
     let found = [
         ("oer", are_octets_found(alloc, oer::DecoderOptions::oer())),
         ("coer", are_octets_found(alloc, oer::DecoderOptions::coer())),
@@ -111,8 +111,8 @@ fn wrong_calls(alloc: Global, kept: Kept) -> Option<&'static str> {
         ("aper", is_bit_found(alloc, uper::DecoderOptions::aligned())),
         ("options", are_options()),
         ("a new relay", is_new_idle(alloc)),
-        ("a waiting relay", is_waiting(&kept.relay)),
-        ("records", are_records_found(kept.records)),
+        ("a waiting relay", is_waiting(&prepared.relay)),
+        ("records", are_records_found(prepared.records)),
     ];
     for (name, is_right) in found {
         if !is_right {
@@ -124,16 +124,16 @@ fn wrong_calls(alloc: Global, kept: Kept) -> Option<&'static str> {
 
 /// The first calls that are not right with ample memory.
 fn wrong_first(alloc: Global) -> Option<&'static str> {
-    match kept(alloc) {
-        Ok(kept) => wrong_calls(alloc, kept),
+    match prepare(alloc) {
+        Ok(prepared) => wrong_calls(alloc, prepared),
         Err(_) => Some("no memory"),
     }
 }
 
 /// The first calls that are not right where all memory is taken.
-fn wrong_when_taken(alloc: Global, kept: Kept) -> Option<&'static str> {
+fn wrong_when_taken(alloc: Global, prepared: Prepared) -> Option<&'static str> {
     match take_memory(alloc) {
-        Ok(_taken) if is_taken(alloc) => wrong_calls(alloc, kept),
+        Ok(_taken) if is_taken(alloc) => wrong_calls(alloc, prepared),
         _ => Some("memory"),
     }
 }
@@ -147,8 +147,8 @@ fn assert_none(rt: &impl Abort, wrong: &Option<&'static str>) {
 #[test]
 fn calls_that_take_no_memory(rt: HostRuntime) {
     assert_none(&rt, &wrong_first(rt.alloc()));
-    match kept(rt.alloc()) {
-        Ok(kept) => assert_none(&rt, &wrong_when_taken(rt.alloc(), kept)),
+    match prepare(rt.alloc()) {
+        Ok(prepared) => assert_none(&rt, &wrong_when_taken(rt.alloc(), prepared)),
         Err(_) => assert_none(&rt, &Some("no memory")),
     }
 }
