@@ -45,6 +45,7 @@ pub use asn1_schema_constraints::ConstraintDiscriminant;
 pub use asn1_schema_constraints::Constraints;
 pub use asn1_schema_constraints::Effective;
 pub use asn1_schema_constraints::Extensible;
+pub use asn1_schema_constraints::NativeBounds;
 pub use asn1_schema_constraints::PermittedAlphabet;
 pub use asn1_schema_constraints::Size;
 pub use asn1_schema_constraints::Value;

@@ -1,7 +1,7 @@
 //! Bounds and constraints: rows, what is shown, and each call once.
 use crate::common::{assert_none, is_told};
 use asn1_schema::{
-    Bounded, Constraint, ConstraintDiscriminant, Constraints, Effective, Extensible,
+    Bounded, Constraint, ConstraintDiscriminant, Constraints, Effective, Extensible, NativeBounds,
     PermittedAlphabet, Size, Value,
 };
 use asn1_values_integers::Integer;
@@ -68,6 +68,32 @@ fn are_counts_within(bounds: Bounded<usize>) -> bool {
         && bounds.intersect(Bounded::up_to(2)) == None
 }
 
+/// Whether octets from 3 to 255 are within their bounds.
+fn are_octets_within(bounds: Bounded<u8>) -> bool {
+    bounds.contains(&255)
+        && !bounds.contains(&2)
+        && bounds.range() == Some(253)
+        && bounds.minimum() == 3
+        && bounds.intersect(Bounded::up_to(2)) == None
+        && bounds.intersect(Bounded::up_to(5)) == Some(Bounded::const_new(3, 5))
+        && Bounded::<u8>::start_from(3).effective_value(7) == Effective::Offset(4)
+        && Bounded::<u8>::up_to(7).effective_value(7) == Effective::Plain(7)
+}
+
+/// Whether the numbers within bounds are counted where their type holds the count.
+fn are_counted() -> bool {
+    Bounded::<u8>::const_new(0, 255).range() == None
+        && Bounded::<i8>::const_new(-128, 127).range() == None
+        && Bounded::<i8>::const_new(-64, 62).range() == Some(127)
+        && Bounded::<u16>::const_new(5, 4).range() == Some(0)
+        && Bounded::<u32>::const_new(5, 3).range() == None
+        && Bounded::<i32>::const_new(5, 3).range() == Some(-1)
+        && Bounded::<u64>::up_to(5).range() == None
+        && Bounded::<u128>::const_new(1, u128::MAX).range() == Some(u128::MAX)
+        && Bounded::<u128>::const_new(0, u128::MAX).range() == None
+        && Bounded::<isize>::up_to(-5).minimum() == 0
+}
+
 /// Whether bounds are shown.
 fn are_shown(alloc: Global) -> bool {
     is_told(alloc, &Bounded::<i128>::const_new(-5, 5), "-5..5")
@@ -82,6 +108,7 @@ fn bounds(rt: HostRuntime) {
     assert_none(&rt, &wrong_width());
     assert!(rt; are_made() && are_numbers_within(Bounded::const_new(-5, 5)));
     assert!(rt; are_counts_within(Bounded::const_new(3, 6)) && are_shown(rt.alloc()));
+    assert!(rt; are_octets_within(Bounded::const_new(3, 255)) && are_counted());
 }
 
 /// The value constraint from one number to another.

@@ -11,3 +11,4 @@ pub mod writing;
 pub use front_readers::{AperFront, UperFront};
 pub use per_codec_decoder::{Decoder, DecoderOptions};
 pub use per_codec_encoder::{Encoder, EncoderOptions};
+pub use per_codec_limits::Variant;

@@ -4,7 +4,7 @@ ghost use Rattle.std.specs.Prelude.{◌≡◌};
 use per_codec_reading::Variant;
 
 /// How a decoder of the packed encoding rules (X.691) reads.
-#[derive(Clone, Copy, Debug, PartialEq, Eq)]
+#[derive(Clone, Copy, Debug)]
 pub struct DecoderOptions {
     /// The variant of the rules.
     pub variant: Variant,

@@ -4,7 +4,7 @@ ghost use Rattle.std.specs.Prelude.{◌≡◌};
 use per_codec_limits::Variant;
 
 /// How values are written: in which variant of the packed encoding rules.
-#[derive(Clone, Copy, Debug, PartialEq, Eq)]
+#[derive(Clone, Copy, Debug)]
 pub struct EncoderOptions {
     variant: Variant,
 }
