@@ -1,4 +1,5 @@
 //! Readers and writers that take all memory before one of their calls.
+ghost use Rattle.std.specs.Prelude.{◌≡◌};
 
 use crate::memory::take_memory;
 use asn1_relay_core::{ReadFailed, Sink, Source, WriteFailed};
