@@ -24,6 +24,10 @@ gives_then a b c room n h bound read end = record { bound = bound; octets = Cons
 behind : (os : List ℕ) (n : ℕ) → take (length os - n) (drop n os) ≡ drop n os
 behind os n = ap (λ k. take k (drop n os)) (sym (length-drop n os)) ∙ take-length (drop n os)
 
+-- of no octets all are written from the start
+pub none_left : (os : List ℕ) (n : ℕ) → os ≡ [] → n ≤ length os → n ≡ length os
+none_left os n e h = let k : length os ≡ 0 = ap length e in omega arith
+
 -- the first n octets, and then some behind them
 pub more_written : (a b d : Option (List ℕ)) (os : List ℕ) (n m k : ℕ) → k ≡ n + m → Appends a b (take n os) → Appends b d (take m (take (length os - n) (drop n os))) → Appends a d (take k os)
 more_written a b d os n m k e h j =

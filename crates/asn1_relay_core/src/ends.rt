@@ -21,7 +21,7 @@ pub trait Source {
     /// How many of its calls have failed.
     ghost failures: { Self → ℕ };
 
-    /// How many octets it may still give.
+    /// How many octets it may still give. There are fewer than 2 to 64 of them.
     ghost budget: { Self → ℕ };
 
     /// The octets that are still to come, where it tells them.
@@ -41,6 +41,7 @@ pub trait Source {
         requires { failures self.old < 18446744073709551615 }
         ensures bound { IfOk result (λ n. n ≤ length room.new) }
         ensures octets { ReadConsumes (coming self.old) (coming self.new) result room.new }
+        ensures few { budget self.old < 18446744073709551616 }
         ensures spends { IfOk result (λ n. budget self.new + n ≡ budget self.old) }
         ensures keeps { OnErr result (budget self.new ≡ budget self.old) }
         ensures spent { budget self.old ≡ 0 → IsErr result }

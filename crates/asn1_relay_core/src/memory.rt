@@ -64,6 +64,7 @@ impl Source for MemorySource {
         ensures fills { IfOk result (λ n. n ≡ min (length self.old.coming) (length room.new)) }
         ensures bound { IfOk result (λ n. n ≤ length room.new) }
         ensures octets { ReadConsumes (Some self.old.coming) (Some self.new.coming) result room.new }
+        ensures few { length self.old.coming + 1 < 18446744073709551616 }
         ensures spends { IfOk result (λ n. length self.new.coming + 1 + n ≡ length self.old.coming + 1) }
         ensures keeps { OnErr result (length self.new.coming + 1 ≡ length self.old.coming + 1) }
         ensures spent { length self.old.coming + 1 ≡ 0 → IsErr result }

@@ -1,5 +1,6 @@
 //! The readers and writers of std.
-ghost use Rattle.std.specs.Prelude.{◌≡◌, Some, OnOk, MatchOption};
+ghost use Rattle.std.specs.Prelude.{◌≡◌, ◌≢◌, Some, IfErr, IsOk, OnOk, MatchResult, []};
+ghost use Rattle.std.specs.IoError.{error_kind};
 ghost use Rattle.std.specs.Io.KnownBytes.{Appends, Keeps};
 ghost use Rattle.asn1_relay_core.specs.Ends.{BeginsToAppend, Gives};
 
@@ -47,11 +48,11 @@ impl<'a, R: Read> Source for StdSource<'a, R> {
         // It is asked for no more than it may give, so that no octet is lost.
         let most = room.len().min(self.budget as usize);
         match read_some(self.reader, &mut room[..most]) {
-            Some(count) => {
+            Ok(count) => {
                 self.budget -= count as u64;
                 Ok(count)
             }
-            None => {
+            Err(_) => {
                 self.failed += 1;
                 Err(ReadFailed)
             }
@@ -59,20 +60,25 @@ impl<'a, R: Read> Source for StdSource<'a, R> {
     }
 }
 
-/// Reads once, again where it is interrupted: how many octets were given, unless the reader fails.
-fn read_some<R: Read>(reader: &mut R, room: &mut [u8]) -> Option<usize>
-    ensures { MatchOption result (Keeps (R.remaining reader.old) (R.remaining reader.new))
-        (Gives (R.remaining reader.old) (R.remaining reader.new) room.new) }
+/// Reads once, again where it is interrupted: how many octets were given.
+///
+/// # Errors
+///
+/// Where the reader fails. Then it has given none.
+fn read_some<R: Read>(reader: &mut R, room: &mut [u8]) -> io::Result<usize>
+    ensures gives { MatchResult result (Gives (R.remaining reader.old) (R.remaining reader.new) room.new)
+        (λ _. Keeps (R.remaining reader.old) (R.remaining reader.new)) }
+    ensures again { IfErr result (λ e. error_kind e ≢ ErrorKind.Interrupted) }
 {
     // So many interruptions count as a failure.
     for _ in 0..u64::MAX {
         match reader.read(room) {
-            Ok(count) => return Some(count),
+            Ok(count) => return Ok(count),
             Err(error) if error.kind() == ErrorKind::Interrupted => {}
-            Err(_) => return None,
+            Err(error) => return Err(error),
         }
     }
-    None
+    Err(io::Error::from(ErrorKind::TimedOut))
 }
 
 /// A writer of std. It tells the octets taken that the writer tells.
@@ -125,10 +131,13 @@ impl<'a, W: Write> Sink for StdSink<'a, W> {
 ///
 /// # Errors
 ///
-/// Where the writer fails, or takes none. Then it has taken a beginning of them.
+/// Where the writer fails, or takes none, though there are some. Then it has taken a beginning of them. Where it is
+/// interrupted, it is tried again.
 pub fn write_octets<W: Write>(octets: &[u8], writer: &mut W) -> io::Result<()>
     ensures all { OnOk result (Appends (W.contents writer.old) (W.contents writer.new) octets.now) }
     ensures begins { BeginsToAppend (W.contents writer.old) (W.contents writer.new) octets.now }
+    ensures nothing { octets.now ≡ [] → IsOk result }
+    ensures again { IfErr result (λ e. error_kind e ≢ ErrorKind.Interrupted) }
 {
     let mut count = 0;
     // A turn takes an octet, of which there are fewer than 2^64, or is an interruption; so many of those count as a
@@ -144,5 +153,5 @@ pub fn write_octets<W: Write>(octets: &[u8], writer: &mut W) -> io::Result<()>
             Err(error) => return Err(error),
         }
     }
-    Err(io::Error::from(ErrorKind::Interrupted))
+    Err(io::Error::from(ErrorKind::TimedOut))
 }

@@ -191,6 +191,7 @@ once --from uper --to coer --type group | C0 40 40 00 | 00 FF";
 const FAULTS: &str = "\
 once --from coer --to uper --type bool | 05 | | not an encoding
 once --from coer --to uper --type bool | | | not an encoding
+once --from uper --to coer --type small | B0 | | not an encoding
 once --from coer --to uper --type bool | FF FF | | surplus octets
 once --from uper --to coer --type pair | fails | | read failed
 once --from uper --to coer --type pair | 88, fails | | read failed

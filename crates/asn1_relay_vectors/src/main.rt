@@ -1,21 +1,16 @@
 //! Judges vectors: lines on standard input that say what octets of a type stand for, by four sets of ASN.1 encoding
-//! rules, and what becomes of streams of them. It says each line that is wrong, and then how many there were; its
-//! status is 1 where one is wrong. docs/VECTORS.md has the form of a line.
+//! rules, and what becomes of streams of them. It says each line that is wrong, how many there were, and what was tried
+//! where octets are cut; its status is 1 where a line is wrong. docs/VECTORS.md has the form of a line.
 #![tactic(auto)]
 
-mod judged;
-mod judging;
-mod limits;
-mod line;
 mod named;
-mod octets;
 mod routes;
-mod streams;
+mod special;
 
-use crate::line::{Line, Verdict};
 use crate::named::judge_named;
 use crate::routes::judge_routes;
-use std::alloc::Global;
+use asn1_relay_vectors_judging::cuts::Inputs;
+use asn1_relay_vectors_judging::line::{Line, Verdict};
 use std::io::{self, BufRead, BufReader};
 use std::process::ExitCode;
 
@@ -29,17 +24,28 @@ struct Count {
 fn main(rt: HostRuntime) -> io::Result<ExitCode> {
     let alloc = rt.alloc();
     let mut count = Count { lines: 0, wrong: 0 };
+    let mut inputs = Inputs::new(alloc);
     let input = BufReader::new(alloc, rt.reader())?;
     for text in input.lines(alloc) {
         let text = text?;
-        judge_line(&rt, alloc, text.as_str(), &mut count)?;
+        judge_line(&rt, &mut inputs, text.as_str(), &mut count)?;
     }
     println!(rt; "{} lines, {} wrong", count.lines, count.wrong)?;
+    let tries = inputs.tries();
+    println!(rt;
+        "{} inputs, {} cuts, {} answers",
+        tries.inputs, tries.cuts, tries.answers
+    )?;
     Ok(ExitCode::from(if count.wrong == 0 { 0 } else { 1 }))
 }
 
 /// Judges what a line says, if it says anything.
-fn judge_line(rt: &impl Print, alloc: Global, text: &str, count: &mut Count) -> io::Result<()> {
+fn judge_line(
+    rt: &impl Print,
+    inputs: &mut Inputs,
+    text: &str,
+    count: &mut Count,
+) -> io::Result<()> {
     let said = match text.split_once('#') {
         Some((said, _remark)) => said.trim(),
         None => text.trim(),
@@ -48,7 +54,7 @@ fn judge_line(rt: &impl Print, alloc: Global, text: &str, count: &mut Count) -> 
         return Ok(());
     }
     count.lines = count.lines.saturating_add(1);
-    match judge(alloc, said) {
+    match judge(inputs, said) {
         Ok(()) => Ok(()),
         Err(error) => {
             count.wrong = count.wrong.saturating_add(1);
@@ -58,10 +64,10 @@ fn judge_line(rt: &impl Print, alloc: Global, text: &str, count: &mut Count) -> 
 }
 
 /// Judges what a line says.
-fn judge(alloc: Global, said: &str) -> Verdict {
-    if let Some(judged) = judge_routes(alloc, said) {
+fn judge(inputs: &mut Inputs, said: &str) -> Verdict {
+    if let Some(judged) = judge_routes(inputs, said) {
         return judged;
     }
-    let line = Line::read(alloc, said)?;
-    judge_named(alloc, &line)
+    let line = Line::read(inputs.alloc(), said)?;
+    judge_named(inputs, &line)
 }

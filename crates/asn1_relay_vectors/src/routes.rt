@@ -3,38 +3,43 @@ mod every;
 mod foretold;
 mod pairs;
 
-use crate::line::{LineError, READING_ERRORS, Spelled, Verdict, WRITING_ERRORS, named, read_rules};
-use crate::octets::{push_octets, shown};
 use crate::routes::foretold::{Arrival, Versions, Way};
 use asn1_relay_core::{Codec, Hop, RouteFault, RouteFaultKind, Version};
+use asn1_relay_vectors_judging::cuts::{Front, Input, Inputs};
+use asn1_relay_vectors_judging::limits::Limits;
+use asn1_relay_vectors_judging::line::{
+    LineError, READING_ERRORS, Spelled, Verdict, WRITING_ERRORS, named, read_rules,
+};
+use asn1_relay_vectors_judging::octets::{push_octets, shown};
 use std::alloc::{AllocError, Global};
 use std::fmt::Write;
 
 /// What a line says of a pair of versions.
 #[derive(Drop)]
-pub enum Claim {
-    /// A message that goes by these hops arrives as these octets, or is refused.
-    One(Spelled, Vec<Hop>, Arrival),
+pub enum Claim<'a> {
+    /// A message of the pair of this name that goes by these hops arrives as these octets, or is refused.
+    One(&'a str, Spelled, Vec<Hop>, Arrival),
     /// Messages go by every short list of hops as their values foretell.
     Every,
 }
 
 /// Judges a line of routes, which begins with `route` or `routes`; none where it begins with another word.
-pub fn judge_routes(alloc: Global, said: &str) -> Option<Verdict> {
+pub fn judge_routes(inputs: &mut Inputs, said: &str) -> Option<Verdict> {
     match said.split_once(' ') {
-        Some(("route", text)) => Some(judge_one(alloc, text)),
-        Some(("routes", name)) => Some(pairs::judge_pair(alloc, name, &Claim::Every)),
+        Some(("route", text)) => Some(judge_one(inputs, text)),
+        Some(("routes", name)) => Some(pairs::judge_pair(inputs, name, &Claim::Every)),
         _ => None,
     }
 }
 
 /// Judges what is said of one route.
-fn judge_one(alloc: Global, text: &str) -> Verdict {
+fn judge_one(inputs: &mut Inputs, text: &str) -> Verdict {
+    let alloc = inputs.alloc();
     let (name, text) = text.split_once(' ').ok_or(LineError::Form)?;
     let (sent, arrival) = text.split_once("->").ok_or(LineError::Form)?;
     let (source, hops) = read_sent(alloc, sent)?;
     let arrival = read_arrival(alloc, arrival.trim())?;
-    pairs::judge_pair(alloc, name, &Claim::One(source, hops, arrival))
+    pairs::judge_pair(inputs, name, &Claim::One(name, source, hops, arrival))
 }
 
 /// Judges what is said of a pair of versions.
@@ -43,17 +48,63 @@ fn judge_one(alloc: Global, text: &str) -> Verdict {
 ///
 /// `Otherwise` where the library does not do what is said, `Form` where a route has no hop, and `Memory` for want of
 /// memory.
-fn judge(alloc: Global, of: &dyn Versions, claim: &Claim) -> Verdict {
+fn judge(inputs: &mut Inputs, of: &dyn Versions, claim: &Claim<'_>) -> Verdict {
+    let alloc = inputs.alloc();
     match claim {
-        Claim::One(source, hops, arrival) => {
+        Claim::One(name, source, hops, arrival) => {
             let hops = hops.as_slice();
             for from in source.rules.iter() {
                 let way = Way { from: *from, hops };
                 arrives(alloc, of, way, source.octets.as_slice(), arrival)?;
             }
-            Ok(())
+            judge_cuts(inputs, of, name, source, hops, arrival)
         }
         Claim::Every => every::judge_every(alloc, of),
+    }
+}
+
+/// Tries a message where it is cut, as one of either version. The first hop reads it by rules of its own.
+fn judge_cuts(
+    inputs: &mut Inputs,
+    of: &dyn Versions,
+    pair: &str,
+    source: &Spelled,
+    hops: &[Hop],
+    arrival: &Arrival,
+) -> Verdict {
+    let front = front_of(arrival);
+    for version in [Version::Old, Version::New] {
+        let name = format!(in inputs.alloc(); "{pair} {version:?}")?;
+        let input = Input {
+            name: name.as_str(),
+            limits: &Limits::NONE,
+            octets: source.octets.as_slice(),
+        };
+        let rules = match hops.first() {
+            Some(hop) if hop.version == version => source.rules.as_slice(),
+            _ => &[],
+        };
+        of.judge_input(inputs, version, input, rules, front)?;
+    }
+    Ok(())
+}
+
+/// What the first hop finds in front of a message, as what becomes of it tells.
+fn front_of(arrival: &Arrival) -> Front {
+    match arrival {
+        Err(
+            RouteFault {
+                hop: 0,
+                kind: RouteFaultKind::Read(error),
+            },
+        ) => Front::Missing(*error),
+        Err(
+            RouteFault {
+                hop: 0,
+                kind: RouteFaultKind::Surplus,
+            },
+        ) => Front::Part,
+        _ => Front::Whole,
     }
 }
 

@@ -19,6 +19,8 @@ const CONTEXT_1: Tag = tagged!(Context, 1);
 
 const CONTEXT_2: Tag = tagged!(Context, 2);
 
+const CONTEXT_5: Tag = tagged!(Context, 5);
+
 const CONTEXT_444: Tag = tagged!(Context, 444);
 
 const CONTEXT_4294967295: Tag = tagged!(Context, 4294967295);
@@ -97,6 +99,60 @@ impl ChoiceAlternatives for SpacedAlternative {
                 SpacedAlternative::Far,
                 CONTEXT_444
             ),
+            _ => unreachable!(),
+        }
+    }
+}
+
+/// CHOICE {flag [5] BOOLEAN}.
+pub type Five = ChoiceOf<FiveAlternative>;
+
+/// Its alternative.
+#[derive(Drop)]
+pub enum FiveAlternative {
+    Flag(bool),
+}
+
+impl ChoiceAlternatives for FiveAlternative {
+    ghost use Rattle.asn1_relay_vectors_types.specs.declared.choices.FiveAlternative.TheVariants.{Flag};
+
+    ghost shape = { choice_of (one 5 ⟦<bool as Described>⟧ none) false none refl refl
+        (elim [ Flag x ↦ of_root 0 ⟦<bool as Described>⟧ refl x ]) };
+
+    fn tag_tree() -> TagTree<'static> {
+        const TREES: &'static [TagTree<'static>] = &[TagTree::Leaf(CONTEXT_5)];
+        TagTree::Choice(TREES)
+    }
+
+    fn variants() -> &'static [Tag] {
+        &[CONTEXT_5]
+    }
+
+    fn extended_variants() -> Option<&'static [Tag]> {
+        None
+    }
+
+    fn places() -> &'static [TagPlace] {
+        &[place!(CONTEXT_5, 0)]
+    }
+
+    fn chosen(&self) -> Chosen {
+        Chosen::root(0)
+    }
+
+    fn write_chosen<E: Encoder>(&self, encoder: &mut E) -> Result<Tag, EncodeError> {
+        match self {
+            FiveAlternative::Flag(value) => write_alternative!(encoder, value, CONTEXT_5),
+        }
+    }
+
+    fn from_chosen<D: Decoder>(
+        alloc: Global,
+        decoder: &mut D,
+        chosen: Chosen,
+    ) -> Result<Self, DecodeError> {
+        match (chosen.added, chosen.place) {
+            (false, 0) => read_alternative!(alloc, decoder, bool, FiveAlternative::Flag, CONTEXT_5),
             _ => unreachable!(),
         }
     }

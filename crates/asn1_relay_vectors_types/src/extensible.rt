@@ -1,6 +1,7 @@
 //! Numbers within bounds of their own, with an extension marker behind these.
-ghost use Rattle.std.specs.Prelude.{refl, pos, Some, true};
+ghost use Rattle.std.specs.Prelude.{◌≡◌, refl, pos, Some, true};
 ghost use Rattle.asn1_schema.specs.Author.{bounded_by};
+ghost use Rattle.asn1_schema_constraints.specs.Terms.{meant};
 ghost use Rattle.asn1_schema.proofs.Author.{integer_type};
 
 use asn1_schema::{Bounded, Constrained, Constraints, ConstraintsOf, Described, Extensible, Value};
@@ -12,6 +13,9 @@ pub struct OctetOrMore;
 
 /// INTEGER (0..255, ...).
 pub type ExtensibleInteger = Constrained<OctetOrMore, Integer>;
+
+/// INTEGER (0..255, ...), of whose numbers those past 255 are not held.
+pub type ExtensibleOctet = Constrained<OctetOrMore, u8>;
 
 impl ConstraintsOf<Integer> for OctetOrMore {
     ghost tags = { ⟦<Integer as Described>⟧.tags };
@@ -27,11 +31,7 @@ impl ConstraintsOf<Integer> for OctetOrMore {
     ghost valued = { ⟦<Integer as Described>⟧.valued_under };
 
     fn constraints() -> Constraints<'static> {
-        let octet = Extensible::new(Value::new(Bounded::const_new(0, 255)));
-        Constraints {
-            value: Some(octet.set_extensible(true)),
-            ..Constraints::NONE
-        }
+        octet_or_more()
     }
 
     ghost same_tags = { refl };
@@ -39,4 +39,39 @@ impl ConstraintsOf<Integer> for OctetOrMore {
     ghost same_under = { λ _. refl };
 
     ghost same_meaning = { λ _. refl };
+}
+
+impl ConstraintsOf<u8> for OctetOrMore {
+    ghost tags = { ⟦<u8 as Described>⟧.tags };
+
+    ghost terms = { bounded_by (Some (pos 0)) (Some (pos 255)) true };
+
+    ghost under = { ⟦<u8 as Described>⟧.under };
+
+    ghost meaning = { ⟦<u8 as Described>⟧.meaning };
+
+    ghost lawful = { integer_type _ _ refl refl refl };
+
+    ghost valued = { ⟦<u8 as Described>⟧.valued_under };
+
+    fn constraints() -> Constraints<'static> {
+        octet_or_more()
+    }
+
+    ghost same_tags = { refl };
+
+    ghost same_under = { λ _. refl };
+
+    ghost same_meaning = { λ _. refl };
+}
+
+/// The constraint to the numbers from 0 to 255, with an extension marker.
+fn octet_or_more() -> Constraints<'static>
+    ensures { meant result ≡ bounded_by (Some (pos 0)) (Some (pos 255)) true }
+{
+    let octet = Extensible::new(Value::new(Bounded::const_new(0, 255)));
+    Constraints {
+        value: Some(octet.set_extensible(true)),
+        ..Constraints::NONE
+    }
 }

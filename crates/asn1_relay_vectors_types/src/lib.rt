@@ -12,9 +12,9 @@ mod sizes;
 mod versions;
 mod written;
 
-pub use choices::{Around, Distant, OldVersioned, Spaced, Versioned};
+pub use choices::{Around, Distant, Five, OldVersioned, Spaced, Versioned};
 pub use extended::{Noted, Schedule};
-pub use extensible::ExtensibleInteger;
+pub use extensible::{ExtensibleInteger, ExtensibleOctet};
 pub use items::Scale;
 pub use sequences::{Blocks, Nothing, Offset, Outer, Person, Twelve};
 pub use sizes::ListOfOneOrTwo;

@@ -25,9 +25,7 @@ pub trait FrontReader<T: Decode> {
     fn read_front(&self, alloc: Global, input: &[u8]) -> Result<(T, usize), DecodeError>
         ensures within { IfOk result (λ x. x.1 ≤ length input.now) }
         ensures ok { IfOk result (λ x. Tells rules T.schema (T.meaning x.0) input.now (drop x.1 input.now)) }
-        ensures only { IfErr result (refuses input.now) }
+        ensures refused { IfErr result (refuses input.now) }
+        ensures only { IfErr result (NoMessage rules T.schema input.now) }
         ensures fresh { IfErr result (λ e. e ≡ DecodeError.AlreadyFailed → ⊥) };
-
-    /// It refuses octets only for want of memory, or because no message stands in front.
-    ghost none: { (input : List ℕ) (e : DecodeError) → refuses input e → NoMessage rules T.schema input e };
 }

@@ -1,6 +1,6 @@
 //! Equality by meaning, through its bound; and values under tags, of any type, and those that validate their
 //! components.
-ghost use Rattle.std.specs.Prelude.{◌≡◌, ◌%◌, None, IfOk, IfErr, OnErr, ⊥, codes};
+ghost use Rattle.std.specs.Prelude.{◌≡◌, ◌%◌, None, IfOk, IfErr, OnErr, codes};
 
 use asn1_schema::tag::{self, Context};
 use asn1_schema::{

@@ -351,31 +351,49 @@ fn constrained_integers(rt: HostRuntime) {
     }
 }
 
-/// Whether the refusal to convert the number to a type of 8 bits is copied, where there is memory for a copy.
-fn is_copied_in_refusal(number: Integer) -> bool {
-    match u8::try_from(number) {
-        Ok(_) => false,
-        Err(refusal) => is_copied(&refusal).unwrap_or(true),
+/// Whether a copy is the same. Where memory is refused for it, `granted` is false.
+fn is_same_or_refused<T: Clone + PartialEq + Drop>(value: &T, granted: &mut bool) -> bool {
+    match is_copied(value) {
+        Ok(is_same) => is_same,
+        Err(AllocError) => {
+            *granted = false;
+            true
+        }
     }
 }
 
-/// Either the number of the octets was read, which is then copied alone and in a refusal, or memory is wanting, and
-/// nothing else. Whether it was not refused.
+/// Whether the refusal to convert the number to a type of 8 bits is copied, where there is memory for a copy.
+fn is_copied_in_refusal(number: Integer, granted: &mut bool) -> bool {
+    match u8::try_from(number) {
+        Ok(_) => false,
+        Err(refusal) => is_same_or_refused(&refusal, granted),
+    }
+}
+
+/// Whether this is the number of the octets, which is copied alone and in a refusal, where there is memory for a copy.
+fn is_number_copied(number: Integer, octets: &[u8], granted: &mut bool) -> bool {
+    let is_same = is_same_or_refused(&number, granted);
+    let is_read = has(&number.to_unsigned_bytes_be(), octets);
+    is_copied_in_refusal(number, granted) && is_read && is_same
+}
+
+/// Either the number of the octets was read, and copied, or memory is wanting, and nothing else. Whether no request
+/// was refused.
 fn is_read_or_refused(
     rt: &impl Abort,
     answer: Result<Integer, IntegerError>,
     octets: &[u8],
 ) -> bool {
-    let (is_granted, is_right) = match answer {
-        Ok(number) => {
-            let is_same = is_copied(&number).unwrap_or(true);
-            let is_read = has(&number.to_unsigned_bytes_be(), octets);
-            (true, is_copied_in_refusal(number) && is_read && is_same)
+    let mut granted = true;
+    let is_right = match answer {
+        Ok(number) => is_number_copied(number, octets, &mut granted),
+        Err(error) => {
+            granted = false;
+            error == IntegerError::Memory
         }
-        Err(error) => (false, error == IntegerError::Memory),
     };
     assert!(rt; is_right);
-    is_granted
+    granted
 }
 
 /// Reads numbers of twenty octets in each way: each is whole, or memory is wanting. Whether none was refused. What

@@ -12,6 +12,8 @@ mod decoders;
 #[cfg(test)]
 mod encoders;
 #[cfg(test)]
+mod fronts;
+#[cfg(test)]
 mod messages;
 #[cfg(test)]
 mod spelled;

@@ -16,8 +16,6 @@ impl<T: Decode> FrontReader<T> for OerFront {
 
     ghost refuses = { NoMessage oer T.schema };
 
-    ghost none = { λ _ _ h. h };
-
     fn read_front(&self, alloc: Global, input: &[u8]) -> Result<(T, usize), DecodeError> {
         let (value, rest): (T, &[u8]) = crate::oer::decode_with_remainder(alloc, input)?;
         Ok((value, input.len() - rest.len()))
@@ -35,8 +33,6 @@ impl<T: Decode> FrontReader<T> for CoerFront {
     ghost rules = { coer };
 
     ghost refuses = { NoMessage coer T.schema };
-
-    ghost none = { λ _ _ h. h };
 
     fn read_front(&self, alloc: Global, input: &[u8]) -> Result<(T, usize), DecodeError> {
         let (value, rest): (T, &[u8]) = crate::coer::decode_with_remainder(alloc, input)?;

@@ -16,8 +16,6 @@ impl<T: Decode> FrontReader<T> for UperFront {
 
     ghost refuses = { NoMessage uper T.schema };
 
-    ghost none = { λ _ _ h. h };
-
     fn read_front(&self, alloc: Global, input: &[u8]) -> Result<(T, usize), DecodeError> {
         let (value, rest): (T, &[u8]) = crate::uper::decode_with_remainder(alloc, input)?;
         Ok((value, input.len() - rest.len()))
@@ -35,8 +33,6 @@ impl<T: Decode> FrontReader<T> for AperFront {
     ghost rules = { aper };
 
     ghost refuses = { NoMessage aper T.schema };
-
-    ghost none = { λ _ _ h. h };
 
     fn read_front(&self, alloc: Global, input: &[u8]) -> Result<(T, usize), DecodeError> {
         let (value, rest): (T, &[u8]) = crate::aper::decode_with_remainder(alloc, input)?;

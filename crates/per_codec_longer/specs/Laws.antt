@@ -1,5 +1,6 @@
 -- What more bits behind change for a reader of the packed encoding rules (X.691), and which of them it takes.
-use Rattle.std.specs.Prelude.{◌≡◌, ◌≤◌, ◌<◌, ℕ, ◌+◌, Bool, true, false, IsTrue, List, [], ◌∷◌, ◌++◌, length, Option}
+use Rattle.std.specs.Prelude.{◌≡◌, ◌≤◌, ◌<◌, ℕ, ◌+◌, ◌*◌, Bool, true, false, IsTrue, List, [], ◌∷◌, ◌++◌, length}
+use Rattle.std.specs.Prelude.{Option}
 use Rattle.asn1_model.specs.Schema.{Schema}
 use Rattle.asn1_model.specs.Value.{Value, Values, same}
 use Rattle.asn1_model.specs.Lawful.{IsLawful}
@@ -7,7 +8,7 @@ use Rattle.asn1_model.specs.Per
 use Rattle.asn1_schema_presented.specs.Records.{Record}
 use Rattle.asn1_schema_presented.specs.Presents.{presents, member_records}
 use Rattle.asn1_schema_presented.specs.Chains.{Chain}
-use Rattle.per_codec_fronts.specs.Takes.{Place, State, Tally, Scope, members, Takes}
+use Rattle.per_codec_fronts.specs.Takes.{Place, State, Tally, Scope, members, Front, Takes}
 use Rattle.per_codec_longer.specs.More.{is_within, with_more, outermost}
 
 -- Records that are next are still next, and the bits that came later stand behind what is left then.
@@ -63,3 +64,14 @@ MembersAreLacking =
     → (e : List Bool) (v : Value) (vs : Values) (c : State) → length e ≤ n + j
     → Chain (Takes al free) (presents s v ++ member_records (λ w. presents s w) vs)
     (with_more e (p, members j hs ∷ k)) c → ⊥
+
+-- Where a length determinant for n units is in front that no fragment follows, no octets behind their number are, those
+-- of a string or of an open type, nor bits behind theirs, before so many stand behind it.
+abbrev pub LengthsAreLacking : Type 0
+LengthsAreLacking =
+    (al : Bool) (free : Per.Freedom → Bool) (n : ℕ) (p behind : Place) → Front free (Per.short_length al n) p behind
+    → (e : List Bool) (rest : Place)
+    → ((ts : List ℕ) → length (behind.1) + length e < n * 8
+    → Front free (Per.counted al (Per.octet_units ts)) (p.0, p.1 ++ e) rest → ⊥)
+    × ((bs : List Bool) → length (behind.1) + length e < n * 1
+    → Front free (Per.counted al (Per.bit_units bs)) (p.0, p.1 ++ e) rest → ⊥)

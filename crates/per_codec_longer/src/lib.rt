@@ -2,8 +2,8 @@
 //! them. Each function does nothing; its contract is a law.
 #![tactic(auto)]
 
-ghost use Rattle.per_codec_longer.specs.Laws.{EmptyEverywhere, LeftIsNotNeeded, MembersAreLacking, MoreChangesNothing};
-ghost use Rattle.per_codec_longer.specs.Laws.{MoreInPieces, NothingGrows, TakesSome};
+ghost use Rattle.per_codec_longer.specs.Laws.{EmptyEverywhere, LeftIsNotNeeded, LengthsAreLacking, MembersAreLacking};
+ghost use Rattle.per_codec_longer.specs.Laws.{MoreChangesNothing, MoreInPieces, NothingGrows, TakesSome};
 
 /// Records that are next are still next when more bits come, and these stand behind what is left then.
 pub fn more_changes_nothing()
@@ -40,4 +40,9 @@ pub fn values_take_some()
 /// least one more for each of them.
 pub fn members_are_lacking()
     ensures { MembersAreLacking }
+{}
+
+/// Where a length determinant is in front, the octets or bits that it counts are not, before as many stand behind it.
+pub fn lengths_are_lacking()
+    ensures { LengthsAreLacking }
 {}

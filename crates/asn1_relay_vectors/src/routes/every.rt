@@ -1,9 +1,9 @@
 //! Every list of up to three hops.
-use crate::judging::CODECS;
-use crate::line::{LineError, Verdict};
 use crate::routes::arrives;
 use crate::routes::foretold::{Versions, Way};
 use asn1_relay_core::{Hop, Version};
+use asn1_relay_vectors_judging::judging::CODECS;
+use asn1_relay_vectors_judging::line::{LineError, Verdict};
 use std::alloc::{AllocError, Global};
 
 /// How many samples of a pair are sent.

@@ -1,5 +1,4 @@
 //! Pairs of versions, by their names.
-use crate::line::{LineError, Verdict};
 use crate::routes::foretold::{Grown, Known, Sent};
 use crate::routes::{Claim, judge};
 use asn1_relay_core::DecodeError;
@@ -7,13 +6,14 @@ use asn1_relay_types::{
     New, NewColour, NewDefault, NewDefaultFields, NewFields, NewRequired, NewRequiredFields, Old,
     OldColour, OldDefault, OldDefaultFields, OldFields,
 };
+use asn1_relay_vectors_judging::cuts::Inputs;
+use asn1_relay_vectors_judging::line::{LineError, Verdict};
 use asn1_relay_vectors_types::{
     Nested, NewBag, NewBracket, NewHolder, NewList, Newest, OldBag, OldBracket, OldGrown,
     OldHolder, OldList, OldVersioned, Versioned,
 };
 use asn1_schema_example::grown;
 use asn1_schema_wrapped::Implicit;
-use std::alloc::Global;
 use std::marker::PhantomData;
 
 /// Judges what is said of the pair of this name.
@@ -21,36 +21,36 @@ use std::marker::PhantomData;
 /// # Errors
 ///
 /// `NoPair` where there is no such pair, and those of `judge`.
-pub fn judge_pair(alloc: Global, name: &str, claim: &Claim) -> Verdict {
+pub fn judge_pair(inputs: &mut Inputs, name: &str, claim: &Claim<'_>) -> Verdict {
     match name {
-        "plain" => judge(alloc, &Known::<Old, New>(PhantomData), claim),
-        "default" => judge(alloc, &Known::<OldDefault, NewDefault>(PhantomData), claim),
-        "required" => judge(alloc, &Known::<Old, NewRequired>(PhantomData), claim),
-        "colour" => judge(alloc, &Known::<OldColour, NewColour>(PhantomData), claim),
-        _ => judge_grown(alloc, name, claim),
+        "plain" => judge(inputs, &Known::<Old, New>(PhantomData), claim),
+        "default" => judge(inputs, &Known::<OldDefault, NewDefault>(PhantomData), claim),
+        "required" => judge(inputs, &Known::<Old, NewRequired>(PhantomData), claim),
+        "colour" => judge(inputs, &Known::<OldColour, NewColour>(PhantomData), claim),
+        _ => judge_grown(inputs, name, claim),
     }
 }
 
 /// Judges what is said of a pair that has no samples: of components that have grown, and of lists; or of one of those
 /// behind it.
-fn judge_grown(alloc: Global, name: &str, claim: &Claim) -> Verdict {
+fn judge_grown(inputs: &mut Inputs, name: &str, claim: &Claim<'_>) -> Verdict {
     match name {
-        "list" => judge(alloc, &Sent::<OldList, NewList>(PhantomData), claim),
-        "bag" => judge(alloc, &Sent::<OldBag, NewBag>(PhantomData), claim),
-        "within" => judge(alloc, &Sent::<OldHolder, NewHolder>(PhantomData), claim),
-        "group" => judge(alloc, &Sent::<OldBracket, NewBracket>(PhantomData), claim),
-        _ => judge_longer(alloc, name, claim),
+        "list" => judge(inputs, &Sent::<OldList, NewList>(PhantomData), claim),
+        "bag" => judge(inputs, &Sent::<OldBag, NewBag>(PhantomData), claim),
+        "within" => judge(inputs, &Sent::<OldHolder, NewHolder>(PhantomData), claim),
+        "group" => judge(inputs, &Sent::<OldBracket, NewBracket>(PhantomData), claim),
+        _ => judge_longer(inputs, name, claim),
     }
 }
 
 /// Judges what is said of a pair whose newer version has a further addition or alternative.
-fn judge_longer(alloc: Global, name: &str, claim: &Claim) -> Verdict {
+fn judge_longer(inputs: &mut Inputs, name: &str, claim: &Claim<'_>) -> Verdict {
     match name {
-        "nested" => judge(alloc, &Sent::<Old, Nested>(PhantomData), claim),
-        "choice" => judge(alloc, &Sent::<OldVersioned, Versioned>(PhantomData), claim),
-        "set" => judge(alloc, &Sent::<OldGrown, grown::Grown>(PhantomData), claim),
-        "later" => judge(alloc, &Sent::<New, Newest>(PhantomData), claim),
-        "leap" => judge(alloc, &Sent::<Old, Newest>(PhantomData), claim),
+        "nested" => judge(inputs, &Sent::<Old, Nested>(PhantomData), claim),
+        "choice" => judge(inputs, &Sent::<OldVersioned, Versioned>(PhantomData), claim),
+        "set" => judge(inputs, &Sent::<OldGrown, grown::Grown>(PhantomData), claim),
+        "later" => judge(inputs, &Sent::<New, Newest>(PhantomData), claim),
+        "leap" => judge(inputs, &Sent::<Old, Newest>(PhantomData), claim),
         _ => Err(LineError::NoPair),
     }
 }

@@ -1,7 +1,7 @@
-use Rattle.std.proofs.Common.{◌-◌, ◌≤◌, length, take, drop, subst, sym}
+use Rattle.std.proofs.Common.{◌-◌, ◌≤◌, length, take, drop, subst, sym, arith}
 use Rattle.std.specs.Io.KnownBytes.{Appends, WriteAppends}
 use Rattle.std.proofs.KnownBytes.{Appends-kept}
-use Rattle.asn1_relay_core.proofs.Known.{begins_before, begins_with, more_written, still_within}
+use Rattle.asn1_relay_core.proofs.Known.{begins_before, begins_with, more_written, none_left, still_within}
 use Rattle.asn1_relay_core.proofs.standard.write_octets.Goals as goal
 use Rattle.asn1_relay_core.proofs.standard.write_octets.Goals.{in-Ok, in-Err}
 
@@ -10,10 +10,12 @@ loop-preserved g c =
     elim c.match-write.branch [
       | in-Ok w ↦ record {
         some = still_within c.args.octets.now c.loop.count w.in-Ok.more c.match-write.count w.count-is c.loop.invariant.some w.in-Ok.ensures.bound;
+        first = λ e. absurd (c.if-count-octets.false (none_left c.args.octets.now c.loop.count e c.loop.invariant.some));
         took = more_written _ _ _ c.args.octets.now c.loop.count w.in-Ok.more c.match-write.count w.count-is c.loop.invariant.took w.in-Ok.ensures.bytes;
       }
       | in-Err w ↦ record {
         some = subst (λ k. k ≤ length c.args.octets.now) (sym w.count-is) c.loop.invariant.some;
+        first = λ e. absurd (c.if-count-octets.false (none_left c.args.octets.now c.loop.count e c.loop.invariant.some));
         took = subst (λ k. Appends (g.W.Write.contents c.args.writer.now) (g.W.Write.contents c.write.new.self) (take k c.args.octets.now)) (sym w.count-is) (Appends-kept _ _ _ _ c.loop.invariant.took w.in-Err.ensures.bytes);
       }
     ]
@@ -28,3 +30,6 @@ returns-in-Err-2-clause-begins g c = begins_with _ _ c.args.octets.now c.loop.co
 
 pub returns-clause-begins : goal.returns-clause-begins
 returns-clause-begins g c = begins_with _ _ c.args.octets.now c.loop.count c.loop.invariant.took
+
+pub returns-clause-nothing : goal.returns-clause-nothing
+returns-clause-nothing g c = λ e. let n = c.loop.invariant.first e in let m = c.loop-test.false in let no : ⊥ = omega arith in absurd no

@@ -1,32 +1,89 @@
 //! Whether a type's octets are translated, or refused, as a line says.
+use crate::cuts::{Front, Input, Inputs};
 use crate::judged::{Judged, Rules, Translated};
 use crate::limits::Limits;
 use crate::line::{Claim, Line, LineError, Spelled, Verdict};
 use crate::octets::shown;
 use crate::streams::{judge_repeated, judge_stream};
-use asn1_relay_core::{Codec, DecodeError, RecodeFault};
+use asn1_relay_core::{Codec, RecodeFault};
 use std::alloc::{AllocError, Global};
 
 /// The four sets of rules.
 pub const CODECS: [Codec; 4] = [Codec::Uper, Codec::Aper, Codec::Oer, Codec::Coer];
 
-/// Octets are cut at each place if they are no more than twice so many, and else within so many of the first and of
-/// the last.
-const CUTS: usize = 512;
-
 /// The constraints of a type, and the memory in which its lines are judged.
 #[derive(Clone, Copy)]
-struct Subject<'a> {
-    alloc: Global,
-    limits: &'a Limits,
+pub struct Subject<'a> {
+    /// The memory.
+    pub alloc: Global,
+    /// The constraints.
+    pub limits: &'a Limits,
 }
 
-/// Judges what is said of octets of a type.
+/// Judges what is said of octets of a type, and tries its octets where they are cut.
 ///
 /// # Errors
 ///
 /// `Otherwise` where the library does not do what is said, and `Memory` for want of memory.
-pub fn judge(alloc: Global, of: &dyn Judged, line: &Line<'_>) -> Verdict {
+pub fn judge(inputs: &mut Inputs, of: &dyn Judged, line: &Line<'_>) -> Verdict {
+    judge_claim(inputs.alloc(), of, line)?;
+    judge_cuts(inputs, of, line)
+}
+
+/// Tries the octets of a line where they are cut.
+fn judge_cuts(inputs: &mut Inputs, of: &dyn Judged, line: &Line<'_>) -> Verdict {
+    match &line.claim {
+        Claim::Same(encodings) => {
+            for source in encodings.iter() {
+                judge_input(inputs, of, line, source, Some(Front::Whole))?;
+            }
+            Ok(())
+        }
+        Claim::Becomes(source, target) => {
+            judge_input(inputs, of, line, source, Some(Front::Whole))?;
+            judge_input(inputs, of, line, target, Some(Front::Whole))
+        }
+        Claim::Refused(source, fault) => {
+            let front = match fault {
+                RecodeFault::NotAnEncoding(error) => Front::Missing(*error),
+                _ => Front::Part,
+            };
+            judge_input(inputs, of, line, source, Some(front))
+        }
+        Claim::NoTarget(source, _, _) => {
+            judge_input(inputs, of, line, source, Some(Front::Whole))
+        }
+        Claim::Streams(_, streams) => {
+            for source in streams.iter() {
+                judge_input(inputs, of, line, source, None)?;
+            }
+            Ok(())
+        }
+        Claim::Stream(_, source, _, _) => judge_input(inputs, of, line, source, None),
+    }
+}
+
+/// Tries octets where they are cut; in rules of their own their front is as it is said to be, if that is said.
+fn judge_input(
+    inputs: &mut Inputs,
+    of: &dyn Judged,
+    line: &Line<'_>,
+    source: &Spelled,
+    front: Option<Front>,
+) -> Verdict {
+    let input = Input {
+        name: line.constrained,
+        limits: &line.limits,
+        octets: source.octets.as_slice(),
+    };
+    match front {
+        Some(front) => inputs.judge(of, input, source.rules.as_slice(), front),
+        None => inputs.judge(of, input, &[], Front::Whole),
+    }
+}
+
+/// Judges what is said of octets of a type.
+fn judge_claim(alloc: Global, of: &dyn Judged, line: &Line<'_>) -> Verdict {
     let limits = &line.limits;
     let subject = Subject { alloc, limits };
     match &line.claim {
@@ -67,15 +124,13 @@ impl<'a> Subject<'a> {
         Ok(())
     }
 
-    /// Octets become others in each set of rules that is named, by any way, and are refused cut or with an octet
-    /// behind them.
+    /// Octets become others in each set of rules that is named, by any way, and are refused with an octet behind them.
     fn becomes(&self, of: &dyn Judged, source: &Spelled, target: &Spelled) -> Verdict {
         let octets = source.octets.as_slice();
         for from in source.rules.iter() {
             for to in target.rules.iter() {
                 self.gives_by_any_way(of, *from, octets, *to, target.octets.as_slice())?;
             }
-            self.is_refused_in_part(of, *from, octets, DecodeError::Incomplete)?;
             self.is_not_read_to_its_end(of, *from, octets)?;
         }
         Ok(())
@@ -106,16 +161,12 @@ impl<'a> Subject<'a> {
         Ok(())
     }
 
-    /// The octets are refused for this reason, whatever they are to become. No reader finds an encoding in a part of
-    /// them.
+    /// The octets are refused for this reason, whatever they are to become.
     fn is_refused(&self, of: &dyn Judged, source: &Spelled, fault: RecodeFault) -> Verdict {
         let octets = source.octets.as_slice();
         for from in source.rules.iter() {
             for to in CODECS {
                 self.gives(of, *from, octets, to, Err(fault))?;
-            }
-            if let RecodeFault::NotAnEncoding(error) = fault {
-                self.is_refused_in_part(of, *from, octets, error)?;
             }
         }
         Ok(())
@@ -138,7 +189,7 @@ impl<'a> Subject<'a> {
     }
 
     /// The translation of octets gives this.
-    fn gives(
+    pub fn gives(
         &self,
         of: &dyn Judged,
         from: Codec,
@@ -158,32 +209,6 @@ impl<'a> Subject<'a> {
         translated(self.alloc, from, to, &found)
     }
 
-    /// Each beginning of the octets is refused for this reason, or as it ends early.
-    fn is_refused_in_part(
-        &self,
-        of: &dyn Judged,
-        from: Codec,
-        octets: &[u8],
-        error: DecodeError,
-    ) -> Verdict {
-        for length in 0..octets.len() {
-            if length >= CUTS && octets.len() - length > CUTS {
-                continue;
-            }
-            let found = self.translate(of, from, from, &octets[..length]);
-            let is_wanted = match &found {
-                Err(RecodeFault::NotAnEncoding(found)) => {
-                    *found == DecodeError::Incomplete || *found == error
-                }
-                _ => false,
-            };
-            if !is_wanted {
-                return cut(self.alloc, from, length, &found);
-            }
-        }
-        Ok(())
-    }
-
     /// An octet behind the octets is surplus. (Readers that are given constraints pass over it.)
     fn is_not_read_to_its_end(&self, of: &dyn Judged, from: Codec, octets: &[u8]) -> Verdict {
         if !self.limits.is_none() {
@@ -199,13 +224,6 @@ impl<'a> Subject<'a> {
 fn translated(alloc: Global, from: Codec, to: Codec, found: &Translated) -> Verdict {
     let found = answer_shown(alloc, found)?;
     let found = format!(in alloc; "{from:?} to {to:?} gives {found}")?;
-    Err(LineError::Otherwise(found))
-}
-
-/// A line is wrong: the error tells what the beginning of octets gave.
-fn cut(alloc: Global, from: Codec, length: usize, found: &Translated) -> Verdict {
-    let found = answer_shown(alloc, found)?;
-    let found = format!(in alloc; "{from:?} reads the first {length} octets: {found}")?;
     Err(LineError::Otherwise(found))
 }
 

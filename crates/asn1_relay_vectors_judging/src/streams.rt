@@ -1,8 +1,6 @@
 //! Whether streams of messages are translated, or stop, as a line says.
-ghost use Rattle.std.specs.Prelude.{◌≤◌};
-
 use crate::judged::Judged;
-use crate::line::{LineError, Spelled, Verdict};
+use crate::line::{Limit, LineError, Spelled, Verdict};
 use crate::octets::shown;
 use asn1_relay_core::{Codec, RelayFault, RelayFaultKind, RunFault};
 use std::alloc::{AllocError, Global};
@@ -12,24 +10,6 @@ const ALL_CUTTINGS: usize = 12;
 
 /// Streams of more octets than these are cut near their ends and near their middle.
 const LONG: usize = 2048;
-
-/// How many octets a message may have: one or more.
-#[derive(Clone, Copy)]
-pub struct Limit {
-    /// So many.
-    pub octets: usize,
-    ghost some: { 1 ≤ octets },
-}
-
-impl Limit {
-    /// A limit of so many octets, if there are any.
-    pub fn new(octets: usize) -> Option<Limit> {
-        if octets == 0 {
-            return None;
-        }
-        Some(Limit { octets })
-    }
-}
 
 /// How a stream is translated.
 #[derive(Clone, Copy)]

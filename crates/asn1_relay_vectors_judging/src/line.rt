@@ -1,7 +1,8 @@
 //! What a line says.
+ghost use Rattle.std.specs.Prelude.{◌≤◌};
+
 use crate::limits::Limits;
 use crate::octets::push_octets;
-use crate::streams::Limit;
 use asn1_relay_core::{Codec, DecodeError, EncodeError, RecodeFault, RelayFault, RelayFaultKind};
 use std::alloc::{AllocError, Global};
 use std::fmt::Debug;
@@ -63,6 +64,24 @@ pub struct Spelled {
     pub octets: Vec<u8>,
 }
 
+/// How many octets a message may have: one or more.
+#[derive(Clone, Copy)]
+pub struct Limit {
+    /// So many.
+    pub octets: usize,
+    pub ghost some: { 1 ≤ octets },
+}
+
+impl Limit {
+    /// A limit of so many octets, if there are any.
+    pub fn new(octets: usize) -> Option<Limit> {
+        if octets == 0 {
+            return None;
+        }
+        Some(Limit { octets })
+    }
+}
+
 /// What a line says of its type.
 #[derive(Drop)]
 pub enum Claim {
@@ -85,6 +104,8 @@ pub enum Claim {
 pub struct Line<'a> {
     /// The name of the type.
     pub kind: &'a str,
+    /// The name of the type, and its constraints as they are written.
+    pub constrained: &'a str,
     /// Its constraints.
     pub limits: Limits,
     /// What is said of it.
@@ -105,10 +126,12 @@ impl<'a> Line<'a> {
             let claim = read_stream(alloc, text)?;
             return Ok(Line {
                 kind,
+                constrained: kind,
                 limits: Limits::NONE,
                 claim,
             });
         }
+        let constrained = kind;
         let (kind, constraints) = match kind.find('(') {
             Some(place) => kind.split_at(place),
             None => (kind, ""),
@@ -117,6 +140,7 @@ impl<'a> Line<'a> {
         let claim = read_claim(alloc, text)?;
         Ok(Line {
             kind,
+            constrained,
             limits,
             claim,
         })

@@ -1,0 +1,513 @@
+//! Inputs, cut at each octet. Each beginning is read by each set of rules and by three calls, whose answers are held
+//! against one another.
+use crate::judged::{Encoded, Judged, Rules, Step, Told, part};
+use crate::judging::{CODECS, Subject};
+use crate::limits::Limits;
+use crate::line::{Limit, LineError, Verdict};
+use crate::octets::shown;
+use crate::streams::Way;
+use asn1_relay_core::{Codec, DecodeError, RecodeFault, RelayFault, RelayFaultKind};
+use std::alloc::{AllocError, Global};
+
+/// The first octet and the length of inputs over which readers would go 10^9 times, if they were cut at each octet: a
+/// list of 16,385 members, and fragments of 49,152 and of 65,536 octets with others behind them.
+const HEAVY: [(u8, usize); 3] = [(0x02, 16_388), (0xC3, 65_538), (0xC4, 80_003)];
+
+/// These are cut at each place within so many octets of their ends.
+const ENDS: usize = 512;
+
+/// Octets, and the type as which they are read.
+#[derive(Clone, Copy)]
+pub struct Input<'a> {
+    /// The name of the type, and its constraints.
+    pub name: &'a str,
+    /// The constraints.
+    pub limits: &'a Limits,
+    /// The octets.
+    pub octets: &'a [u8],
+}
+
+/// What a line says of the front of octets in rules of its own.
+#[derive(Clone, Copy)]
+pub enum Front {
+    /// All of them are one encoding, and each beginning of them is `Incomplete`.
+    Whole,
+    /// A beginning of them is one, and all of them are none.
+    Part,
+    /// No beginning of them is one: each is refused for this reason, or as `Incomplete`.
+    Missing(DecodeError),
+}
+
+/// What was found in front of the beginnings of octets, by one set of rules.
+#[derive(Clone, Copy, Debug)]
+struct Found {
+    /// How many octets the least one has that is an encoding.
+    least: Option<usize>,
+    /// Why others are refused, if not as `Incomplete`.
+    reason: Option<DecodeError>,
+    /// Whether there is more than one such reason.
+    is_mixed: bool,
+}
+
+impl Found {
+    /// Nothing.
+    const NOTHING: Found = Found {
+        least: None,
+        reason: None,
+        is_mixed: false,
+    };
+
+    /// A beginning is refused.
+    fn add(&mut self, error: DecodeError) {
+        if error == DecodeError::Incomplete {
+            return;
+        }
+        self.is_mixed = self.is_mixed || self.reason.is_some_and(|reason| reason != error);
+        self.reason = Some(error);
+    }
+
+    /// Whether it is what is said of so many octets.
+    fn is(&self, front: Front, all: usize) -> bool {
+        match front {
+            Front::Whole => self.least == Some(all) && self.reason.is_none(),
+            Front::Part => self.least.is_some_and(|least| least < all),
+            Front::Missing(error) => {
+                let is_expected = self.reason.is_none() || self.reason == Some(error);
+                self.least.is_none() && is_expected && !self.is_mixed
+            }
+        }
+    }
+}
+
+/// What was tried.
+#[derive(Clone, Copy)]
+pub struct Tries {
+    /// How many inputs.
+    pub inputs: u64,
+    /// How many beginnings of them, each by each set of rules.
+    pub cuts: u64,
+    /// How many answers were compared.
+    pub answers: u64,
+}
+
+/// What was found by each set of rules.
+type Fronts = [Found; 4];
+
+/// An input that was tried.
+#[derive(Drop)]
+struct Tried {
+    name: String,
+    octets: Vec<u8>,
+    fronts: Fronts,
+}
+
+/// All inputs that were tried.
+#[derive(Drop)]
+pub struct Inputs {
+    alloc: Global,
+    tried: Vec<Tried>,
+    tries: Tries,
+}
+
+impl Inputs {
+    /// None.
+    pub fn new(alloc: Global) -> Inputs {
+        let tries = Tries {
+            inputs: 0,
+            cuts: 0,
+            answers: 0,
+        };
+        Inputs {
+            alloc,
+            tried: Vec::new(alloc),
+            tries,
+        }
+    }
+
+    /// The memory in which they are tried.
+    pub fn alloc(&self) -> Global {
+        self.alloc
+    }
+
+    /// What was tried.
+    pub fn tries(&self) -> Tries {
+        self.tries
+    }
+
+    /// Tries an input, unless it was tried before. In these rules its front is as it is said to be.
+    ///
+    /// # Errors
+    ///
+    /// `Otherwise` where it is not, or where two calls answer otherwise than they should beside each other, and
+    /// `Memory` for want of memory.
+    pub fn judge(
+        &mut self,
+        of: &dyn Judged,
+        input: Input<'_>,
+        rules: &[Codec],
+        front: Front,
+    ) -> Verdict {
+        let fronts = self.fronts(of, input)?;
+        for place in 0..CODECS.len() {
+            let (codec, found) = (CODECS[place], fronts[place]);
+            if rules.contains(&codec) && !found.is(front, input.octets.len()) {
+                let found = format!(in self.alloc; "cut at each octet, by {codec:?}: {found:?}")?;
+                return Err(LineError::Otherwise(found));
+            }
+        }
+        Ok(())
+    }
+
+    /// The fronts of an input, which is tried now unless it was before.
+    fn fronts(&mut self, of: &dyn Judged, input: Input<'_>) -> Result<Fronts, LineError> {
+        for tried in self.tried.iter() {
+            if tried.name.as_str() == input.name && tried.octets.as_slice() == input.octets {
+                return Ok(tried.fronts);
+            }
+        }
+        let mut tries = self.tries;
+        let fronts = try_input(self.alloc, of, input, &mut tries)?;
+        self.tries = tries;
+        let tried = Tried {
+            name: format!(in self.alloc; "{}", input.name)?,
+            octets: Vec::from_slice(self.alloc, input.octets)?,
+            fronts,
+        };
+        self.tried.push(tried).map_err(AllocError::from)?;
+        Ok(fronts)
+    }
+}
+
+/// Tries an input by each set of rules.
+fn try_input(
+    alloc: Global,
+    of: &dyn Judged,
+    input: Input<'_>,
+    tries: &mut Tries,
+) -> Result<Fronts, LineError> {
+    let Input { limits, octets, .. } = input;
+    let lengths = lengths_of(alloc, octets)?;
+    let mut fronts = [Found::NOTHING; 4];
+    for place in 0..CODECS.len() {
+        let reading = Reading {
+            subject: Subject { alloc, limits },
+            octets,
+            lengths: lengths.as_slice(),
+            from: CODECS[place],
+        };
+        fronts[place] = reading.first(of, tries)?;
+        if let Some(least) = fronts[place].least {
+            reading.goes_on(of, least, tries)?;
+        }
+        if limits.is_none() {
+            reading.relays(of, CODECS[place], tries)?;
+            reading.relays(of, CODECS[(place + 2) % CODECS.len()], tries)?;
+        }
+    }
+    tries.inputs = tries.inputs.saturating_add(1);
+    Ok(fronts)
+}
+
+/// How many octets the beginnings of octets have that are tried, in ascending order.
+fn lengths_of(alloc: Global, octets: &[u8]) -> Result<Vec<usize>, LineError> {
+    let all = octets.len();
+    let is_heavy = is_heavy(octets);
+    let mut lengths = Vec::new(alloc);
+    for length in 0..=all {
+        let is_near = length <= ENDS || all.saturating_sub(length) <= ENDS;
+        if is_near || !is_heavy {
+            lengths.push(length).map_err(AllocError::from)?;
+        }
+    }
+    Ok(lengths)
+}
+
+/// Whether octets are cut near their ends alone.
+fn is_heavy(octets: &[u8]) -> bool {
+    match octets.first() {
+        Some(first) => HEAVY.contains(&(*first, octets.len())),
+        None => false,
+    }
+}
+
+/// Octets, the beginnings of them that are tried, and the rules by which they are read.
+#[derive(Clone, Copy)]
+struct Reading<'a> {
+    subject: Subject<'a>,
+    octets: &'a [u8],
+    lengths: &'a [usize],
+    from: Codec,
+}
+
+impl<'a> Reading<'a> {
+    /// What is found up to the least beginning that is an encoding. One that is none is refused for the same reason by
+    /// `recode`.
+    fn first(&self, of: &dyn Judged, tries: &mut Tries) -> Result<Found, LineError> {
+        let mut found = Found::NOTHING;
+        for length in self.lengths {
+            let to = CODECS[*length % CODECS.len()];
+            tries.cuts = tries.cuts.saturating_add(1);
+            match self.front(of, to, part(self.octets, 0, *length), tries) {
+                Ok(_) => {
+                    found.least = Some(*length);
+                    return Ok(found);
+                }
+                Err(error) => {
+                    found.add(error);
+                    let fault = RecodeFault::NotAnEncoding(error);
+                    self.is_recoded(of, to, *length, Err(fault), tries)?;
+                }
+            }
+        }
+        Ok(found)
+    }
+
+    /// All octets of the least beginning that is an encoding are taken, and `recode` writes the same value. With more
+    /// octets behind it, it is as it was.
+    fn goes_on(&self, of: &dyn Judged, least: usize, tries: &mut Tries) -> Verdict {
+        for to in CODECS {
+            let Ok(told) = self.front(of, to, part(self.octets, 0, least), tries) else {
+                return self.wrong(least, "refused, and then read");
+            };
+            self.is_taken(&told, least, least)?;
+            let wanted = match &told.encoded {
+                Ok(octets) => Ok(octets.as_slice()),
+                Err(error) => Err(RecodeFault::NoTarget(*error)),
+            };
+            self.is_recoded(of, to, least, wanted, tries)?;
+            self.goes_on_to(of, to, least, &told.encoded, tries)?;
+        }
+        Ok(())
+    }
+
+    /// With octets behind the least front the same octets are taken, and the same value is told; `recode` answers
+    /// `Surplus`. Each length is tried with one set of rules of the output.
+    fn goes_on_to(
+        &self,
+        of: &dyn Judged,
+        to: Codec,
+        least: usize,
+        encoded: &Encoded,
+        tries: &mut Tries,
+    ) -> Verdict {
+        for length in self.lengths {
+            if *length <= least || CODECS[*length % CODECS.len()] != to {
+                continue;
+            }
+            tries.cuts = tries.cuts.saturating_add(1);
+            let Ok(told) = self.front(of, to, part(self.octets, 0, *length), tries) else {
+                return self.wrong(*length, "refused, though a beginning is read");
+            };
+            self.is_taken(&told, least, *length)?;
+            if !is_same(&told.encoded, encoded) {
+                return self.wrong(*length, "another value than that of a beginning");
+            }
+            self.is_recoded(of, to, *length, Err(RecodeFault::Surplus), tries)?;
+        }
+        Ok(())
+    }
+
+    /// What is in front of octets, and its value by other rules.
+    fn front(
+        &self,
+        of: &dyn Judged,
+        to: Codec,
+        octets: &[u8],
+        tries: &mut Tries,
+    ) -> Result<Told, DecodeError> {
+        tries.answers = tries.answers.saturating_add(1);
+        let Subject { alloc, limits } = self.subject;
+        let rules = Rules {
+            from: self.from,
+            to,
+        };
+        of.front(alloc, limits, rules, octets)
+    }
+
+    /// So many octets of a beginning were taken. (Readers that are given constraints do not tell.)
+    fn is_taken(&self, told: &Told, taken: usize, length: usize) -> Verdict {
+        let wanted = self.subject.limits.is_none().then_some(taken);
+        if told.taken == wanted {
+            return Ok(());
+        }
+        let found = format!(in self.subject.alloc; "{:?} are taken, not {wanted:?}", told.taken)?;
+        self.wrong(length, found.as_str())
+    }
+
+    /// The translation of a beginning gives this. (With constraints there is no such call.)
+    fn is_recoded(
+        &self,
+        of: &dyn Judged,
+        to: Codec,
+        length: usize,
+        wanted: Result<&[u8], RecodeFault>,
+        tries: &mut Tries,
+    ) -> Verdict {
+        if !self.subject.limits.is_none() {
+            return Ok(());
+        }
+        tries.answers = tries.answers.saturating_add(1);
+        let beginning = part(self.octets, 0, length);
+        match self.subject.gives(of, self.from, beginning, to, wanted) {
+            Err(LineError::Otherwise(found)) => self.wrong(length, found.as_str()),
+            verdict => verdict,
+        }
+    }
+
+    /// A relay that is fed the octets one by one answers at each of them, and to the end of the stream there, as the
+    /// readers of fronts foretell.
+    fn relays(&self, of: &dyn Judged, to: Codec, tries: &mut Tries) -> Verdict {
+        let Some(limit) = Limit::new(self.octets.len().max(1)) else {
+            return Ok(());
+        };
+        let way = Way {
+            from: self.from,
+            to,
+            limit,
+        };
+        let alloc = self.subject.alloc;
+        let mut out = Vec::new(alloc);
+        let steps = of.follow(alloc, way, self.octets, self.lengths, &mut out)?;
+        let mut foretold = Foretold::new(alloc, to);
+        for place in 0..self.lengths.len() {
+            let length = self.lengths[place];
+            let wanted = foretold.step(self, of, length, tries)?;
+            let Some(found) = steps.get(place) else {
+                return self.wrong(length, "not fed to a relay");
+            };
+            if !found.is(&wanted) {
+                let found = format!(in alloc; "a relay to {to:?}: {found:?}, not {wanted:?}")?;
+                return self.wrong(length, found.as_str());
+            }
+        }
+        if out.as_slice() == foretold.out.as_slice() {
+            return Ok(());
+        }
+        let out = shown(alloc, out.as_slice())?;
+        let found = format!(in alloc; "out of a relay to {to:?} comes {out}")?;
+        self.wrong(self.octets.len(), found.as_str())
+    }
+
+    /// An input is wrong: the error tells what a beginning gave.
+    fn wrong(&self, length: usize, found: &str) -> Verdict {
+        let from = self.from;
+        let alloc = self.subject.alloc;
+        let found = format!(in alloc; "cut behind {length} octets, by {from:?}: {found}")?;
+        Err(LineError::Otherwise(found))
+    }
+}
+
+/// Whether two values are written alike.
+fn is_same(found: &Encoded, wanted: &Encoded) -> bool {
+    match (found, wanted) {
+        (Ok(found), Ok(wanted)) => found.as_slice() == wanted.as_slice(),
+        (Err(found), Err(wanted)) => *found == *wanted,
+        _ => false,
+    }
+}
+
+/// What a relay is to do, told by the readers of fronts alone.
+#[derive(Drop)]
+struct Foretold {
+    to: Codec,
+    begin: usize,
+    number: u64,
+    has_stopped: bool,
+    out: Vec<u8>,
+}
+
+impl Foretold {
+    /// Nothing is read.
+    fn new(alloc: Global, to: Codec) -> Foretold {
+        Foretold {
+            to,
+            begin: 0,
+            number: 0,
+            has_stopped: false,
+            out: Vec::new(alloc),
+        }
+    }
+
+    /// What is answered at the octet in front of this place.
+    fn step(
+        &mut self,
+        reading: &Reading<'_>,
+        of: &dyn Judged,
+        end: usize,
+        tries: &mut Tries,
+    ) -> Result<Step, LineError> {
+        let stop = if self.has_stopped {
+            Some(RelayFaultKind::AlreadyFailed)
+        } else {
+            self.feed(reading, of, end, tries)?
+        };
+        let ended = if self.has_stopped {
+            Some(RelayFaultKind::AlreadyFailed)
+        } else {
+            (self.begin < end).then_some(RelayFaultKind::NoForm)
+        };
+        let unread = (!self.has_stopped).then_some(end.saturating_sub(self.begin));
+        tries.answers = tries.answers.saturating_add(1);
+        Ok(Step {
+            fed: self.answer(stop),
+            ended: self.answer(ended),
+            unread,
+            written: self.out.len(),
+        })
+    }
+
+    /// An answer at the message in front.
+    fn answer(&self, kind: Option<RelayFaultKind>) -> Result<(), RelayFault> {
+        match kind {
+            Some(kind) => Err(RelayFault {
+                number: self.number,
+                kind,
+            }),
+            None => Ok(()),
+        }
+    }
+
+    /// Takes each message that is whole in front of this place: why it stops, if it does.
+    fn feed(
+        &mut self,
+        reading: &Reading<'_>,
+        of: &dyn Judged,
+        end: usize,
+        tries: &mut Tries,
+    ) -> Result<Option<RelayFaultKind>, LineError> {
+        for _ in self.begin..end {
+            if self.begin >= end {
+                return Ok(None);
+            }
+            let unread = part(reading.octets, self.begin, end);
+            let Ok(told) = reading.front(of, self.to, unread, tries) else {
+                return Ok(None);
+            };
+            if let Some(kind) = self.take(&told)? {
+                self.has_stopped = true;
+                return Ok(Some(kind));
+            }
+        }
+        Ok(None)
+    }
+
+    /// Takes a message: why it has no place in a stream, if it has none.
+    fn take(&mut self, told: &Told) -> Result<Option<RelayFaultKind>, LineError> {
+        let taken = told.taken.unwrap_or(0);
+        if taken == 0 {
+            return Ok(Some(RelayFaultKind::EmptyMessage));
+        }
+        match &told.encoded {
+            Err(_) => Ok(Some(RelayFaultKind::NoTarget)),
+            Ok(octets) if octets.is_empty() => Ok(Some(RelayFaultKind::EmptyMessage)),
+            Ok(octets) => {
+                self.out
+                    .extend_from_slice(octets.as_slice())
+                    .map_err(AllocError::from)?;
+                self.begin = self.begin.saturating_add(taken);
+                self.number = self.number.saturating_add(1);
+                Ok(None)
+            }
+        }
+    }
+}
