@@ -13,7 +13,7 @@ fn is_read(alloc: Global, reader: &mut BitReader<'_>) -> bool {
     reader.len() == 24
         && reader.octets(alloc).is_ok()
         && reader.aligned_octets() == Some(&[0xBF, 0xEF, 0xF0])
-        && reader.take_bits(3) == Some(5)
+        && matches!(reader.split(3), Ok(front) if front.len() == 3 && front.first_bits(3) == 5)
         && matches!(reader.split(8), Ok(octet) if octet.len() == 8)
         && matches!(reader.split(14), Err(1))
         && reader.len() == 13
