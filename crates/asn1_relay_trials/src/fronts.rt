@@ -1,6 +1,6 @@
 //! `Iter::next` and `append_bytes`.
 use crate::messages::read;
-use crate::parcel::{Parcel, parcel_len, parcels};
+use crate::parcel::{Parcel, parcels};
 use crate::trial::{Outcome, Trial};
 use asn1_relay_core::{Codec, DecodeError};
 use asn1_schema_decode::making::iter;
@@ -103,7 +103,7 @@ impl<R: Front> Trial for Nexts<R> {
     }
 }
 
-/// `append_bytes` behind the first octets of a value, of all others.
+/// `append_bytes` behind the first octets of two values, of all others: more than the memory of the first ones holds.
 #[derive(Drop)]
 pub struct Appends {
     values: Iter<Parcel, CoerFront>,
@@ -112,9 +112,9 @@ pub struct Appends {
 /// How many octets stand there before.
 const FIRST: usize = 10;
 
-/// The octets of a parcel, those before and the others.
+/// The octets of two parcels, those before and the others.
 fn both_parts() -> (&'static [u8], &'static [u8]) {
-    let octets = parcels(Codec::Coer, 1);
+    let octets = parcels(Codec::Coer, 2);
     octets.split_at(FIRST.min(octets.len()))
 }
 
@@ -131,13 +131,14 @@ impl Trial for Appends {
     fn call(&mut self) -> Outcome {
         let (_, others) = both_parts();
         match self.values.append_bytes(others) {
-            Ok(()) => Outcome::of(self.values.unread_len() == parcel_len(Codec::Coer)),
+            Ok(()) => Outcome::of(self.values.unread_len() == parcels(Codec::Coer, 2).len()),
             Err(AllocError) => Outcome::of_want(self.values.unread_len() == FIRST),
         }
     }
 
     fn again(&mut self) -> bool {
         self.call() == Outcome::Ample
+            && next_read(&self.values.next()) == Outcome::Ample
             && next_read(&self.values.next()) == Outcome::Ample
             && self.values.unread_len() == 0
     }

@@ -122,7 +122,15 @@ impl Trial for ReadsFields {
     }
 }
 
-/// `SetOf::insert` into a bag of one member.
+/// The members of a bag before: as many as the memory of the smallest request holds, so that one more needs another.
+const MEMBERS: [u8; 24] = [3; 24];
+
+/// The same, and one more.
+const MEMBERS_AND_ONE: [u8; 25] = [
+    3, 3, 3, 3, 3, 3, 3, 3, 3, 3, 3, 3, 3, 3, 3, 3, 3, 3, 3, 3, 3, 3, 3, 3, 1,
+];
+
+/// `SetOf::insert` into a bag of these members.
 #[derive(Drop)]
 pub struct Inserts {
     bag: SetOf<u8>,
@@ -133,15 +141,15 @@ impl Trial for Inserts {
 
     fn begin(alloc: Global, _plan: ()) -> Result<Inserts, AllocError> {
         Ok(Inserts {
-            bag: SetOf::from_vec(Vec::from_slice(alloc, &[3])?),
+            bag: SetOf::from_vec(Vec::from_slice(alloc, &MEMBERS)?),
         })
     }
 
     fn call(&mut self) -> Outcome {
         match self.bag.insert(1) {
-            Ok(()) => Outcome::of(self.bag.as_slice() == [3, 1].as_slice()),
+            Ok(()) => Outcome::of(self.bag.as_slice() == MEMBERS_AND_ONE.as_slice()),
             Err(AllocFailed { value, .. }) => {
-                Outcome::of_want(value == 1 && self.bag.as_slice() == [3].as_slice())
+                Outcome::of_want(value == 1 && self.bag.as_slice() == MEMBERS.as_slice())
             }
         }
     }

@@ -6,6 +6,7 @@ mod pairs;
 use crate::routes::foretold::{Arrival, Versions, Way};
 use asn1_relay_core::{Codec, Hop, RouteFault, RouteFaultKind, Version};
 use asn1_relay_vectors_judging::cuts::{Front, Input, Inputs};
+use asn1_relay_vectors_judging::judged::Judged;
 use asn1_relay_vectors_judging::limits::Limits;
 use asn1_relay_vectors_judging::line::{
     LineError, READING_ERRORS, Spelled, Verdict, WRITING_ERRORS, named, read_rules,
@@ -48,7 +49,13 @@ fn judge_one(inputs: &mut Inputs, text: &str) -> Verdict {
 ///
 /// `Otherwise` where the library does not do what is said, `Form` where a route has no hop, and `Memory` for want of
 /// memory.
-fn judge(inputs: &mut Inputs, of: &dyn Versions, claim: &Claim<'_>) -> Verdict {
+fn judge(
+    inputs: &mut Inputs,
+    of: &dyn Versions,
+    older: &dyn Judged,
+    newer: &dyn Judged,
+    claim: &Claim<'_>,
+) -> Verdict {
     let alloc = inputs.alloc();
     match claim {
         Claim::One(name, source, hops, arrival) => {
@@ -57,36 +64,34 @@ fn judge(inputs: &mut Inputs, of: &dyn Versions, claim: &Claim<'_>) -> Verdict {
                 let way = Way { from: *from, hops };
                 arrives(alloc, of, way, source.octets.as_slice(), arrival)?;
             }
-            judge_cuts(inputs, of, name, source, hops, arrival)
+            judge_cuts(inputs, older, Version::Old, name, source, hops, arrival)?;
+            judge_cuts(inputs, newer, Version::New, name, source, hops, arrival)
         }
         Claim::Every => every::judge_every(alloc, of),
     }
 }
 
-/// Tries a message where it is cut, as one of either version. The first hop reads it by rules of its own.
+/// Tries a message where it is cut, as one of a version. The first hop reads it by rules of its own.
 fn judge_cuts(
     inputs: &mut Inputs,
-    of: &dyn Versions,
+    of: &dyn Judged,
+    version: Version,
     pair: &str,
     source: &Spelled,
     hops: &[Hop],
     arrival: &Arrival,
 ) -> Verdict {
-    let front = front_of(arrival);
-    for version in [Version::Old, Version::New] {
-        let name = format!(in inputs.alloc(); "{pair} {version:?}")?;
-        let input = Input {
-            name: name.as_str(),
-            limits: &Limits::NONE,
-            octets: source.octets.as_slice(),
-        };
-        let rules = match hops.first() {
-            Some(hop) if hop.version == version => source.rules.as_slice(),
-            _ => &[],
-        };
-        of.judge_input(inputs, version, input, rules, front)?;
-    }
-    Ok(())
+    let name = format!(in inputs.alloc(); "{pair} {version:?}")?;
+    let input = Input {
+        name: name.as_str(),
+        limits: &Limits::NONE,
+        octets: source.octets.as_slice(),
+    };
+    let rules = match hops.first() {
+        Some(hop) if hop.version == version => source.rules.as_slice(),
+        _ => &[],
+    };
+    inputs.judge(of, input, rules, front_of(arrival))
 }
 
 /// What the first hop finds in front of a message, as what becomes of it tells.

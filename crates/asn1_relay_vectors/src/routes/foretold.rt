@@ -2,9 +2,6 @@
 use asn1_relay_core::{
     Codec, DecodeError, Extends, Hop, RouteFault, RouteFaultKind, Version, route,
 };
-use asn1_relay_vectors_judging::cuts::{Front, Input, Inputs};
-use asn1_relay_vectors_judging::judged::Of;
-use asn1_relay_vectors_judging::line::Verdict;
 use asn1_schema_decode::Decode;
 use asn1_schema_encode::Encode;
 use std::alloc::Global;
@@ -53,16 +50,6 @@ pub trait Versions {
     /// What is to come of the encoding of the sample at a place, sent by hops. Where there is no hop, it is this
     /// encoding. None if there is no such sample.
     fn foretell(&self, alloc: Global, place: usize, way: Way<'_>) -> Option<Arrival>;
-
-    /// Tries octets where they are cut, as those of one version.
-    fn judge_input(
-        &self,
-        inputs: &mut Inputs,
-        version: Version,
-        input: Input<'_>,
-        rules: &[Codec],
-        front: Front,
-    ) -> Verdict;
 }
 
 /// The types `Old` and `New`, of which samples are known.
@@ -78,20 +65,6 @@ impl<Old: Encode + Decode, New: Encode + Decode + Extends<Old> + Grown<Old>> Ver
         let value = New::sample(place)?;
         Some(foretold::<Old, New>(alloc, value, way))
     }
-
-    fn judge_input(
-        &self,
-        inputs: &mut Inputs,
-        version: Version,
-        input: Input<'_>,
-        rules: &[Codec],
-        front: Front,
-    ) -> Verdict {
-        match version {
-            Version::Old => inputs.judge(&Of::<Old>(PhantomData), input, rules, front),
-            Version::New => inputs.judge(&Of::<New>(PhantomData), input, rules, front),
-        }
-    }
 }
 
 /// The types `Old` and `New`, of which there are no samples: messages are sent, and nothing is foretold.
@@ -104,20 +77,6 @@ impl<Old: Encode + Decode, New: Encode + Decode + Extends<Old>> Versions for Sen
 
     fn foretell(&self, _alloc: Global, _place: usize, _way: Way<'_>) -> Option<Arrival> {
         None
-    }
-
-    fn judge_input(
-        &self,
-        inputs: &mut Inputs,
-        version: Version,
-        input: Input<'_>,
-        rules: &[Codec],
-        front: Front,
-    ) -> Verdict {
-        match version {
-            Version::Old => inputs.judge(&Of::<Old>(PhantomData), input, rules, front),
-            Version::New => inputs.judge(&Of::<New>(PhantomData), input, rules, front),
-        }
     }
 }
 

@@ -7,6 +7,7 @@ use asn1_relay_types::{
     OldColour, OldDefault, OldDefaultFields, OldFields,
 };
 use asn1_relay_vectors_judging::cuts::Inputs;
+use asn1_relay_vectors_judging::judged::Of;
 use asn1_relay_vectors_judging::line::{LineError, Verdict};
 use asn1_relay_vectors_types::{
     Nested, NewBag, NewBracket, NewHolder, NewList, Newest, OldBag, OldBracket, OldGrown,
@@ -16,6 +17,19 @@ use asn1_schema_example::grown;
 use asn1_schema_wrapped::Implicit;
 use std::marker::PhantomData;
 
+/// Judges what is said of two types, an older and a newer version.
+macro_rules! judge_types {
+    ($inputs:expr, $versions:ident, $old:ty, $new:ty, $claim:expr) => {
+        judge(
+            $inputs,
+            &$versions::<$old, $new>(PhantomData),
+            &Of::<$old>(PhantomData),
+            &Of::<$new>(PhantomData),
+            $claim,
+        )
+    };
+}
+
 /// Judges what is said of the pair of this name.
 ///
 /// # Errors
@@ -23,10 +37,10 @@ use std::marker::PhantomData;
 /// `NoPair` where there is no such pair, and those of `judge`.
 pub fn judge_pair(inputs: &mut Inputs, name: &str, claim: &Claim<'_>) -> Verdict {
     match name {
-        "plain" => judge(inputs, &Known::<Old, New>(PhantomData), claim),
-        "default" => judge(inputs, &Known::<OldDefault, NewDefault>(PhantomData), claim),
-        "required" => judge(inputs, &Known::<Old, NewRequired>(PhantomData), claim),
-        "colour" => judge(inputs, &Known::<OldColour, NewColour>(PhantomData), claim),
+        "plain" => judge_types!(inputs, Known, Old, New, claim),
+        "default" => judge_types!(inputs, Known, OldDefault, NewDefault, claim),
+        "required" => judge_types!(inputs, Known, Old, NewRequired, claim),
+        "colour" => judge_types!(inputs, Known, OldColour, NewColour, claim),
         _ => judge_grown(inputs, name, claim),
     }
 }
@@ -35,10 +49,10 @@ pub fn judge_pair(inputs: &mut Inputs, name: &str, claim: &Claim<'_>) -> Verdict
 /// behind it.
 fn judge_grown(inputs: &mut Inputs, name: &str, claim: &Claim<'_>) -> Verdict {
     match name {
-        "list" => judge(inputs, &Sent::<OldList, NewList>(PhantomData), claim),
-        "bag" => judge(inputs, &Sent::<OldBag, NewBag>(PhantomData), claim),
-        "within" => judge(inputs, &Sent::<OldHolder, NewHolder>(PhantomData), claim),
-        "group" => judge(inputs, &Sent::<OldBracket, NewBracket>(PhantomData), claim),
+        "list" => judge_types!(inputs, Sent, OldList, NewList, claim),
+        "bag" => judge_types!(inputs, Sent, OldBag, NewBag, claim),
+        "within" => judge_types!(inputs, Sent, OldHolder, NewHolder, claim),
+        "group" => judge_types!(inputs, Sent, OldBracket, NewBracket, claim),
         _ => judge_longer(inputs, name, claim),
     }
 }
@@ -46,11 +60,11 @@ fn judge_grown(inputs: &mut Inputs, name: &str, claim: &Claim<'_>) -> Verdict {
 /// Judges what is said of a pair whose newer version has a further addition or alternative.
 fn judge_longer(inputs: &mut Inputs, name: &str, claim: &Claim<'_>) -> Verdict {
     match name {
-        "nested" => judge(inputs, &Sent::<Old, Nested>(PhantomData), claim),
-        "choice" => judge(inputs, &Sent::<OldVersioned, Versioned>(PhantomData), claim),
-        "set" => judge(inputs, &Sent::<OldGrown, grown::Grown>(PhantomData), claim),
-        "later" => judge(inputs, &Sent::<New, Newest>(PhantomData), claim),
-        "leap" => judge(inputs, &Sent::<Old, Newest>(PhantomData), claim),
+        "nested" => judge_types!(inputs, Sent, Old, Nested, claim),
+        "choice" => judge_types!(inputs, Sent, OldVersioned, Versioned, claim),
+        "set" => judge_types!(inputs, Sent, OldGrown, grown::Grown, claim),
+        "later" => judge_types!(inputs, Sent, New, Newest, claim),
+        "leap" => judge_types!(inputs, Sent, Old, Newest, claim),
         _ => Err(LineError::NoPair),
     }
 }
