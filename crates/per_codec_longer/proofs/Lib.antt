@@ -5,3 +5,4 @@ pub mod Steady
 pub mod Empty
 pub mod Lacking
 pub mod Lengths
+pub mod Few
