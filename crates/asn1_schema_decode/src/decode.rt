@@ -441,9 +441,6 @@ pub trait Decoder {
     /// What stands after a record has not failed.
     ghost goes_on: { (a : Self) (r : Record) (b : Self) → step a r b → has_failed b → ⊥ };
 
-    /// With no octet more there are too few.
-    ghost few_at_once: { (a failed : Self) → too_few a failed a };
-
     /// What is next is next with few octets more.
     ghost records_carried: { CarriesRecords step too_few };
 

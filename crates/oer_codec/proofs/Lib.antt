@@ -8,3 +8,5 @@ pub mod Adding
 pub mod Choosing
 pub mod Counting
 pub mod Records
+pub mod Few
+pub mod Refused

@@ -6,3 +6,4 @@ pub mod Held
 pub mod Laws
 pub mod Encoded
 pub mod Messages
+pub mod Few

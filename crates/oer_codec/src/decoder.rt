@@ -4,6 +4,7 @@ ghost use Rattle.std.specs.Prelude.{IfErr, IfOk};
 ghost use Rattle.asn1_schema_decode.specs.Reads.{NoRecord};
 ghost use Rattle.asn1_schema_presented.specs.Records.{asks_one_of, one_of};
 ghost use Rattle.oer_codec.specs.Held.{Held, Finds, HasFailed, kind_of, state_of, IsReady};
+ghost use Rattle.oer_codec.specs.Few.{TooFewHeld};
 ghost use Rattle.oer_codec.specs.Refusals.{NotOpened};
 ghost use Rattle.oer_codec.specs.Scopes.{frame_of, scope_of};
 ghost use Rattle.oer_codec_fronts.specs.Takes.{Opens};
@@ -93,6 +94,18 @@ impl<'input> Decoder<'input> {
         ensures { result.now ≡ self.now.octets }
     {
         self.cursor.remaining()
+    }
+
+    // Fails for this reason where octets are lacking, or do not have the form. The scopes stay: they tell how many members
+    // are lacking besides.
+    #[inline(always)]
+    fn lack(&mut self, error: DecodeError) -> DecodeError
+        ensures refused { result ≡ error }
+        ensures failed { HasFailed self.new }
+        ensures kept { self.new.scopes ≡ self.old.scopes }
+    {
+        self.failed = true;
+        error
     }
 
     // Goes on, unless the decoder has failed or no level is left.
@@ -199,7 +212,7 @@ macro_rules! record {
         go_on($decoder.failed)?;
         match $read {
             Ok(found) => Ok(found),
-            Err(error) => Err($decoder.refuse(error)),
+            Err(error) => Err($decoder.lack(error)),
         }
     }};
 }
@@ -210,7 +223,7 @@ macro_rules! scope {
         $decoder.begin_level()?;
         match $read {
             Ok(frame) => $decoder.enter(frame),
-            Err(error) => Err($decoder.refuse(error)),
+            Err(error) => Err($decoder.lack(error)),
         }
     }};
 }
@@ -218,11 +231,17 @@ macro_rules! scope {
 impl<'input> asn1_schema_decode::Decoder for Decoder<'input> {
     ghost use Rattle.oer_codec.specs.Laws.{finds_one, finds_held, finds_bag_held, finds_none, finds_on};
     ghost use Rattle.oer_codec.specs.Laws.{finds_same};
+    ghost use Rattle.oer_codec.specs.Few.{TooFewMembersHeld};
+    ghost use Rattle.oer_codec.proofs.Few.{held_records, held_values, held_members};
     ghost use Rattle.std.specs.Prelude.{⊤};
 
     type Octets = &'input [u8];
 
     ghost step = { Finds };
+
+    ghost too_few = { TooFewHeld };
+
+    ghost too_few_members = { TooFewMembersHeld };
 
     ghost has_failed = { HasFailed };
 
@@ -243,8 +262,13 @@ impl<'input> asn1_schema_decode::Decoder for Decoder<'input> {
         self.levels
     }
 
-    fn refuse(&mut self, error: DecodeError) -> DecodeError {
+    fn refuse(&mut self, error: DecodeError) -> DecodeError
+        ensures refused { result ≡ error }
+        ensures failed { HasFailed self.new }
+        ensures emptied { self.new.scopes ≡ [] }
+    {
         self.failed = true;
+        self.scopes.clear();
         error
     }
 
@@ -276,7 +300,8 @@ impl<'input> asn1_schema_decode::Decoder for Decoder<'input> {
         ensures ok { IfOk result
             (λ x. Finds self.old (one_of T.roots T.extensible T.additions (T.number x)) self.new) }
         ensures level { OnOk result (self.new.levels ≡ self.old.levels) }
-        ensures only { IfErr result (NoRecord Finds (asks_one_of T.roots T.extensible T.additions) self.old) }
+        ensures only { IfErr result (NoRecord Finds TooFewHeld (asks_one_of T.roots T.extensible T.additions) self.old
+            self.new) }
         ensures failed { OnErr result (HasFailed self.new) }
         ensures already { HasFailed self.old → result ≡ Err DecodeError.AlreadyFailed }
         ensures after { result ≡ Err DecodeError.AlreadyFailed → HasFailed self.old }
@@ -438,7 +463,7 @@ impl<'input> asn1_schema_decode::Decoder for Decoder<'input> {
                 self.scopes.replace(Frame::Added(additions));
                 Ok(())
             }
-            Err(error) => Err(self.refuse(error)),
+            Err(error) => Err(self.lack(error)),
         }
     }
 
@@ -456,10 +481,11 @@ impl<'input> asn1_schema_decode::Decoder for Decoder<'input> {
 
     #[inline(always)]
     fn end_addition(&mut self) -> Result<(), DecodeError> {
-        record!(
-            self,
-            self.scopes.close_addition(&mut self.cursor, self.rules)
-        )
+        go_on(self.failed)?;
+        match self.scopes.close_addition(&mut self.cursor, self.rules) {
+            Ok(()) => Ok(()),
+            Err(error) => Err(self.refuse(error)),
+        }
     }
 
     #[inline(always)]
@@ -470,7 +496,7 @@ impl<'input> asn1_schema_decode::Decoder for Decoder<'input> {
                 self.enter_enclosing(enclosing)?;
                 Ok(chosen)
             }
-            Err(error) => Err(self.refuse(error)),
+            Err(error) => Err(self.lack(error)),
         }
     }
 
@@ -496,6 +522,12 @@ impl<'input> asn1_schema_decode::Decoder for Decoder<'input> {
     ghost bag_held = { finds_bag_held };
 
     ghost goes_on = { finds_on };
+
+    ghost records_carried = { held_records };
+
+    ghost values_carried = { held_values };
+
+    ghost members_carried = { held_members };
 
     ghost none_after = { finds_none };
 

@@ -203,6 +203,15 @@ impl<'input> Nested<'input> {
         }
     }
 
+    /// Closes all scopes.
+    pub(crate) fn clear(&mut self)
+        ensures { self.new ≡ [] }
+    {
+        self.enclosing = None;
+        self.innermost = None;
+        self.outer.clear();
+    }
+
     /// Opens a scope inside all others.
     #[inline(always)]
     pub(crate) fn open(&mut self, frame: Frame<'input>) -> Result<(), AllocError>

@@ -58,6 +58,14 @@ impl<'input> Scopes<'input> {
         }
     }
 
+    /// Closes all scopes.
+    pub(crate) fn clear(&mut self)
+        ensures { self.new ≡ [] }
+    {
+        self.due = 0;
+        self.nested.clear();
+    }
+
     /// Opens a scope inside all others.
     #[inline(always)]
     pub(crate) fn open(&mut self, frame: Frame<'input>) -> Result<(), AllocError>

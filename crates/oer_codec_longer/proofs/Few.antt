@@ -67,7 +67,7 @@ module _ (free : Oer.Freedom → Bool) where
   entry_owed false os k b f = at b (os, alternative ∷ k) f k refl
   entry_owed true os k b f = same_owed b.1 k (ap (λ l. due l) f.2)
 
-  takes_owed : (r : Record) (a b : State) → keeps_members r ≡ true → Takes free a r b → due (b.1) ≤ due (a.1)
+  pub takes_owed : (r : Record) (a b : State) → keeps_members r ≡ true → Takes free a r b → due (b.1) ≤ due (a.1)
   takes_owed (flag v) a b e f = same_owed b.1 a.1 (ap (λ l. due l) f.1)
   takes_owed nil a b e f = same_owed b.1 a.1 (ap (λ l. due l) f.1)
   takes_owed (whole z h v) a b e f = same_owed b.1 a.1 (ap (λ l. due l) f.1)
@@ -119,7 +119,7 @@ module _ (free : Oer.Freedom → Bool) where
         let o : due (around b.1) ≡ due a.1 = ap (λ l. due (around l)) t.4 in
         (with_more f.0 b, g, fewer_owed n (due (around b.1)) (due a.1) a b f.0 (omega arith) f.2)
 
-    around_member : (v : Bool) (os : List ℕ) (k : List Scope) (b : State) → NextMember v os k b → around b.1 ≡ around k
+    pub around_member : (v : Bool) (os : List ℕ) (k : List Scope) (b : State) → NextMember v os k b → around b.1 ≡ around k
     around_member v os (members zero ∷ k) b f = ap (λ (s : State). around (s.1)) f.1
     around_member v os (members (suc n) ∷ k) b f = ap (λ (s : State). around (s.1)) f.1
     around_member v os k b f = absurd f
@@ -135,7 +135,7 @@ module _ (free : Oer.Freedom → Bool) where
         let o : around b.1 ≡ around a.1 = ap (λ l. around l) r.1 ∙ around_member true a.0 a.1 m t in
         (with_more f.0 m, with_more f.0 b, g, h, fewer_owed n (due (around b.1)) (due (around a.1)) a b f.0 (same_owed (around b.1) (around a.1) (ap (λ l. due l) o)) f.2)
 
-    last_owed : (os : List ℕ) (k : List Scope) (b : State) → NextMember false os k b → due (b.1) ≡ due (around k)
+    pub last_owed : (os : List ℕ) (k : List Scope) (b : State) → NextMember false os k b → due (b.1) ≡ due (around k)
     last_owed os (members zero ∷ k) b f = ap (λ (s : State). due (s.1)) f.1 ∙ none_owed k
     last_owed os (members (suc n) ∷ k) b f = let e : false ≡ true = f.0 in cc
     last_owed os k b f = absurd f
