@@ -1,5 +1,4 @@
 mod Encoding
-mod Lifting
 mod Messages
 mod Once
 pub mod Preambles
@@ -8,5 +7,4 @@ pub mod Adding
 pub mod Choosing
 pub mod Counting
 pub mod Records
-pub mod Few
 pub mod Refused

@@ -23,7 +23,9 @@ use Rattle.oer_codec_reading_lengths.specs.declared.rules.EncodingRules.TheVaria
 use Rattle.asn1_schema_decode.specs.Messages.{HasMessage, Tells, NoMessage}
 use Rattle.asn1_schema_decode.proofs.Nesting.{no_deeper}
 use Rattle.oer_codec.specs.Messages.{rules_of}
-use Rattle.oer_codec.proofs.Lifting.{held_at, octets_taken, levels_taken, both_found}
+use Rattle.oer_codec.specs.Few.{TooFewHeld}
+use Rattle.oer_codec.specs.Carried.{few_at_once}
+use Rattle.oer_codec.specs.Lifting.{held_at, octets_taken, levels_taken, both_found}
 
 -- ---- the rules
 any_bitmap : (r : EncodingRules) → IsTrue (freedoms r Oer.other_bitmap)
@@ -118,8 +120,8 @@ module _ (r : EncodingRules) (schema : ℕ → Schema) (input : List ℕ) (lawfu
       let l = (nests s w.0 128 128 128 fits (omega arith)).1 (d, refl) in
       (w.0, held_at (begun r input) b 128, fits, both_found (presents s w.0) (begun r input) b 128 refl w.2 l)
 
-  pub none_told : (e : DecodeError) → Unread Finds schema 128 (begun r input) e → NoMessage (rules_of r) schema input e
-  none_told e u = record { none = λ n v rest m. let f = found_again v rest m in u.none n f.0 f.1 f.2 f.3 }
+  pub none_told : (e : DecodeError) (failed : Held) → Unread Finds TooFewHeld schema 128 (begun r input) failed e → NoMessage (rules_of r) schema input e
+  none_told e failed u = record { none = λ n v rest m. let f = found_again v rest m in u.none n (begun r input) (few_at_once 0 (begun r input) failed (omega arith)) f.0 f.1 f.2 f.3 }
 
-pub none_told_from : (r : EncodingRules) (schema : ℕ → Schema) (input : List ℕ) (old : Held) (e : DecodeError) → IsLawful (schema 128) → old ≡ begun r input → Unread Finds schema old.levels old e → NoMessage (rules_of r) schema input e
-none_told_from r schema input old e lawful q u = none_told r schema input lawful e (subst (λ (h : Held). Unread Finds schema h.levels h e) q u)
+pub none_told_from : (r : EncodingRules) (schema : ℕ → Schema) (input : List ℕ) (old failed : Held) (e : DecodeError) → IsLawful (schema 128) → old ≡ begun r input → Unread Finds TooFewHeld schema old.levels old failed e → NoMessage (rules_of r) schema input e
+none_told_from r schema input old failed e lawful q u = none_told r schema input lawful e failed (subst (λ (h : Held). Unread Finds TooFewHeld schema h.levels h failed e) q u)

@@ -7,7 +7,7 @@ use Rattle.asn1_schema_presented.specs.Records.{Record, Question, question}
 use Rattle.oer_codec_longer.specs.Few.{due}
 use Rattle.oer_codec.specs.Held.{Held, Finds, IsReady}
 use Rattle.oer_codec.specs.Few.{held_with, TooFewHeld}
-use Rattle.oer_codec.proofs.Few.{nothing_more}
+use Rattle.oer_codec.specs.Carried.{nothing_more}
 
 -- none is found in the octets that are held
 pub record NoneIn (q : Question) (old : Held) (x : DecodeError) : Type 0 where

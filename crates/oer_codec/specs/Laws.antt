@@ -8,6 +8,9 @@ use Rattle.oer_codec_fronts.specs.Takes.{State}
 use Rattle.oer_codec_fronts.proofs.Next.{one_taken}
 use Rattle.oer_codec_reading.specs.Fronts.{freedoms}
 use Rattle.oer_codec_reading_lengths.specs.declared.rules.EncodingRules.{EncodingRules}
+use Rattle.asn1_schema_decode.specs.Reads.{CarriesRecords, CarriesValues, CarriesMembers}
+use Rattle.oer_codec.specs.Few.{TooFewHeld, TooFewMembersHeld}
+use Rattle.oer_codec.specs.Carried.{held_records, held_values, held_members}
 use Rattle.oer_codec.specs.Held.{Held, state_of, kind_of, Finds}
 
 held_is : {b c : Held} → state_of b ≡ state_of c → b.levels ≡ c.levels → b.most ≡ c.most → b.failed ≡ c.failed
@@ -78,3 +81,12 @@ finds_on a r b p h = let e : true ≡ false = sym h ∙ p.ready_still in cc
 
 pub finds_same : (a : Held) (r : Record) (b : Held) → Finds a r b → kind_of b.rules ≡ kind_of a.rules
 finds_same a r b p = ap kind_of p.rules
+
+pub finds_carried : CarriesRecords Finds TooFewHeld
+finds_carried = held_records
+
+pub finds_values_carried : CarriesValues Finds TooFewHeld
+finds_values_carried = held_values
+
+pub finds_members_carried : CarriesMembers Finds TooFewHeld TooFewMembersHeld
+finds_members_carried = held_members

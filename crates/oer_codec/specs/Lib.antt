@@ -7,3 +7,5 @@ pub mod Laws
 pub mod Encoded
 pub mod Messages
 pub mod Few
+pub mod Lifting
+pub mod Carried

@@ -192,6 +192,7 @@ impl<'input> Decoder<'input> {
               rules = self.old.rules;
             }) }
         ensures only { IfErr result (NotOpened (freedoms self.old.rules) self.old.octets) }
+        ensures emptied { OnErr result (self.new.scopes ≡ []) }
         ensures failed { OnErr result (self.new.failed ≡ true) }
     {
         match enter_open_type(&mut self.cursor, self.rules) {
@@ -228,11 +229,12 @@ macro_rules! scope {
     }};
 }
 
+#[tactic(auto, using(crate::proofs::Refused::none_ready, crate::proofs::Refused::none_begun))]
 impl<'input> asn1_schema_decode::Decoder for Decoder<'input> {
     ghost use Rattle.oer_codec.specs.Laws.{finds_one, finds_held, finds_bag_held, finds_none, finds_on};
     ghost use Rattle.oer_codec.specs.Laws.{finds_same};
     ghost use Rattle.oer_codec.specs.Few.{TooFewMembersHeld};
-    ghost use Rattle.oer_codec.proofs.Few.{held_records, held_values, held_members};
+    ghost use Rattle.oer_codec.specs.Laws.{finds_carried, finds_values_carried, finds_members_carried};
     ghost use Rattle.std.specs.Prelude.{⊤};
 
     type Octets = &'input [u8];
@@ -523,11 +525,11 @@ impl<'input> asn1_schema_decode::Decoder for Decoder<'input> {
 
     ghost goes_on = { finds_on };
 
-    ghost records_carried = { held_records };
+    ghost records_carried = { finds_carried };
 
-    ghost values_carried = { held_values };
+    ghost values_carried = { finds_values_carried };
 
-    ghost members_carried = { held_members };
+    ghost members_carried = { finds_members_carried };
 
     ghost none_after = { finds_none };
 

@@ -5,7 +5,7 @@ use Rattle.oer_codec.proofs.Messages.{left_within, told_from, none_told_from, no
 use Rattle.oer_codec.proofs.reading.decode_with_remainder.Goals as goal
 
 pub returns-in_err-value-clause-only : goal.returns-in_err-value-clause-only
-returns-in_err-value-clause-only g c = raised _ _ _ c.from_residual.ensures.1 (none_told_from c.args.rules g.T.Described.schema c.args.input.now c.new-decoder.result c.in_err-value.field-0.0 (g.T.Described.typed.lawful 128) c.new-decoder.ensures c.in_err-value.ensures.only)
+returns-in_err-value-clause-only g c = raised _ _ _ c.from_residual.ensures.1 (none_told_from c.args.rules g.T.Described.schema c.args.input.now c.new-decoder.result _ c.in_err-value.field-0.0 (g.T.Described.typed.lawful 128) c.new-decoder.ensures c.in_err-value.ensures.only)
 
 pub overflow_sub-taken : goal.overflow_sub-taken
 overflow_sub-taken g c =

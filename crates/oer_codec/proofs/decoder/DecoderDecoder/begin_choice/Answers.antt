@@ -10,4 +10,4 @@ pub returns-in_ok-enter_enclosing-in-Ok-clause-ok : goal.returns-in_ok-enter_enc
 returns-in_ok-enter_enclosing-in-Ok-clause-ok c = opens _ _ c.enter_enclosing.new.self (scope_of (frame_of c.in-Ok.enclosing)) c.read_choice.new.cursor (choice_begins c.args.tables.now.roots c.args.tables.now.extensible c.args.tables.now.additions c.in-Ok.chosen.added c.in-Ok.chosen.place) (c.self.view_is ∙ c.in_ok-begin_level.ensures.ok.1) c.in_ok-begin_level.ensures.ok.0 (c.in-Ok.ensures.ok c.self.inside.scopes) (λ most k. refl) c.in_ok-enter_enclosing-in-Ok.ensures.levels c.in_ok-enter_enclosing-in-Ok.ensures.scopes
 
 pub returns-in-Err-clause-only : goal.returns-in-Err-clause-only
-returns-in-Err-clause-only c = still_none_in (stays _ _ _ (c.self.view_is ∙ c.in_ok-begin_level.ensures.ok.1) c.lack.ensures.kept) (not_chosen _ _ c.args.tables.now.roots c.args.tables.now.extensible c.args.tables.now.additions _ _ (c.self.view_is ∙ c.in_ok-begin_level.ensures.ok.1) c.lack.ensures.refused c.in-Err.ensures.only)
+returns-in-Err-clause-only c = still_none_in (stays _ _ c.lack.new.self (c.self.view_is ∙ c.in_ok-begin_level.ensures.ok.1) c.lack.ensures.kept) (not_chosen _ _ c.args.tables.now.roots c.args.tables.now.extensible c.args.tables.now.additions _ _ (c.self.view_is ∙ c.in_ok-begin_level.ensures.ok.1) c.lack.ensures.refused c.in-Err.ensures.only)

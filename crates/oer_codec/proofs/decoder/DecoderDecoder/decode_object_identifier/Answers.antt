@@ -4,4 +4,4 @@ use Rattle.oer_codec.proofs.decoder.DecoderDecoder.decode_object_identifier.Goal
 use Rattle.oer_codec.proofs.Refused.{still_none, stays}
 
 pub returns-in-Err-clause-only : goal.returns-in-Err-clause-only
-returns-in-Err-clause-only c = still_none (stays _ _ _ c.self.view_is c.lack.ensures.kept) (none_found _ _ _ object_identifier _ _ c.self.view_is c.lack.ensures.refused c.in-Err.ensures.only asked_identifier)
+returns-in-Err-clause-only c = still_none (stays _ _ c.lack.new.self c.self.view_is c.lack.ensures.kept) (none_found _ _ _ object_identifier _ _ c.self.view_is c.lack.ensures.refused c.in-Err.ensures.only asked_identifier)

@@ -10,4 +10,4 @@ pub returns-in-Ok-clause-held : goal.returns-in-Ok-clause-held
 returns-in-Ok-clause-held c = octets_within (freedoms c.self.inside.rules) (sizes_of c.args.constraints.now.size) (counts_of c.args.held) _ _ _ c.in-Ok.ensures.ok
 
 pub returns-in-Err-clause-only : goal.returns-in-Err-clause-only
-returns-in-Err-clause-only c = still_none (stays _ _ _ c.self.view_is c.lack.ensures.kept) (none_found _ _ _ (octet_string (sizes_of c.args.constraints.now.size) (counts_of c.args.held)) _ _ c.self.view_is c.lack.ensures.refused c.in-Err.ensures.only (λ free a b. asked_octets free a b (sizes_of c.args.constraints.now.size) (counts_of c.args.held)))
+returns-in-Err-clause-only c = still_none (stays _ _ c.lack.new.self c.self.view_is c.lack.ensures.kept) (none_found _ _ _ (octet_string (sizes_of c.args.constraints.now.size) (counts_of c.args.held)) _ _ c.self.view_is c.lack.ensures.refused c.in-Err.ensures.only (λ free a b. asked_octets free a b (sizes_of c.args.constraints.now.size) (counts_of c.args.held)))

@@ -27,7 +27,7 @@ use Rattle.oer_codec_reading_lengths.specs.declared.rules.EncodingRules.{Encodin
 use Rattle.oer_codec_reading_lengths.specs.declared.rules.EncodingRules.TheVariants.{Oer as OerRules, Coer as CoerRules}
 use Rattle.oer_codec.specs.Held.{Held, state_of, Finds}
 use Rattle.oer_codec.specs.Few.{held_with, FewHeld, TooFewHeld, TooFewMembersHeld}
-use Rattle.oer_codec.proofs.Lifting.{octets_taken, levels_taken, held_at, both_found}
+use Rattle.oer_codec.specs.Lifting.{octets_taken, levels_taken, held_at, both_found}
 
 any_bitmap : (r : EncodingRules) → IsTrue (freedoms r Oer.other_bitmap)
 any_bitmap OerRules = refl
