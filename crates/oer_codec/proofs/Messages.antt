@@ -1,5 +1,5 @@
 -- Which message a decoder has found, and why none stands in front where it has not.
-use Rattle.std.proofs.Common.{◌≡◌, ℕ, ◌+◌, ◌-◌, ◌<◌, ◌≤◌, ◌^◌, true, false, IsTrue, List, [], ◌++◌, length, take, drop, refl, ap, sym, ◌∙◌, subst, append_assoc, arith, length-append}
+use Rattle.std.proofs.Common.{◌≡◌, inl, ℕ, ◌+◌, ◌-◌, ◌<◌, ◌≤◌, ◌^◌, true, false, IsTrue, List, [], ◌++◌, length, take, drop, refl, ap, sym, ◌∙◌, subst, append_assoc, arith, length-append}
 use Rattle.std.proofs.lemmas.List.{length-take, take-append-drop}
 use Rattle.std.proofs.Math.Seq.{take-append-add, drop-append_seam}
 use Rattle.asn1_model.specs.Value.{Value, depth}
@@ -23,7 +23,9 @@ use Rattle.oer_codec_reading_lengths.specs.declared.rules.EncodingRules.TheVaria
 use Rattle.asn1_schema_decode.specs.Messages.{HasMessage, Tells, NoMessage}
 use Rattle.asn1_schema_decode.proofs.Nesting.{no_deeper}
 use Rattle.oer_codec.specs.Messages.{rules_of}
-use Rattle.oer_codec.specs.Few.{TooFewHeld}
+use Rattle.oer_codec_longer.specs.Few.{due}
+use Rattle.oer_codec.specs.Few.{TooFewHeld, held_with}
+use Rattle.oer_codec.proofs.Finding.{take_whole}
 use Rattle.oer_codec.specs.Carried.{few_at_once}
 use Rattle.oer_codec.specs.Lifting.{held_at, octets_taken, levels_taken, both_found}
 
@@ -122,6 +124,18 @@ module _ (r : EncodingRules) (schema : ℕ → Schema) (input : List ℕ) (lawfu
 
   pub none_told : (e : DecodeError) (failed : Held) → Unread Finds TooFewHeld schema 128 (begun r input) failed e → NoMessage (rules_of r) schema input e
   none_told e failed u = record { none = λ n v rest m. let f = found_again v rest m in u.none n (begun r input) (few_at_once 0 (begun r input) failed (omega arith)) f.0 f.1 f.2 f.3 }
+
+-- Where a decoder was refused, no message is in front of an input either that has a few octets more: as many as members
+-- were to come in the lists that were open then.
+pub none_told_more : (r : EncodingRules) (schema : ℕ → Schema) (input more : List ℕ) (failed : Held) (e : DecodeError) → IsLawful (schema 128) → length (input ++ more) < 2 ^ 60 → length more ≤ due failed.scopes → Unread Finds TooFewHeld schema 128 (begun r input) failed e → NoMessage (rules_of r) schema (input ++ more) e
+none_told_more r schema input more failed e lawful short few u =
+    let l : length (input ++ more) ≡ length input + length more = length-append input more in
+    let a : first (input ++ more) ≡ input ++ more = take_whole (2 ^ 60 - 1) (input ++ more) (omega (arith, short)) in
+    let b : first input ≡ input = take_whole (2 ^ 60 - 1) input (omega (arith, short, l)) in
+    let c : first (input ++ more) ≡ first input ++ more = a ∙ ap (λ x. x ++ more) (sym b) in
+    let d : begun r (input ++ more) ≡ held_with more (begun r input) = ap (λ (x : List ℕ). let h : Held = record { octets = x; scopes = []; levels = 128; most = 128; failed = false; rules = r } in h) c in
+    let near : TooFewHeld (begun r input) failed (begun r (input ++ more)) = (omega arith, more, d, inl (omega (arith, few))) in
+    record { none = λ n v rest m. let f = found_again r schema (input ++ more) lawful v rest m in u.none n (begun r (input ++ more)) near f.0 f.1 f.2 f.3 }
 
 pub none_told_from : (r : EncodingRules) (schema : ℕ → Schema) (input : List ℕ) (old failed : Held) (e : DecodeError) → IsLawful (schema 128) → old ≡ begun r input → Unread Finds TooFewHeld schema old.levels old failed e → NoMessage (rules_of r) schema input e
 none_told_from r schema input old failed e lawful q u = none_told r schema input lawful e failed (subst (λ (h : Held). Unread Finds TooFewHeld schema h.levels h failed e) q u)
