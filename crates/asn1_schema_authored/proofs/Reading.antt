@@ -221,6 +221,10 @@ module _ {S : Type 0} {step : S → Record → S → Type 0} {few : S → S → 
           h.none w l.0 l.2 is_empty z.0 refl (subst (λ (i : S). step i is_empty z.0) (after one j.0 addition_ends t.0 l.0 t.1 l.1) z.1);
     }
 
+-- an addition that is there is there with few octets more
+begins_there : {S : Type 0} {step : S → Record → S → Type 0} {few : S → S → S → Type 0} → CarriesRecords step few → {a b failed start : S} → step a (addition true) b → few a failed start → (d : S) × step start (addition true) d
+begins_there carries {a} {b} {failed} {start} m near = let y = carries (addition true) a b failed start refl m near in (y.0, y.1)
+
 -- ---- additions under given constraints
 module _ {S : Type 0} {step : S → Record → S → Type 0} {s : ℕ → Schema} {n : ℕ} where
   pub unread_extension_here : {few : S → S → S → Type 0} {a failed : S} {x : DecodeError} → NoRecord step few asks_addition a failed x → UnreadExtension step few s n a failed x
@@ -271,16 +275,13 @@ module _ {S : Type 0} {step : S → Record → S → Type 0} {s : ℕ → Schema
             let z = reads_near values r y.2 in
             h.none u z.0 z.2 addition_ends d refl (subst (λ (z : S). step z addition_ends d) (same_value y.1 z.1 q).1 q.ends)
 
-        begins_there : {a b failed start : S} → step a (addition true) b → few a failed start → (d : S) × step start (addition true) d
-        begins_there {a} {b} {failed} {start} m near = let y = carries (addition true) a b failed start refl m near in (y.0, y.1)
-
         pub unread_extension_end : {v : Value} {a b c failed : S} {x : DecodeError} → step a (addition true) b → Reads step s n v b c → NoRecord step few asks_addition_end c failed x → UnreadExtension step few s n a failed x
-        unread_extension_end m r h = record { none = λ w start near p c. elim p as (λ p. ReadsExtension step s n p start c → ⊥) [ left_out ↦ λ q. not_both one (begins_there m near).1 q | there v ↦ λ q. not_ended w m r h near q ] }
+        unread_extension_end m r h = record { none = λ w start near p c. elim p as (λ p. ReadsExtension step s n p start c → ⊥) [ left_out ↦ λ q. not_both one (begins_there carries m near).1 q | there v ↦ λ q. not_ended w m r h near q ] }
 
         pub unread_extension_default_end : {d v : Value} {a b c failed : S} {x : DecodeError} → step a (addition true) b → Reads step s n v b c → NoRecord step few asks_addition_end c failed x → UnreadExtensionDefault step few s n d a failed x
         unread_extension_default_end m r h = record {
           none = λ w start near v c p. elim p [
-            | omitted e q ↦ not_both one (begins_there m near).1 q
+            | omitted e q ↦ not_both one (begins_there carries m near).1 q
             | spelled_out e b q z ↦ not_ended w m r h near q
             | other_value e q ↦ not_ended w m r h near q
           ];
