@@ -14,10 +14,10 @@ module _ {S : Type 0} (step : S → Record → S → Type 0) (few : S → S → 
   abbrev pub Carries : List Record → Type 0
   Carries rs = (a b failed c : S) → Chain step rs a b → few a failed c → (d : S) × Chain step rs c d × few b failed d
 
-  carry_none : Carries []
+  pub carry_none : Carries []
   carry_none a b failed c p f = (c, refl, subst (λ s. few s failed c) (sym p) f)
 
-  carry_append : (rs qs : List Record) → Carries rs → Carries qs → Carries (rs ++ qs)
+  pub carry_append : (rs qs : List Record) → Carries rs → Carries qs → Carries (rs ++ qs)
   carry_append rs qs h k a b failed c p f =
       let z = chain_split step rs qs a b p in
       let y = h a z.0 failed c z.1 f in
@@ -25,13 +25,13 @@ module _ {S : Type 0} (step : S → Record → S → Type 0) (few : S → S → 
       (x.0, chain_append step rs qs c y.0 x.0 y.1 x.1, x.2)
 
   module _ (one : CarriesRecords step few) where
-    carry_one : (r : Record) → keeps_members r ≡ true → (rs : List Record) → Carries rs → Carries (r ∷ rs)
+    pub carry_one : (r : Record) → keeps_members r ≡ true → (rs : List Record) → Carries rs → Carries (r ∷ rs)
     carry_one r e rs h a b failed c p f =
         let z = one r a p.0 failed c e p.1 f in
         let y = h p.0 b failed z.0 p.2 z.2 in
         (y.0, (z.0, z.1, y.1), y.2)
 
-    carry_noted : (o : Presence) (s : Schema) (v : Value) → Carries (noted o s v)
+    pub carry_noted : (o : Presence) (s : Schema) (v : Value) → Carries (noted o s v)
     carry_noted o s v = by_case (is_at_default o s v) (is_group_left_out s v)
       where
         by_case : (d g : Bool) → Carries (cond d (is_default ∷ []) (cond g (is_empty ∷ []) []))
