@@ -1,11 +1,11 @@
 -- How the additions that a decoder finds are put together.
-use Rattle.std.proofs.Common.{◌≡◌, ℕ, Bool, true, false, cond, List, [], ◌∷◌, ◌++◌, refl, subst, sym, ◌∙◌, ap}
+use Rattle.std.proofs.Common.{◌≡◌, ℕ, Bool, true, false, List, [], ◌∷◌, refl, subst, sym, ◌∙◌, ap}
 use Rattle.asn1_model.specs.Value.{Value, Parts, end, absent, present, same}
 use Rattle.asn1_model.specs.Schema.{Tag, Presence, required, optional, by_default, Schema}
 use Rattle.asn1_model.specs.Normal.{normal, normal_parts, is_at_default, is_group_left_out}
 use Rattle.asn1_model.specs.Normal.{is_required}
 use Rattle.asn1_schema_faults.specs.declared.DecodeError.{DecodeError}
-use Rattle.asn1_schema_presented.specs.Records.{Record, mismatch, is_default, is_empty, additions_begin, addition, addition_ends, ends, asks_additions, asks_addition, asks_addition_end, asks_default, asks_empty, asks_end}
+use Rattle.asn1_schema_presented.specs.Records.{Record, is_default, is_empty, additions_begin, addition, addition_ends, ends, asks_additions, asks_addition, asks_addition_end, asks_default, asks_empty, asks_end}
 use Rattle.asn1_schema_presented.specs.Presents.{Part, left_out, there, with_part, presents, noted, component_count, root_records, addition_records, added_records, Fits, PartFits, PartsFit}
 use Rattle.asn1_schema_presented.specs.Tables.{Fields, no_field, field, components_at, IsType, IsValue}
 use Rattle.asn1_schema_presented.specs.Parts.{part_unless}
@@ -15,7 +15,7 @@ use Rattle.asn1_schema_presented.proofs.OneValue.{one_value}
 use Rattle.asn1_schema_presented.proofs.Values.{not_empty, normal_field, fits_field}
 use Rattle.asn1_schema_presented.proofs.Joined.{nothing_noted}
 use Rattle.asn1_schema_presented.proofs.Same.{same_self}
-use Rattle.asn1_schema_decode.proofs.Carrying.{Carries, carry_none, carry_append, carry_one, carry_noted, reads_near}
+use Rattle.asn1_schema_decode.proofs.Carrying.{carry_addition, reads_near}
 use Rattle.asn1_schema_decode.specs.Reads.{CarriesRecords, CarriesValues, NoRecord, Reads, Unread, ReadsTail, UnreadTail}
 use Rattle.asn1_schema_decode.proofs.Reading.{reads_as}
 use Rattle.asn1_schema_presented.specs.Additions.{addition_count, extensible_table}
@@ -41,19 +41,6 @@ behind_extension_bit step n fs ps qs a c f p = no_root step n fs ps qs a c f (su
 -- a type that is no group leaves nothing out as one
 no_group_left : {ts : List Tag} {t : ℕ → Schema} → IsType ts t → (n : ℕ) (v : Value) → is_group_left_out (t n) v ≡ false
 no_group_left {t = t} k n v = not_empty (t n) (normal (t n) v) (k.no_group n)
-
--- the records of an addition are next with few octets more behind
-module _ {S : Type 0} (step : S → Record → S → Type 0) (few : S → S → S → Type 0) (one : CarriesRecords step few) (values : CarriesValues step few) where
-  carry_missing : (b : Bool) → Carries step few (cond b (mismatch ∷ []) (addition false ∷ []))
-  carry_missing true = carry_one step few one mismatch refl [] (carry_none step few)
-  carry_missing false = carry_one step few one (addition false) refl [] (carry_none step few)
-
-  carry_addition : (o : Presence) (s : Schema) (p : Part) → Carries step few (addition_records (λ v. presents s v) o s p)
-  carry_addition o s left_out = carry_missing (is_required o)
-  carry_addition o s (there v) =
-      carry_one step few one (addition true) refl (presents s v ++ (addition_ends ∷ noted o s v))
-      (carry_append step few (presents s v) (addition_ends ∷ noted o s v) (λ a b failed c p f. values s v a b failed c p f)
-      (carry_one step few one addition_ends refl (noted o s v) (carry_noted step few one o s v)))
 
 -- ---- one addition
 module _ {S : Type 0} {step : S → Record → S → Type 0} where
@@ -284,7 +271,7 @@ module _ {S : Type 0} {step : S → Record → S → Type 0} {s : ℕ → Schema
           none = λ w start near p y.
               let i = carries (addition true) a b failed start refl m near in
               let j = reads_near values r i.2 in
-              elim p as (λ p. ReadsExtension step s n p start y → ⊥) [ left_out ↦ λ q. not_both one i.1 q | there v ↦ λ q. not_ended i.1 j.1 (λ e k. h.none w j.0 j.2 addition_ends e refl k) q ];
+              elim p as (λ p. ReadsExtension step s n p start y → ⊥) [ left_out ↦ λ q. not_both one i.1 q | there v ↦ λ q. not_ended i.1 j.1 (λ o k. h.none w j.0 j.2 addition_ends o refl k) q ];
         }
 
         pub unread_extension_default_end : {d v : Value} {a b c failed : S} {x : DecodeError} → step a (addition true) b → Reads step s n v b c → NoRecord step few asks_addition_end c failed x → UnreadExtensionDefault step few s n d a failed x
@@ -294,8 +281,8 @@ module _ {S : Type 0} {step : S → Record → S → Type 0} {s : ℕ → Schema
               let j = reads_near values r i.2 in
               elim p [
                 | omitted e q ↦ not_both one i.1 q
-                | spelled_out e b q z ↦ not_ended i.1 j.1 (λ e k. h.none w j.0 j.2 addition_ends e refl k) q
-                | other_value e q ↦ not_ended i.1 j.1 (λ e k. h.none w j.0 j.2 addition_ends e refl k) q
+                | spelled_out e b q z ↦ not_ended i.1 j.1 (λ o k. h.none w j.0 j.2 addition_ends o refl k) q
+                | other_value e q ↦ not_ended i.1 j.1 (λ o k. h.none w j.0 j.2 addition_ends o refl k) q
               ];
         }
 
@@ -307,9 +294,9 @@ module _ {S : Type 0} {step : S → Record → S → Type 0} {s : ℕ → Schema
               let g = carries addition_ends c l failed j.0 refl e j.2 in
               elim p [
                 | omitted k q ↦ not_both one i.1 q
-                | spelled_out k b q z ↦
+                | spelled_out k behind q z ↦
                     let t = same_value i.1 j.1 q in
-                    let o = after one j.0 addition_ends b g.0 (subst (λ (z : S). step z addition_ends b) t.1 q.ends) g.1 in
+                    let o = after one j.0 addition_ends behind g.0 (subst (λ (z : S). step z addition_ends behind) t.1 q.ends) g.1 in
                     h.none w g.0 g.2 is_default y refl (subst (λ (j : S). step j is_default y) o z)
                 | other_value k q ↦ let t : same u d ≡ same v d = ap (λ i. same i d) (same_value i.1 j.1 q).0 in let o : false ≡ true = sym k ∙ t ∙ f in cc
               ];
