@@ -1,3 +1,4 @@
+pub mod Carrying
 pub mod Reading
 pub mod SingleRecords
 pub mod Listing

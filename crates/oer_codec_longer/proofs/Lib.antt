@@ -4,3 +4,4 @@ pub mod Chained
 pub mod Empty
 pub mod Lacking
 pub mod Lengths
+pub mod Few
