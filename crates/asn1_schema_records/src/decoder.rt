@@ -238,7 +238,8 @@ impl Decoder for RecordDecoder {
         ensures within { IfOk result (λ x. ((bounds_of constraints.now.value).extensible
             || is_within ((bounds_of constraints.now.value).range) (I.value x)) ≡ true) }
         ensures level { OnOk result (self.new.levels ≡ self.old.levels) }
-        ensures only { IfErr result (NoRecord Takes AtOnce (asks_whole_under constraints.now I.held) self.old self.new) }
+        ensures only { IfErr result
+            (NoRecord Takes AtOnce (asks_whole_under constraints.now I.held) self.old self.new) }
         ensures failed { OnErr result (self.new.failed ≡ true) }
         ensures already { self.old.failed ≡ true → result ≡ Err DecodeError.AlreadyFailed }
         ensures after { result ≡ Err DecodeError.AlreadyFailed → self.old.failed ≡ true }
@@ -260,7 +261,8 @@ impl Decoder for RecordDecoder {
     fn decode_enumerated<T: Enumerated>(&mut self, _tag: Tag) -> Result<T, DecodeError>
         ensures ok { IfOk result (λ x. Takes self.old (one_of T.roots T.extensible T.additions (T.number x)) self.new) }
         ensures level { OnOk result (self.new.levels ≡ self.old.levels) }
-        ensures only { IfErr result (NoRecord Takes AtOnce (asks_one_of T.roots T.extensible T.additions) self.old self.new) }
+        ensures only { IfErr result
+            (NoRecord Takes AtOnce (asks_one_of T.roots T.extensible T.additions) self.old self.new) }
         ensures failed { OnErr result (self.new.failed ≡ true) }
         ensures already { self.old.failed ≡ true → result ≡ Err DecodeError.AlreadyFailed }
         ensures after { result ≡ Err DecodeError.AlreadyFailed → self.old.failed ≡ true }
@@ -314,7 +316,8 @@ impl Decoder for RecordDecoder {
         ensures held { IfOk result (λ x. is_count_within (counts_of held) (length x.items) ≡ true) }
         ensures lent { IfOk result (λ x. ⊥ → ⊥) }
         ensures level { OnOk result (self.new.levels ≡ self.old.levels) }
-        ensures only { IfErr result (NoRecord Takes AtOnce (asks_octets_under constraints.now held) self.old self.new) }
+        ensures only { IfErr result
+            (NoRecord Takes AtOnce (asks_octets_under constraints.now held) self.old self.new) }
         ensures failed { OnErr result (self.new.failed ≡ true) }
         ensures already { self.old.failed ≡ true → result ≡ Err DecodeError.AlreadyFailed }
         ensures after { result ≡ Err DecodeError.AlreadyFailed → self.old.failed ≡ true }
@@ -340,7 +343,8 @@ impl Decoder for RecordDecoder {
         ensures ok { IfOk result
             (λ x. Takes self.old (characters_under utf8 constraints.now (string_bytes x)) self.new) }
         ensures level { OnOk result (self.new.levels ≡ self.old.levels) }
-        ensures only { IfErr result (NoRecord Takes AtOnce (asks_characters_under utf8 constraints.now) self.old self.new) }
+        ensures only { IfErr result
+            (NoRecord Takes AtOnce (asks_characters_under utf8 constraints.now) self.old self.new) }
         ensures failed { OnErr result (self.new.failed ≡ true) }
         ensures already { self.old.failed ≡ true → result ≡ Err DecodeError.AlreadyFailed }
         ensures after { result ≡ Err DecodeError.AlreadyFailed → self.old.failed ≡ true }
@@ -366,7 +370,8 @@ impl Decoder for RecordDecoder {
         ensures ok { IfOk result
             (λ x. Takes self.old (characters_under S.kind constraints.now (S.characters x)) self.new) }
         ensures level { OnOk result (self.new.levels ≡ self.old.levels) }
-        ensures only { IfErr result (NoRecord Takes AtOnce (asks_characters_under S.kind constraints.now) self.old self.new) }
+        ensures only { IfErr result
+            (NoRecord Takes AtOnce (asks_characters_under S.kind constraints.now) self.old self.new) }
         ensures failed { OnErr result (self.new.failed ≡ true) }
         ensures already { self.old.failed ≡ true → result ≡ Err DecodeError.AlreadyFailed }
         ensures after { result ≡ Err DecodeError.AlreadyFailed → self.old.failed ≡ true }
@@ -485,7 +490,8 @@ impl Decoder for RecordDecoder {
     ) -> Result<(), DecodeError>
         ensures ok { OnOk result (Takes self.old (sequence_begins extensible optional) self.new) }
         ensures level { OnOk result (self.old.levels ≡ self.new.levels + 1) }
-        ensures only { IfErr result (NoLevel Takes AtOnce (asks_sequence extensible optional) self.old.levels self.old self.new) }
+        ensures only { IfErr result
+            (NoLevel Takes AtOnce (asks_sequence extensible optional) self.old.levels self.old self.new) }
         ensures failed { OnErr result (self.new.failed ≡ true) }
         ensures already { self.old.failed ≡ true → result ≡ Err DecodeError.AlreadyFailed }
         ensures after { result ≡ Err DecodeError.AlreadyFailed → self.old.failed ≡ true }
@@ -503,7 +509,8 @@ impl Decoder for RecordDecoder {
     fn begin_set(&mut self, _tag: Tag, extensible: bool, optional: usize) -> Result<(), DecodeError>
         ensures ok { OnOk result (Takes self.old (set_begins extensible optional) self.new) }
         ensures level { OnOk result (self.old.levels ≡ self.new.levels + 1) }
-        ensures only { IfErr result (NoLevel Takes AtOnce (asks_set extensible optional) self.old.levels self.old self.new) }
+        ensures only { IfErr result
+            (NoLevel Takes AtOnce (asks_set extensible optional) self.old.levels self.old self.new) }
         ensures failed { OnErr result (self.new.failed ≡ true) }
         ensures already { self.old.failed ≡ true → result ≡ Err DecodeError.AlreadyFailed }
         ensures after { result ≡ Err DecodeError.AlreadyFailed → self.old.failed ≡ true }

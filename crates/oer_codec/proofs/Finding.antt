@@ -156,8 +156,8 @@ pub no_list : {failed : Held} (old now : Held) (z : Size) (h : Counts) (e x : De
 no_list old now z h e x same faults m =
     let n : NoMembers (freedoms old.rules) h old.octets e = subst (λ (g : Held). NoMembers (freedoms g.rules) h g.octets e) same m in
     no_level_at_once Finds (λ i l r new k p.
-          let t = (asked_list (freedoms old.rules) z h (state_of old) (state_of new) r k p.taken).1 in
-          n.none (λ y. i (faults ∙ y)) (members t.0) new.octets (t.2, stands t.3))
+    let t = (asked_list (freedoms old.rules) z h (state_of old) (state_of new) r k p.taken).1 in
+    n.none (λ y. i (faults ∙ y)) (members t.0) new.octets (t.2, stands t.3))
 
 -- where no number of members is in front none begin
 pub not_counted : (free : Oer.Freedom → Bool) (h : Counts) (n : ℕ) (a b : State) (e : DecodeError) → NoMembers free h a.0 e → ¬ (e ≡ OutOfMemory) → Counted free h n a b → ⊥

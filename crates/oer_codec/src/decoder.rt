@@ -281,7 +281,8 @@ impl<'input> asn1_schema_decode::Decoder for Decoder<'input> {
         ensures ok { IfOk result
             (λ x. Finds self.old (one_of T.roots T.extensible T.additions (T.number x)) self.new) }
         ensures level { OnOk result (self.new.levels ≡ self.old.levels) }
-        ensures only { IfErr result (NoRecord Finds AtOnce (asks_one_of T.roots T.extensible T.additions) self.old self.new) }
+        ensures only { IfErr result
+            (NoRecord Finds AtOnce (asks_one_of T.roots T.extensible T.additions) self.old self.new) }
         ensures failed { OnErr result (HasFailed self.new) }
         ensures already { HasFailed self.old → result ≡ Err DecodeError.AlreadyFailed }
         ensures after { result ≡ Err DecodeError.AlreadyFailed → HasFailed self.old }
