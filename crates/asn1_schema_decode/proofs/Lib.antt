@@ -7,3 +7,4 @@ pub mod PresenceBits
 pub mod Nesting
 pub mod Once
 pub mod Failing
+pub mod AtOnce

@@ -131,7 +131,7 @@ module _ {S A : Type 0} {step : S → Record → S → Type 0} {within : S → S
             let q = r.2 vs e g p in
             let z = carries.coming b c failed r.0 m r.1 in
             let t = one_further step s n one q.0 e z.1 q.2 q.3 in
-            carries.stuck (s n) lawful b c failed m (λ d l v o f p. u.none y d l v o f p) r.0 z.0 r.1 z.1 t.0 t.1 e t.5;
+            carries.stuck (s n) lawful b c failed m (λ d l v o f p. u.none y d l v o f p) r.0 z.0 r.1 z.1 t.0 t.1 e t.3 t.5;
       }
 
       pub from_close : (h : Counts) {xs : List A} {a b c failed : S} {x : DecodeError} → ReadsFrom step within s n f xs a b → step b (further false) c → NoRecord step few asks_end c failed x → UnreadMembers step within s n h a failed x

@@ -33,6 +33,10 @@ abbrev pub CarriesValues : {S : Type 0} → (S → Record → S → Type 0) → 
 CarriesValues {S} step few = (s : Schema) (v : Value) (a b failed c : S) → Chain step (presents s v) a b
     → few a failed c → (d : S) × Chain step (presents s v) c d × few b failed d
 
+-- With no octet more than a refusal found: the least that a decoder can say of what it lacks.
+abbrev pub AtOnce : {S : Type 0} → S → S → S → Type 0
+AtOnce old failed a = a ≡ old
+
 -- Why a decoder answers the error x: for want of memory, or because no record is next that answers this question, also
 -- with few octets more.
 pub record NoRecord {S : Type 0} (step : S → Record → S → Type 0) (few : S → S → S → Type 0) (q : Question)
@@ -153,5 +157,5 @@ pub record CarriesMembers {S : Type 0} (step : S → Record → S → Type 0) (f
     -- where a member is lacking, so are those behind it
     pub stuck : (s : Schema) → IsLawful s → (a b failed : S) → step a (further true) b
         → ((c : S) → few b failed c → (v : Value) (d : S) → Fits s v → Chain step (presents s v) c d → ⊥)
-        → (c d : S) → within a failed c → step c (further true) d → (v : Value) (vs : Values) (e : S)
+        → (c d : S) → within a failed c → step c (further true) d → (v : Value) (vs : Values) (e : S) → Fits s v
         → Chain step (presents s v ++ member_records (λ w. presents s w) vs) d e → ⊥

@@ -10,7 +10,8 @@ use Rattle.asn1_model.specs.Numbers.{is_within, is_count_within}
 use Rattle.asn1_model.specs.Form.{Reads, only_if}
 use Rattle.asn1_model.specs.Oer
 use Rattle.asn1_laws_fronts.proofs.OerNumbers.{unsigned_alike}
-use Rattle.asn1_schema_decode.specs.Reads.{NoRecord, NoLevel}
+use Rattle.asn1_schema_decode.specs.Reads.{NoRecord, NoLevel, AtOnce}
+use Rattle.asn1_schema_decode.proofs.AtOnce.{none_at_once, no_level_at_once}
 use Rattle.asn1_schema_faults.specs.declared.DecodeError.{DecodeError}
 use Rattle.asn1_schema_faults.specs.declared.DecodeError.TheVariants.{AlreadyFailed, OutOfMemory}
 use Rattle.asn1_schema_presented.specs.Records.{Record, Question, question, flag, nil, whole, bits, octets, characters, identifier, list_begins, sequence_begins, asks_flag, asks_nil, asks_whole, asks_bits, asks_octets, asks_characters, asks_identifier, asks_list, asks_sequence}
@@ -68,10 +69,10 @@ module _ (free : Oer.Freedom → Bool) (a b : State) where
   asked_identifier r k t = cc k
 
 -- none of a type is found where none stands in front
-pub none_found : (old now : Held) (q : Question) (s : Schema) (e x : DecodeError) → now ≡ old → x ≡ e → NoFront (freedoms now.rules) s now.octets e → ((free : Oer.Freedom → Bool) (a b : State) (r : Record) → question r ≡ q → Takes free a r b → OfType free a b s) → NoRecord Finds q old x
+pub none_found : {failed : Held} (old now : Held) (q : Question) (s : Schema) (e x : DecodeError) → now ≡ old → x ≡ e → NoFront (freedoms now.rules) s now.octets e → ((free : Oer.Freedom → Bool) (a b : State) (r : Record) → question r ≡ q → Takes free a r b → OfType free a b s) → NoRecord Finds AtOnce q old failed x
 none_found old now q s e x same faults m asked =
     let n : NoFront (freedoms old.rules) s old.octets e = subst (λ (h : Held). NoFront (freedoms h.rules) s h.octets e) same m in
-    record { none = λ i r new k p. let t = asked (freedoms old.rules) (state_of old) (state_of new) r k p.taken in missed (freedoms old.rules) (Oer.form s) old.octets e n (λ y. i (faults ∙ y)) t.0 new.octets (stands t.1.0) }
+    none_at_once Finds (λ i r new k p. let t = asked (freedoms old.rules) (state_of old) (state_of new) r k p.taken in missed (freedoms old.rules) (Oer.form s) old.octets e n (λ y. i (faults ∙ y)) t.0 new.octets (stands t.1.0))
 
 -- ---- what a form says of a value
 reads_if : (free : Oer.Freedom → Bool) (c : Bool) (x : Oer.OctetForm) (w : List ℕ) → Reads free (only_if c x) 0 w → c ≡ true
@@ -137,8 +138,8 @@ pub no_beginning : (free : Oer.Freedom → Bool) (e : Bool) (n : ℕ) (a b : Sta
 unfolding Reads
 no_beginning free e n a b t none = none (components t.0 t.1) b.0 (t.2, t.3, (t.4.text, t.4.has_form, t.4.in_front))
 
-pub no_sequence : (old now : Held) (e : Bool) (n : ℕ) (x : DecodeError) → now ≡ old → ((s : Scope) (rest : List ℕ) → HasPreamble e n s now.octets rest → ⊥) → NoLevel Finds (asks_sequence e n) old.levels old x
-no_sequence old now e n x same none = record { none = λ m l r new k p. no_beginning (freedoms old.rules) e n (state_of old) (state_of new) (asked_sequence (freedoms old.rules) e n (state_of old) (state_of new) r k p.taken) (λ s rest h. none s rest (subst (λ (g : Held). HasPreamble e n s g.octets rest) (sym same) h)) }
+pub no_sequence : {failed : Held} (old now : Held) (e : Bool) (n : ℕ) (x : DecodeError) → now ≡ old → ((s : Scope) (rest : List ℕ) → HasPreamble e n s now.octets rest → ⊥) → NoLevel Finds AtOnce (asks_sequence e n) old.levels old failed x
+no_sequence old now e n x same none = no_level_at_once Finds (λ m l r new k p. no_beginning (freedoms old.rules) e n (state_of old) (state_of new) (asked_sequence (freedoms old.rules) e n (state_of old) (state_of new) r k p.taken) (λ s rest h. none s rest (subst (λ (g : Held). HasPreamble e n s g.octets rest) (sym same) h)))
 
 -- ---- lists
 pub counted : (free : Oer.Freedom → Bool) (h : Counts) (n : ℕ) (s : Scope) (os rest : List ℕ) (k : List Scope) → is_count_within h n ≡ true → HasMembers free h s os rest → Counted free h n (os, k) (rest, s ∷ k)
@@ -151,14 +152,12 @@ asked_list free z h a b (list_begins y i n) k t =
     (n, subst (λ r. Takes free a r b) p t)
 asked_list free z h a b r k t = cc k
 
-pub no_list : (old now : Held) (z : Size) (h : Counts) (e x : DecodeError) → now ≡ old → x ≡ e → NoMembers (freedoms now.rules) h now.octets e → NoLevel Finds (asks_list z h) old.levels old x
+pub no_list : {failed : Held} (old now : Held) (z : Size) (h : Counts) (e x : DecodeError) → now ≡ old → x ≡ e → NoMembers (freedoms now.rules) h now.octets e → NoLevel Finds AtOnce (asks_list z h) old.levels old failed x
 no_list old now z h e x same faults m =
     let n : NoMembers (freedoms old.rules) h old.octets e = subst (λ (g : Held). NoMembers (freedoms g.rules) h g.octets e) same m in
-    record {
-      none = λ i l r new k p.
-          let t = (asked_list (freedoms old.rules) z h (state_of old) (state_of new) r k p.taken).1 in
-          n.none (λ y. i (faults ∙ y)) (members t.0) new.octets (t.2, stands t.3);
-    }
+    no_level_at_once Finds (λ i l r new k p.
+    let t = (asked_list (freedoms old.rules) z h (state_of old) (state_of new) r k p.taken).1 in
+    n.none (λ y. i (faults ∙ y)) (members t.0) new.octets (t.2, stands t.3))
 
 -- where no number of members is in front none begin
 pub not_counted : (free : Oer.Freedom → Bool) (h : Counts) (n : ℕ) (a b : State) (e : DecodeError) → NoMembers free h a.0 e → ¬ (e ≡ OutOfMemory) → Counted free h n a b → ⊥

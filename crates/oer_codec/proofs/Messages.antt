@@ -8,7 +8,7 @@ use Rattle.asn1_model.specs.Lawful.{IsLawful}
 use Rattle.asn1_model.specs.Form.{Reads}
 use Rattle.asn1_model.specs.Oer
 use Rattle.asn1_model.specs.Rules.{IsEncoding}
-use Rattle.asn1_schema_decode.specs.Reads.{Reads as ReadsValue, Unread}
+use Rattle.asn1_schema_decode.specs.Reads.{Reads as ReadsValue, Unread, AtOnce}
 use Rattle.asn1_schema_faults.specs.declared.DecodeError.{DecodeError}
 use Rattle.asn1_schema_presented.proofs.Levels.{nests}
 use Rattle.asn1_schema_presented.specs.Chains.{Chain}
@@ -118,8 +118,8 @@ module _ (r : EncodingRules) (schema : ℕ → Schema) (input : List ℕ) (lawfu
       let l = (nests s w.0 128 128 128 fits (omega arith)).1 (d, refl) in
       (w.0, held_at (begun r input) b 128, fits, both_found (presents s w.0) (begun r input) b 128 refl w.2 l)
 
-  pub none_told : (e : DecodeError) → Unread Finds schema 128 (begun r input) e → NoMessage (rules_of r) schema input e
-  none_told e u = record { none = λ n v rest m. let f = found_again v rest m in u.none n f.0 f.1 f.2 f.3 }
+  pub none_told : {failed : Held} (e : DecodeError) → Unread Finds AtOnce schema 128 (begun r input) failed e → NoMessage (rules_of r) schema input e
+  none_told e u = record { none = λ n v rest m. let f = found_again v rest m in u.none n (begun r input) refl f.0 f.1 f.2 f.3 }
 
-pub none_told_from : (r : EncodingRules) (schema : ℕ → Schema) (input : List ℕ) (old : Held) (e : DecodeError) → IsLawful (schema 128) → old ≡ begun r input → Unread Finds schema old.levels old e → NoMessage (rules_of r) schema input e
-none_told_from r schema input old e lawful q u = none_told r schema input lawful e (subst (λ (h : Held). Unread Finds schema h.levels h e) q u)
+pub none_told_from : {failed : Held} (r : EncodingRules) (schema : ℕ → Schema) (input : List ℕ) (old : Held) (e : DecodeError) → IsLawful (schema 128) → old ≡ begun r input → Unread Finds AtOnce schema old.levels old failed e → NoMessage (rules_of r) schema input e
+none_told_from {failed} r schema input old e lawful q u = none_told r schema input lawful e (subst (λ (h : Held). Unread Finds AtOnce schema h.levels h failed e) q u)

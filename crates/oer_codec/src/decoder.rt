@@ -1,7 +1,7 @@
 //! What finds the records of a value in octets.
 ghost use Rattle.std.specs.Prelude.{◌≡◌, ◌+◌, ◌-◌, ◌<◌, ◌≤◌, ◌^◌, [], ◌∷◌, true, false, length, take, OnOk, OnErr};
 ghost use Rattle.std.specs.Prelude.{IfErr, IfOk};
-ghost use Rattle.asn1_schema_decode.specs.Reads.{NoRecord};
+ghost use Rattle.asn1_schema_decode.specs.Reads.{NoRecord, AtOnce};
 ghost use Rattle.asn1_schema_presented.specs.Records.{asks_one_of, one_of};
 ghost use Rattle.oer_codec.specs.Held.{Held, Finds, HasFailed, kind_of, state_of, IsReady};
 ghost use Rattle.oer_codec.specs.Refusals.{NotOpened};
@@ -218,11 +218,16 @@ macro_rules! scope {
 impl<'input> asn1_schema_decode::Decoder for Decoder<'input> {
     ghost use Rattle.oer_codec.specs.Laws.{finds_one, finds_held, finds_bag_held, finds_none, finds_on};
     ghost use Rattle.oer_codec.specs.Laws.{finds_same};
+    ghost use Rattle.asn1_schema_decode.proofs.AtOnce.{at_once, records_at_once, values_at_once, members_at_once};
     ghost use Rattle.std.specs.Prelude.{⊤};
 
     type Octets = &'input [u8];
 
     ghost step = { Finds };
+
+    ghost too_few = { AtOnce };
+
+    ghost too_few_members = { AtOnce };
 
     ghost has_failed = { HasFailed };
 
@@ -276,7 +281,8 @@ impl<'input> asn1_schema_decode::Decoder for Decoder<'input> {
         ensures ok { IfOk result
             (λ x. Finds self.old (one_of T.roots T.extensible T.additions (T.number x)) self.new) }
         ensures level { OnOk result (self.new.levels ≡ self.old.levels) }
-        ensures only { IfErr result (NoRecord Finds (asks_one_of T.roots T.extensible T.additions) self.old) }
+        ensures only { IfErr result
+            (NoRecord Finds AtOnce (asks_one_of T.roots T.extensible T.additions) self.old self.new) }
         ensures failed { OnErr result (HasFailed self.new) }
         ensures already { HasFailed self.old → result ≡ Err DecodeError.AlreadyFailed }
         ensures after { result ≡ Err DecodeError.AlreadyFailed → HasFailed self.old }
@@ -496,6 +502,14 @@ impl<'input> asn1_schema_decode::Decoder for Decoder<'input> {
     ghost bag_held = { finds_bag_held };
 
     ghost goes_on = { finds_on };
+
+    ghost few_at_once = { at_once };
+
+    ghost records_carried = { records_at_once Finds };
+
+    ghost values_carried = { values_at_once Finds };
+
+    ghost members_carried = { members_at_once Finds finds_one };
 
     ghost none_after = { finds_none };
 

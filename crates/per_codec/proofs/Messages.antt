@@ -10,7 +10,7 @@ use Rattle.asn1_model.specs.Numbers.{octet_bits}
 use Rattle.asn1_model.specs.Per
 use Rattle.asn1_model.specs.Rules.{IsEncoding}
 use Rattle.asn1_laws_fronts.proofs.Units.{complete_whole}
-use Rattle.asn1_schema_decode.specs.Reads.{Reads as ReadsValue, Unread}
+use Rattle.asn1_schema_decode.specs.Reads.{Reads as ReadsValue, Unread, AtOnce}
 use Rattle.asn1_schema_faults.specs.declared.DecodeError.{DecodeError}
 use Rattle.asn1_schema_presented.proofs.Levels.{nests}
 use Rattle.asn1_schema_decode.specs.Messages.{HasMessage, Tells, NoMessage}
@@ -192,8 +192,8 @@ module _ (r : Variant) (schema : ℕ → Schema) (input : List ℕ) (lawful : Is
         padded = g;
       }
 
-  pub none_told : (e : DecodeError) → Unread Finds schema 128 (begun r input) e → NoMessage (rules_of r) schema input e
-  none_told e u = record { none = λ n v rest m. let f = found_again v rest m in u.none n f.value (held_at (begun r input) (f.left, []) 128 f.stands) f.fits f.chain }
+  pub none_told : {failed : Held} (e : DecodeError) → Unread Finds AtOnce schema 128 (begun r input) failed e → NoMessage (rules_of r) schema input e
+  none_told e u = record { none = λ n v rest m. let f = found_again v rest m in u.none n (begun r input) refl f.value (held_at (begun r input) (f.left, []) 128 f.stands) f.fits f.chain }
 
   pub none_finished : (e : DecodeError) (x : Value) (new : Held) → ReadsValue Finds schema 128 x (begun r input) new → ((b : Place) → Front (freedoms r) (completion new.place.0) new.place b → ⊥) → NoMessage (rules_of r) schema input e
   none_finished e x new t none = record {
@@ -203,8 +203,8 @@ module _ (r : Variant) (schema : ℕ → Schema) (input : List ℕ) (lawful : Is
         none f.after (subst (λ (h : Held). Front (freedoms r) (completion h.place.0) h.place f.after) (sym k.1) f.padded);
   }
 
-pub none_told_from : (r : Variant) (schema : ℕ → Schema) (input : List ℕ) (old : Held) (e : DecodeError) → IsLawful (schema 128) → old ≡ begun r input → Unread Finds schema old.levels old e → NoMessage (rules_of r) schema input e
-none_told_from r schema input old e lawful q u = none_told r schema input lawful e (subst (λ (h : Held). Unread Finds schema h.levels h e) q u)
+pub none_told_from : {failed : Held} (r : Variant) (schema : ℕ → Schema) (input : List ℕ) (old : Held) (e : DecodeError) → IsLawful (schema 128) → old ≡ begun r input → Unread Finds AtOnce schema old.levels old failed e → NoMessage (rules_of r) schema input e
+none_told_from {failed} r schema input old e lawful q u = none_told r schema input lawful e (subst (λ (h : Held). Unread Finds AtOnce schema h.levels h failed e) q u)
 
 pub none_finished_from : (r : Variant) (schema : ℕ → Schema) (input : List ℕ) (x : Value) (old new : Held) (e : DecodeError) → IsLawful (schema 128) → old ≡ begun r input → ReadsValue Finds schema old.levels x old new → (IsReady new → (b : Place) → Front (freedoms new.variant) (completion new.place.0) new.place b → ⊥) → NoMessage (rules_of r) schema input e
 none_finished_from r schema input x old new e lawful q t none =

@@ -10,7 +10,8 @@ use Rattle.std.specs.List.{list_all}
 use Rattle.asn1_model.specs.Normal.{is_bounded}
 use Rattle.asn1_model.specs.Per
 use Rattle.asn1_laws_fronts.proofs.PerNumbers.{length_of_map}
-use Rattle.asn1_schema_decode.specs.Reads.{NoRecord}
+use Rattle.asn1_schema_decode.specs.Reads.{NoRecord, AtOnce}
+use Rattle.asn1_schema_decode.proofs.AtOnce.{none_at_once}
 use Rattle.asn1_schema_faults.specs.declared.DecodeError.{DecodeError}
 use Rattle.asn1_schema_presented.specs.Records.{Record, Question, question, flag, nil, whole, one_of, bits, octets, characters, identifier, further, asks_flag, asks_nil, asks_whole, asks_one_of, asks_bits, asks_octets, asks_characters, asks_identifier, asks_further}
 use Rattle.per_codec_fronts.specs.Takes.{Place, Scope, components, State, Front, Found, NextMember, Begins, Takes}
@@ -62,10 +63,10 @@ module _ (al : Bool) (free : Per.Freedom → Bool) (a b : State) where
   asked_identifier r k t = cc k
 
 -- none of a type is found where none stands in front
-pub none_found : (old now : Held) (q : Question) (s : Schema) (e x : DecodeError) → now ≡ old → x ≡ e → Misses (freedoms now.variant) (Per.form (is_aligned now.variant) s) now.place e → ((al : Bool) (free : Per.Freedom → Bool) (a b : State) (r : Record) → question r ≡ q → Takes al free a r b → OfType al free a b s) → NoRecord Finds q old x
+pub none_found : {failed : Held} (old now : Held) (q : Question) (s : Schema) (e x : DecodeError) → now ≡ old → x ≡ e → Misses (freedoms now.variant) (Per.form (is_aligned now.variant) s) now.place e → ((al : Bool) (free : Per.Freedom → Bool) (a b : State) (r : Record) → question r ≡ q → Takes al free a r b → OfType al free a b s) → NoRecord Finds AtOnce q old failed x
 none_found old now q s e x same faults m asked =
     let n : Misses (freedoms old.variant) (Per.form (is_aligned old.variant) s) old.place e = subst (λ (h : Held). Misses (freedoms h.variant) (Per.form (is_aligned h.variant) s) h.place e) same m in
-    record { none = λ i r new k p. let t = asked (is_aligned old.variant) (freedoms old.variant) (state_of old) (state_of new) r k p.taken in missed (freedoms old.variant) (Per.form (is_aligned old.variant) s) old.place e n (λ y. i (faults ∙ y)) t.0 new.place t.1.0 }
+    none_at_once Finds (λ i r new k p. let t = asked (is_aligned old.variant) (freedoms old.variant) (state_of old) (state_of new) r k p.taken in missed (freedoms old.variant) (Per.form (is_aligned old.variant) s) old.place e n (λ y. i (faults ∙ y)) t.0 new.place t.1.0)
 
 -- ---- what a form says of a value
 module _ (free : Per.Freedom → Bool) (al : Bool) (a b : Place) where
@@ -116,7 +117,7 @@ asked_further : (al : Bool) (free : Per.Freedom → Bool) (a b : State) (r : Rec
 asked_further al free a b (further v) k t = (v, t)
 asked_further al free a b r k t = cc k
 
-pub no_member : (old now : Held) (e x : DecodeError) → now ≡ old → x ≡ e → NoFurther (is_aligned now.variant) (freedoms now.variant) now.place now.scopes e → NoRecord Finds asks_further old x
+pub no_member : {failed : Held} (old now : Held) (e x : DecodeError) → now ≡ old → x ≡ e → NoFurther (is_aligned now.variant) (freedoms now.variant) now.place now.scopes e → NoRecord Finds AtOnce asks_further old failed x
 no_member old now e x same faults m =
     let n : NoFurther (is_aligned old.variant) (freedoms old.variant) old.place old.scopes e = subst (λ (g : Held). NoFurther (is_aligned g.variant) (freedoms g.variant) g.place g.scopes e) same m in
-    record { none = λ i r new k p. let t = asked_further (is_aligned old.variant) (freedoms old.variant) (state_of old) (state_of new) r k p.taken in n.none (λ y. i (faults ∙ y)) t.0 (state_of new) t.1 }
+    none_at_once Finds (λ i r new k p. let t = asked_further (is_aligned old.variant) (freedoms old.variant) (state_of old) (state_of new) r k p.taken in n.none (λ y. i (faults ∙ y)) t.0 (state_of new) t.1)

@@ -6,7 +6,8 @@ use Rattle.asn1_schema_presented.specs.Levels.{level}
 use Rattle.asn1_model.specs.Schema.{Counts, Size, Tag}
 use Rattle.asn1_model.specs.Numbers.{octet_bits, is_count_within}
 use Rattle.asn1_model.specs.Per
-use Rattle.asn1_schema_decode.specs.Reads.{NoRecord, NoLevel}
+use Rattle.asn1_schema_decode.specs.Reads.{NoRecord, NoLevel, AtOnce}
+use Rattle.asn1_schema_decode.proofs.AtOnce.{none_at_once, no_level_at_once}
 use Rattle.asn1_schema_faults.specs.declared.DecodeError.{DecodeError}
 use Rattle.asn1_schema_faults.specs.declared.DecodeError.TheVariants.{OutOfMemory}
 use Rattle.asn1_schema_presented.specs.Records.{Record, Question, question, list_begins, bag_begins, sequence_begins, set_begins, group_begins, additions_begin, addition, addition_ends, choice_begins, ends}
@@ -82,19 +83,15 @@ asked_bag : (al : Bool) (free : Per.Freedom → Bool) (z : Size) (h : Counts) (a
 asked_bag al free z h a b (bag_begins y i n) k t = let p : bag_begins y i n ≡ bag_begins z h n = cc k in (n, subst (λ r. Takes al free a r b) p t)
 asked_bag al free z h a b r k t = cc k
 
-pub no_list : (old : Held) (z y : Size) (h : Counts) (x : DecodeError) → y ≡ z → NotMembers old y h x → NoLevel Finds (asks_list z h) old.levels old x
-no_list old z y h x e m = record {
-  none = λ i l r new k p.
-      let t = asked_list (is_aligned old.variant) (freedoms old.variant) z h (state_of old) (state_of new) r k p.taken in
-      (subst (λ s. NotMembers old s h x) e m p.ready l).none i t.0 old.scopes (state_of new) t.1;
-}
+pub no_list : {failed : Held} (old : Held) (z y : Size) (h : Counts) (x : DecodeError) → y ≡ z → NotMembers old y h x → NoLevel Finds AtOnce (asks_list z h) old.levels old failed x
+no_list old z y h x e m = no_level_at_once Finds (λ i l r new k p.
+    let t = asked_list (is_aligned old.variant) (freedoms old.variant) z h (state_of old) (state_of new) r k p.taken in
+    (subst (λ s. NotMembers old s h x) e m p.ready l).none i t.0 old.scopes (state_of new) t.1)
 
-pub no_bag : (old : Held) (z y : Size) (h : Counts) (x : DecodeError) → y ≡ z → NotMembers old y h x → NoLevel Finds (asks_bag z h) old.levels old x
-no_bag old z y h x e m = record {
-  none = λ i l r new k p.
-      let t = asked_bag (is_aligned old.variant) (freedoms old.variant) z h (state_of old) (state_of new) r k p.taken in
-      (subst (λ s. NotMembers old s h x) e m p.ready l).none i t.0 old.scopes (state_of new) t.1;
-}
+pub no_bag : {failed : Held} (old : Held) (z y : Size) (h : Counts) (x : DecodeError) → y ≡ z → NotMembers old y h x → NoLevel Finds AtOnce (asks_bag z h) old.levels old failed x
+no_bag old z y h x e m = no_level_at_once Finds (λ i l r new k p.
+    let t = asked_bag (is_aligned old.variant) (freedoms old.variant) z h (state_of old) (state_of new) r k p.taken in
+    (subst (λ s. NotMembers old s h x) e m p.ready l).none i t.0 old.scopes (state_of new) t.1)
 
 -- ---- sequences, sets and groups
 pub components_entered : (old new : Held) (e : Bool) (n : ℕ) (r : Record) → ((a b : State) → Begins (freedoms old.variant) e n a b → Takes (is_aligned old.variant) (freedoms old.variant) a r b) → ((most l : ℕ) → level most r (suc l) ≡ Some l) → ((p : Place) (k : List Scope) → old.stands ≡ kept old r p k) → EntersComponents old e n new → Finds old r new
@@ -112,20 +109,18 @@ asked_group : (al : Bool) (free : Per.Freedom → Bool) (n : ℕ) (a b : State) 
 asked_group al free n a b (group_begins m) k t = let p : group_begins m ≡ group_begins n = cc k in subst (λ r. Takes al free a r b) p t
 asked_group al free n a b r k t = cc k
 
-no_components : (q : Question) (old : Held) (e : Bool) (n : ℕ) (x : DecodeError) → ((al : Bool) (free : Per.Freedom → Bool) (a b : State) (r : Record) → question r ≡ q → Takes al free a r b → Begins free e n a b) → NotComponents old e n x → NoLevel Finds q old.levels old x
-no_components q old e n x asked m = record {
-  none = λ i l r new k p.
-      let t = asked (is_aligned old.variant) (freedoms old.variant) (state_of old) (state_of new) r k p.taken in
-      m p.ready l i (components t.0 t.1) new.place (t.2, t.3, t.4);
-}
+no_components : {failed : Held} (q : Question) (old : Held) (e : Bool) (n : ℕ) (x : DecodeError) → ((al : Bool) (free : Per.Freedom → Bool) (a b : State) (r : Record) → question r ≡ q → Takes al free a r b → Begins free e n a b) → NotComponents old e n x → NoLevel Finds AtOnce q old.levels old failed x
+no_components q old e n x asked m = no_level_at_once Finds (λ i l r new k p.
+    let t = asked (is_aligned old.variant) (freedoms old.variant) (state_of old) (state_of new) r k p.taken in
+    m p.ready l i (components t.0 t.1) new.place (t.2, t.3, t.4))
 
-pub no_sequence : (old : Held) (e : Bool) (n : ℕ) (x : DecodeError) → NotComponents old e n x → NoLevel Finds (asks_sequence e n) old.levels old x
+pub no_sequence : {failed : Held} (old : Held) (e : Bool) (n : ℕ) (x : DecodeError) → NotComponents old e n x → NoLevel Finds AtOnce (asks_sequence e n) old.levels old failed x
 no_sequence old e n x m = no_components (asks_sequence e n) old e n x (λ al free a b r. asked_sequence al free e n a b r) m
 
-pub no_set : (old : Held) (e : Bool) (n : ℕ) (x : DecodeError) → NotComponents old e n x → NoLevel Finds (asks_set e n) old.levels old x
+pub no_set : {failed : Held} (old : Held) (e : Bool) (n : ℕ) (x : DecodeError) → NotComponents old e n x → NoLevel Finds AtOnce (asks_set e n) old.levels old failed x
 no_set old e n x m = no_components (asks_set e n) old e n x (λ al free a b r. asked_set al free e n a b r) m
 
-pub no_group : (old : Held) (n : ℕ) (x : DecodeError) → NotComponents old false n x → NoLevel Finds (asks_group n) old.levels old x
+pub no_group : {failed : Held} (old : Held) (n : ℕ) (x : DecodeError) → NotComponents old false n x → NoLevel Finds AtOnce (asks_group n) old.levels old failed x
 no_group old n x m = no_components (asks_group n) old false n x (λ al free a b r. asked_group al free n a b r) m
 
 -- ---- additions
@@ -154,38 +149,32 @@ asked_additions : (al : Bool) (free : Per.Freedom → Bool) (n : ℕ) (a b : Sta
 asked_additions al free n a b (additions_begin m) k t = let p : additions_begin m ≡ additions_begin n = cc k in subst (λ r. Takes al free a r b) p t
 asked_additions al free n a b r k t = cc k
 
-pub none_come : (old now : Held) (n : ℕ) (x : DecodeError) → now ≡ old → NoAdditions now.scopes → NoRecord Finds (asks_additions n) old x
-none_come old now n x same none = record {
-  none = λ i r new k p.
-      let t = asked_additions (is_aligned old.variant) (freedoms old.variant) n (state_of old) (state_of new) r k p.taken in
-      none (is_aligned old.variant) (freedoms old.variant) n old.place (state_of new) (subst (λ (h : Held). AdditionsBegin (is_aligned old.variant) (freedoms old.variant) n old.place h.scopes (state_of new)) (sym same) t);
-}
+pub none_come : {failed : Held} (old now : Held) (n : ℕ) (x : DecodeError) → now ≡ old → NoAdditions now.scopes → NoRecord Finds AtOnce (asks_additions n) old failed x
+none_come old now n x same none = none_at_once Finds (λ i r new k p.
+    let t = asked_additions (is_aligned old.variant) (freedoms old.variant) n (state_of old) (state_of new) r k p.taken in
+    none (is_aligned old.variant) (freedoms old.variant) n old.place (state_of new) (subst (λ (h : Held). AdditionsBegin (is_aligned old.variant) (freedoms old.variant) n old.place h.scopes (state_of new)) (sym same) t))
 
 bitmap_in : (al : Bool) (free : Per.Freedom → Bool) (n : ℕ) (m : Bool) (a : Place) (k : List Scope) (b : State) → AdditionsBegin al free n a (components (Some m) [] ∷ k) b → (bs : List Bool) × HasBitmap free al m bs a b.0
 bitmap_in al free n false a k b t = ([], (refl, ap (λ (s : State). s.0) t))
 bitmap_in al free n true a k b t = (t.0, t.2)
 
-pub no_bitmap : (old now : Held) (n : ℕ) (m : Bool) (k : List Scope) (e x : DecodeError) → now ≡ old → x ≡ e → now.scopes ≡ components (Some m) [] ∷ k → NoBitmap (freedoms now.variant) (is_aligned now.variant) m now.place e → NoRecord Finds (asks_additions n) old x
-no_bitmap old now n m k e x same faults h none =
-    let here : NoRecord Finds (asks_additions n) now x = record {
-      none = λ i r new q p.
-          let t = asked_additions (is_aligned now.variant) (freedoms now.variant) n (state_of now) (state_of new) r q p.taken in
-          let u = subst (λ (l : List Scope). AdditionsBegin (is_aligned now.variant) (freedoms now.variant) n now.place l (state_of new)) h t in
-          let b = bitmap_in (is_aligned now.variant) (freedoms now.variant) n m now.place k (state_of new) u in
-          none (λ y. i (faults ∙ y)) b.0 new.place b.1;
-    } in
-    subst (λ (g : Held). NoRecord Finds (asks_additions n) g x) same here
+pub no_bitmap : {failed : Held} (old now : Held) (n : ℕ) (m : Bool) (k : List Scope) (e x : DecodeError) → now ≡ old → x ≡ e → now.scopes ≡ components (Some m) [] ∷ k → NoBitmap (freedoms now.variant) (is_aligned now.variant) m now.place e → NoRecord Finds AtOnce (asks_additions n) old failed x
+no_bitmap {failed} old now n m k e x same faults h none =
+    let here : NoRecord Finds AtOnce (asks_additions n) now failed x = none_at_once Finds (λ i r new q p.
+    let t = asked_additions (is_aligned now.variant) (freedoms now.variant) n (state_of now) (state_of new) r q p.taken in
+    let u = subst (λ (l : List Scope). AdditionsBegin (is_aligned now.variant) (freedoms now.variant) n now.place l (state_of new)) h t in
+    let b = bitmap_in (is_aligned now.variant) (freedoms now.variant) n m now.place k (state_of new) u in
+    none (λ y. i (faults ∙ y)) b.0 new.place b.1) in
+    subst (λ (g : Held). NoRecord Finds AtOnce (asks_additions n) g failed x) same here
 
 asked_addition : (al : Bool) (free : Per.Freedom → Bool) (a b : State) (r : Record) → question r ≡ asks_addition → Takes al free a r b → (v : Bool) × NextAddition al free v a.0 a.1 b
 asked_addition al free a b (addition v) k t = (v, t)
 asked_addition al free a b r k t = cc k
 
-pub no_addition_due : (old now : Held) (x : DecodeError) → now ≡ old → NoFlag now.scopes → NoRecord Finds asks_addition old x
-no_addition_due old now x same none = record {
-  none = λ i r new k p.
-      let t = asked_addition (is_aligned old.variant) (freedoms old.variant) (state_of old) (state_of new) r k p.taken in
-      none (is_aligned old.variant) (freedoms old.variant) t.0 old.place (state_of new) (subst (λ (h : Held). NextAddition (is_aligned old.variant) (freedoms old.variant) t.0 old.place h.scopes (state_of new)) (sym same) t.1);
-}
+pub no_addition_due : {failed : Held} (old now : Held) (x : DecodeError) → now ≡ old → NoFlag now.scopes → NoRecord Finds AtOnce asks_addition old failed x
+no_addition_due old now x same none = none_at_once Finds (λ i r new k p.
+    let t = asked_addition (is_aligned old.variant) (freedoms old.variant) (state_of old) (state_of new) r k p.taken in
+    none (is_aligned old.variant) (freedoms old.variant) t.0 old.place (state_of new) (subst (λ (h : Held). NextAddition (is_aligned old.variant) (freedoms old.variant) t.0 old.place h.scopes (state_of new)) (sym same) t.1))
 
 -- one that is not there
 pub addition_absent : (old now new : Held) (v : Bool) (k : List Scope) → now ≡ old → IsReady old → v ≡ false → Flags v now.scopes k → new ≡ record { place = now.place; scopes = k; levels = now.levels; most = now.most; failed = now.failed; variant = now.variant; stands = now.stands } → Finds old (addition v) new
@@ -206,29 +195,25 @@ addition_there old now mid new true k same ready e g z f =
 flagged : (al : Bool) (free : Per.Freedom → Bool) (u : Bool) (a : Place) (ms us : List Bool) (k : List Scope) (b : State) → NextAddition al free u a (added (true ∷ ms) us ∷ k) b → Opens al free a (added ms us ∷ k) b
 flagged al free u a ms us k b t = t.1
 
-pub no_addition_opens : (old now mid : Held) (v : Bool) (k : List Scope) (e x : DecodeError) → now ≡ old → x ≡ e → v ≡ true → Flags v now.scopes k → mid ≡ record { place = now.place; scopes = k; levels = now.levels; most = now.most; failed = now.failed; variant = now.variant; stands = now.stands } → NoOpening mid e → NoRecord Finds asks_addition old x
+pub no_addition_opens : {failed : Held} (old now mid : Held) (v : Bool) (k : List Scope) (e x : DecodeError) → now ≡ old → x ≡ e → v ≡ true → Flags v now.scopes k → mid ≡ record { place = now.place; scopes = k; levels = now.levels; most = now.most; failed = now.failed; variant = now.variant; stands = now.stands } → NoOpening mid e → NoRecord Finds AtOnce asks_addition old failed x
 no_addition_opens old now mid false k e x same faults t g z none = cc
-no_addition_opens old now mid true k e x same faults t g z none =
+no_addition_opens {failed} old now mid true k e x same faults t g z none =
     let own : Held = record { place = now.place; scopes = k; levels = now.levels; most = now.most; failed = now.failed; variant = now.variant; stands = now.stands } in
     let w : NoOpening own e = subst (λ (h : Held). NoOpening h e) z none in
-    let here : NoRecord Finds asks_addition now x = record {
-      none = λ i r new q p.
-          let s = asked_addition (is_aligned now.variant) (freedoms now.variant) (state_of now) (state_of new) r q p.taken in
-          let u = subst (λ (l : List Scope). NextAddition (is_aligned now.variant) (freedoms now.variant) s.0 now.place l (state_of new)) g.3 s.1 in
-          w (λ y. i (faults ∙ y)) (added g.0 g.1 ∷ g.2) (state_of new) (flagged (is_aligned now.variant) (freedoms now.variant) s.0 now.place g.0 g.1 g.2 (state_of new) u);
-    } in
-    subst (λ (h : Held). NoRecord Finds asks_addition h x) same here
+    let here : NoRecord Finds AtOnce asks_addition now failed x = none_at_once Finds (λ i r new q p.
+    let s = asked_addition (is_aligned now.variant) (freedoms now.variant) (state_of now) (state_of new) r q p.taken in
+    let u = subst (λ (l : List Scope). NextAddition (is_aligned now.variant) (freedoms now.variant) s.0 now.place l (state_of new)) g.3 s.1 in
+    w (λ y. i (faults ∙ y)) (added g.0 g.1 ∷ g.2) (state_of new) (flagged (is_aligned now.variant) (freedoms now.variant) s.0 now.place g.0 g.1 g.2 (state_of new) u)) in
+    subst (λ (h : Held). NoRecord Finds AtOnce asks_addition h failed x) same here
 
 asked_addition_end : (al : Bool) (free : Per.Freedom → Bool) (a b : State) (r : Record) → question r ≡ asks_addition_end → Takes al free a r b → AdditionEnds free a.0 a.1 b
 asked_addition_end al free a b addition_ends k t = t
 asked_addition_end al free a b r k t = cc k
 
-pub no_addition_ends : (old now : Held) (x : DecodeError) → now ≡ old → NoAdditionEnd now.scopes → NoRecord Finds asks_addition_end old x
-no_addition_ends old now x same none = record {
-  none = λ i r new k p.
-      let t = asked_addition_end (is_aligned old.variant) (freedoms old.variant) (state_of old) (state_of new) r k p.taken in
-      none (freedoms old.variant) old.place (state_of new) (subst (λ (h : Held). AdditionEnds (freedoms old.variant) old.place h.scopes (state_of new)) (sym same) t);
-}
+pub no_addition_ends : {failed : Held} (old now : Held) (x : DecodeError) → now ≡ old → NoAdditionEnd now.scopes → NoRecord Finds AtOnce asks_addition_end old failed x
+no_addition_ends old now x same none = none_at_once Finds (λ i r new k p.
+    let t = asked_addition_end (is_aligned old.variant) (freedoms old.variant) (state_of old) (state_of new) r k p.taken in
+    none (freedoms old.variant) old.place (state_of new) (subst (λ (h : Held). AdditionEnds (freedoms old.variant) old.place h.scopes (state_of new)) (sym same) t))
 
 -- the innermost scope is left
 abbrev pub left : Held → List Scope → List Storage → Held
@@ -251,17 +236,15 @@ addition_ended old now mid new behind k s l l' same ready g v w z f c =
     let u : Closes (freedoms now.variant) now.place behind.place (added g.1.0 g.1.1 ∷ g.1.2) (new.place, k) = subst (λ (l : List Scope). Closes (freedoms now.variant) now.place behind.place l (new.place, k)) g.1.3 t in
     steps old now new new.place k now.levels addition_ends (behind.storage ∷ l') same ready (subst (λ (l : List Scope). AdditionEnds (freedoms now.variant) now.place l (new.place, k)) (sym i) u) refl (sym w ∙ ap (drop 1) (sym v)) (passed_to now mid new (Padded behind) k (s ∷ l') z f)
 
-pub addition_open : (old now mid : Held) (behind : Stretched) (k : List Scope) (l : List Storage) (e x : DecodeError) → now ≡ old → LeavesAddition behind.place now.scopes k → mid ≡ left now k l → NotPassed (is_aligned mid.variant) (freedoms mid.variant) (Padded behind) mid.place e → NoRecord Finds asks_addition_end old x
-addition_open old now mid behind k l e x same g z c =
+pub addition_open : {failed : Held} (old now mid : Held) (behind : Stretched) (k : List Scope) (l : List Storage) (e x : DecodeError) → now ≡ old → LeavesAddition behind.place now.scopes k → mid ≡ left now k l → NotPassed (is_aligned mid.variant) (freedoms mid.variant) (Padded behind) mid.place e → NoRecord Finds AtOnce asks_addition_end old failed x
+addition_open {failed} old now mid behind k l e x same g z c =
     let d : NotPassedAt (left now k l) (Padded behind) e = subst (λ (h : Held). NotPassedAt h (Padded behind) e) z c in
     let s : now.scopes ≡ open_type behind.place ∷ added g.1.0 g.1.1 ∷ g.1.2 = g.0 ∙ ap (λ (l : List Scope). open_type behind.place ∷ l) g.1.3 in
-    let here : NoRecord Finds asks_addition_end now x = record {
-      none = λ i r new q p.
-          let t = asked_addition_end (is_aligned now.variant) (freedoms now.variant) (state_of now) (state_of new) r q p.taken in
-          let u = subst (λ (l : List Scope). AdditionEnds (freedoms now.variant) now.place l (state_of new)) s t in
-          d behind.place (added g.1.0 g.1.1 ∷ g.1.2) (state_of new) u;
-    } in
-    subst (λ (h : Held). NoRecord Finds asks_addition_end h x) same here
+    let here : NoRecord Finds AtOnce asks_addition_end now failed x = none_at_once Finds (λ i r new q p.
+    let t = asked_addition_end (is_aligned now.variant) (freedoms now.variant) (state_of now) (state_of new) r q p.taken in
+    let u = subst (λ (l : List Scope). AdditionEnds (freedoms now.variant) now.place l (state_of new)) s t in
+    d behind.place (added g.1.0 g.1.1 ∷ g.1.2) (state_of new) u) in
+    subst (λ (h : Held). NoRecord Finds AtOnce asks_addition_end h failed x) same here
 
 -- ---- the end
 asked_end : (al : Bool) (free : Per.Freedom → Bool) (a b : State) (r : Record) → question r ≡ asks_end → Takes al free a r b → (r ≡ ends) × Ends al free a.0 a.1 b
@@ -304,36 +287,30 @@ ended old now mid new w k b o l l' same ready m g v h z p f =
     let u : level now.most ends now.levels ≡ Some (now.levels + 1) = ap (λ c. cond c (Some (suc now.levels)) None) (lt-ltb now.levels now.most m) ∙ ap (λ (n : ℕ). Some n) (omega arith) in
     steps old now new b k (now.levels + 1) ends (stands_behind w (o ∷ l')) same ready (end_in (is_aligned now.variant) now.variant w now.scopes k now.place b g q) u (kept_behind w now.scopes k o l l' g h ∙ ap (stands_outside now.scopes) (sym v)) f
 
-pub no_end : (old now : Held) (x : DecodeError) → now ≡ old → NoEnd now.scopes → NoRecord Finds asks_end old x
-no_end old now x same none = record {
-  none = λ i r new k p.
-      let t = asked_end (is_aligned old.variant) (freedoms old.variant) (state_of old) (state_of new) r k p.taken in
-      none (is_aligned old.variant) (freedoms old.variant) old.place (state_of new) (subst (λ (h : Held). Ends (is_aligned old.variant) (freedoms old.variant) old.place h.scopes (state_of new)) (sym same) t.1);
-}
+pub no_end : {failed : Held} (old now : Held) (x : DecodeError) → now ≡ old → NoEnd now.scopes → NoRecord Finds AtOnce asks_end old failed x
+no_end old now x same none = none_at_once Finds (λ i r new k p.
+    let t = asked_end (is_aligned old.variant) (freedoms old.variant) (state_of old) (state_of new) r k p.taken in
+    none (is_aligned old.variant) (freedoms old.variant) old.place (state_of new) (subst (λ (h : Held). Ends (is_aligned old.variant) (freedoms old.variant) old.place h.scopes (state_of new)) (sym same) t.1))
 
 outside_none : (l most n : ℕ) (t : Bool) → ltb l most ≡ t → most ≤ l → cond t (Some (suc l)) None ≡ Some n → ⊥
 outside_none l most n true e h v = let i = ltb-true l most e in omega (arith, i, h)
 outside_none l most n false e h v = cc
 
-pub no_level_outside : (old now : Held) (x : DecodeError) → now ≡ old → now.most ≤ now.levels → NoRecord Finds asks_end old x
-no_level_outside old now x same l =
-    let here : NoRecord Finds asks_end now x = record {
-      none = λ i r new k p.
-          let t = asked_end (is_aligned now.variant) (freedoms now.variant) (state_of now) (state_of new) r k p.taken in
-          let v : level now.most ends now.levels ≡ Some new.levels = subst (λ (y : Record). level now.most y now.levels ≡ Some new.levels) t.0 p.levels in
-          outside_none now.levels now.most new.levels (ltb now.levels now.most) refl l v;
-    } in
-    subst (λ (h : Held). NoRecord Finds asks_end h x) same here
+pub no_level_outside : {failed : Held} (old now : Held) (x : DecodeError) → now ≡ old → now.most ≤ now.levels → NoRecord Finds AtOnce asks_end old failed x
+no_level_outside {failed} old now x same l =
+    let here : NoRecord Finds AtOnce asks_end now failed x = none_at_once Finds (λ i r new k p.
+    let t = asked_end (is_aligned now.variant) (freedoms now.variant) (state_of now) (state_of new) r k p.taken in
+    let v : level now.most ends now.levels ≡ Some new.levels = subst (λ (y : Record). level now.most y now.levels ≡ Some new.levels) t.0 p.levels in
+    outside_none now.levels now.most new.levels (ltb now.levels now.most) refl l v) in
+    subst (λ (h : Held). NoRecord Finds AtOnce asks_end h failed x) same here
 
-pub not_ended : (old now mid : Held) (w : Ending) (k : List Scope) (l : List Storage) (e x : DecodeError) → now ≡ old → x ≡ e → Leaves w now.scopes k → mid ≡ left now k l → NotPassed (is_aligned mid.variant) (freedoms mid.variant) w mid.place e → NoRecord Finds asks_end old x
-not_ended old now mid w k l e x same faults g z c =
+pub not_ended : {failed : Held} (old now mid : Held) (w : Ending) (k : List Scope) (l : List Storage) (e x : DecodeError) → now ≡ old → x ≡ e → Leaves w now.scopes k → mid ≡ left now k l → NotPassed (is_aligned mid.variant) (freedoms mid.variant) w mid.place e → NoRecord Finds AtOnce asks_end old failed x
+not_ended {failed} old now mid w k l e x same faults g z c =
     let d : NotPassed (is_aligned now.variant) (freedoms now.variant) w now.place e = subst (λ (h : Held). NotPassed (is_aligned h.variant) (freedoms h.variant) w h.place e) z c in
-    let here : NoRecord Finds asks_end now x = record {
-      none = λ i r new q p.
-          let t = asked_end (is_aligned now.variant) (freedoms now.variant) (state_of now) (state_of new) r q p.taken in
-          end_out (is_aligned now.variant) (freedoms now.variant) w now.scopes k now.place e g d (λ y. i (faults ∙ y)) (state_of new) t.1;
-    } in
-    subst (λ (h : Held). NoRecord Finds asks_end h x) same here
+    let here : NoRecord Finds AtOnce asks_end now failed x = none_at_once Finds (λ i r new q p.
+    let t = asked_end (is_aligned now.variant) (freedoms now.variant) (state_of now) (state_of new) r q p.taken in
+    end_out (is_aligned now.variant) (freedoms now.variant) w now.scopes k now.place e g d (λ y. i (faults ∙ y)) (state_of new) t.1) in
+    subst (λ (h : Held). NoRecord Finds AtOnce asks_end h failed x) same here
 
 -- ---- what is left where a scope ends
 pub passed_on : (old now new : Held) (w : Ending) (m : List Storage) → now ≡ old → m ≡ stands_behind w now.stands → new ≡ record { place = new.place; scopes = now.scopes; levels = now.levels; most = now.most; failed = now.failed; variant = now.variant; stands = m } → Passes (is_aligned now.variant) (freedoms now.variant) w now.place new.place → HasPassed w old new × Passes (is_aligned old.variant) (freedoms old.variant) w old.place new.place
@@ -444,36 +421,32 @@ asked_choice al free xs e ys a b (choice_begins us d ws v i) k t =
     (v, i, u)
 asked_choice al free xs e ys a b r k t = cc k
 
-pub no_place : (old now : Held) (xs : List Tag) (e : Bool) (ys : List Tag) (n m : ℕ) (here : Place) (x : DecodeError) → now ≡ old → n ≡ length xs → m ≡ length ys → here ≡ now.place → Misses (freedoms now.variant) (place_form (is_aligned now.variant) n e m) here x → NoLevel Finds (asks_choice xs e ys) old.levels old x
-no_place old now xs e ys n m here x same p q h none =
+pub no_place : {failed : Held} (old now : Held) (xs : List Tag) (e : Bool) (ys : List Tag) (n m : ℕ) (here : Place) (x : DecodeError) → now ≡ old → n ≡ length xs → m ≡ length ys → here ≡ now.place → Misses (freedoms now.variant) (place_form (is_aligned now.variant) n e m) here x → NoLevel Finds AtOnce (asks_choice xs e ys) old.levels old failed x
+no_place {failed} old now xs e ys n m here x same p q h none =
     let f = freedoms now.variant in
     let al = is_aligned now.variant in
-    let lost : NoLevel Finds (asks_choice xs e ys) now.levels now x = record {
-      none = λ i l r new k g.
-          let t = asked_choice al f xs e ys (state_of now) (state_of new) r k g.taken in
-          let c = chosen_front al f (length xs) e (length ys) t.0 t.1 (state_of now) (state_of new) t.2 in
-          let d : Chosen = record { added = t.0; place = t.1 } in
-          let u : Front f (place_form al n e m d) now.place c.0 = subst (λ j. Front f (place_form al j e m d) now.place c.0) (sym p) (subst (λ j. Front f (place_form al (length xs) e j d) now.place c.0) (sym q) c.1) in
-          missed f (place_form al n e m) here x none i d c.0 (subst (λ (y : Place). Front f (place_form al n e m d) y c.0) (sym h) u);
-    } in
-    subst (λ (g : Held). NoLevel Finds (asks_choice xs e ys) g.levels g x) same lost
+    let lost : NoLevel Finds AtOnce (asks_choice xs e ys) now.levels now failed x = no_level_at_once Finds (λ i l r new k g.
+    let t = asked_choice al f xs e ys (state_of now) (state_of new) r k g.taken in
+    let c = chosen_front al f (length xs) e (length ys) t.0 t.1 (state_of now) (state_of new) t.2 in
+    let d : Chosen = record { added = t.0; place = t.1 } in
+    let u : Front f (place_form al n e m d) now.place c.0 = subst (λ j. Front f (place_form al j e m d) now.place c.0) (sym p) (subst (λ j. Front f (place_form al (length xs) e j d) now.place c.0) (sym q) c.1) in
+    missed f (place_form al n e m) here x none i d c.0 (subst (λ (y : Place). Front f (place_form al n e m d) y c.0) (sym h) u)) in
+    subst (λ (g : Held). NoLevel Finds AtOnce (asks_choice xs e ys) g.levels g failed x) same lost
 
-pub no_chosen_type : (old now mid : Held) (xs : List Tag) (e : Bool) (ys : List Tag) (n m : ℕ) (c : Chosen) (here there : Place) (x : DecodeError) → now ≡ old → n ≡ length xs → m ≡ length ys → here ≡ now.place → c.added ≡ true → Front (freedoms now.variant) (place_form (is_aligned now.variant) n e m c) here there → mid ≡ record { place = there; scopes = now.scopes; levels = now.levels; most = now.most; failed = now.failed; variant = now.variant; stands = now.stands } → NoOpening mid x → NoLevel Finds (asks_choice xs e ys) old.levels old x
-no_chosen_type old now mid xs e ys n m c here there x same p q h t fr z none =
+pub no_chosen_type : {failed : Held} (old now mid : Held) (xs : List Tag) (e : Bool) (ys : List Tag) (n m : ℕ) (c : Chosen) (here there : Place) (x : DecodeError) → now ≡ old → n ≡ length xs → m ≡ length ys → here ≡ now.place → c.added ≡ true → Front (freedoms now.variant) (place_form (is_aligned now.variant) n e m c) here there → mid ≡ record { place = there; scopes = now.scopes; levels = now.levels; most = now.most; failed = now.failed; variant = now.variant; stands = now.stands } → NoOpening mid x → NoLevel Finds AtOnce (asks_choice xs e ys) old.levels old failed x
+no_chosen_type {failed} old now mid xs e ys n m c here there x same p q h t fr z none =
     let f = freedoms now.variant in
     let al = is_aligned now.variant in
     let own : Held = record { place = there; scopes = now.scopes; levels = now.levels; most = now.most; failed = now.failed; variant = now.variant; stands = now.stands } in
     let w : NoOpening own x = subst (λ (g : Held). NoOpening g x) z none in
     let a : Front f (place_form al (length xs) e (length ys) c) now.place there = subst (λ (y : Place). Front f (place_form al (length xs) e (length ys) c) y there) h (subst (λ j. Front f (place_form al j e (length ys) c) here there) p (subst (λ j. Front f (place_form al n e j c) here there) q fr)) in
-    let lost : NoLevel Finds (asks_choice xs e ys) now.levels now x = record {
-      none = λ i l r new k g.
-          let s = asked_choice al f xs e ys (state_of now) (state_of new) r k g.taken in
-          let d : Chosen = record { added = s.0; place = s.1 } in
-          let u = chosen_front al f (length xs) e (length ys) s.0 s.1 (state_of now) (state_of new) s.2 in
-          let o = place_one f al (length xs) e (length ys) c d now.place there u.0 a u.1 in
-          w i now.scopes (state_of new) (subst (λ (y : Place). Opens al f y now.scopes (state_of new)) (sym o.1) (u.2 (sym o.0 ∙ t)));
-    } in
-    subst (λ (g : Held). NoLevel Finds (asks_choice xs e ys) g.levels g x) same lost
+    let lost : NoLevel Finds AtOnce (asks_choice xs e ys) now.levels now failed x = no_level_at_once Finds (λ i l r new k g.
+    let s = asked_choice al f xs e ys (state_of now) (state_of new) r k g.taken in
+    let d : Chosen = record { added = s.0; place = s.1 } in
+    let u = chosen_front al f (length xs) e (length ys) s.0 s.1 (state_of now) (state_of new) s.2 in
+    let o = place_one f al (length xs) e (length ys) c d now.place there u.0 a u.1 in
+    w i now.scopes (state_of new) (subst (λ (y : Place). Opens al f y now.scopes (state_of new)) (sym o.1) (u.2 (sym o.0 ∙ t)))) in
+    subst (λ (g : Held). NoLevel Finds AtOnce (asks_choice xs e ys) g.levels g failed x) same lost
 
 counted_place : (free : Per.Freedom → Bool) (al : Bool) (xs : List Tag) (e : Bool) (ys : List Tag) (n m : ℕ) (c : Chosen) (here place there : Place) → n ≡ length xs → m ≡ length ys → here ≡ place → Front free (place_form al n e m c) here there → Front free (place_form al (length xs) e (length ys) c) place there
 counted_place free al xs e ys n m c here place there p q h f = subst (λ (y : Place). Front free (place_form al (length xs) e (length ys) c) y there) h (subst (λ j. Front free (place_form al j e (length ys) c) here there) p (subst (λ j. Front free (place_form al n e j c) here there) q f))

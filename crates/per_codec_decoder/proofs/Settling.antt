@@ -4,7 +4,7 @@ use Rattle.std.specs.Prelude.{OnOk}
 use Rattle.asn1_schema_presented.specs.Levels.{level}
 use Rattle.asn1_model.specs.Schema.{Counts, Size, Alphabet, StringKind, Schema, character_string}
 use Rattle.asn1_model.specs.Per
-use Rattle.asn1_schema_decode.specs.Reads.{NoRecord}
+use Rattle.asn1_schema_decode.specs.Reads.{NoRecord, AtOnce}
 use Rattle.asn1_schema_faults.specs.declared.DecodeError.{DecodeError}
 use Rattle.asn1_schema_presented.specs.Records.{Record, Question, question, further, asks_characters}
 use Rattle.per_codec_fronts.specs.Sizes.{told_highest}
@@ -64,7 +64,7 @@ also (Err x) (Ok y) P Q r p h = cc
 also (Ok x) (Ok y) P Q r p h = let e : y ≡ x = cc in h y (subst P (sym e) p)
 
 -- why a reader found nothing is why no record is found
-pub unfound : {T : Type 0} (answer result : Result T DecodeError) (q : Question) (s : Schema) (old now : Held) (here : Place) → now ≡ old → here ≡ now.place → result ≡ answer → IfErr answer (Misses (freedoms now.variant) (Per.form (is_aligned now.variant) s) here) → ((al : Bool) (free : Per.Freedom → Bool) (a b : State) (r : Record) → question r ≡ q → Takes al free a r b → OfType al free a b s) → IfErr result (NoRecord Finds q old)
+pub unfound : {T : Type 0} {failed : Held} (answer result : Result T DecodeError) (q : Question) (s : Schema) (old now : Held) (here : Place) → now ≡ old → here ≡ now.place → result ≡ answer → IfErr answer (Misses (freedoms now.variant) (Per.form (is_aligned now.variant) s) here) → ((al : Bool) (free : Per.Freedom → Bool) (a b : State) (r : Record) → question r ≡ q → Takes al free a r b → OfType al free a b s) → IfErr result (NoRecord Finds AtOnce q old failed)
 unfound answer (Ok x) q s old now here same h r m asked = tt
 unfound (Ok x) (Err e) q s old now here same h r m asked = cc
 unfound (Err x) (Err e) q s old now here same h r m asked =
@@ -135,7 +135,7 @@ pub due_member : (old now new : Held) (k : List Scope) (l : List Storage) → no
 due_member old now new k l same ready b t f = steps old now new now.place k now.levels (further true) l same ready (t (is_aligned now.variant) (freedoms now.variant) now.place) refl b f
 
 -- ---- characters
-pub uncharacters : {T : Type 0} (answer result : Result T DecodeError) (c : StringKind) (z : Size) (l : Alphabet) (h : Counts) (old now : Held) (here : Place) → now ≡ old → here ≡ now.place → result ≡ answer → IfErr answer (Misses (freedoms now.variant) (Per.form (is_aligned now.variant) (character_string c z l h)) here) → IfErr result (NoRecord Finds (asks_characters c z l h) old)
+pub uncharacters : {T : Type 0} {failed : Held} (answer result : Result T DecodeError) (c : StringKind) (z : Size) (l : Alphabet) (h : Counts) (old now : Held) (here : Place) → now ≡ old → here ≡ now.place → result ≡ answer → IfErr answer (Misses (freedoms now.variant) (Per.form (is_aligned now.variant) (character_string c z l h)) here) → IfErr result (NoRecord Finds AtOnce (asks_characters c z l h) old failed)
 uncharacters answer result c z l h old now here same p r m = unfound answer result (asks_characters c z l h) (character_string c z l h) old now here same p r m (λ al free a b i k t. asked_characters al free a b c z l h i k t)
 
 -- ---- the end of a message
@@ -210,5 +210,5 @@ err_of P (Err y) x e p = let k : x ≡ y = cc in subst P (sym k) p
 err_of P (Ok y) x e p = cc
 
 -- why none is found, under sizes that mean the same
-pub none_as : (old : Held) (q : Size → Question) (z y : Size) (x : DecodeError) → z ≡ y → NoRecord Finds (q z) old x → NoRecord Finds (q y) old x
-none_as old q z y x e n = subst (λ s. NoRecord Finds (q s) old x) e n
+pub none_as : {failed : Held} (old : Held) (q : Size → Question) (z y : Size) (x : DecodeError) → z ≡ y → NoRecord Finds AtOnce (q z) old failed x → NoRecord Finds AtOnce (q y) old failed x
+none_as {failed} old q z y x e n = subst (λ s. NoRecord Finds AtOnce (q s) old failed x) e n

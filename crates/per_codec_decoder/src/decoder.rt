@@ -8,7 +8,7 @@ ghost use Rattle.per_codec_decoder.specs.Held.{NotMembers, NotComponents};
 ghost use Rattle.per_codec_decoder.specs.Endings.{Passes, NotPassed};
 ghost use Rattle.per_codec_decoder.specs.Scopes.{scope_of, stands_in};
 ghost use Rattle.asn1_schema_constraints.specs.Bounds.{counts_of, members_of};
-ghost use Rattle.asn1_schema_decode.specs.Reads.{NoRecord};
+ghost use Rattle.asn1_schema_decode.specs.Reads.{NoRecord, AtOnce};
 ghost use Rattle.asn1_schema_presented.specs.Records.{octets, asks_octets, further, asks_further};
 ghost use Rattle.asn1_schema_constraints.specs.Terms.{size_of};
 ghost use Rattle.asn1_model.specs.Numbers.{octet_bits, is_count_within};
@@ -163,8 +163,8 @@ impl<'input> Decoder<'input> {
             (octets (size_of sizes) (counts_of held) (cow_slice_items x)) self.new
             → IsBorrowedSlice x) }
         ensures level { OnOk result (self.new.levels ≡ self.old.levels) }
-        ensures only { IfErr result (NoRecord Finds
-            (asks_octets (size_of sizes) (counts_of held)) self.old) }
+        ensures only { IfErr result (NoRecord Finds AtOnce
+            (asks_octets (size_of sizes) (counts_of held)) self.old self.new) }
         ensures failed { OnErr result (HasFailed self.new) }
         ensures already { HasFailed self.old → result ≡ Err DecodeError.AlreadyFailed }
         ensures after { result ≡ Err DecodeError.AlreadyFailed → HasFailed self.old }
@@ -292,7 +292,7 @@ impl<'input> Decoder<'input> {
     fn find_further(&mut self) -> Result<bool, DecodeError>
         ensures ok { IfOk result (λ more. Finds self.old (further more) self.new) }
         ensures level { OnOk result (self.new.levels ≡ self.old.levels) }
-        ensures only { IfErr result (NoRecord Finds asks_further self.old) }
+        ensures only { IfErr result (NoRecord Finds AtOnce asks_further self.old self.new) }
         ensures failed { OnErr result (HasFailed self.new) }
         ensures already { HasFailed self.old → result ≡ Err DecodeError.AlreadyFailed }
         ensures after { result ≡ Err DecodeError.AlreadyFailed → HasFailed self.old }
@@ -374,10 +374,15 @@ impl<'input> Decoder<'input> {
 impl<'input> asn1_schema_decode::Decoder for Decoder<'input> {
     ghost use Rattle.per_codec_decoder.specs.Laws.{finds_one, finds_held, finds_bag_held, finds_none, finds_on};
     ghost use Rattle.per_codec_decoder.specs.Laws.{finds_same};
+    ghost use Rattle.asn1_schema_decode.proofs.AtOnce.{at_once, records_at_once, values_at_once, members_at_once};
 
     type Octets = CowSlice<'input, u8>;
 
     ghost step = { Finds };
+
+    ghost too_few = { AtOnce };
+
+    ghost too_few_members = { AtOnce };
 
     ghost has_failed = { HasFailed };
 
@@ -664,6 +669,14 @@ impl<'input> asn1_schema_decode::Decoder for Decoder<'input> {
     ghost bag_held = { finds_bag_held };
 
     ghost goes_on = { finds_on };
+
+    ghost few_at_once = { at_once };
+
+    ghost records_carried = { records_at_once Finds };
+
+    ghost values_carried = { values_at_once Finds };
+
+    ghost members_carried = { members_at_once Finds finds_one };
 
     ghost none_after = { finds_none };
 
