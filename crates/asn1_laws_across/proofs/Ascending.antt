@@ -1,4 +1,4 @@
--- Bags whose members ascend.
+-- SET OF values whose elements ascend.
 use Rattle.std.proofs.Common.{◌≡◌, ℕ, ltb, Bool, true, IsTrue, List, [], ◌∷◌, map, Option, Some, None, refl, ap, sym, ◌∙◌, subst, inr}
 use Rattle.asn1_model.specs.Value.{Value, bag, Values, values_of, each, same}
 use Rattle.asn1_model.specs.Schema.{Counts, Size, Schema, set_of}
@@ -15,7 +15,7 @@ use Rattle.asn1_laws_across.proofs.AsWritten.{ReadsAsWritten}
 use Rattle.asn1_laws_across.proofs.Strictly.{as_written}
 use Rattle.std.specs.Prelude.{false}
 
--- ---- bags
+-- ---- SET OF
 each_value : {X : Type 0} (f : Value → X) (us : List Value) → each f (values_of us) ≡ map f us
 each_value f [] = refl
 each_value f (u ∷ us) = ap (λ l. f u ∷ l) (each_value f us)
@@ -23,7 +23,7 @@ each_value f (u ∷ us) = ap (λ l. f u ∷ l) (each_value f us)
 no_key : {X : Type 0} → X → Option ℕ
 no_key x = None
 
--- the bag in the order in which its members are read
+-- the SET OF in the order in which its elements are read
 in_that_order : {X : Type 0} (f : Value → X) (is : List ℕ) (vs : Values) (ys : List X) → arranged is (each f vs) ≡ Some ys → (us : List Value) × (each f (values_of us) ≡ ys) × (same (bag (values_of us)) (bag vs) ≡ true)
 in_that_order {X} f is vs ys e =
     let q = order_map f no_key ltb (Some is) (listed vs) ys (subst (λ l. arranged is l ≡ Some ys) (each_is_map f vs) e) in
@@ -38,7 +38,7 @@ own_order_of_octets : (xs ys : List Oer.OctetForm) (f : List Oer.OctetForm → O
 unfolding written Oer.in_any_order
 own_order_of_octets xs ys f p w e a t = rw (e, a) t
 
--- a bag read in some order, where its canonical text is the same
+-- a SET OF read in some order, where its canonical encoding is the same
 read_in : (free : Per.Freedom → Bool) (xs ys : List Per.BitForm) (f : List Per.BitForm → Per.BitForm) (is : List ℕ) (p : ℕ) (w : List Bool) → IsTrue (free Per.other_order) → arranged is xs ≡ Some ys → written (Per.in_any_order xs f) p ≡ Some w → ReadsAsWritten free (f ys) p w → ReadsAsWritten free (Per.in_any_order xs f) p w
 unfolding written Per.in_any_order ReadsAsWritten
 read_in free xs ys f is p w h e t r = (Some is, inr (h, ap (λ o. written (given o f) p) e ∙ as_written free (f ys) p w r ∙ sym t), subst (λ o. ReadsAsWritten free (given o f) p w) (sym e) r)

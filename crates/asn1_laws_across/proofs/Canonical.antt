@@ -1,4 +1,4 @@
--- Values that are the same have one canonical encoding.
+-- Equal values have the same canonical encoding.
 use Rattle.std.proofs.Common.{◌≡◌, true, Option, Some, None, option_map, option_and_then, refl, ap, sym, Bool, false}
 use Rattle.asn1_model.specs.Value.{Value, same}
 use Rattle.asn1_model.specs.Schema.{Schema}
@@ -14,7 +14,7 @@ use Rattle.asn1_laws_values.proofs.Normal.{normal_same}
 use Rattle.asn1_laws_across.proofs.PerGives.{messages_same}
 use Rattle.asn1_laws_across.proofs.OerGives.{one_text}
 
--- equal, where what the one gives the other does, and the other way round
+-- equal, if each gives what the other does
 both_ways : {X : Type 0} (o q : Option X) → ((x : X) → o ≡ Some x → q ≡ Some x) → ((x : X) → q ≡ Some x → o ≡ Some x) → o ≡ q
 both_ways None None h k = refl
 both_ways None (Some y) h k = k y refl

@@ -1,4 +1,4 @@
--- Where one form has a canonical text, another has the same: the rules by which such facts are put together.
+-- If one form has a canonical encoding, another has the same: the rules by which such facts are derived.
 use Rattle.std.proofs.Common.{◌≡◌, ℕ, zero, suc, ◌+◌, ◌==◌, ltb, not, Bool, true, false, cond, ◌&&◌, ◌||◌, List, [], ◌∷◌, ◌++◌, length, take, drop, map, Option, Some, None, option_map, refl, ap, sym, ◌∙◌, subst}
 use Rattle.std.proofs.lemmas.Bool.{and_parts}
 use Rattle.asn1_model.specs.Value.{Value, Parts, end, absent, present, same, same_parts}
@@ -105,7 +105,7 @@ module _ {F : Type 0} {D : F → Type 0} {A : Type 0} where
   each_drop (suc n) (x ∷ xs) [] h = absurd h
   each_drop (suc n) (x ∷ xs) (y ∷ ys) h = each_drop n xs ys h.1
 
-  -- ---- additions, each there in both or in neither
+  -- ---- additions, each present in both or in neither
   abbrev pub EachSlot : List (Option (Form F D A)) → List (Option (Form F D A)) → Type 0
   EachSlot [] [] = Unit {0}
   EachSlot (None ∷ xs) (None ∷ ys) = EachSlot xs ys
@@ -267,7 +267,7 @@ module _ (F : Type 0) (D : F → Type 0) (A : Type 0) (free : F → Bool) where
         let i = additions_give cs ps qs a.0 h.1 p.1 a.1 in
         (Some (added o s w) ∷ i.0, ap (λ z. option_map (λ zs. Some (added o s w) ∷ zs) z) i.1, subst (λ l. EachSlot l (Some (added o s w) ∷ i.0)) a.2 (h.0 v w p.0, i.2))
 
-  -- behind a bitmap, or without one
+  -- with or without a bitmap
   module _ (unknown : List ℕ → Form F D A) (preamble : List Bool → Form F D A) (bits : List (Option (Form F D A)) → Form F D A) (bits_give : (xs ys : List (Option (Form F D A))) → EachSlot xs ys → Gives (bits xs) (bits ys)) (hidden : Form F D A → Form F D A) (hidden_gives : (x y : Form F D A) → Gives x y → Gives (hidden x) (hidden y)) where
     abbrev pub with_all : List Bool → Form F D A → List (Option (Form F D A)) → Form F D A
     with_all ms root all = both (preamble (true ∷ ms)) (both root (both (bits all) (joined (present_ones all))))

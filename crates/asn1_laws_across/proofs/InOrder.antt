@@ -1,4 +1,4 @@
--- What is read with ascending bags is read as it is written.
+-- What is read with each SET OF ascending is read as it is written.
 use Rattle.std.proofs.Common.{◌≡◌, ℕ, ◌+◌, ◌^◌, ◌<◌, Bool, true, false, IsTrue, List, [], ◌∷◌, map, length, Some, refl, sym, subst, inl, inr, ◌⊎◌, option_and_then}
 use Rattle.std.proofs.lemmas.Bool.{ltb-true}
 use Rattle.asn1_model.specs.Value.{Value, values_of}
@@ -23,7 +23,7 @@ use Rattle.asn1_laws_across.proofs.Ascending.{packed_bags, octets_bags}
 use Rattle.asn1_laws_values.specs.MessageLaws.{canonically}
 
 module _ {F : Type 0} {D : F → Type 0} {A : Type 0} (free : F → Bool) (may : Form F D A → Form F D A → Type 0) where
-  -- where what may stand for a form is read as it is written, all is
+  -- if each form that is allowed instead is read as it is written, all is
   pub each_as_written : ((x y : Form F D A) (p : ℕ) (w : List A) → may x y → ReadsAsWritten free y p w → ReadsAsWritten free x p w) → (x : Form F D A) (p : ℕ) (w : List A) → ReadsWith may x p w → ReadsAsWritten free x p w
   unfolding ReadsWith ReadsAsWritten
   each_as_written h (exactly l) p w r = r
@@ -37,7 +37,7 @@ module _ {F : Type 0} {D : F → Type 0} {A : Type 0} (free : F → Bool) (may :
       go (inr m) t = h (varied c d f) (f r.0) p w m t
   each_as_written h (within x f) p w r = (r.0, each_as_written h x 0 r.0 r.1, each_as_written h (f r.0) p w r.2)
 
-  -- what is written is read so
+  -- what is written is read in this way
   pub written_with : (x : Form F D A) (p : ℕ) (w : List A) → Reads canonically x p w → ReadsWith may x p w
   unfolding Reads ReadsWith
   written_with (exactly l) p w r = r
@@ -91,7 +91,7 @@ canonical_in aper_strict s v w e = packed_in true s (normal s v) w e
 canonical_in oer s v w e = octets_in s (normal s v) w e
 canonical_in coer s v w e = octets_in s (normal s v) w e
 
--- ---- the bag of 3, 1 and 2
+-- ---- the SET OF 3, 1 and 2
 in_order_here : List Oer.OctetForm
 in_order_here = map (λ v. Oer.form integers v) (num 1 ∷ num 2 ∷ num 3 ∷ [])
 

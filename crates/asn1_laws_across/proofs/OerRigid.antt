@@ -1,4 +1,4 @@
--- In the octet rules a strict reader takes of a rigid type the canonical text alone.
+-- In the octet rules a strict reader accepts only the canonical encoding of a rigid type.
 use Rattle.std.specs.Prelude.{ℤ, pos, negsuc}
 use Rattle.std.proofs.Common.{◌≡◌, ℕ, zero, suc, ◌+◌, ◌/◌, ◌^◌, leb, ltb, not, Bool, true, false, cond, ◌&&◌, ◌||◌, List, [], ◌∷◌, length, Option, Some, None, refl}
 use Rattle.std.proofs.lemmas.Bool.{and_parts}
@@ -105,7 +105,7 @@ tag_rigid : (t : Tag) → RigidOctets (Oer.tag_form t)
 unfolding Oer.tag_form
 tag_rigid t = rigid_varied strict_oer refl (rigid_cond strict_oer (leb 63 t.number) (rigid_if strict_oer (leb 1 t.number) (octets _)) (rigid_if strict_oer (ltb t.number 63) (octets _)))
 
--- ---- open types, components and members
+-- ---- open types, components and elements
 open_rigid : (x : Oer.OctetForm) → RigidOctets x → RigidOctets (Oer.open_type x)
 unfolding Oer.open_type
 open_rigid x h = rigid_within strict_oer h (λ w. rigid_varied strict_oer refl (counted_rigid _))

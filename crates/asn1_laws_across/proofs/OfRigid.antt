@@ -1,4 +1,4 @@
--- What a strict reader takes of a rigid type is canonical.
+-- What a strict reader accepts of a rigid type is canonical.
 use Rattle.std.proofs.Common.{◌≡◌, ℕ, Bool, true, false, List, Some}
 use Rattle.asn1_model.specs.Value.{Value}
 use Rattle.asn1_model.specs.Schema.{Schema}

@@ -1,4 +1,4 @@
--- Total orders, and that sorting by one does not depend on the order at hand.
+-- Total orders; sorting by one does not depend on the initial order.
 use Rattle.std.proofs.Common.{◌≡◌, ℕ, zero, suc, ltb, Bool, true, false, cond, List, [], ◌∷◌, map, Option, Some, option_map, option_and_then, refl, ap, sym, ◌∙◌, subst, arith}
 use Rattle.std.proofs.lemmas.Bool.{ltb-true, ltb-false, lt-ltb, le-ltb, cond-true, cond-false}
 use Rattle.asn1_model.specs.Form.{stands_before, put_in_place, with_keys, ascending, pick, arranged}
@@ -79,7 +79,7 @@ module _ (A : Type 0) (less : A → A → Bool) (o : IsTotalOrder less) where
       go false true p q = refl
       go false false p q = let e : a ≡ b = o.2 a b q p in cc
 
-  -- what does not stand behind another, which stands before a third, stands before that
+  -- what is not greater than another, which is less than a third, is less than the third
   before_third : (a f b : A) → less f a ≡ false → less f b ≡ true → less a b ≡ true
   before_third a f b e g = go (less a f) refl
     where
@@ -122,7 +122,7 @@ module _ (A : Type 0) (less : A → A → Bool) (o : IsTotalOrder less) where
 
   -- ---- elements sorted by their keys
   module _ (X : Type 0) (key : X → Option A) where
-    -- the keys of elements, each of which has one
+    -- the keys of elements, if each has one
     abbrev pub HaveKeys : List X → List A → Type 0
     HaveKeys [] [] = Unit {0}
     HaveKeys (x ∷ xs) (k ∷ ks) = (key x ≡ Some k) × HaveKeys xs ks
@@ -167,7 +167,7 @@ module _ (A : Type 0) (less : A → A → Bool) (o : IsTotalOrder less) where
         again : (o : Option A) (w : Option (List (A × X))) {es : List (A × X)} → o ≡ Some k → w ≡ Some es → option_and_then (λ k. option_map (λ es. put_in_place less (k, x) es) w) o ≡ Some (put_in_place less (k, x) es)
         again o w e f = rw (e, f) refl
 
-    -- elements in pairs that have one key
+    -- elements in pairs that have the same key
     abbrev pub EachAlike : List X → List X → Type 0
     EachAlike [] [] = Unit {0}
     EachAlike (x ∷ xs) (y ∷ ys) = ((k : A) × (key x ≡ Some k) × (key y ≡ Some k)) × EachAlike xs ys
@@ -182,7 +182,7 @@ module _ (A : Type 0) (less : A → A → Bool) (o : IsTotalOrder less) where
         let b : map (λ (e : A × X). e.0) es ≡ map (λ (e : A × X). e.0) fs = cc in
         ((e.0, h.0, i.0 ∙ ap Some (sym a)), alike_of es fs h.1 i.1 b)
 
-    -- elements that have the same keys in some order are sorted into pairs that have one key
+    -- elements that have the same keys in some order are sorted into pairs that have the same key
     pub sorted_alike : (xs ys us : List X) (ks : (zs : List A) → HaveKeys xs zs → (ls : List A) × HaveKeys ys ls × (sorted zs ≡ sorted ls)) → ascending key less xs ≡ Some us → (zs : List X) × (ascending key less ys ≡ Some zs) × EachAlike us zs
     sorted_alike xs ys us ks e =
         let q = map_parts (with_keys key less xs) (λ (es : List (A × X)). map (λ e. e.1) es) us e in

@@ -1,4 +1,4 @@
--- Values that are the same have one canonical text in the packed rules.
+-- Equal values have the same canonical encoding in the packed rules.
 use Rattle.std.proofs.Common.{◌≡◌, ℕ, zero, suc, ◌-◌, ◌*◌, ◌==◌, ltb, leb, not, Bool, true, false, cond, ◌&&◌, List, [], ◌∷◌, length, map, Option, Some, None, option_map, refl, ap, sym, ◌∙◌, subst}
 use Rattle.std.proofs.lemmas.Bool.{and_parts, eqb-true}
 use Rattle.asn1_model.specs.Value.{Value, truth, nothing, number, item, bit_list, octet_list, text, arcs, members, bag, fields, chosen, Values, no_more, member, Parts, end, absent, present, each, same, same_truth, same_members, same_bag, same_parts}
@@ -78,7 +78,7 @@ module _ (al : Bool) where
   abbrev pub OneText : Schema → Type 0
   OneText s = (v w : Value) → same v w ≡ true → Same (Per.form al s v) (Per.form al s w)
 
-  -- ---- members
+  -- ---- elements
   each_gives : (s : Schema) → OneText s → (vs ws : Values) → same_members vs ws ≡ true → EachGives (each (λ v. Per.form al s v) vs) (each (λ v. Per.form al s v) ws)
   unfolding same_members
   each_gives s h no_more no_more e = tt
@@ -103,7 +103,7 @@ module _ (al : Bool) where
   keys_same s h (v ∷ vs) (w ∷ ws) [] e k = absurd k
   keys_same s h (v ∷ vs) (w ∷ ws) (l ∷ ks) e k = ((complete_gives _ _ (h v w e.0)).texts 0 l k.0, keys_same s h vs ws ks e.1 k.1)
 
-  -- members that have one complete encoding are the same
+  -- elements with the same complete encoding are equal
   one_key : (s : Schema) → is_lawful s ≡ true → OneText s → (vs ws : List Value) → OneKey (map (λ v. Per.form al s v) vs) (map (λ v. Per.form al s v) ws) → EachGives (map (λ v. Per.form al s v) vs) (map (λ v. Per.form al s v) ws)
   unfolding key
   one_key s l h [] [] k = tt

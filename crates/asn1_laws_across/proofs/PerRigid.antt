@@ -1,4 +1,4 @@
--- In the packed rules a strict reader takes of a rigid type the canonical text alone.
+-- In the packed rules a strict reader accepts only the canonical encoding of a rigid type.
 use Rattle.std.specs.Prelude.{ℤ}
 use Rattle.std.proofs.Common.{◌≡◌, ℕ, zero, suc, ◌-◌, ◌*◌, ◌==◌, leb, ltb, not, Bool, true, false, ◌&&◌, ◌||◌, List, [], ◌∷◌, length, drop, replicate, Option, Some, None, refl}
 use Rattle.std.proofs.lemmas.Bool.{and_parts}

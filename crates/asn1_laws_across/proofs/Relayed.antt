@@ -1,4 +1,4 @@
--- What a relay does to octets that come in pieces.
+-- What a relay does with octets that arrive in pieces.
 use Rattle.std.proofs.Common.{◌≡◌, ◌≢◌, ◌⊎◌, inl, inr, ℕ, suc, ◌+◌, ◌≤◌, ◌<◌, List, [], ◌∷◌, ◌++◌, length, take, drop, Option, Some, None, refl, ap, sym, ◌∙◌, subst, append_assoc, arith}
 use Rattle.std.specs.List.{concat}
 use Rattle.std.proofs.lemmas.List.{append-nil, length-append, length-take, take-append-le, take-append-drop}
@@ -14,7 +14,7 @@ use Rattle.asn1_laws_across.proofs.Streams.{first_same}
 
 -- ---- lists
 
--- the first of two equal joined lists begins with the second, if it is no shorter
+-- the first of two equal joined lists begins with the second, if that is no longer
 pub begins_with : {A : Type 0} (m y r x : List A) → m ++ y ≡ r ++ x → length m ≤ length r → m ++ drop (length m) r ≡ r
 begins_with m y r x e h =
     let f : take (length m) (m ++ y) ≡ m = take-append_seam m y in
@@ -27,7 +27,7 @@ pub some_before : {A : Type 0} (r x : List A) → r ≢ [] → r ++ x ≢ []
 some_before [] x n = absurd (n refl)
 some_before (a ∷ r) x n = λ e. cc
 
--- what begins octets and is no longer than a limit is no longer than the first of them
+-- a prefix of octets that is no longer than a limit is no longer than their first octets up to the limit
 length_of_first : (m x w : List ℕ) (limit : ℕ) → m ++ x ≡ w → length m ≤ limit → length m ≤ length (take limit w)
 length_of_first m x w limit e h =
     let a = length-take limit w in
@@ -38,7 +38,7 @@ module _ (source target : Rules) (s : Schema) (limit : ℕ) where
   abbrev Front : List Message → List ℕ → List ℕ → List ℕ → Type 0
   Front ms out rest w = RelaysFront source target s limit ms out rest w
 
-  -- ---- more octets behind
+  -- ---- more octets follow
 
   pub longer : (ms : List Message) (out rest w x : List ℕ) → Front ms out rest w → Front ms out (rest ++ x) (w ++ x)
   longer [] out rest w x h = (h.0, ap (λ l. l ++ x) h.1)
@@ -101,12 +101,12 @@ module _ (source target : Rules) (s : Schema) (limit : ℕ) where
       let c : Relays source target s limit (unread ++ (p ++ concat ps)) n (h.1 ++ h.5) i.0 why = subst (λ j. Relays source target s limit (unread ++ (p ++ concat ps)) j (h.1 ++ h.5) i.0 why) h.7 b in
       (i.0, subst (λ l. Relays source target s limit (unread ++ (p ++ concat ps)) n l i.0 why) h.8 c, i.2)
 
-  -- ---- one thing at most
+  -- ---- at most one result
 
   none_begins : (t : Option (List ℕ)) (w : List ℕ) → HasNoMessage source s limit w → BeginsWith source target s limit t w → ⊥
   none_begins t w h b = h b.0 b.1 b.2 b.3
 
-  -- what stands in front of a relayed message
+  -- the octets begin with the first relayed message
   in_front : (m : Message) (ms : List Message) (o rest w : List ℕ) → (h : Front (m ∷ ms) o rest w) → BeginsWith source target s limit (Some h.3) w
   in_front m ms o rest w h = (m, h.1, h.2, h.0, h.4)
 
@@ -131,7 +131,7 @@ module _ (source target : Rules) (s : Schema) (limit : ℕ) where
     waits_within w (inl e) k = let l : length w ≡ 0 = ap length e in omega arith
     waits_within w (inr n) k = let l = n.1 in omega arith
 
-    -- an empty message beside each other stop
+    -- an empty message excludes each other stop
     not_waiting : (w : List ℕ) → StopsAt source target s limit w None → StopsAt source target s limit w (Some empty_message) → ⊥
     not_waiting w h (inl k) = none_begins (Some []) w h.0 k
     not_waiting w h (inr k) = waits_at_none w h.1 k
@@ -162,7 +162,7 @@ module _ (source target : Rules) (s : Schema) (limit : ℕ) where
     one_stop w (Some none_within_limit) (Some empty_message) h k = absurd (not_past w h k)
     one_stop w (Some none_within_limit) (Some none_within_limit) h k = refl
 
-    -- a relayed message is in front of no stop
+    -- a relay does not stop at octets that begin with a relayed message
     pub relayed_on : (t w : List ℕ) (why : Option Stop) → t ≢ [] → BeginsWith source target s limit (Some t) w → StopsAt source target s limit w why → ⊥
     relayed_on t w None n b h = none_begins (Some t) w h.0 b
     relayed_on t w (Some no_target) n b h = let e : Some t ≡ None = targets_agree (Some t) None w b h in cc
@@ -191,7 +191,7 @@ module _ (source target : Rules) (s : Schema) (limit : ℕ) where
 
     -- ---- the messages into which octets divide
 
-    -- what stops a relay in front of a message is that it has no translation
+    -- what stops a relay at a message is that it has no translation
     stopped_for : (m : Message) (ms : List Message) (x w rest unread : List ℕ) (why : Option Stop) → m.octets ++ x ≡ w → IsMessageWithin source s limit m → StopsAt source target s limit w why → EndsBefore target s (m ∷ ms) rest unread why
     stopped_for m ms x w rest unread None e i h = absurd (h.0 m x e i)
     stopped_for m ms x w rest unread (Some no_target) e i h = inl (targets_agree (canonical target s m.value) None w (m, x, e, i, refl) h, refl)
@@ -226,11 +226,11 @@ module _ (source target : Rules) (s : Schema) (limit : ℕ) where
 -- ---- the limit
 
 module _ (r : Rules) (s : Schema) (limit : ℕ) where
-  -- no message in front of octets, and so none in front of the first of them
+  -- octets that begin with no message, and so the first of them do not either
   pub without : (w : List ℕ) → HasNoMessage r s limit w → HasNoMessage r s limit (take limit w)
   without w h = λ m x e i. h m (x ++ drop limit w) (sym (append_assoc m.octets x (drop limit w)) ∙ (ap (λ l. l ++ drop limit w) e ∙ take-append-drop limit w)) i
 
-  -- and the other way round, as a message is no longer
+  -- and conversely, as a message is no longer
   pub within : (w : List ℕ) → HasNoMessage r s limit (take limit w) → HasNoMessage r s limit w
   within w h = λ m x e i.
       let l = i.is_short in

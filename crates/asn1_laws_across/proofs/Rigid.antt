@@ -1,4 +1,4 @@
--- Forms of which a reader takes the canonical text alone.
+-- Forms of which a reader accepts only the canonical encoding.
 use Rattle.std.proofs.Common.{◌≡◌, ℕ, zero, suc, ◌+◌, Bool, true, false, cond, IsTrue, List, [], ◌∷◌, length, take, drop, map, Option, Some, None, ◌⊎◌, inl, inr, refl, ap, subst}
 use Rattle.asn1_model.specs.Form.{Form, exactly, refused, both, placed, varied, within, written, Reads, only_if, given, joined}
 

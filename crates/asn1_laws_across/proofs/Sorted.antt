@@ -1,4 +1,4 @@
--- Elements put in place by their keys are those that were handed in, and ascend.
+-- Elements inserted by their keys are those that were given, and ascend.
 use Rattle.std.proofs.Common.{◌≡◌, ◌≢◌, ℕ, ltb, Bool, true, false, cond, List, [], ◌∷◌, ◌++◌, map, Option, Some, None, option_map, refl, ap, sym, ◌∙◌, subst}
 use Rattle.std.specs.Prelude.{All, IsPermutation}
 use Rattle.std.proofs.lemmas.List.Elements.{All-cons, All-nil, All-head, All-tail}
@@ -16,7 +16,7 @@ never : {P : Type 0} → true ≡ false → P
 never e = cc
 
 module _ (K : Type 0) (before : K → K → Bool) (o : IsTotalOrder before) where
-  -- what stands before another does not stand behind it
+  -- what is less than another is not greater than it
   one_way : (k l : K) → before k l ≡ true → before l k ≡ false
   one_way k l e = go (before l k) refl
     where
@@ -30,7 +30,7 @@ module _ (K : Type 0) (before : K → K → Bool) (o : IsTotalOrder before) wher
     Keyed [] = Unit {0}
     Keyed (e ∷ es) = (key (e.1) ≡ Some (e.0)) × Keyed es
 
-    -- the first key does not stand behind that of the next
+    -- the first key is not greater than that of the next
     abbrev pub InFront : K → List (K × X) → Type 0
     InFront k [] = Unit {0}
     InFront k (f ∷ fs) = before (f.0) k ≡ false
@@ -138,7 +138,7 @@ module _ (K : Type 0) (before : K → K → Bool) (o : IsTotalOrder before) wher
     unfolding elements
     puts_in_order xs = (λ ys e. in_order xs ys e, λ h. let t = there_are xs h in (elements t.0, ap (λ m. option_map (λ es. elements es) m) t.1))
 
--- ---- members of bags
+-- ---- elements of SET OF
 in_that_order : {F A X : Type 0} {D : F → Type 0} (m : Option X) (f : X → Form F D A) (p : ℕ) (w : List A) → written (given m f) p ≡ Some w → (x : X) × (m ≡ Some x) × (written (f x) p ≡ Some w)
 unfolding written
 in_that_order None f p w e = cc

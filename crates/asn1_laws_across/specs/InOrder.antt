@@ -1,4 +1,4 @@
--- Texts in which the members of each bag ascend.
+-- Encodings in which the elements of each SET OF ascend.
 use Rattle.std.specs.Prelude.{◌≡◌, ◌⊎◌, ℕ, ◌+◌, ◌^◌, ◌<◌, ltb, Bool, true, false, List, [], ◌∷◌, ◌++◌, length}
 use Rattle.std.specs.Prelude.{Some}
 use Rattle.asn1_model.specs.Value.{Value, bag, Values, each}
@@ -11,8 +11,8 @@ use Rattle.asn1_model.specs.Types.{bag_of, bag_with, num, whole}
 use Rattle.asn1_model.specs.Per
 use Rattle.asn1_model.specs.Oer
 
--- A text from a position on has the form, where each detail is the canonical one, or what it makes of the form may
--- stand for it.
+-- Symbols from a position on have the form, where each detail is the canonical one, or the form made with it is
+-- allowed instead.
 unfoldable pub ReadsWith : {F : Type 0} {D : F → Type 0} {A : Type 0} → (Form F D A → Form F D A → Type 0) → Form F D A
     → ℕ → List A → Type 0
 ReadsWith may (exactly l) p w = l ≡ w
@@ -25,7 +25,7 @@ ReadsWith {A = A} may (within x f) p w = (a : List A) × (ReadsWith may x 0 a) �
 
 -- ---- the packed rules
 
--- A bag of a lawful type, and what stands where its members ascend by their complete encodings.
+-- A SET OF of a well-formed type, and the form in which its elements ascend by their complete encodings.
 abbrev pub HasAscendingBag : Bool → Per.BitForm → Per.BitForm → Type 0
 HasAscendingBag al x y =
     (z : Size) × (held : Counts) × (s : Schema) × (vs : Values) × (is : List ℕ) × (ys : List Per.BitForm)
@@ -36,7 +36,7 @@ HasAscendingBag al x y =
 
 -- ---- the octet rules
 
--- The same of a bag of a lawful type.
+-- The same for a SET OF in the octet rules.
 abbrev pub HasAscendingOctetBag : Oer.OctetForm → Oer.OctetForm → Type 0
 HasAscendingOctetBag x y =
     (z : Size) × (held : Counts) × (s : Schema) × (vs : Values) × (is : List ℕ) × (ys : List Oer.OctetForm)
@@ -44,8 +44,8 @@ HasAscendingOctetBag x y =
     × (arranged is (each (λ v. Oer.form s v) vs) ≡ Some ys)
     × (ascending (λ x. written x 0) (stands_before ltb) ys ≡ Some ys)
 
--- All of the octets are one encoding of the value, canonical but for the order of the bags, where the members of each
--- bag ascend.
+-- All of the octets are one encoding of the value, canonical except for the order of the elements of each SET OF, and
+-- where these elements ascend.
 unfoldable pub IsEncodingInOrder : Rules → Schema → Value → List ℕ → Type 0
 IsEncodingInOrder uper s v w =
     (length w < 2 ^ 60) × ReadsWith (HasAscendingBag false) (Per.message false s v) 0 (octet_bits w)
@@ -57,7 +57,7 @@ IsEncodingInOrder aper_strict s v w =
     (length w < 2 ^ 60) × ReadsWith (HasAscendingBag true) (Per.message true s v) 0 (octet_bits w)
 IsEncodingInOrder r s v w = (length w < 2 ^ 60) × ReadsWith HasAscendingOctetBag (Oer.form s v) 0 w
 
--- The bag of 3, 1 and 2 stands in ascending order.
+-- The SET OF 3, 1 and 2 in ascending order.
 abbrev pub InOrderRows : Type 0
 InOrderRows =
     IsEncodingInOrder coer (bag_of whole) (bag_with (num 3 ∷ num 1 ∷ num 2 ∷ [])) (1 ∷ 3 ∷ 1 ∷ 1 ∷ 1 ∷ 2 ∷ 1 ∷ 3 ∷ [])

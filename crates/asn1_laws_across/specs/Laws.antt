@@ -10,37 +10,37 @@ use Rattle.std.specs.List.{list_all}
 use Rattle.asn1_laws_across.specs.InOrder.{IsEncodingInOrder}
 use Rattle.asn1_laws_across.specs.Rigid.{is_rigid}
 
--- All values of which some octets are an encoding are the same, and so have the same normal form, up to the order of
--- bags, and one canonical encoding in all rules.
+-- If octets are an encoding of several values, these are equal: they have the same normal form, up to the order of the
+-- elements of a SET OF, and the same canonical encoding in all rules.
 abbrev pub OneMeaning : Type 0
 OneMeaning =
     (q r : Rules) (s : Schema) (v u : Value) (w : List ℕ) → IsLawful s → IsEncoding q s v w → IsEncoding q s u w
     → (same v u ≡ true) × (same (normal s v) (normal s u) ≡ true) × (canonical r s v ≡ canonical r s u)
 
--- The canonical encodings of two values are equal exactly if their normal forms are the same. So where they have
--- some in two sets of rules, these are equal in one exactly if they are in the other.
+-- The canonical encodings of two values are equal exactly if their normal forms are equal. So if both have canonical
+-- encodings in two sets of rules, these are equal in one exactly if they are equal in the other.
 abbrev pub EncodingsTellNormalForms : Type 0
 EncodingsTellNormalForms =
     (r : Rules) (s : Schema) (v u : Value) (a b : List ℕ) → IsLawful s → canonical r s v ≡ Some a
     → canonical r s u ≡ Some b → (a ≡ b → same (normal s v) (normal s u) ≡ true)
     × (same (normal s v) (normal s u) ≡ true → a ≡ b)
 
--- A detour changes no octet: what is written of what was read in between is what is written of what was read first. So
--- what was recoded once is recoded to itself.
+-- A detour changes no octet: encoding what was read in between gives the same as encoding what was read first. So what
+-- was transcoded once is transcoded to itself.
 abbrev pub DetoursChangeNothing : Type 0
 DetoursChangeNothing =
     (p r : Rules) (s : Schema) (v u : Value) (b : List ℕ) → IsLawful s → canonical r s v ≡ Some b → IsEncoding r s u b
     → canonical p s u ≡ canonical p s v
 
--- What is canonical but for the order of the bags, where the members of each bag ascend, is an encoding and the
--- canonical one; and what is canonical is so.
+-- Octets that are canonical except for the order of the elements of each SET OF, and where these elements ascend, are
+-- an encoding and the canonical one; and the canonical encoding is such octets.
 abbrev pub InOrderIsCanonical : Type 0
 InOrderIsCanonical =
     (r : Rules) (s : Schema) (v : Value) (w : List ℕ) → (IsEncodingInOrder r s v w → IsEncoding r s v w)
     × (IsTrue (list_all is_octet w) → IsEncodingInOrder r s v w → canonical r s v ≡ Some w)
     × (canonical r s v ≡ Some w → IsEncodingInOrder r s (normal s v) w)
 
--- What a strict reader takes of a rigid type is the canonical encoding of the value.
+-- What a strict reader accepts of a rigid type is the canonical encoding of the value.
 abbrev pub RigidIsCanonicalIn : Rules → Type 0
 RigidIsCanonicalIn r =
     (s : Schema) (v : Value) (w : List ℕ) → IsTrue (is_rigid s) → IsTrue (list_all is_octet w) → IsEncoding r s v w

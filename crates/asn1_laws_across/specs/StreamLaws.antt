@@ -7,20 +7,20 @@ use Rattle.std.specs.List.{concat}
 use Rattle.asn1_laws_across.specs.Streams.{Message, HasNoMessage, Divides, AreSame}
 use Rattle.asn1_laws_across.specs.Relayed.{Stop, HasEmptyMessage, StopsAt, Relays, RelaysPieces, Translates, EndsBefore}
 
--- Octets divide into messages and a rest in one way at most.
+-- Octets divide into messages and a rest in at most one way.
 abbrev pub DividedOnce : Type 0
 DividedOnce =
     (r : Rules) (s : Schema) (limit : ℕ) (ms ns : List Message) (rest other w : List ℕ) → IsLawful s
     → Divides r s limit ms rest w → Divides r s limit ns other w → (rest ≡ other) × AreSame ms ns
 
--- Where more octets come, the messages so far are followed by those into which the rest and the further octets divide.
+-- If more octets arrive, the messages so far are followed by those into which the rest and the new octets divide.
 abbrev pub GoesOnAlike : Type 0
 GoesOnAlike =
     (r : Rules) (s : Schema) (limit : ℕ) (ms ns : List Message) (rest other w x : List ℕ) → Divides r s limit ms rest w
     → Divides r s limit ns other (rest ++ x) → Divides r s limit (ms ++ ns) other (w ++ x)
 
--- And however they divide then, they begin with the messages so far, and the rest and the further octets divide into
--- the others.
+-- If more octets arrive, any division of all the octets begins with the messages so far, and the rest and the new
+-- octets divide into its other messages.
 abbrev pub BeginsAlike : Type 0
 BeginsAlike =
     (r : Rules) (s : Schema) (limit : ℕ) (ms all : List Message) (rest other w x : List ℕ) → IsLawful s
@@ -29,7 +29,7 @@ BeginsAlike =
 
 -- ---- what a relay does
 
--- A relay does one thing at most to octets.
+-- A relay has at most one result on given octets.
 abbrev pub RelayedOnce : Type 0
 RelayedOnce =
     (source target : Rules) (s : Schema) (limit : ℕ) (w : List ℕ) (n k : ℕ) (o q rest other : List ℕ)
@@ -37,7 +37,7 @@ RelayedOnce =
     → Relays source target s limit w n o rest why → Relays source target s limit w k q other cause → (n ≡ k) × (o ≡ q)
     × (rest ≡ other) × (why ≡ cause)
 
--- Where it waits, and more octets come, it goes on with those that are unread.
+-- If a relay waits and more octets arrive, it goes on with the unread octets.
 abbrev pub RelayGoesOn : Type 0
 RelayGoesOn =
     (source target : Rules) (s : Schema) (limit : ℕ) (w x : List ℕ) (n k : ℕ) (o q rest other : List ℕ)
@@ -45,15 +45,15 @@ RelayGoesOn =
     → Relays source target s limit w n o rest None → Relays source target s limit (rest ++ x) k q other why
     → Relays source target s limit (w ++ x) (n + k) (o ++ q) other why
 
--- Where it stops, it stops there for the same reason whatever comes behind.
+-- If a relay stops, it stops there for the same reason whatever octets follow.
 abbrev pub RelayStopsForGood : Type 0
 RelayStopsForGood =
     (source target : Rules) (s : Schema) (limit : ℕ) (w x : List ℕ) (n : ℕ) (o rest : List ℕ) (why : Stop)
     → Relays source target s limit w n o rest (Some why)
     → Relays source target s limit (w ++ x) n o (rest ++ x) (Some why)
 
--- Of pieces only the joined octets count, wherever they are cut: what calls write, one behind the other, and the
--- message at which they stop, are those of the joined octets at once.
+-- Only the concatenation of the pieces matters, not where they are cut: what the calls write in turn, and the message
+-- at which they stop, are those of all octets at once.
 abbrev pub PiecesAreJoined : Type 0
 PiecesAreJoined =
     (source target : Rules) (s : Schema) (limit : ℕ) (unread : List ℕ) (pieces : List (List ℕ)) (n : ℕ)
@@ -62,8 +62,8 @@ PiecesAreJoined =
     → (other : List ℕ) × Relays source target s limit (unread ++ concat pieces) n o other why
     × (why ≡ None → other ≡ rest)
 
--- The messages that a relay relays are the first of those into which the octets divide: all of them, and the rest is
--- unread; or it stops at the next one, which has no encoding in the target rules, or an empty one.
+-- A relay relays the first of the messages into which octets divide: all of them, with the rest unread; or it stops at
+-- the next one, whose encoding in the target rules does not exist or is empty.
 abbrev pub RelaysTheFirst : Type 0
 RelaysTheFirst = (source target : Rules) (s : Schema) (limit : ℕ) (w rest out unread : List ℕ) (ms : List Message)
     → (n : ℕ) (why : Option Stop) → IsLawful s → Divides source s limit ms rest w
@@ -71,8 +71,8 @@ RelaysTheFirst = (source target : Rules) (s : Schema) (limit : ℕ) (w rest out 
     → (front : List Message) × (behind : List Message) × (front ++ behind ≡ ms)
     × AreSame h.messages front × EndsBefore target s behind rest unread why
 
--- Where each has such an encoding that is not empty, all are relayed: what is written are these encodings, joined, and
--- the rest is unread.
+-- If each message has a non-empty encoding in the target rules, all are relayed: the concatenation of these encodings
+-- is written, and the rest is unread.
 abbrev pub RelaysAll : Type 0
 RelaysAll = (source target : Rules) (s : Schema) (limit : ℕ) (w rest joined out unread : List ℕ) (ms : List Message)
     → (n : ℕ) (why : Option Stop) → IsLawful s → Divides source s limit ms rest w → Translates target s ms joined
@@ -81,18 +81,19 @@ RelaysAll = (source target : Rules) (s : Schema) (limit : ℕ) (w rest joined ou
 
 -- ---- the limit
 
--- What begins octets and is no longer than the limit begins the first of them, so many as the limit says.
+-- Octets begin with no message within the limit exactly if their first octets, up to the limit, do so.
 abbrev pub WithinTheLimit : Type 0
 WithinTheLimit = (r : Rules) (s : Schema) (limit : ℕ) (w : List ℕ)
     → (HasNoMessage r s limit w → HasNoMessage r s limit (take limit w))
     × (HasNoMessage r s limit (take limit w) → HasNoMessage r s limit w)
 
--- No message in front of as many octets as a message may have, or of more, means none however many follow.
+-- If octets, at least as many as the limit of a message, begin with no message, they begin with none whatever octets
+-- follow.
 abbrev pub NoneWithinIsNone : Type 0
 NoneWithinIsNone = (r : Rules) (s : Schema) (limit : ℕ) (w x : List ℕ)
     → limit ≤ length w → HasNoMessage r s limit w → HasNoMessage r s limit (w ++ x)
 
--- Where no octets are an encoding, no others are one, so that no message has one.
+-- If the empty octet string is an encoding of the type, no other octets are, so no octets begin with a message.
 abbrev pub EmptyIsAlone : Type 0
 EmptyIsAlone = (r : Rules) (s : Schema) (limit : ℕ) (w : List ℕ)
     → IsLawful s → HasEmptyMessage r s → HasNoMessage r s limit w

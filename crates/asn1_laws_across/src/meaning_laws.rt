@@ -4,37 +4,37 @@ ghost use Rattle.asn1_laws_across.specs.Laws.{OneMeaning, EncodingsTellNormalFor
 ghost use Rattle.asn1_laws_across.specs.Laws.{InOrderIsCanonical, RigidIsCanonical};
 ghost use Rattle.asn1_laws_across.specs.InOrder.{InOrderRows};
 
-/// All values of which some octets are an encoding are the same, and so have the same normal form, up to the order of
-/// bags, and one canonical encoding in all rules.
+/// If octets are an encoding of several values, these are equal: they have the same normal form, up to the order of
+/// the elements of a SET OF, and the same canonical encoding in all rules.
 pub fn one_meaning()
     ensures { OneMeaning }
 {}
 
-/// The canonical encodings of two values are equal exactly if their normal forms are the same. So where they have some
-/// in two sets of rules, these are equal in one exactly if they are in the other.
+/// The canonical encodings of two values are equal exactly if their normal forms are equal. So if both have canonical
+/// encodings in two sets of rules, these are equal in one exactly if they are equal in the other.
 pub fn encodings_tell_normal_forms()
     ensures { EncodingsTellNormalForms }
 {}
 
-/// A detour changes no octet: what is written of what was read in between is what is written of what was read first. So
-/// what was recoded once is recoded to itself.
+/// A detour changes no octet: encoding what was read in between gives the same as encoding what was read first. So
+/// what was transcoded once is transcoded to itself.
 pub fn detours_change_nothing()
     ensures { DetoursChangeNothing }
 {}
 
-/// Octets that are canonical but for the order of the bags, where the members of each bag ascend, are the canonical
-/// encoding of the value; and the canonical encoding is such octets.
+/// Octets that are canonical except for the order of the elements of each SET OF, and where these elements ascend, are
+/// the canonical encoding of the value; and the canonical encoding is such octets.
 pub fn in_order_is_canonical()
     ensures { InOrderIsCanonical }
 {}
 
-/// What a strict reader takes of a type without bags, and without extension markers on its sequences and sets at any
-/// depth, is the canonical encoding of the value.
+/// What a strict reader accepts of a type without a SET OF, and without extension markers on its SEQUENCE and SET
+/// types at any depth, is the canonical encoding of the value.
 pub fn rigid_is_canonical()
     ensures { RigidIsCanonical }
 {}
 
-/// The bag of 3, 1 and 2, written 1, 2, 3, is in order.
+/// The SET OF 3, 1 and 2, encoded as 1, 2, 3, is in order.
 pub fn in_order_rows()
     ensures { InOrderRows }
 {}

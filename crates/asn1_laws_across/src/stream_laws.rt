@@ -1,4 +1,4 @@
-//! How octets divide into messages and a rest, and what a relay does to octets that come in pieces.
+//! How octets divide into messages and a rest, and what a relay does with octets that arrive in pieces.
 
 ghost use Rattle.asn1_laws_across.specs.StreamLaws.{DividedOnce, GoesOnAlike, BeginsAlike};
 ghost use Rattle.asn1_laws_across.specs.StreamLaws.{RelayedOnce, RelayGoesOn, RelayStopsForGood, PiecesAreJoined};
@@ -6,70 +6,70 @@ ghost use Rattle.asn1_laws_across.specs.StreamLaws.{RelaysTheFirst, RelaysAll, W
 ghost use Rattle.asn1_laws_across.specs.StreamLaws.{EmptyIsAlone};
 ghost use Rattle.asn1_laws_across.specs.Rows.{RelayRows};
 
-/// Octets divide into messages and a rest in one way at most.
+/// Octets divide into messages and a rest in at most one way.
 pub fn divided_once()
     ensures { DividedOnce }
 {}
 
-/// Where more octets come, the messages so far are followed by those into which the rest and the further octets divide.
+/// If more octets arrive, the messages so far are followed by those into which the rest and the new octets divide.
 pub fn goes_on_alike()
     ensures { GoesOnAlike }
 {}
 
-/// And however they divide then, they begin with the messages so far, and the rest and the further octets divide into
-/// the others.
+/// If more octets arrive, any division of all the octets begins with the messages so far, and the rest and the new
+/// octets divide into its other messages.
 pub fn begins_alike()
     ensures { BeginsAlike }
 {}
 
-/// A relay does one thing at most to octets.
+/// A relay has at most one result on given octets.
 pub fn relayed_once()
     ensures { RelayedOnce }
 {}
 
-/// Where a relay waits, and more octets come, it goes on with those that are unread.
+/// If a relay waits and more octets arrive, it goes on with the unread octets.
 pub fn relay_goes_on()
     ensures { RelayGoesOn }
 {}
 
-/// Where a relay stops, it stops there for the same reason whatever comes behind.
+/// If a relay stops, it stops there for the same reason whatever octets follow.
 pub fn relay_stops_for_good()
     ensures { RelayStopsForGood }
 {}
 
-/// Of pieces only the joined octets count, wherever they are cut.
+/// Only the concatenation of the pieces matters, not where they are cut.
 pub fn pieces_are_joined()
     ensures { PiecesAreJoined }
 {}
 
-/// The messages that a relay relays are the first of those into which octets divide: all of them, and the rest is
-/// unread, or those in front of the first one that has no encoding in the target rules, or an empty one.
+/// A relay relays the first of the messages into which octets divide: all of them, with the rest unread, or those
+/// before the first one whose encoding in the target rules does not exist or is empty.
 pub fn relays_the_first()
     ensures { RelaysTheFirst }
 {}
 
-/// Where each of these messages has an encoding in the target rules that is not empty, all are relayed, and the rest is
-/// unread.
+/// If each of these messages has a non-empty encoding in the target rules, all are relayed, and the rest is unread.
 pub fn relays_all()
     ensures { RelaysAll }
 {}
 
-/// What begins octets and is no longer than the limit begins the first of them, so many as the limit says.
+/// Octets begin with no message within the limit exactly if their first octets, up to the limit, do so.
 pub fn within_the_limit()
     ensures { WithinTheLimit }
 {}
 
-/// No message in front of as many octets as a message may have, or of more, means none however many follow.
+/// If octets, at least as many as the limit of a message, begin with no message, they begin with none whatever octets
+/// follow.
 pub fn none_within_is_none()
     ensures { NoneWithinIsNone }
 {}
 
-/// Where no octets are an encoding, no others are one, so that no message has one.
+/// If the empty octet string is an encoding of the type, no other octets are, so no octets begin with a message.
 pub fn empty_is_alone()
     ensures { EmptyIsAlone }
 {}
 
-/// What a relay does to some octets.
+/// What a relay does with worked examples.
 pub fn relay_rows()
     ensures { RelayRows }
 {}

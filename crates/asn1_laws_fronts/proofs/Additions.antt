@@ -1,5 +1,5 @@
--- Fronts of components and additions, for all rules at once: given how a component and an addition are shown, the bits of a
--- preamble and of a bitmap, and unknown additions.
+-- Prefixes of components and additions, for all rules at once: given the forms of a component and an addition, the
+-- bits of a preamble and of a bitmap, and unknown additions.
 use Rattle.std.proofs.Common.{◌≡◌, ℕ, zero, suc, ◌+◌, ◌≤◌, ◌==◌, ltb, not, Bool, true, false, cond, ◌&&◌, ◌||◌, List, [], ◌∷◌, ◌++◌, length, take, drop, map, Option, Some, None, option_map, refl, ap, sym, ◌∙◌, subst, inl, inr, ◌⊎◌, arith}
 use Rattle.std.proofs.lemmas.Bool.{and_parts, and_from, or_cases, ltb-true, eqb-true}
 use Rattle.asn1_model.specs.Value.{Value, Parts, end, absent, present, same, same_parts}
@@ -81,7 +81,8 @@ module _ (F : Type 0) (D : F → Type 0) (A : Type 0) (free : F → Bool) where
 
   -- ---- additions
   module _ (unknown : List ℕ → Form F D A) (unknown_alike : (os ps : List ℕ) → AlikeHere (unknown os) (unknown ps) (os ≡ ps)) where
-    -- the additions that a bitmap tells of: the type's own as far as it covers them, the others being absent, and unknown ones
+    -- the additions that a bitmap describes: the type's as far as it covers them, the others being absent, and unknown
+    -- ones
     abbrev pub Tells : List (Option Forms) → List (Option Forms) → Type 0
     Tells [] all = (more : List (Option (List ℕ))) × (map (option_map unknown) more ≡ all)
     Tells (x ∷ xs) [] = is_any_present (x ∷ xs) ≡ false
@@ -132,7 +133,7 @@ module _ (F : Type 0) (D : F → Type 0) (A : Type 0) (free : F → Bool) where
       unless_required true o xs e = cc
       unless_required false o xs e = e
 
-      -- parts of which none is there
+      -- parts, all of which are absent
       pub none_same : (cs : Components) (ps qs : Parts) (xs ys : List (Option Forms)) → additions_of cs ps ≡ Some xs → additions_of cs qs ≡ Some ys → is_any_present xs ≡ false → is_any_present ys ≡ false → same_parts ps qs ≡ true
       none_same no_component end end xs ys e f h i = end_parts
       none_same no_component end (absent qs) xs ys e f h i = cc
@@ -148,7 +149,7 @@ module _ (F : Type 0) (D : F → Type 0) (A : Type 0) (free : F → Bool) where
       none_same (component t o s cs) (absent ps) (present w qs) xs ys e f h i = let b = map_parts (additions_of cs qs) (λ zs. Some (added o s w) ∷ zs) ys f in let c : true ≡ false = subst (λ l. is_any_present l ≡ false) (sym b.2) i in cc
       none_same (component t o s cs) (present v ps) qs xs ys e f h i = let a = map_parts (additions_of cs ps) (λ zs. Some (added o s v) ∷ zs) xs e in let c : true ≡ false = subst (λ l. is_any_present l ≡ false) (sym a.2) h in cc
 
-      -- one place in both
+      -- one position in both
       places_alike : (x y : Option Forms) (xs ys all others : List (Option Forms)) (P : Type 0) → Tells (x ∷ xs) all → Tells (y ∷ ys) others → map (λ a. is_some a) all ≡ map (λ a. is_some a) others → (is_any_present (x ∷ xs) ≡ false → is_any_present (y ∷ ys) ≡ false → P) → (is_some x ≡ is_some y → (us vs : List (Option Forms)) → Tells xs us → Tells ys vs → map (λ a. is_some a) us ≡ map (λ a. is_some a) vs → AlikeHere (joined (present_ones (x ∷ us))) (joined (present_ones (y ∷ vs))) P) → AlikeHere (joined (present_ones all)) (joined (present_ones others)) P
       places_alike x y xs ys [] [] P t u m k c = agree_map free (λ e. k t u) (agree_nothing free)
       places_alike x y xs ys [] (b ∷ others) P t u m k c = cc
@@ -190,7 +191,7 @@ module _ (F : Type 0) (D : F → Type 0) (A : Type 0) (free : F → Bool) where
           let b = map_parts (additions_of cs qs) (λ zs. Some (added o s w) ∷ zs) ys f in
           places_alike (Some (added o s v)) (Some (added o s w)) a.0 b.0 all others _ (subst (λ l. Tells l all) (sym a.2) t) (subst (λ l. Tells l others) (sym b.2) u) m (λ i j. cc) (λ i us vs t' u' m'. agree_map free (λ q. two_parts v w ps qs q.0 q.1) (agree_both free (h.0 v w) (λ r. present_alike cs ps qs a.0 b.0 us vs h.1 a.1 b.1 t' u' m')))
 
-      -- ---- behind a bitmap or without one
+      -- ---- with or without a bitmap
       module _ (preamble : List Bool → Form F D A) (preambles_alike : (ms ns : List Bool) → length ms ≡ length ns → AlikeHere (preamble ms) (preamble ns) (ms ≡ ns)) (bits : List (Option (Form F D A)) → Form F D A) (bits_alike : (xs ys : List (Option Forms)) → AlikeHere (bits xs) (bits ys) (map (λ a. is_some a) xs ≡ map (λ a. is_some a) ys)) (hidden : Form F D A → Form F D A) (hidden_left : (x y : Forms) (P : Type 0) → AlikeHere x y P → AlikeHere (hidden x) y P) (hidden_right : (x y : Forms) (P : Type 0) → AlikeHere x y P → AlikeHere x (hidden y) P) where
         abbrev pub with_all : List Bool → Form F D A → List (Option Forms) → Form F D A
         with_all ms root all = both (preamble (true ∷ ms)) (both root (both (bits all) (joined (present_ones all))))

@@ -1,4 +1,4 @@
--- Fronts of choices of the octet rules: tags tell alternatives apart.
+-- Prefixes of CHOICE in the octet rules: tags distinguish the alternatives.
 use Rattle.std.proofs.Common.{◌≡◌, ℕ, zero, suc, not, Bool, true, false, List, [], ◌∷◌, ◌++◌, refl, ap}
 use Rattle.std.proofs.lemmas.Bool.{and_parts, and_from}
 use Rattle.asn1_model.specs.Value.{Value, same}
@@ -40,7 +40,7 @@ module _ (free : Oer.Freedom → Bool) where
   tags_apart : (t u : Tag) (x y : Oer.OctetForm) (P : Type 0) → not (tag_same t u) ≡ true → OctetsAlike free (both (Oer.tag_form t) x) (both (Oer.tag_form u) y) P
   tags_apart t u x y P h = agree_both_apart free (agree_map free (λ e. not_both (tag_same t u) h e) (tags_alike free t u))
 
-  -- an alternative whose tag is none of the others'
+  -- an alternative whose tag differs from those of the others
   pub apart_from : (t : Tag) (x : Oer.OctetForm) (b : Bool) (others : Alternatives) (j : ℕ) (w : Value) (P : Type 0) → list_all (λ u. not (tag_same t u)) (alternative_tags others) ≡ true → OctetsAlike free (both (Oer.tag_form t) x) (Oer.alternative_form b others j w) P
   unfolding Oer.alternative_form
   apart_from t x true no_alternative j w P h = agree_with_refused free _ _

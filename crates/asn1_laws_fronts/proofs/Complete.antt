@@ -9,7 +9,7 @@ use Rattle.asn1_laws_fronts.proofs.Fronts.{fronts_equal, agree_exactly, agree_ma
 use Rattle.asn1_laws_fronts.proofs.PerNumbers.{Alike, padding_alike}
 
 module _ (free : Per.Freedom → Bool) where
-  -- what stands behind the bits of the value, where it has any
+  -- what follows the bits of the value, if it has any
   padded_front : (c : Bool) (w : List Bool) (p : ℕ) (a : List Bool) → Reads free (Per.padded (c ∷ w)) p a → (more : List Bool) × ((c ∷ w) ++ more ≡ a)
   unfolding Per.padded Reads
   padded_front c w p a r = (r.1, ap (λ l. l ++ r.1) r.2 ∙ r.4)
@@ -19,7 +19,7 @@ module _ (free : Per.Freedom → Bool) where
   padded_same [] = agree_map free (λ e. tt) (agree_exactly free _ _ refl)
   padded_same (c ∷ w) = agree_map free (λ e. tt) (agree_both free (agree_exactly free (c ∷ w) (c ∷ w) refl) (λ e. padding_alike free (Per.missing (length (c ∷ w)))))
 
-  -- two texts of forms that agree, padded, are of one value
+  -- two padded encodings of forms that agree are of one value
   padded_values : (x y : Per.BitForm) (P : Type 0) (v w : List Bool) (p : ℕ) (a b r s : List Bool) → Alike free x y P → Reads free x 0 v → Reads free y 0 w → Reads free (Per.padded v) p a → Reads free (Per.padded w) p b → a ++ r ≡ b ++ s → (v ≡ w) × P
   padded_values x y P [] [] p a b r s h f g i j e = h.fronts 0 [] [] [] [] f g refl
   padded_values x y P [] (d ∷ w) p a b r s h f g i j e = h.fronts 0 [] (d ∷ w) (d ∷ w) [] f g (sym (append-nil (d ∷ w)))
@@ -47,7 +47,7 @@ pub bits_length : (a : List ℕ) → length (octet_bits a) ≡ 8 * length a
 bits_length [] = refl
 bits_length (o ∷ a) = let i = bits_length a in length-append (binary 8 o) (octet_bits a) ∙ omega arith
 
--- fronts of octets, from what is known of fronts of their bits
+-- prefixes of octets, from what is known of prefixes of their bits
 pub octet_fronts : (free : Per.Freedom → Bool) (x y : Per.BitForm) (P : Type 0) (a b r s : List ℕ) → Alike free x y P → Reads free x 0 (octet_bits a) → Reads free y 0 (octet_bits b) → a ++ r ≡ b ++ s → (a ≡ b) × P
 octet_fronts free x y P a b r s h f g e =
     let q = h.fronts 0 (octet_bits a) (octet_bits b) (octet_bits r) (octet_bits s) f g (sym (bits_joined a r) ∙ ap octet_bits e ∙ bits_joined b s) in

@@ -1,4 +1,4 @@
--- One front at most in each set of rules.
+-- At most one prefix in each set of rules.
 use Rattle.asn1_model.specs.Rules.{Rules, uper, aper, uper_strict, aper_strict, oer, coer}
 use Rattle.asn1_laws_fronts.specs.Laws.{OneFrontIn}
 use Rattle.asn1_laws_fronts.proofs.Forms.{one_front_uper, one_front_aper, one_front_uper_strict, one_front_aper_strict}

@@ -1,4 +1,4 @@
--- Fronts of all forms of the packed rules.
+-- Prefixes of all forms of the packed rules.
 use Rattle.std.proofs.Common.{◌≡◌, ℕ, zero, suc, ◌-◌, Bool, true, false, cond, List, [], ◌∷◌, length, map, Option, Some, None, option_map, refl, ap, ◌∙◌, subst}
 use Rattle.std.proofs.lemmas.Bool.{and_parts, and_from, eq-eqb}
 use Rattle.asn1_model.specs.Value.{Value, truth, nothing, number, item, bit_list, octet_list, text, arcs, members, bag, fields, chosen, Values, Parts, end, absent, present, each, values_of, same, same_members, same_parts}
@@ -46,7 +46,7 @@ module _ (free : Per.Freedom → Bool) (al : Bool) where
   octets_alike : (z : Size) (held : Counts) (os ps : List ℕ) → list_all is_octet os ≡ true → list_all is_octet ps ≡ true → Alike free (Per.sized al z held (Per.string_has_padding 8 (length os)) (Per.octet_units os)) (Per.sized al z held (Per.string_has_padding 8 (length ps)) (Per.octet_units ps)) (os ≡ ps)
   octets_alike z held os ps h k = agree_map free (λ q. octets_again os ps h k q) (sized_alike free ℕ same_bits (λ o. exactly (binary 8 o)) (λ o p. agree_exactly free _ _ refl) al z held (Per.string_has_padding 8 (length os)) (Per.string_has_padding 8 (length ps)) os ps (λ l. ap (λ n. Per.string_has_padding 8 n z.counts) l))
 
-  -- ---- lists and bags
+  -- ---- SEQUENCE OF and SET OF
   list_alike : (z : Size) (held : Counts) (s : Schema) → OneWay s → (vs ws : Values) → Alike free (Per.sized al z held (λ c. false) (each (λ v. Per.form al s v) vs)) (Per.sized al z held (λ c. false) (each (λ v. Per.form al s v) ws)) (same_members vs ws ≡ true)
   list_alike z held s h vs ws = rw (each_is_map (λ v. Per.form al s v) vs, each_is_map (λ v. Per.form al s v) ws) (agree_map free (λ q. members_same vs ws q) (sized_alike free Value (λ v w. same v w ≡ true) (λ v. Per.form al s v) h al z held (λ c. false) (λ c. false) (listed vs) (listed ws) (λ l. refl)))
 

@@ -1,4 +1,4 @@
--- Two forms that agree: of their texts, with anything behind, one front at most is of both, and then a fact holds.
+-- Two forms that agree: of octets or bits, at most one prefix has both forms, and then a fact holds.
 use Rattle.std.proofs.Common.{◌≡◌, ℕ, ◌+◌, Bool, true, false, List, [], ◌∷◌, ◌++◌, length, Option, Some, None, refl, ap, sym, ◌∙◌, subst, append_assoc, arith}
 use Rattle.std.proofs.lemmas.List.{append_cancel_left}
 use Rattle.asn1_model.specs.Form.{Form, exactly, refused, both, placed, varied, Reads, only_if, given}
@@ -6,7 +6,7 @@ use Rattle.asn1_model.specs.Form.{Form, exactly, refused, both, placed, varied, 
 pub record Agree {F : Type 0} {D : F → Type 0} {A : Type 0} (free : F → Bool) (x y : Form F D A) (P : Type 0) : Type 0 where
   pub fronts : (p : ℕ) (a b r s : List A) → Reads free x p a → Reads free y p b → a ++ r ≡ b ++ s → (a ≡ b) × P
 
--- fronts of equal length are equal
+-- prefixes of equal length are equal
 pub fronts_equal : {A : Type 0} (a b r s : List A) → length a ≡ length b → a ++ r ≡ b ++ s → a ≡ b
 fronts_equal [] [] r s l e = refl
 fronts_equal [] (y ∷ b) r s l e = absurd (omega arith)
@@ -86,7 +86,7 @@ module _ {F : Type 0} {D : F → Type 0} {A : Type 0} (free : F → Bool) where
   agree_given (Some x) None f g {P} h = agree_with_refused (f x) P
   agree_given (Some x) (Some y) f g h = h x y refl refl
 
-  -- the first symbols tell them apart, or what stands behind agrees
+  -- the first symbols distinguish them, or what follows agrees
   pub agree_first : {x y : A} {l m : List A} {P : Type 0} → (x ≡ y → Agree {F = F} {D = D} free (exactly l) (exactly m) P) → Agree {F = F} {D = D} free (exactly (x ∷ l)) (exactly (y ∷ m)) P
   unfolding Reads
   agree_first {x} {y} {l} {m} k = record {
@@ -100,18 +100,18 @@ module _ {F : Type 0} {D : F → Type 0} {A : Type 0} (free : F → Bool) where
         (sym u ∙ w ∙ v, q.1);
   }
 
-  -- what agrees about nothing is apart
+  -- forms that agree on no fact are disjoint
   pub agree_apart : {x y : Form F D A} {P : Type 0} → Agree free x y ⊥ → Agree free x y P
   agree_apart h = agree_map (λ e. absurd e) h
 
-  -- the first parts tell them apart
+  -- the first parts distinguish them
   pub agree_both_apart : {x x' y y' : Form F D A} {P : Type 0} → Agree free x x' ⊥ → Agree free (both x y) (both x' y') P
   agree_both_apart {P = P} h = agree_map (λ (q : ⊥ × P). absurd (q.0)) (agree_both h (λ e. absurd e))
 
   pub agree_nothing : Agree {F = F} {D = D} {A = A} free (exactly []) (exactly []) (Unit {0})
   agree_nothing = agree_map (λ e. tt) (agree_exactly [] [] refl)
 
-  -- texts of a code in which none begins with another
+  -- encodings of a prefix-free code
   pub agree_code : {l m : List A} {P : Type 0} → ((r s : List A) → l ++ r ≡ m ++ s → (l ≡ m) × P) → Agree {F = F} {D = D} free (exactly l) (exactly m) P
   unfolding Reads
   agree_code {l} {m} h = record {
@@ -123,7 +123,7 @@ module _ {F : Type 0} {D : F → Type 0} {A : Type 0} (free : F → Bool) where
   pub agree_turned : {x y : Form F D A} {P : Type 0} → Agree free x y P → Agree free y x P
   agree_turned h = record { fronts = λ p a b r s u v e. let q = h.fronts p b a s r v u (sym e) in (sym q.0, q.1) }
 
--- elements in pairs, of which a relation holds
+-- elements in pairs for which a relation holds
 abbrev pub Pairwise : {X : Type 0} → (X → X → Type 0) → List X → List X → Type 0
 Pairwise R [] [] = Unit {0}
 Pairwise R (x ∷ xs) (y ∷ ys) = R x y × Pairwise R xs ys

@@ -1,4 +1,4 @@
--- Members that are the same in pairs.
+-- Elements that are equal in pairs.
 use Rattle.std.proofs.Common.{◌≡◌, true, refl}
 use Rattle.std.proofs.lemmas.Bool.{and_from}
 use Rattle.asn1_model.specs.Value.{Values, no_more, member, same, same_members}

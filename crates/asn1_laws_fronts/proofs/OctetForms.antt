@@ -1,4 +1,4 @@
--- Fronts of all forms of the octet rules.
+-- Prefixes of all forms of the octet rules.
 use Rattle.std.proofs.Common.{◌≡◌, ℕ, ltb, Bool, true, false, cond, ◌&&◌, ◌||◌, List, [], ◌∷◌, ◌++◌, length, map, Option, Some, None, option_map, refl, ap, ◌∙◌, subst}
 use Rattle.std.proofs.lemmas.Bool.{and_parts, and_from, eq-eqb}
 use Rattle.asn1_model.specs.Numbers.{admits}
@@ -39,7 +39,7 @@ module _ (free : Oer.Freedom → Bool) where
   abbrev Way : Schema → Type 0
   Way s = OneWay free s
 
-  -- ---- lists and bags
+  -- ---- SEQUENCE OF and SET OF
   list_alike : (held : Counts) (s : Schema) → Way s → (vs ws : Values) → OctetsAlike free (Oer.members_form held (each (λ v. Oer.form s v) vs)) (Oer.members_form held (each (λ v. Oer.form s v) ws)) (same_members vs ws ≡ true)
   list_alike held s h vs ws = rw (each_is_map (λ v. Oer.form s v) vs, each_is_map (λ v. Oer.form s v) ws) (agree_map free (λ q. members_same vs ws q) (members_alike free Value (λ v w. same v w ≡ true) (λ v. Oer.form s v) h held (listed vs) (listed ws)))
 

@@ -1,4 +1,4 @@
--- Fronts of items, strings, members and open types of the octet rules.
+-- Prefixes of enumeration values, strings, elements and open types of the octet rules.
 use Rattle.std.specs.Prelude.{ℤ, pos, negsuc}
 use Rattle.std.proofs.Common.{◌≡◌, ℕ, suc, ◌+◌, ◌/◌, ◌<◌, ◌≤◌, ◌==◌, ltb, leb, not, lit<, Bool, true, false, cond, ◌&&◌, ◌||◌, List, [], ◌∷◌, ◌++◌, length, drop, map, flat_map, Option, Some, None, refl, ap, sym, ◌∙◌, append_assoc, inl, inr, ◌⊎◌, arith}
 use Rattle.std.proofs.lemmas.Bool.{ltb-true, leb-true, eqb-true, and_parts, or_cases}
@@ -95,7 +95,7 @@ module _ (free : Oer.Freedom → Bool) where
   octets_alike true os ps h = agree_if free (list_all is_octet os) (list_all is_octet ps) _ _ (λ i j. agree_exactly free os ps (h refl))
   octets_alike false os ps h = counted_alike free os ps
 
--- what has one size has one length
+-- a fixed size is one length
 at_one : (c : Counts) (high : Option ℕ) (n m : ℕ) → is_fixed_at c high ≡ true → (leb c.low n && (option_map_or (λ x. leb n x) high true)) ≡ true → (leb c.low m && (option_map_or (λ x. leb m x) high true)) ≡ true → n ≡ m
 at_one c None n m e f g = cc
 at_one c (Some top) n m e f g =
@@ -168,7 +168,7 @@ characters_long graphic cs ds h = h
 characters_long teletex cs ds h = h
 characters_long utf8 cs ds h = h
 
--- ---- members
+-- ---- elements
 module _ (free : Oer.Freedom → Bool) (X : Type 0) (R : X → X → Type 0) (f : X → Oer.OctetForm) (one : (x y : X) → OctetsAlike free (f x) (f y) (R x y)) where
   joined_alike : (xs ys : List X) → length xs ≡ length ys → OctetsAlike free (joined (map f xs)) (joined (map f ys)) (Pairwise R xs ys)
   joined_alike [] [] h = agree_nothing free

@@ -1,4 +1,4 @@
--- Fronts of bits in octets: preambles and bit strings.
+-- Prefixes of bits in octets: preambles and bit strings.
 use Rattle.std.proofs.Common.{◌≡◌, ℕ, ◌+◌, ◌*◌, ◌/◌, ◌==◌, Bool, false, List, ◌++◌, length, replicate, ap, sym, ◌∙◌, length-append, arith}
 use Rattle.std.proofs.lemmas.List.{length-replicate}
 use Rattle.std.proofs.lemmas.Bool.{eqb-true}
@@ -11,7 +11,7 @@ use Rattle.asn1_laws_fronts.proofs.Fronts.{fronts_equal, agree_exactly, agree_ma
 use Rattle.asn1_laws_fronts.proofs.OerNumbers.{OctetsAlike, length_alike}
 use Rattle.asn1_laws_fronts.proofs.Complete.{bits_length}
 
--- bits, and unused ones behind them
+-- bits, followed by unused ones
 length_with_unused : (n m : ℕ) → m ≡ missing n → n + m ≡ 8 * ((n + 7) / 8)
 length_with_unused n m e = omega arith
 

@@ -1,4 +1,4 @@
--- Fronts of numbers and lengths of the octet rules.
+-- Prefixes of numbers and length determinants of the octet rules.
 use Rattle.std.specs.Prelude.{ℤ, pos, negsuc, max}
 use Rattle.std.proofs.Common.{◌≡◌, ℕ, ◌+◌, ◌^◌, ◌<◌, ◌≤◌, ltb, leb, not, lit<, Bool, true, false, cond, ◌&&◌, ◌||◌, List, [], ◌∷◌, length, Option, Some, None, refl, ap, sym, ◌∙◌, subst, arith}
 use Rattle.std.proofs.lemmas.Bool.{ltb-true, leb-true, and_parts}
@@ -46,7 +46,7 @@ fixed_hold : (k j : ℕ) → Oer.fixed_octets k ≡ Some j → k ≤ j
 fixed_hold k j e = some_octets k j (leb k 1) (leb k 2) (leb k 4) (leb k 8) e (leb-true k 1) (leb-true k 2) (leb-true k 4) (leb-true k 8)
 
 module _ (free : Oer.Freedom → Bool) where
-  -- ---- lengths, and octets behind their number
+  -- ---- length determinants, and octets after them
   long_length_alike : (n m k j : ℕ) → OctetsAlike free (Oer.long_length n k) (Oer.long_length m j) (n ≡ m)
   long_length_alike n m k j = agree_if free (leb 1 k && leb k 127 && leb (octet_width n) k) (leb 1 j && leb j 127 && leb (octet_width m) j) _ _ (λ h i.
       let a : octet_width n ≤ k = leb-true _ _ ((and_parts _ _ h).1) in
@@ -111,7 +111,7 @@ module _ (free : Oer.Freedom → Bool) where
   unbounded_alike (negsuc n) w = agree_refused free _ _
   unbounded_alike (pos n) (negsuc m) = agree_with_refused free _ _
 
-  -- what stands between a negative bound and another fits where these do
+  -- what is between a negative bound and another fits if these do
   between_fits : (k low : ℕ) (high v : ℤ) → FitsIn k (negsuc low) → FitsIn k high → is_at_most (negsuc low) v ≡ true → is_at_most v high ≡ true → FitsIn k v
   between_fits k low (pos h) (pos n) f g i j = let a = at_most_pos n h j in omega arith
   between_fits k low (negsuc h) (pos n) f g i j = absurd (not_below n h j)

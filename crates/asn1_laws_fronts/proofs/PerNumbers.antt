@@ -1,4 +1,4 @@
--- Fronts of numbers, lengths and units of the packed rules.
+-- Prefixes of numbers, length determinants and units of the packed rules.
 use Rattle.std.specs.Prelude.{ℤ}
 use Rattle.std.proofs.Common.{◌≡◌, ℕ, zero, suc, ◌+◌, ◌-◌, ◌*◌, ◌/◌, ◌%◌, ◌^◌, ◌<◌, ◌≤◌, ◌==◌, leb, ltb, not, lit<, Bool, true, false, cond, ◌&&◌, ◌||◌, List, [], ◌∷◌, length, take, drop, map, flat_map, Option, Some, None, refl, ap, sym, ◌∙◌, subst, length-append, arith}
 use Rattle.std.proofs.lemmas.List.{take-map, drop-map, length-take-le}
@@ -16,7 +16,7 @@ use Rattle.asn1_laws_values.proofs.Places.{places_hold}
 use Rattle.asn1_laws_values.proofs.Numbers.{length-digits, length-complement, digits_equal, complement_equal, least_hold, signed_hold, above_equal}
 use Rattle.asn1_laws_fronts.proofs.Fronts.{Agree, Pairwise, fronts_equal, agree_exactly, agree_refused, agree_map, agree_both, agree_both_apart, agree_placed, agree_varied, agree_varied_left, agree_varied_right, agree_if, agree_if_left, agree_if_right, agree_given, agree_first, agree_nothing}
 
--- ---- numbers of so many bits
+-- ---- numbers of a given count of bits
 bit_equal : (a b : ℕ) → a < 2 → b < 2 → (a == 1) ≡ (b == 1) → a ≡ b
 bit_equal zero zero h k e = refl
 bit_equal zero (suc zero) h k e = cc
@@ -92,7 +92,7 @@ module _ (free : Per.Freedom → Bool) where
   pub binary_alike : (w n m : ℕ) → n < 2 ^ w → m < 2 ^ w → Alike free (exactly (binary w n)) (exactly (binary w m)) (n ≡ m)
   binary_alike w n m h k = agree_map free (λ e. binary_equal w n m h k e) (agree_exactly free (binary w n) (binary w m) (length-binary w n ∙ sym (length-binary w m)))
 
-  -- one bit, and then forms that agree if the bits are one
+  -- one bit, and then forms that agree if the bits are equal
   pub bits_apart : {l m : List Bool} {P : Type 0} → Alike free (exactly (true ∷ l)) (exactly (false ∷ m)) P
   bits_apart = agree_first free (λ e. absurd (different e))
 
@@ -116,7 +116,7 @@ module _ (free : Per.Freedom → Bool) where
   unfolding Per.short_length
   short_length_alike al n m = at_octet_alike al (agree_varied free (λ a b. lengths_alike n m a b))
 
-  -- the head of a fragment is not that of a last part
+  -- the head of a fragment differs from that of a last part
   abbrev head_form : ℕ → Per.BitForm
   head_form m = exactly (true ∷ true ∷ binary 6 m)
 
@@ -139,7 +139,7 @@ module _ (free : Per.Freedom → Bool) where
   heads_alike : (al : Bool) (m n : ℕ) → m ≤ 4 → n ≤ 4 → Alike free (Per.at_octet al (head_form m)) (Per.at_octet al (head_form n)) (m ≡ n)
   heads_alike al m n h k = at_octet_alike al (agree_first free (λ e. agree_first free (λ f. binary_alike 6 m n (omega arith) (omega arith))))
 
--- ---- units behind their number: any division into fragments
+-- ---- units after their length determinant: any division into fragments
 pub pairs_length : {X : Type 0} (R : X → X → Type 0) (xs ys : List X) → Pairwise R xs ys → length xs ≡ length ys
 pairs_length R [] [] h = refl
 pairs_length R [] (y ∷ ys) h = absurd h
@@ -207,7 +207,7 @@ module _ (free : Per.Freedom → Bool) (X : Type 0) (R : X → X → Type 0) (f 
   unfolding Per.counted
   counted_alike al xs ys = agree_varied free (λ ms ns. fragments_alike al ms ns xs ys)
 
--- ---- octets behind their number
+-- ---- octets after their length determinant
 abbrev pub same_bits : ℕ → ℕ → Type 0
 same_bits o p = binary 8 o ≡ binary 8 p
 
@@ -235,7 +235,7 @@ module _ (free : Per.Freedom → Bool) where
   unfolding Per.counted_octets
   counted_octets_alike al os ps = agree_if free (list_all is_octet os) (list_all is_octet ps) _ _ (λ h k. agree_map free (λ e. octets_again os ps h k e) (octet_units_alike al os ps))
 
-  -- ---- whole numbers
+  -- ---- integers
   digits_same : (k j n m : ℕ) → least_octets n ≤ k → least_octets m ≤ j → digits 256 k n ≡ digits 256 j m → n ≡ m
   digits_same k j n m h i e =
       let l : k ≡ j = sym (length-digits 256 k n) ∙ ap length e ∙ length-digits 256 j m in
@@ -258,7 +258,7 @@ module _ (free : Per.Freedom → Bool) where
   unfolding Per.unconstrained
   unconstrained_alike al v w = agree_varied free (λ k j. agree_if free (leb (signed_octets v) k) (leb (signed_octets w) j) _ _ (λ h i. agree_map free (λ e. complements_same k j v w (leb-true _ _ h) (leb-true _ _ i) e) (counted_octets_alike al (complement k v) (complement j w))))
 
-  -- a number in as many octets as are told
+  -- a number in as many octets as its length says
   octets_at : (al : Bool) (k n m : ℕ) → n < 256 ^ k → m < 256 ^ k → Alike free (Per.at_octet al (exactly (flat_map (binary 8) (digits 256 k n)))) (Per.at_octet al (exactly (flat_map (binary 8) (digits 256 k m)))) (n ≡ m)
   octets_at al k n m h i =
       let a : length (flat_map (binary 8) (digits 256 k n)) ≡ 8 * k = length-octets (digits 256 k n) ∙ ap (λ x. 8 * x) (length-digits 256 k n) in
@@ -308,7 +308,7 @@ module _ (free : Per.Freedom → Bool) where
   whole_alike al None (Some high) v w = agree_if free (is_at_most v high) (is_at_most w high) _ _ (λ h k. unconstrained_alike al v w)
   whole_alike al None None v w = unconstrained_alike al v w
 
-  -- inside the root, behind an extension bit or not, and outside it
+  -- inside the root, with or without an extension bit, and outside it
   abbrev inside : Bool → Per.BitForm → Per.BitForm
   inside b x = only_if b (both (exactly (false ∷ [])) x)
 

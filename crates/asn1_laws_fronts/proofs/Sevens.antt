@@ -16,7 +16,7 @@ digits_small : (k n : ℕ) → EachSmall (digits 128 k n)
 digits_small zero n = tt
 digits_small (suc k) n = let d = n / 128 ^ k % 128 in (omega arith, digits_small k n)
 
--- none of these begins with another
+-- none of these is a prefix of another
 seven_fronts : (ds es r s : List ℕ) → 0 < length ds → 0 < length es → EachSmall ds → EachSmall es → with_top_bits ds ++ r ≡ with_top_bits es ++ s → ds ≡ es
 seven_fronts [] es r s h i f g e = absurd (omega arith)
 seven_fronts (d ∷ ds) [] r s h i f g e = absurd (omega arith)

@@ -1,4 +1,4 @@
--- Fronts of extension markers, preambles and components that are spelled out.
+-- Prefixes of extension bits, preambles and components that are encoded.
 use Rattle.std.proofs.Common.{◌≡◌, suc, Bool, true, false, cond, List, length, refl, ap}
 use Rattle.asn1_model.specs.Value.{Value, Parts, end, absent, present}
 use Rattle.asn1_model.specs.Schema.{Presence, Schema, Components, no_component, component}
@@ -16,7 +16,7 @@ unless_long : (b m n : Bool) (ms ns : List Bool) → length ms ≡ length ns →
 unless_long true m n ms ns e = e
 unless_long false m n ms ns e = ap suc e
 
--- as many presence bits for all values
+-- all values have the same number of presence bits
 pub presence_bits_long : (cs : Components) (ps qs : Parts) → length (presence_bits cs ps) ≡ length (presence_bits cs qs)
 presence_bits_long no_component ps qs = refl
 presence_bits_long (component t o s cs) end end = unless_long (is_required o) _ _ _ _ (presence_bits_long cs end end)
@@ -29,7 +29,7 @@ presence_bits_long (component t o s cs) (present v ps) end = unless_long (is_req
 presence_bits_long (component t o s cs) (present v ps) (absent qs) = unless_long (is_required o) _ _ _ _ (presence_bits_long cs ps qs)
 presence_bits_long (component t o s cs) (present v ps) (present w qs) = unless_long (is_required o) _ _ _ _ (presence_bits_long cs ps qs)
 
--- ---- components that are spelled out
+-- ---- components that are encoded
 module _ (free : Per.Freedom → Bool) where
   abbrev packed_tests : Bool → Bool → Per.BitForm → Per.BitForm
   packed_tests a b x = cond a (varied Per.default_spelled_out false (λ t. only_if t x)) (cond b (varied Per.empty_group false (λ t. only_if t x)) x)

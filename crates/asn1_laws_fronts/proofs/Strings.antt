@@ -1,4 +1,5 @@
--- Fronts of character strings of the packed rules: a character is told by its number, or by its place among those permitted.
+-- Prefixes of character strings of the packed rules: a character is determined by its value, or by its index among
+-- those permitted.
 use Rattle.std.proofs.Common.{◌≡◌, ℕ, ◌+◌, ◌-◌, ◌^◌, ◌<◌, ◌≤◌, leb, ltb, ◌==◌, lit<, Bool, true, false, cond, ◌&&◌, List, [], ◌∷◌, length, map, Option, Some, None, option_map, filter, refl, ap, sym, ◌∙◌, inl, inr, ◌⊎◌, arith}
 use Rattle.std.proofs.lemmas.Bool.{ltb-true, leb-true, le-leb, and_parts, and_from, or_cases}
 use Rattle.std.proofs.Math.Nat.{pow-le-pow_right}
@@ -16,11 +17,11 @@ use Rattle.asn1_laws_fronts.proofs.Fronts.{agree_map, agree_if, agree_given}
 use Rattle.asn1_laws_fronts.proofs.PerNumbers.{Alike, binary_alike, pairs_equal, counted_octets_alike}
 use Rattle.asn1_laws_fronts.proofs.Units.{sized_alike}
 
--- ---- the place of a character
+-- ---- the index of a character
 in_run_parts : (c : ℕ) (r : Run) → is_in_run c r ≡ true → (r.first ≤ c) × (c ≤ r.last)
 in_run_parts c r e = let p = and_parts _ _ e in (leb-true _ _ p.0, leb-true _ _ p.1)
 
--- in the first run, or behind all of it
+-- in the first run, or after all of it
 abbrev First : ℕ → Run → ℕ → Type 0
 First c r i = (r.first ≤ c) × (c ≤ r.last) × (c - r.first ≡ i)
 
@@ -148,7 +149,7 @@ own_orderly graphic h = cc
 own_orderly teletex h = cc
 own_orderly utf8 h = cc
 
--- ---- what a test leaves of numbers, and in ascending order
+-- ---- the numbers that pass a test, also in ascending order
 left_passes : (test : ℕ → Bool) (cs : List ℕ) → list_all test (filter test cs) ≡ true
 left_passes test [] = refl
 left_passes test (c ∷ cs) = step (test c) refl (left_passes test cs)

@@ -1,4 +1,4 @@
--- Fronts of tags of the octet rules.
+-- Prefixes of tags of the octet rules.
 use Rattle.std.proofs.Common.{◌≡◌, ℕ, ◌+◌, ◌*◌, ◌<◌, ltb, leb, Bool, true, false, cond, [], ◌∷◌, sym, arith}
 use Rattle.std.proofs.lemmas.Bool.{ltb-true, eq-eqb, and_from}
 use Rattle.asn1_model.specs.Schema.{Tag}

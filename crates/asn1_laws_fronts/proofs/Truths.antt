@@ -1,4 +1,4 @@
--- Fronts of truth values of the octet rules.
+-- Prefixes of BOOLEAN in the octet rules.
 use Rattle.std.proofs.Common.{◌≡◌, ℕ, ◌≤◌, Bool, true, false, leb, ◌&&◌, [], ◌∷◌, refl, sym, arith}
 use Rattle.std.proofs.lemmas.Bool.{leb-true, and_parts}
 use Rattle.asn1_model.specs.Value.{truth}

@@ -1,10 +1,11 @@
-//! One front at most in all rules (X.691 and X.696): of all beginnings of some octets one at most is an encoding of a
-//! type, and it tells the value, up to the order of bags. The function does nothing: its contract is a law.
+//! Unique prefixes in all rules (X.691 and X.696): at most one prefix of some octets is an encoding of a type, and it
+//! determines the value, up to the order of the elements of a SET OF. The function does nothing: its contract is a
+//! law.
 
 ghost use Rattle.asn1_laws_fronts.specs.Laws.{OneFront};
 
-/// Of all beginnings of some octets one at most is an encoding of a lawful type, and of one value, up to the order of
-/// bags.
+/// At most one prefix of some octets is an encoding of a well-formed type (`is_lawful`), and of one value, up to the
+/// order of the elements of a SET OF.
 pub fn one_front()
     ensures { OneFront }
 {}

@@ -1,4 +1,4 @@
--- What is read of a value of a lawful type in OER are octets.
+-- What is read of a value of a well-formed type in OER are octets.
 use Rattle.std.specs.Prelude.{ℤ, pos, negsuc}
 use Rattle.std.proofs.Common.{◌≡◌, ℕ, zero, suc, ◌+◌, ◌-◌, ◌*◌, ◌/◌, ◌^◌, ◌<◌, ◌≤◌, ◌==◌, max, leb, ltb, lit<, not, Bool, true, false, cond, ◌&&◌, ◌||◌, List, [], ◌∷◌, ◌++◌, length, take, drop, map, replicate, Option, Some, None, option_map, refl, ap, subst, arith}
 use Rattle.std.proofs.lemmas.Bool.{and_parts, and_from, lt-ltb, ltb-true, leb-true, eqb-true}
@@ -62,7 +62,7 @@ octets_with_unused bs unused h =
     let a = length-append bs unused in
     packed_octets ((length bs + 7) / 8) (bs ++ unused) (omega arith)
 
--- ---- forms of which octets alone are read
+-- ---- forms of which only octets are read
 record Octal (free : Oer.Freedom → Bool) (x : OerForm) : Type 0 where
   octets : (p : ℕ) (w : List ℕ) → Reads free x p w → AreOctets w
 
@@ -253,7 +253,7 @@ module _ (free : Oer.Freedom → Bool) where
   o_sequence false ms root (x ∷ xs) h k = o_refused
   o_sequence true ms root xs h k = o_varied (λ b. o_bitmapped ms root xs b h k)
 
-  -- ---- lists and bags
+  -- ---- SEQUENCE OF and SET OF
   o_members : (held : Counts) (xs : List OerForm) → OctalEach xs → Octal free (Oer.members_form held xs)
   unfolding Oer.members_form
   o_members held xs h = o_if (is_count_within held (length xs)) (λ k. o_both (o_unsigned (length xs)) (o_joined xs h))

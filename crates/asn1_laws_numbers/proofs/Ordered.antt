@@ -1,4 +1,4 @@
--- Octets stand in the order of their bits.
+-- Octets have the order of their bits.
 use Rattle.std.proofs.Common.{◌≡◌, ℕ, zero, suc, ◌+◌, ◌*◌, ◌/◌, ◌%◌, ◌^◌, ◌<◌, ◌≤◌, ◌==◌, ◌⊎◌, inl, inr, ltb, lit<, Bool, true, false, cond, List, [], ◌∷◌, ◌++◌, refl, ap, sym, ◌∙◌, arith}
 use Rattle.std.proofs.lemmas.Bool.{ltb-true, lt-ltb, le-ltb, and_parts}
 use Rattle.std.proofs.lemmas.Bool.Decides.{leb_tells}
@@ -14,7 +14,7 @@ use Rattle.asn1_model.specs.Per.{bit_less}
 order : (m n : ℕ) → (m < n) ⊎ (n ≤ m)
 order m n = elim (leb_tells (suc m) n) [ inl h ↦ inl (omega arith) | inr h ↦ inr (omega arith) ]
 
--- the first of two numbers stands before, or behind, or what follows them tells
+-- the first of two numbers is less, or greater, or what follows decides
 three : ℕ → ℕ → Bool → Bool
 three m n z = cond (ltb m n) true (cond (ltb n m) false z)
 

@@ -1,4 +1,4 @@
--- Numbers of wide ranges, aligned: in octets behind their number, which is a number of a range again.
+-- Numbers of wide ranges, aligned: in octets after their length, which is again a number of a range.
 use Rattle.std.specs.Prelude.{leb, ltb, not}
 use Rattle.std.proofs.Common.{◌≡◌, ℕ, zero, suc, ◌-◌, ◌*◌, ◌^◌, ◌<◌, ◌≤◌, ◌==◌, inr, lit<, Bool, true, false, cond, ◌&&◌, ◌||◌, List, length, flat_map, refl, ap, sym, ◌∙◌, subst, arith}
 use Rattle.std.proofs.lemmas.Bool.{ltb-true, ltb-false, le-leb, leb-true, eqb-true, and_parts}
@@ -17,7 +17,7 @@ use Rattle.std.specs.Int.Digits.{number_from_digits_after}
 pointwise : {X Y : Type 0} {f g : X → Y} → ((x : X) → f x ≡ g x) → f ≡ g
 pointwise h = λ i x. h x i
 
--- the octets of a number are no more than the number
+-- the octets of a number are at most as many as the number
 below_power : (n : ℕ) → n < 256 ^ n
 below_power zero = omega arith
 below_power (suc n) = let i = below_power n in let e : 256 ^ suc n ≡ 256 * 256 ^ n = omega arith in omega arith
@@ -25,7 +25,7 @@ below_power (suc n) = let i = below_power n in let e : 256 ^ suc n ≡ 256 * 256
 fewer_octets : (n : ℕ) → octet_width n ≤ n
 fewer_octets n = places_fewest n 256 n n (lit< tt) (below_power n)
 
--- ---- how many numbers may stand behind one another makes no difference
+-- ---- the limit on nested lengths makes no difference
 abbrev by_span : (ℕ → ℕ → Per.BitForm) → Bool → Bool → Bool → Bool → ℕ → ℕ → Per.BitForm
 by_span whole al a b c span n = cond a (exactly (binary (width span) n)) (cond b (Per.at_octet al (exactly (binary 8 n))) (cond c (Per.at_octet al (exactly (binary 16 n))) (varied Per.longer_number (least_octets n) (λ k. Per.in_octets_of whole al span n k))))
 

@@ -13,19 +13,19 @@ use Rattle.asn1_model.specs.Per
 use Rattle.asn1_model.specs.Oer
 use Rattle.asn1_laws_values.specs.MessageLaws.{canonically}
 
--- All that is written are octets.
+-- What is written are octets.
 abbrev pub WrittenAreOctets : Type 0
 WrittenAreOctets =
     (r : Rules) (s : Schema) (v : Value) (w : List ℕ) → IsLawful s → canonical r s v ≡ Some w
     → IsTrue (list_all is_octet w)
 
--- All that a reader of OER or COER takes are octets.
+-- What a reader of OER or COER accepts are octets.
 abbrev pub ReadAreOctets : Type 0
 ReadAreOctets =
     (s : Schema) (v : Value) (w : List ℕ) → IsLawful s → (IsEncoding oer s v w → IsTrue (list_all is_octet w))
     × (IsEncoding coer s v w → IsTrue (list_all is_octet w))
 
--- Fewer than 2 ^ 60 octets that a reader with no freedom at all takes as the value.
+-- Fewer than 2 ^ 60 octets that a reader without freedoms accepts as the value.
 unfoldable pub IsEncodingWithNoFreedom : Rules → Schema → Value → List ℕ → Type 0
 IsEncodingWithNoFreedom uper s v w = (length w < 2 ^ 60) × Reads canonically (Per.message false s v) 0 (octet_bits w)
 IsEncodingWithNoFreedom uper_strict s v w =
@@ -35,7 +35,7 @@ IsEncodingWithNoFreedom aper_strict s v w =
     (length w < 2 ^ 60) × Reads canonically (Per.message true s v) 0 (octet_bits w)
 IsEncodingWithNoFreedom r s v w = (length w < 2 ^ 60) × Reads canonically (Oer.form s v) 0 w
 
--- The octets that are written are those that a reader with no freedom takes as the normal form, and no others.
+-- The octets written are exactly those that a reader without freedoms accepts as the normal form of the value.
 abbrev pub WrittenIsReadWithNoFreedom : Type 0
 WrittenIsReadWithNoFreedom =
     (r : Rules) (s : Schema) (v : Value) (w : List ℕ)

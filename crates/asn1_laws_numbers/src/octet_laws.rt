@@ -1,19 +1,18 @@
-//! What is written are octets, and just those that a reader with no freedom takes.
+//! What is written are octets, and exactly those that a reader without freedoms accepts.
 
 ghost use Rattle.asn1_laws_numbers.specs.OctetLaws.{ReadAreOctets, WrittenAreOctets, WrittenIsReadWithNoFreedom};
 
-/// All that is written of a value of a lawful type are octets, in all rules.
+/// What is written of a value of a well-formed type (`is_lawful`) are octets, in all rules.
 pub fn written_are_octets()
     ensures { WrittenAreOctets }
 {}
 
-/// All that a reader of OER or COER takes as a value of a lawful type are octets.
+/// What a reader of OER or COER accepts as a value of a well-formed type (`is_lawful`) are octets.
 pub fn read_are_octets()
     ensures { ReadAreOctets }
 {}
 
-/// The octets that are written are those that a reader with no freedom takes as the normal form of the value, and no
-/// others.
+/// The octets written are exactly those that a reader without freedoms accepts as the normal form of the value.
 pub fn written_is_read_with_no_freedom()
     ensures { WrittenIsReadWithNoFreedom }
 {}

@@ -18,7 +18,7 @@ in_place : {K X : Type 0} (before : K → K → Bool) (k : K) (x : X) (f : K × 
 in_place before k x f fs xs js is true g h = (js, g)
 in_place before k x f fs xs js is false g h = (zero ∷ is, arranged_again zero is (x ∷ xs) xs _ x refl h)
 
--- one more element, put in its place
+-- one more element, inserted
 insert_code : {K X : Type 0} (before : K → K → Bool) (k : K) (x : X) (is : List ℕ) (xs : List X) (es : List (K × X)) → arranged is xs ≡ Some (map (λ e. e.1) es) → (js : List ℕ) × (arranged js (x ∷ xs) ≡ Some (map (λ e. e.1) (put_in_place before (k, x) es)))
 insert_code before k x [] [] [] h = (zero ∷ [], refl)
 insert_code before k x [] [] (f ∷ fs) h = cc

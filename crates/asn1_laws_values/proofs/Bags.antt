@@ -1,4 +1,4 @@
--- Bags whose members are equal in some order.
+-- SET OF values whose elements are equal in some order.
 use Rattle.std.proofs.Common.{◌≡◌, ℕ, zero, suc, ◌+◌, max, Bool, true, false, cond, List, [], ◌∷◌, Some, option_map, refl, ap, sym, ◌∙◌, arith}
 use Rattle.asn1_model.specs.Value.{Value, bag, Values, no_more, member, values_of, same, same_bag, taken_out, depth, depth_of_members}
 use Rattle.asn1_model.specs.Form.{pick, arranged}
@@ -57,7 +57,7 @@ paired_counts t (v ∷ vs) (w ∷ ws) h =
 pub counted_same : (vs ws : Values) → ((t : Value) → count (λ x. same t x) vs ≡ count (λ x. same t x) ws) → same_bag vs ws ≡ true
 counted_same vs ws h = let n = max (depth_of_members vs) (depth_of_members ws) + 1 in alike_counted n (below n) same_self vs ws (omega arith) (omega arith) (λ t k. h t)
 
--- what is the same in pairs, in some order of both
+-- equality in pairs, in some order of both
 pub bags_same : (is js : List ℕ) (vs ws us zs : List Value) → arranged is vs ≡ Some us → arranged js ws ≡ Some zs → EachSame us zs → same (bag (values_of vs)) (bag (values_of ws)) ≡ true
 unfolding same
 bags_same is js vs ws us zs e f h = counted_same (values_of vs) (values_of ws) (λ t. arranged_counts (λ x. same t x) is vs us e ∙ paired_counts t us zs h ∙ sym (arranged_counts (λ x. same t x) js ws zs f))
@@ -66,7 +66,7 @@ pub arranged_same : (is : List ℕ) (vs ws : List Value) → arranged is vs ≡ 
 unfolding same
 arranged_same is vs ws e = counted_same (values_of vs) (values_of ws) (λ t. arranged_counts (λ x. same t x) is vs ws e)
 
--- and bags that are the same are so in some order
+-- and equal SET OF values are so in some order
 taken_pick : (f : Value → Bool) (ws rest : Values) → taken_out f ws ≡ Some rest → (i : ℕ) × (u : Value) × (f u ≡ true) × (pick i (listed ws) ≡ Some (u, listed rest))
 taken_pick f no_more rest e = cc
 taken_pick f (member w ws) rest e = go (f w) refl e (λ us h. taken_pick f ws us h)

@@ -1,4 +1,4 @@
--- Bags by how many of their members pass each test.
+-- SET OF values by the number of their elements that pass each test.
 use Rattle.std.proofs.Common.{◌≡◌, ℕ, ◌+◌, ◌<◌, ◌≤◌, Bool, true, false, cond, Option, Some, None, option_map, refl, ap, sym, subst, arith}
 use Rattle.asn1_model.specs.Value.{Value, Values, no_more, member, same, same_bag, taken_out, depth, depth_of_members}
 use Rattle.asn1_model.proofs.Forms.{map_parts}
@@ -12,7 +12,7 @@ abbrev pub count : (Value → Bool) → Values → ℕ
 count f no_more = 0
 count f (member v vs) = one_if (f v) + count f vs
 
--- what is taken out of a bag
+-- what is taken out of a SET OF
 pub record Taken (f : Value → Bool) (ws rest : Values) : Type 0 where
   pub taken : Value
   pub passes : f taken ≡ true

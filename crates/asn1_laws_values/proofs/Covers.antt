@@ -1,4 +1,4 @@
--- What one form writes, another reads: the rules by which such facts are put together.
+-- What one form writes, another reads: the rules by which such facts are derived.
 use Rattle.std.proofs.Common.{◌≡◌, ℕ, zero, suc, ◌+◌, Bool, true, false, cond, IsTrue, List, [], ◌∷◌, ◌++◌, length, take, drop, Some, option_map, refl, ap, subst, ◌⊎◌}
 use Rattle.asn1_model.specs.Form.{Form, refused, both, placed, varied, within, written, Reads, only_if, joined}
 use Rattle.asn1_model.proofs.Forms.{widens, reads_written, chain_parts, map_parts}

@@ -8,7 +8,7 @@ use Rattle.asn1_laws_values.proofs.Normal.{default_tests, group_tests}
 use Rattle.asn1_laws_values.specs.Equal.{equal_members, equal_bags, is_the_default, are_equal, equal_parts, equal_alternatives, has_nothing, are_nothing}
 use Rattle.std.specs.Option.{option_map_or}
 
--- ---- lists and bags
+-- ---- SEQUENCE OF and SET OF
 module _ (f : Value → Value) (equal : Value → Value → Bool) (h : (v w : Value) → equal v w ≡ same (f v) (f w)) where
   members_equal : (vs ws : Values) → equal_members equal vs ws ≡ same_members (map_members f vs) (map_members f ws)
   unfolding same_members
@@ -51,7 +51,7 @@ kept_absent : (b : Bool) (v : Value) (ps : Parts) → are_absent (cond b (absent
 kept_absent true v ps = refl
 kept_absent false v ps = refl
 
--- a and b tell whether the parts are left out, e whether they are equal
+-- a and b say whether the parts are left out, e whether they are equal
 both_there : (a b e : Bool) (v w : Value) (ps qs : Parts) → e ≡ same v w → (same v w ≡ true → a ≡ b) → ((e || (a && b)) && same_parts ps qs) ≡ same_parts (cond a (absent ps) (present v ps)) (cond b (absent qs) (present w qs))
 unfolding same_parts
 both_there true true true v w ps qs h k = refl
@@ -83,7 +83,7 @@ unfolding same_parts
 second_only true w qs = refl
 second_only false w qs = refl
 
--- ---- alternatives at the same place
+-- ---- alternatives with the same index
 at_places : (i j : ℕ) (a : Bool) (b : ℕ → Bool) → a ≡ b i → ((i == j) && a) ≡ ((i == j) && b j)
 at_places i j a b h = by_test (i == j) refl
   where

@@ -1,4 +1,4 @@
--- Of values that are the same both are normal or neither is.
+-- Of equal values both are normal or neither is.
 use Rattle.std.proofs.Common.{◌≡◌, ℕ, zero, suc, ◌==◌, Bool, true, false, ◌&&◌, not, List, [], ◌∷◌, Some, refl, ap, sym, ◌∙◌, subst, arith}
 use Rattle.std.proofs.lemmas.Bool.{and_parts, and_from, eqb-true}
 use Rattle.asn1_model.specs.Value.{Value, members, bag, fields, chosen, Values, no_more, member, Parts, end, absent, present, same, same_truth, same_members, same_bag, same_parts}
@@ -13,7 +13,7 @@ use Rattle.asn1_laws_values.proofs.Listed.{listed}
 use Rattle.asn1_laws_values.proofs.Bags.{EachSame, bag_matched}
 use Rattle.asn1_laws_values.proofs.Normal.{normal_same, default_tests, group_tests}
 
--- ---- members that all pass a test
+-- ---- elements that all pass a test
 abbrev Passes : (Value → Bool) → List Value → Type 0
 Passes test [] = Unit {0}
 Passes test (v ∷ vs) = (test v ≡ true) × Passes test vs

@@ -1,4 +1,4 @@
--- A lawful type is a version of itself.
+-- A well-formed type is a version of itself.
 use Rattle.std.proofs.Common.{◌≡◌, ℕ, zero, suc, Bool, true, false, not, List, [], Option, Some, option_map, refl, ap}
 use Rattle.std.proofs.lemmas.Bool.{and_parts}
 use Rattle.std.proofs.lemmas.List.{append-nil}
@@ -26,7 +26,7 @@ each_stays f test h (member v vs) e =
 mutual
   unfolding carried carried_parts carried_alternative is_of are_of is_of_alternative
 
-  -- a value of a type is carried over to the type itself as it is
+  -- a value of a type is carried over unchanged to the type itself
   pub grows : (s : Schema) (v : Value) → is_of s v ≡ true → grow s s v ≡ Some v
   grows (sequence_of z h s) (members vs) e = ap (option_map members) (each_stays (λ v. grow s s v) (λ v. is_of s v) (λ v f. grows s v f) vs ((and_parts (is_count_within h (member_count vs)) (are_all (λ v. is_of s v) vs) e).1))
   grows (sequence_of z h s) v e = refl

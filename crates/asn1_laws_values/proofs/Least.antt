@@ -4,7 +4,7 @@ use Rattle.asn1_model.specs.Schema.{Tag}
 use Rattle.asn1_model.specs.Lawful.{tag_less, smallest}
 use Rattle.asn1_laws_values.proofs.Order.{less_itself, less_past, less_back}
 
--- one step of the next lemma, by whether the second tag is below the first
+-- one step of the next lemma, by whether the second tag is less than the first
 not_above_step : (d u : Tag) (us : List Tag) → tag_less u (smallest u us) ≡ false → tag_less d (smallest d us) ≡ false
     → (b : Bool) → tag_less u d ≡ b → tag_less d (cond b (smallest u us) (smallest d us)) ≡ false
 not_above_step d u us p q true e = less_past d u (smallest u us) e p
@@ -15,18 +15,18 @@ pub not_above : (d : Tag) (ts : List Tag) → tag_less d (smallest d ts) ≡ fal
 not_above d [] = less_itself d
 not_above d (u ∷ us) = not_above_step d u us (not_above u us) (not_above d us) (tag_less u d) refl
 
--- the tag in front is not below the smallest
+-- the first tag is not less than the smallest
 front_not_below : (d u : Tag) (us : List Tag) (b : Bool) → tag_less u d ≡ b → tag_less u (cond b (smallest u us) (smallest d us)) ≡ false
 front_not_below d u us true e = not_above u us
 front_not_below d u us false e = less_back u d (smallest d us) e (not_above d us)
 
--- nor are those behind it
+-- nor are those after it
 behind_not_below : (d u t : Tag) (us : List Tag) → tag_less t (smallest u us) ≡ false → tag_less t (smallest d us) ≡ false
     → (b : Bool) → tag_less t (cond b (smallest u us) (smallest d us)) ≡ false
 behind_not_below d u t us p q true = p
 behind_not_below d u t us p q false = q
 
--- no tag is below the smallest
+-- no tag is less than the smallest
 pub none_below : (d : Tag) (ts : List Tag) (i : ℕ) (t : Tag) → slice_get ts i ≡ Some t → tag_less t (smallest d ts) ≡ false
 none_below d [] i t e = cc
 none_below d (u ∷ us) zero t e =

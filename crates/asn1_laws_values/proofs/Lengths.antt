@@ -1,4 +1,4 @@
--- Forms in any order are as many, and members as many as their forms.
+-- The number of forms is the same in any order, and the number of elements is that of their forms.
 use Rattle.std.proofs.Common.{◌≡◌, ℕ, zero, suc, Bool, true, false, not, cond, ◌&&◌, ◌||◌, List, [], ◌∷◌, length, Option, Some, None, refl, ap, sym, ◌∙◌}
 use Rattle.asn1_model.specs.Value.{Value, Values, no_more, member, each}
 use Rattle.asn1_model.specs.Form.{pick, arranged, in_order, ascending}
@@ -33,7 +33,7 @@ pub each_length : {X : Type 0} (f : Value → X) (vs : Values) → length (each 
 each_length f no_more = refl
 each_length f (member v vs) = ap suc (each_length f vs)
 
--- ---- truth values
+-- ---- booleans
 pub two_true : (a b : Bool) → a ≡ true → b ≡ true → (a && b) ≡ true
 two_true a b h k = rw (h, k) refl
 

@@ -1,4 +1,5 @@
--- Members of lists and bags as lists, their arrangements, and what holds of each component and alternative of a type.
+-- Elements of SEQUENCE OF and SET OF as lists, their arrangements, and properties of each component and alternative of
+-- a type.
 use Rattle.std.proofs.Common.{◌≡◌, ℕ, zero, suc, List, [], ◌∷◌, map, Bool, Option, Some, None, option_map, refl, ap, ◌∙◌}
 use Rattle.asn1_model.specs.Value.{Value, Values, no_more, member, values_of, each}
 use Rattle.asn1_model.specs.Schema.{Presence, Schema, Components, no_component, component, Alternatives, no_alternative, alternative}
@@ -18,7 +19,7 @@ pub listed_again : (vs : Values) → values_of (listed vs) ≡ vs
 listed_again no_more = refl
 listed_again (member v vs) = ap (λ ws. member v ws) (listed_again vs)
 
--- ---- arrangements of what is made of members are those of the members
+-- ---- arrangements of what is made from elements are those of the elements
 some_same : {X : Type 0} {x y : X} → Some x ≡ Some y → x ≡ y
 some_same e = cc
 

@@ -53,7 +53,7 @@ moderate w u e = go (ltb (length w) (2 ^ 60)) refl e
 from_none : (b : Bool) → IsTrue false → IsTrue b
 from_none b h = let e : false ≡ true = h in cc
 
--- what is written as a message, as a text of bits
+-- what is written as a message, in bits
 pub per_text : (al : Bool) (s : Schema) (v : Value) (w : List ℕ) → option_and_then of_moderate_length (per al s v) ≡ Some w → (length w < 2 ^ 60) × (written (Per.message al s v) 0 ≡ Some (octet_bits w))
 unfolding per
 per_text al s v w e =

@@ -1,4 +1,4 @@
--- Normal forms of values that are the same, and how deep they nest.
+-- Normal forms of equal values, and their nested levels.
 use Rattle.std.proofs.Common.{◌≡◌, ℕ, zero, suc, ◌≤◌, ◌==◌, max, Bool, true, false, ◌&&◌, ◌||◌, not, List, [], ◌∷◌, map, refl, ap, sym, ◌∙◌, subst, arith}
 use Rattle.std.proofs.lemmas.Bool.{and_parts, and_from, eqb-true, eq-eqb}
 use Rattle.asn1_model.specs.Value.{Value, members, bag, fields, chosen, Values, no_more, member, Parts, end, absent, present, map_members, values_of, are_absent, same, same_truth, same_members, same_bag, same_parts, depth, depth_of_members, depth_of_parts}
@@ -12,7 +12,7 @@ use Rattle.asn1_laws_values.proofs.Same.{same_turned, same_chained}
 use Rattle.asn1_laws_values.proofs.Bags.{EachSame, bag_matched, matched_same}
 use Rattle.std.specs.Prelude.{cond}
 
--- ---- tests that do not tell apart what is the same
+-- ---- tests that do not distinguish equal values
 pub same_tests : (v w d : Value) → same v w ≡ true → same v d ≡ same w d
 same_tests v w d e = both_true (same v d) (same w d) (λ f. same_chained w v d (same_turned v w e) f) (λ f. same_chained v w d e f)
 
@@ -48,7 +48,7 @@ kept_same true false v w ps qs e f g = cc
 kept_same false true v w ps qs e f g = cc
 kept_same false false v w ps qs e f g = and_from _ _ f g
 
--- ---- members
+-- ---- elements
 map_listed : (f : Value → Value) (vs : Values) → listed (map_members f vs) ≡ map f (listed vs)
 map_listed f no_more = refl
 map_listed f (member v vs) = ap (λ l. f v ∷ l) (map_listed f vs)
@@ -127,7 +127,7 @@ mutual
   normal_alternative_same (alternative t s others) (suc i) zero v w e f = let g = eqb-true (suc i) 0 e in absurd (omega arith)
   normal_alternative_same (alternative t s others) (suc i) (suc j) v w e f = let g = eqb-true (suc i) (suc j) e in normal_alternative_same others i j v w (eq-eqb i j (omega arith)) f
 
--- ---- how deep they nest
+-- ---- nested levels
 kept_depth : (a : Bool) (v : Value) (ps : Parts) → depth_of_parts (cond a (absent ps) (present v ps)) ≤ max (depth v) (depth_of_parts ps)
 unfolding depth_of_parts
 kept_depth true v ps = omega arith
@@ -172,7 +172,7 @@ mutual
   normal_alternative_depth (alternative t s others) zero v = normal_depth s v
   normal_alternative_depth (alternative t s others) (suc i) v = normal_alternative_depth others i v
 
--- ---- what is normal stays
+-- ---- a normal form stays normal
 all_stay : (f : Value → Value) (test : Value → Bool) → ((v : Value) → test v ≡ true → f v ≡ v) → (vs : Values) → are_all test vs ≡ true → map_members f vs ≡ vs
 all_stay f test h no_more e = refl
 all_stay f test h (member v vs) e = let p = and_parts _ _ e in let a = h v p.0 in let b = all_stay f test h vs p.1 in cc

@@ -1,4 +1,4 @@
--- The normal form of a normal form is itself, and nothing in it is left to leave out.
+-- A normal form is its own normal form, and has nothing left to leave out.
 use Rattle.std.specs.Prelude.{List, cond}
 use Rattle.std.proofs.Common.{◌≡◌, ℕ, zero, suc, Bool, true, false, not, ◌&&◌, ◌||◌, refl, ap, sym, ◌∙◌, subst}
 use Rattle.asn1_model.specs.Value.{Value, members, bag, fields, chosen, Values, no_more, member, Parts, end, absent, present, map_members}
@@ -98,7 +98,7 @@ mutual
   alternative_normal (alternative t s others) (suc i) v = alternative_normal others i v
   alternative_normal no_alternative i v = refl
 
--- what is its own normal form passes the test, and what does not is not its own
+-- a value that is its own normal form passes the test, and one that is not does not
 pub tells_normal : (s : Schema) (v : Value) → normal s v ≡ v → is_normal s v ≡ true
 tells_normal s v e = subst (λ w. is_normal s w ≡ true) e (normal_normal s v)
 

@@ -49,7 +49,7 @@ octets_are_bits (suc k) =
     let s : 8 * suc k ≡ suc (suc (suc (suc (suc (suc (suc (suc (8 * k)))))))) = omega arith in
     rw (pow-suc, s, pow-suc, pow-suc, pow-suc, pow-suc, pow-suc, pow-suc, pow-suc, pow-suc) (omega arith)
 
--- whole numbers that so many octets of two's complement hold
+-- integers that a number of octets of two's complement hold
 abbrev pub FitsIn : ℕ → ℤ → Type 0
 FitsIn k (pos m) = m < 2 ^ (8 * k - 1)
 FitsIn k (negsuc m) = m < 2 ^ (8 * k - 1)
@@ -88,7 +88,7 @@ complement_equal k (negsuc m) (negsuc n) h i j e =
     let q : 256 ^ k - 1 - m ≡ 256 ^ k - 1 - n = digits_equal 256 k (256 ^ k - 1 - m) (256 ^ k - 1 - n) (lit< tt) (omega arith) (omega arith) e in
     ap negsuc (omega arith)
 
--- ---- whole numbers above a bound
+-- ---- integers above a bound
 natural_some : (z : ℤ) (d : ℕ) → elim z [ pos n ↦ Some n | negsuc n ↦ None ] ≡ Some d → z ≡ pos d
 natural_some (pos n) d e = cc
 natural_some (negsuc n) d e = cc
@@ -103,7 +103,7 @@ natural_test : (z : ℤ) → elim z [ pos n ↦ true | negsuc n ↦ false ] ≡ 
 natural_test (pos n) e = (n, refl)
 natural_test (negsuc n) e = cc
 
--- order of whole numbers, as that of natural ones
+-- the order of integers, as that of natural numbers
 pub at_most_pos : (n m : ℕ) → is_at_most (pos n) (pos m) ≡ true → n ≤ m
 at_most_pos n m e = let q = natural_test (pos m -ℤ pos n) e in let f = q.1 in omega (arith, ints)
 

@@ -1,5 +1,5 @@
--- What is read of a form of OER is read of its parts: of what stands in an open type, and of the root and the additions of
--- a sequence.
+-- What is read of a form of OER is read of its parts: of the contents of an open type, and of the root and the
+-- additions of a SEQUENCE.
 use Rattle.std.proofs.Common.{ℕ, not, Bool, true, false, cond, List, [], ◌∷◌, Option, Some, None}
 use Rattle.asn1_model.specs.Form.{Form, varied, only_if, Bitmap, is_any_present, present_ones, covered_by}
 use Rattle.asn1_model.specs.Oer

@@ -1,4 +1,4 @@
--- A reader without the freedoms of what may be left out reads normal values alone.
+-- A reader without the freedoms of what may be left out reads only values in normal form.
 use Rattle.std.proofs.Common.{◌≡◌, ℕ, zero, suc, ltb, not, Bool, true, false, cond, ◌&&◌, IsTrue, List, ◌∷◌, Option, Some, None, refl, sym, subst}
 use Rattle.asn1_model.specs.Value.{Value, members, bag, fields, chosen, Values, no_more, member, Parts, end, absent, present, each}
 use Rattle.asn1_model.specs.Schema.{Counts, Presence, Schema, sequence_of, set_of, sequence, set, group, choice, Components, no_component, component, Alternatives, no_alternative, alternative}
@@ -43,7 +43,7 @@ module _ (free : Oer.Freedom → Bool) (no_default : IsTrue (free Oer.default_sp
       let p = read_given free (in_order (ascending (λ x. written x 0) (stands_before ltb) xs) q.0 xs) q.2 in
       all_in_order free (λ x. written x 0) (stands_before ltb) q.0 xs p.0 p.1 (h p.0 p.2)
 
-  -- a component that is there, with no freedom to spell it out
+  -- a component that is present, without the freedom to encode it
   spelled_tests : (a b : Bool) (x : OerForm) → Read (cond a (varied Oer.default_spelled_out false (λ t. only_if t x)) (cond b (varied Oer.empty_group false (λ t. only_if t x)) x)) → (a ≡ false) × (b ≡ false) × Read x
   spelled_tests true b x r = absurd (read_kept free x (λ t. t) false refl no_default r)
   spelled_tests false true x r = absurd (read_kept free x (λ t. t) false refl no_group r)

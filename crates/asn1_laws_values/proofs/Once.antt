@@ -1,11 +1,11 @@
--- Lists in which no tag occurs twice.
+-- Lists of distinct tags.
 use Rattle.std.proofs.Common.{◌≡◌, ◌∙◌, refl, sym, ap, ℕ, zero, suc, Bool, true, false, not, ◌&&◌, ◌==◌, eqb-true, eq-eqb, List, [], ◌∷◌, Some, slice_get, arith}
 use Rattle.asn1_model.specs.Schema.{Tag}
 use Rattle.asn1_model.specs.Lawful.{tag_same, are_distinct}
 use Rattle.std.specs.List.{list_all}
 use Rattle.asn1_laws_values.specs.Places.{StandOnce, Twice}
 
--- two truth values that are both true
+-- two booleans that are both true
 both_true : (a b : Bool) → (a && b) ≡ true → (a ≡ true) × (b ≡ true)
 both_true true b e = (refl, e)
 both_true false b e = cc
@@ -23,21 +23,21 @@ tag_same_itself : (t : Tag) → tag_same t t ≡ true
 tag_same_itself t =
     ap (λ b. b && (t.number == t.number)) (eq-eqb t.class t.class refl) ∙ eq-eqb t.number t.number refl
 
--- an element passes what each does
+-- an element passes a test that each element passes
 each_passes : (p : Tag → Bool) (xs : List Tag) (n : ℕ) (t : Tag) → list_all p xs ≡ true → slice_get xs n ≡ Some t → p t ≡ true
 each_passes p [] n t a e = cc
 each_passes p (x ∷ xs) zero t a e =
     let same : x ≡ t = cc in ap p (sym same) ∙ (both_true (p x) (list_all p xs) a).0
 each_passes p (x ∷ xs) (suc n) t a e = each_passes p xs n t (both_true (p x) (list_all p xs) a).1 e
 
--- a tag that differs from each further one is none of them
+-- a tag that differs from each other one is none of them
 apart : (x : Tag) (xs : List Tag) (n : ℕ) (t : Tag) → list_all (λ y. not (tag_same x y)) xs ≡ true → slice_get xs n ≡ Some t → x ≡ t → ⊥
 apart x xs n t a e same =
     let passed : not (tag_same x t) ≡ true = each_passes (λ y. not (tag_same x y)) xs n t a e in
     let itself : tag_same x t ≡ true = ap (tag_same x) (sym same) ∙ tag_same_itself x in
     let false_is : false ≡ true = ap not (sym itself) ∙ passed in cc
 
--- where the test passes no tag stands twice
+-- if the test passes no tag occurs twice
 pub stand_once : (ts : List Tag) → are_distinct tag_same ts ≡ true → StandOnce ts
 stand_once [] u i j t e f = cc
 stand_once (x ∷ xs) u zero zero t e f = refl
@@ -48,7 +48,7 @@ stand_once (x ∷ xs) u (suc i) zero t e f =
 stand_once (x ∷ xs) u (suc i) (suc j) t e f =
     ap suc (stand_once xs (both_true (list_all (λ y. not (tag_same x y)) xs) (are_distinct tag_same xs) u).1 i j t e f)
 
--- one place further
+-- one position further
 one_further : (x y : Tag) (ys : List Tag) → (n : ℕ) × (slice_get ys n ≡ Some x) → (n : ℕ) × (slice_get (y ∷ ys) n ≡ Some x)
 one_further x y ys (n, h) = (suc n, h)
 
@@ -57,7 +57,7 @@ found_step : (x y : Tag) (ys : List Tag) → (list_all (λ y. not (tag_same x y)
 found_step x y ys further true is e = (0, ap (λ (z : Tag). Some z) (sym (tag_same_is x y is)))
 found_step x y ys further false is e = one_further x y ys (further e)
 
--- where not each element differs from a tag, one is that tag
+-- if not each element differs from a tag, one is that tag
 found : (x : Tag) (xs : List Tag) → list_all (λ y. not (tag_same x y)) xs ≡ false → (n : ℕ) × (slice_get xs n ≡ Some x)
 found x [] e = cc
 found x (y ∷ ys) e = found_step x y ys (λ h. found x ys h) (tag_same x y) refl e
@@ -73,7 +73,7 @@ twice_step : (x : Tag) (xs : List Tag) → (are_distinct tag_same xs ≡ false �
 twice_step x xs further true is e = later x xs (further e)
 twice_step x xs further false is e = met x xs (found x xs is)
 
--- where it fails one does
+-- if the test fails, one occurs twice
 pub stands_twice : (ts : List Tag) → are_distinct tag_same ts ≡ false → Twice ts
 stands_twice [] e = cc
 stands_twice (x ∷ xs) e = twice_step x xs (λ h. stands_twice xs h) (list_all (λ y. not (tag_same x y)) xs) refl e

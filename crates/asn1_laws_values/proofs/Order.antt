@@ -10,14 +10,14 @@ less_itself t = grind (arith, nat_tests)
 pub less_through : (t u v : Tag) → tag_less t u ≡ true → tag_less u v ≡ true → tag_less t v ≡ true
 less_through t u v p q = grind (arith, nat_tests)
 
--- what is not before a tag is not before a later one's predecessor
+-- if u is less than t and not less than v, t is not less than v
 pub less_past : (t u v : Tag) → tag_less u t ≡ true → tag_less u v ≡ false → tag_less t v ≡ false
 less_past t u v p q = grind (arith, nat_tests)
 
 pub less_back : (t u v : Tag) → tag_less t u ≡ false → tag_less u v ≡ false → tag_less t v ≡ false
 less_back t u v p q = grind (arith, nat_tests)
 
--- of two tags that differ one stands before the other
+-- of two different tags one is less than the other
 pub less_one : (t u : Tag) → tag_less t u ≡ false → tag_less u t ≡ false → t ≡ u
 less_one t u p q =
     let classes : t.class ≡ u.class = grind (arith, nat_tests) in

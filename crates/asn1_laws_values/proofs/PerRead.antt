@@ -1,5 +1,5 @@
--- What is read of a form of PER is read of its parts: of each of some that stand behind their number, of what stands in an
--- open type, and of the root and the additions of a sequence.
+-- What is read of a form of PER is read of its parts: of each unit after a length determinant, of the contents of an
+-- open type, and of the root and the additions of a SEQUENCE.
 use Rattle.std.proofs.Common.{ℕ, ◌*◌, leb, ltb, not, Bool, true, false, cond, ◌&&◌, List, [], ◌∷◌, length, drop, Option, Some, None}
 use Rattle.asn1_model.specs.Schema.{Counts, Size}
 use Rattle.asn1_model.specs.Form.{Form, exactly, both, varied, only_if, joined, Bitmap, is_any_present, present_ones, covered_by}

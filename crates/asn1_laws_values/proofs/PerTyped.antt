@@ -1,4 +1,4 @@
--- What a reader of PER takes is a value of the type.
+-- What a reader of PER accepts is a value of the type.
 use Rattle.std.proofs.Common.{◌≡◌, ℕ, zero, suc, not, Bool, true, false, cond, ◌&&◌, ◌||◌, List, ◌∷◌, length, Option, Some, None, refl, sym, ◌∙◌, subst}
 use Rattle.std.proofs.lemmas.Bool.{and_parts}
 use Rattle.std.proofs.lemmas.List.{length-map}
@@ -58,7 +58,7 @@ module _ (free : Per.Freedom → Bool) where
       let p = read_given free (in_order (ascending (λ x. written (Per.complete x) 0) (stands_before Per.bit_less) xs) q.0 xs) q.2 in
       (p.0, order_length (λ x. written (Per.complete x) 0) (stands_before Per.bit_less) q.0 xs p.0 p.1, p.2, all_in_order free (λ x. written (Per.complete x) 0) (stands_before Per.bit_less) q.0 xs p.0 p.1)
 
-  -- a component that is there
+  -- a component that is present
   spelled_tests : (a b : Bool) (x : PerForm) → Read (cond a (varied Per.default_spelled_out false (λ t. only_if t x)) (cond b (varied Per.empty_group false (λ t. only_if t x)) x)) → Read x
   spelled_tests true b x r = let q = read_varied free r in (read_if free q.0 q.2).1
   spelled_tests false true x r = let q = read_varied free r in (read_if free q.0 q.2).1

@@ -1,4 +1,4 @@
--- Forms of which some text is read: then some texts of their parts are.
+-- If some encoding is read of a form, some encodings are read of its parts.
 use Rattle.std.proofs.Common.{◌≡◌, ℕ, zero, suc, ◌+◌, ltb, not, Bool, true, false, cond, ◌&&◌, ◌||◌, ◌==◌, IsTrue, List, [], ◌∷◌, ◌++◌, length, take, drop, map, Option, Some, None, option_map, refl, ap, sym, ◌∙◌, subst, inl, inr, ◌⊎◌}
 use Rattle.std.proofs.lemmas.Bool.{and_parts}
 use Rattle.asn1_model.specs.Form.{Form, refused, both, placed, varied, within, Reads, only_if, given, joined, pick, arranged, in_order, ascending, Bitmap, is_any_present, present_ones, covered_by}
@@ -56,7 +56,7 @@ module _ {F : Type 0} {D : F → Type 0} {A : Type 0} (free : F → Bool) where
   read_cond true r = inl r
   read_cond false r = inr r
 
-  -- what is spelled out without the freedom
+  -- what is encoded without the freedom
   pub read_kept : {c : F} (x : Form F D A) (f : D c → Bool) (d : D c) → f d ≡ false → (IsTrue (free c) → ⊥) → IsRead free (varied c d (λ e. only_if (f e) x)) → ⊥
   read_kept x f d h n r = let q = read_varied r in kept_case (free _) f d q.0 h n q.1 ((read_if (f q.0) q.2).0)
 

@@ -1,4 +1,4 @@
--- A type and the same with each default in its normal form are alike.
+-- A type and the same type with each default in normal form are equivalent.
 use Rattle.std.proofs.Common.{◌≡◌, ℕ, zero, suc, true, ◌&&◌, List, refl, sym, ◌∙◌, subst, inl, inr, ◌⊎◌, arith}
 use Rattle.std.proofs.lemmas.Bool.{and_from}
 use Rattle.asn1_model.specs.Value.{Value, depth}
@@ -22,7 +22,7 @@ at_the_cut (group cs) = inl refl
 at_the_cut (choice roots e adds) = inl refl
 at_the_cut s = inr refl
 
--- a default and its normal form, where the normal forms of both types are alike
+-- a default and its normal form, if the normal forms of both types agree
 tidied_default : (s : Schema) (o : Presence) → ((n : ℕ) → AlikeTo n s (tidied s)) → SameDefault s (tidied s) o (changed_default (λ d. normal s d) o)
 tidied_default s required a = tt
 tidied_default s optional a = tt

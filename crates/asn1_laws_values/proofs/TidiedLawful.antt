@@ -1,4 +1,4 @@
--- A lawful type is lawful with each default in its normal form, and has the same values.
+-- A well-formed type stays so with each default in normal form, and has the same values.
 use Rattle.std.proofs.Common.{◌≡◌, ℕ, zero, suc, Bool, true, false, not, ◌&&◌, ◌||◌, List, [], ◌∷◌, ◌++◌, refl, ap, sym, ◌∙◌}
 use Rattle.std.proofs.lemmas.Bool.{and_parts, and_from}
 use Rattle.asn1_model.specs.Value.{Value, members, bag, fields, chosen, Parts, end, absent, present}
@@ -91,7 +91,7 @@ unfolding tidied_each
 groups_still no_component = refl
 groups_still (component t o s cs) = λ i. (not (group_still s i) || optional_still (λ d. normal s d) o i) && groups_still cs i
 
--- with which tags a type begins
+-- the tags with which a type begins
 begins_still : (ts : List Tag) (s : Schema) → begins_with ts (tidied s) ≡ begins_with ts s
 unfolding tidied
 begins_still ts (group cs) = ap (pointwise tag_same ts) (tags_still cs)
@@ -108,7 +108,7 @@ alternatives_table : (roots : Alternatives) (e : Bool) (adds : Alternatives) →
     ≡ (not (is_empty (alternative_tags roots)) && (e || is_empty (alternative_tags adds)) && are_ascending tag_less (alternative_tags roots) && are_distinct tag_same (alternative_tags roots ++ alternative_tags adds))
 alternatives_table roots e adds = λ i. not (is_empty (alternative_tags_still roots i)) && (e || is_empty (alternative_tags_still adds i)) && are_ascending tag_less (alternative_tags_still roots i) && are_distinct tag_same (alternative_tags_still roots i ++ alternative_tags_still adds i)
 
--- ---- lawful, with each default in its normal form
+-- ---- well-formed, with each default in normal form
 typed_still : (s : Schema) (o : Presence) → is_lawful (tidied s) ≡ true → has_typed_default s o ≡ true → has_typed_default (tidied s) (changed_default (λ d. normal s d) o) ≡ true
 typed_still s required l h = refl
 typed_still s optional l h = refl

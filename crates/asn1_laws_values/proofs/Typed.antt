@@ -1,4 +1,4 @@
--- The normal form of a value of a lawful type is a value of it.
+-- The normal form of a value of a well-formed type is a value of it.
 use Rattle.std.proofs.Common.{◌≡◌, ℕ, zero, suc, Bool, true, false, not, ◌||◌, List, refl, ap, sym, ◌∙◌}
 use Rattle.std.proofs.lemmas.Bool.{and_parts, and_from, false≢true}
 use Rattle.asn1_model.specs.Value.{Value, members, bag, fields, chosen, Values, no_more, member, Parts, end, absent, present, map_members}
@@ -11,7 +11,7 @@ use Rattle.asn1_model.specs.Lawful.{is_lawful, are_lawful, are_lawful_alternativ
 use Rattle.asn1_model.specs.Lawful.{member_count, is_of, are_of, is_of_alternative}
 use Rattle.std.specs.Prelude.{cond}
 
--- ---- members
+-- ---- elements
 all_mapped : (f : Value → Value) (test : Value → Bool) → ((v : Value) → test v ≡ true → test (f v) ≡ true) → (vs : Values) → are_all test vs ≡ true → are_all test (map_members f vs) ≡ true
 all_mapped f test h no_more e = refl
 all_mapped f test h (member v vs) e = let p = and_parts _ _ e in and_from _ _ (h v p.0) (all_mapped f test h vs p.1)

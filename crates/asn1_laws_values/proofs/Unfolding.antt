@@ -1,4 +1,4 @@
--- Values above the level at which two types part.
+-- Values above the level at which two types differ.
 use Rattle.std.proofs.Common.{◌≡◌, ℕ, zero, suc, ◌+◌, ◌≤◌, max, Bool, true, false, cond, ◌&&◌, List, ◌∷◌, Some, None, option_map, refl, ap, sym, ◌∙◌, subst, inl, inr, ◌⊎◌, arith}
 use Rattle.std.proofs.lemmas.Bool.{and_parts}
 use Rattle.asn1_model.specs.Value.{Value, members, bag, fields, chosen, Values, no_more, member, Parts, end, absent, present, each, map_members, depth, depth_of_members, depth_of_parts}
@@ -36,7 +36,7 @@ pub record AlternativesAlikeTo (n : ℕ) (os os' : Alternatives) : Type 0 where
 pub equal_alike : (n : ℕ) (s s' : Schema) → s ≡ s' → AlikeTo n s s'
 equal_alike n s s' e = subst (λ x. AlikeTo n s x) e (record { normal_is = λ v h. refl; packed_is = λ al v h. refl; octets_is = λ v h. refl; group_is = λ v h. refl })
 
--- ---- at the level of a cut nothing nests
+-- ---- at the level of a cut nothing is nested
 leaf_normal : (s : Schema) (v : Value) → is_constructed s ≡ true → depth v ≤ 0 → normal s v ≡ v
 unfolding normal depth
 leaf_normal (sequence_of z h s) (members vs) c d = absurd (omega arith)
@@ -101,7 +101,7 @@ constructed_alike s s' c c' = record {
   group_is = λ v h. leaf_group s v h ∙ sym (leaf_group s' v h);
 }
 
--- ---- lists and bags
+-- ---- SEQUENCE OF and SET OF
 each_alike : {X : Type 0} (n : ℕ) (f g : Value → X) → ((v : Value) → depth v ≤ n → f v ≡ g v) → (vs : Values) → depth_of_members vs ≤ n → each f vs ≡ each g vs
 unfolding depth_of_members
 each_alike n f g h no_more d = refl
@@ -151,7 +151,7 @@ module _ (n : ℕ) (z : Size) (held : Counts) (s s' : Schema) (a : AlikeTo n s s
 
 -- ---- components
 
--- the same but for defaults, which have one normal form in both
+-- equal except for defaults, which have the same normal form in both
 abbrev pub SameDefault : Schema → Schema → Presence → Presence → Type 0
 SameDefault s s' required required = Unit {0}
 SameDefault s s' optional optional = Unit {0}

@@ -1,9 +1,9 @@
--- Which forms have a canonical text: the rules by which such facts are put together.
+-- Which forms have a canonical encoding: the rules by which such facts are derived.
 use Rattle.std.proofs.Common.{◌≡◌, ℕ, ◌+◌, Bool, true, false, ◌&&◌, List, ◌++◌, length, Option, Some, None, option_map, option_and_then, refl, ap, ◌∙◌}
 use Rattle.asn1_model.specs.Form.{Form, exactly, refused, both, placed, varied, within, written, only_if}
 use Rattle.std.specs.Prelude.{is_some}
 
--- from each position on it has one, or from none
+-- it has one from every position, or from none
 pub record Written {F : Type 0} {D : F → Type 0} {A : Type 0} (x : Form F D A) (b : Bool) : Type 0 where
   pub there : (p : ℕ) → is_some (written x p) ≡ b
 

@@ -1,5 +1,5 @@
--- When two values of a type are equal: a component that is absent is equal to one with its default (X.680 25), a group
--- of additions that is absent to one in which nothing is there, and the order of a bag means nothing (X.680 28).
+-- When two values of a type are equal: an absent component is equal to one at its default (X.680 25), an absent group
+-- of additions to one with no component present, and the order of the elements of a SET OF is irrelevant (X.680 28).
 use Rattle.std.specs.Prelude.{ℕ, zero, suc, ◌==◌, Bool, true, false, ◌&&◌, ◌||◌}
 use Rattle.asn1_model.specs.Value.{Value, members, bag, fields, chosen, Values, no_more, member, Parts, absent, present}
 use Rattle.asn1_model.specs.Value.{same, same_parts, are_absent, taken_out}
@@ -7,13 +7,13 @@ use Rattle.asn1_model.specs.Schema.{Presence, by_default, Schema, sequence_of, s
 use Rattle.asn1_model.specs.Schema.{Components, component, Alternatives, no_alternative, alternative}
 use Rattle.std.specs.Option.{option_map_or}
 
--- Equal lists, by what makes their members equal.
+-- Equality of lists, given that of elements.
 abbrev pub equal_members : (Value → Value → Bool) → Values → Values → Bool
 equal_members equal no_more no_more = true
 equal_members equal (member v vs) (member w ws) = equal v w && equal_members equal vs ws
 equal_members equal vs ws = false
 
--- Equal bags: each member of the one has its own equal one in the other.
+-- Equality of SET OF values: each element of one is matched with its own equal element of the other.
 abbrev pub equal_bags : (Value → Value → Bool) → Values → Values → Bool
 equal_bags equal no_more no_more = true
 equal_bags equal (member v vs) ws =
@@ -37,7 +37,7 @@ unfoldable mutual
   are_equal (choice roots e adds) (chosen true i v) (chosen true j w) = (i == j) && equal_alternatives adds i v w
   are_equal s v w = same v w
 
-  -- Equal parts: equal values, or absent, or what means as much as that it is absent.
+  -- Equality of parts: equal values, or both absent, or absent in one and equivalent to absent in the other.
   pub equal_parts : Components → Parts → Parts → Bool
   equal_parts (component t o s cs) (present v ps) (present w qs) =
       (are_equal s v w || ((is_the_default (λ a b. are_equal s a b) o v || has_nothing s v)
@@ -50,18 +50,18 @@ unfoldable mutual
   equal_parts (component t o s cs) (absent ps) (absent qs) = equal_parts cs ps qs
   equal_parts cs ps qs = same_parts ps qs
 
-  -- The same of the chosen alternative.
+  -- Equality of the chosen alternative.
   pub equal_alternatives : Alternatives → ℕ → Value → Value → Bool
   equal_alternatives (alternative t s others) zero v w = are_equal s v w
   equal_alternatives (alternative t s others) (suc i) v w = equal_alternatives others i v w
   equal_alternatives no_alternative i v w = same v w
 
-  -- A group of additions in which nothing is there.
+  -- A group of additions with no component present.
   pub has_nothing : Schema → Value → Bool
   has_nothing (group cs) (fields ps qs) = are_nothing cs ps
   has_nothing s v = false
 
-  -- Parts that are absent, or mean as much.
+  -- Parts that are absent, or equivalent to absent.
   pub are_nothing : Components → Parts → Bool
   are_nothing (component t o s cs) (present v ps) =
       (is_the_default (λ a b. are_equal s a b) o v || has_nothing s v) && are_nothing cs ps

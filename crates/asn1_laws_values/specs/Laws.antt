@@ -12,24 +12,24 @@ SameIsEquivalence =
     ((v : Value) → same v v ≡ true) × ((v w : Value) → same v w ≡ true → same w v ≡ true)
     × ((u v w : Value) → same u v ≡ true → same v w ≡ true → same u w ≡ true)
 
--- A bag is the bag of its members in any order.
+-- A SET OF is equal to one with the same elements in any order.
 abbrev pub BagsHaveNoOrder : Type 0
 BagsHaveNoOrder =
     (is : List ℕ) (vs ws : List Value) → arranged is vs ≡ Some ws
     → same (bag (values_of vs)) (bag (values_of ws)) ≡ true
 
--- What is the same has the same normal form.
+-- Equal values have equal normal forms.
 abbrev pub NormalRespectsSame : Type 0
 NormalRespectsSame = (s : Schema) (v w : Value) → same v w ≡ true → same (normal s v) (normal s w) ≡ true
 
--- A normal form nests no deeper than the value.
+-- A normal form has at most as many nested levels as the value.
 abbrev pub NormalNestsNoDeeper : Type 0
 NormalNestsNoDeeper = (s : Schema) (v : Value) → depth (normal s v) ≤ depth v
 
--- What is normal is its own normal form.
+-- A value in normal form is its own normal form.
 abbrev pub NormalStays : Type 0
 NormalStays = (s : Schema) (v : Value) → is_normal s v ≡ true → normal s v ≡ v
 
--- What is the same as something normal is normal.
+-- A value equal to one in normal form is in normal form.
 abbrev pub SameIsAsNormal : Type 0
 SameIsAsNormal = (s : Schema) (v w : Value) → same v w ≡ true → is_normal s v ≡ true → is_normal s w ≡ true

@@ -1,4 +1,4 @@
--- Laws of the definitions.
+-- Laws of single messages.
 use Rattle.std.specs.Prelude.{◌≡◌, ℕ, Bool, true, false, IsTrue, List, Some}
 use Rattle.asn1_model.specs.Value.{Value}
 use Rattle.asn1_model.specs.Schema.{Schema}
@@ -9,11 +9,11 @@ use Rattle.asn1_model.specs.Rules.{Rules, uper, aper, uper_strict, aper_strict, 
 use Rattle.asn1_model.specs.Per
 use Rattle.asn1_model.specs.Oer
 
--- The normal form of a normal form is itself, and passes the test.
+-- A normal form is its own normal form and satisfies `is_normal`.
 abbrev pub NormalForms : Type 0
 NormalForms = (s : Schema) (v : Value) → (normal s (normal s v) ≡ normal s v) × (is_normal s (normal s v) ≡ true)
 
--- What a reader takes, a reader with more freedoms takes as the same value.
+-- What a reader accepts, a reader with more freedoms accepts as the same value.
 abbrev pub PerWidens : Type 0
 PerWidens =
     (few more : Per.Freedom → Bool) (x : Per.BitForm) (p : ℕ) (w : List Bool)
@@ -24,11 +24,11 @@ OerWidens =
     (few more : Oer.Freedom → Bool) (x : Oer.OctetForm) (p : ℕ) (w : List ℕ)
     → ((c : Oer.Freedom) → IsTrue (few c) → IsTrue (more c)) → Reads few x p w → Reads more x p w
 
--- No freedom.
+-- No freedoms.
 abbrev pub canonically : {F : Type 0} → F → Bool
 canonically c = false
 
--- A reader with no freedom takes the canonical text and no other.
+-- A reader without freedoms accepts exactly the canonical encoding.
 abbrev pub PerCanonical : Type 0
 PerCanonical =
     (x : Per.BitForm) (p : ℕ) (w : List Bool) → (written x p ≡ Some w → Reads canonically x p w)
@@ -39,13 +39,14 @@ OerCanonical =
     (x : Oer.OctetForm) (p : ℕ) (w : List ℕ) → (written x p ≡ Some w → Reads canonically x p w)
     × (Reads canonically x p w → written x p ≡ Some w)
 
--- A strict reader takes nothing that the lenient one does not.
+-- The lenient reader accepts all that the strict one does.
 abbrev pub StrictIsLenient : Type 0
 StrictIsLenient =
     (s : Schema) (v : Value) (w : List ℕ) → (IsEncoding uper_strict s v w → IsEncoding uper s v w)
     × (IsEncoding aper_strict s v w → IsEncoding aper s v w) × (IsEncoding coer s v w → IsEncoding oer s v w)
 
--- What a strict reader takes is its own normal form: nothing at its default is spelled out, and no group is empty.
+-- A value that a strict reader accepts is in normal form: no component is encoded at its default, and no group is
+-- empty.
 abbrev pub StrictReadsNormal : Type 0
 StrictReadsNormal =
     (s : Schema) (v : Value) (w : List ℕ) → (IsEncoding uper_strict s v w → normal s v ≡ v)

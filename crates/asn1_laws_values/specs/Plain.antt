@@ -1,5 +1,5 @@
--- Plain types: BOOLEAN, INTEGER between two bounds, and SEQUENCE of required components of plain types, all with no
--- extension marker.
+-- Plain types: BOOLEAN, INTEGER between two bounds, and SEQUENCE of mandatory components of plain types, all without
+-- extension markers.
 use Rattle.std.specs.Prelude.{Bool, true, false, not, ◌&&◌}
 use Rattle.asn1_model.specs.Value.{Value, truth, number, fields, Parts, end, present}
 use Rattle.asn1_model.specs.Schema.{required, Schema, boolean, integer, sequence, Components, no_component, component}
@@ -18,7 +18,7 @@ unfoldable mutual
   are_plain (component t required s cs) = is_plain s && are_plain cs
   are_plain cs = false
 
--- whether a value is one of a plain type, within its bounds, and a number within 128 bits
+-- whether a value is one of a plain type: a number is within its bounds and within 128 bits
 unfoldable mutual
   pub fits : Schema → Value → Bool
   fits boolean (truth b) = true

@@ -1,4 +1,4 @@
--- A type whose defaults are written in normal form.
+-- A type with its defaults in normal form.
 use Rattle.std.specs.Prelude.{◌≡◌, true, false}
 use Rattle.asn1_model.specs.Schema.{Presence, by_default, Schema, sequence_of, set_of, sequence, set, group, choice}
 use Rattle.asn1_model.specs.Schema.{Components, no_component, component, Alternatives, no_alternative, alternative}
@@ -8,13 +8,13 @@ use Rattle.asn1_model.specs.Tidy.{is_tidy}
 use Rattle.asn1_model.specs.Types.{roots}
 use Rattle.asn1_model.specs.VersionRows.{spelled, sequence_default}
 
--- A default changed.
+-- A default changed by a function.
 abbrev pub changed_default : (Value → Value) → Presence → Presence
 changed_default f (by_default d) = by_default (f d)
 changed_default f o = o
 
 unfoldable mutual
-  -- The same type, with each default in its normal form.
+  -- The same type, with each default in normal form.
   pub tidied : Schema → Schema
   tidied (sequence_of z h s) = sequence_of z h (tidied s)
   tidied (set_of z h s) = set_of z h (tidied s)
@@ -24,12 +24,12 @@ unfoldable mutual
   tidied (choice roots e adds) = choice (tidied_alternatives roots) e (tidied_alternatives adds)
   tidied s = s
 
-  -- The same of components.
+  -- The same components, with each default in normal form.
   pub tidied_each : Components → Components
   tidied_each no_component = no_component
   tidied_each (component t o s cs) = component t (changed_default (λ d. normal s d) o) (tidied s) (tidied_each cs)
 
-  -- The same of alternatives.
+  -- The same alternatives, with each default in normal form.
   pub tidied_alternatives : Alternatives → Alternatives
   tidied_alternatives no_alternative = no_alternative
   tidied_alternatives (alternative t s others) = alternative t (tidied s) (tidied_alternatives others)

@@ -9,18 +9,18 @@ use Rattle.asn1_model.specs.Lawful.{is_of}
 use Rattle.asn1_model.specs.Versions.{Extends}
 use Rattle.asn1_laws_values.specs.Equal.{are_equal}
 
--- The normal form of a value of a type is a value of it.
+-- The normal form of a value of a type is a value of that type.
 abbrev pub NormalKeepsTheType : Type 0
 NormalKeepsTheType = (s : Schema) (v : Value) → IsLawful s → IsTrue (is_of s v) → IsTrue (is_of s (normal s v))
 
--- Two values of a type are equal exactly if their normal forms are the same, in which a bag has no order.
+-- Two values of a type are equal exactly if their normal forms are, up to the order of the elements of a SET OF.
 abbrev pub EqualIfNormalFormsAre : Type 0
 EqualIfNormalFormsAre = (s : Schema) (v w : Value) → are_equal s v w ≡ same (normal s v) (normal s w)
 
--- What a reader takes is a value of the type, in all rules.
+-- What a reader accepts is a value of the type, in all rules.
 abbrev pub ReadIsOfTheType : Type 0
 ReadIsOfTheType = (r : Rules) (s : Schema) (v : Value) (w : List ℕ) → IsEncoding r s v w → IsTrue (is_of s v)
 
--- A lawful type is a version of itself.
+-- A well-formed type is a version of itself.
 abbrev pub LawfulExtendsItself : Type 0
 LawfulExtendsItself = (s : Schema) → IsLawful s → Extends s s

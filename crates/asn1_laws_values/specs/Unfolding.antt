@@ -1,11 +1,11 @@
--- Two types that agree for so many levels, as two unfoldings of one recursive type do.
+-- Types that agree for a number of levels, as two unfoldings of one recursive type do.
 use Rattle.std.specs.Prelude.{◌≡◌, ◌⊎◌, ℕ, zero, suc, Bool, true, false, ◌&&◌, IsTrue}
 use Rattle.asn1_model.specs.Value.{absent, end}
 use Rattle.asn1_model.specs.Types.{one_of, or_tagged, closed, has_default, needs, may_have, list, any_size, roots}
 use Rattle.asn1_model.specs.Schema.{Schema, cut, null, sequence_of, set_of, sequence, set, group, choice, Components}
 use Rattle.asn1_model.specs.Schema.{no_component, component, Alternatives, no_alternative, alternative}
 
--- what nests, and a cut, below which it would
+-- types that take a level, and the cut of a recursive type
 abbrev pub is_constructed : Schema → Bool
 is_constructed cut = true
 is_constructed (sequence_of z h s) = true
@@ -16,7 +16,7 @@ is_constructed (group cs) = true
 is_constructed (choice roots e adds) = true
 is_constructed s = false
 
--- the same down to so many levels, and below them what nests in both, whatever it is
+-- equal down to a number of levels, and below them any types that take a level
 unfoldable mutual
   pub AgreesTo : ℕ → Schema → Schema → Type 0
   AgreesTo zero s s' = IsTrue (is_constructed s && is_constructed s') ⊎ (s ≡ s')
@@ -42,15 +42,15 @@ unfoldable mutual
       (t ≡ t') × AgreesTo n s s' × AgreesAlternatives n others others'
   AgreesAlternatives n others others' = ⊥
 
--- Types with names that stand in one another, each as what it puts round the types under the names: each nests, and
--- makes of types that agree for so many levels a type that agrees for one more. A list or a sequence that stands in a
--- type may have a name of its own, so that it takes a level.
+-- Named types that refer to one another. The step builds each type from the types of the names: each takes a level,
+-- and from types that agree for a number of levels it builds types that agree for one more. A SEQUENCE OF or SEQUENCE
+-- inside a type may have its own name, so that it takes a level.
 pub record AreRecursive {K : Type 0} (step : K → (K → Schema) → Schema) : Type 0 where
   pub nests : (k : K) (types : K → Schema) → IsTrue (is_constructed (step k types))
   pub keeps : (n : ℕ) (types others : K → Schema) → ((k : K) → AgreesTo n (types k) (others k)) → (k : K)
       → AgreesTo (suc n) (step k types) (step k others)
 
--- Such types unfolded to so many levels, and cut below.
+-- Such types unfolded to a number of levels, and cut below.
 abbrev pub unfolded : {K : Type 0} → (K → (K → Schema) → Schema) → ℕ → K → Schema
 unfolded step zero k = cut
 unfolded step (suc n) k = step k (λ l. unfolded step n l)
@@ -61,12 +61,12 @@ unfolded step (suc n) k = step k (λ l. unfolded step n l)
 abbrev pub nest_step : Unit {0} → (Unit {0} → Schema) → Schema
 nest_step k types = one_of (or_tagged 0 null (or_tagged 1 (types tt) no_alternative))
 
--- T ::= SEQUENCE {n T DEFAULT {}, l SEQUENCE OF T}, the list in the same level
+-- T ::= SEQUENCE {n T DEFAULT {}, l SEQUENCE OF T}, with the SEQUENCE OF in the same level
 abbrev pub default_step : Unit {0} → (Unit {0} → Schema) → Schema
 default_step k types =
     closed (has_default 0 (types tt) (roots (absent end)) (needs 1 (list any_size (types tt)) no_component))
 
--- T ::= SEQUENCE {l SEQUENCE OF T}, its list under a name of its own
+-- T ::= SEQUENCE {l SEQUENCE OF T}, with its own name for the SEQUENCE OF
 pub data TreeName : Type 0 where
   tree : TreeName
   branches : TreeName
@@ -75,8 +75,8 @@ abbrev pub tree_step : TreeName → (TreeName → Schema) → Schema
 tree_step tree types = closed (needs 0 (types branches) no_component)
 tree_step branches types = list any_size (types tree)
 
--- A ::= SEQUENCE {b B OPTIONAL}, B ::= CHOICE {leaf [0] NULL, a [1] A}, P ::= SEQUENCE {a A}: two that hold one
--- another, and one that holds them
+-- A ::= SEQUENCE {b B OPTIONAL}, B ::= CHOICE {leaf [0] NULL, a [1] A}, P ::= SEQUENCE {a A}: two mutually recursive
+-- types, and one that contains them
 pub data MutualName : Type 0 where
   first : MutualName
   second : MutualName
@@ -91,7 +91,7 @@ mutual_step holder types = closed (needs 0 (types first) no_component)
 abbrev pub RecursiveRows : Type 0
 RecursiveRows = AreRecursive nest_step × AreRecursive default_step × AreRecursive tree_step × AreRecursive mutual_step
 
--- Each list, sequence and choice takes a level.
+-- SEQUENCE OF, SEQUENCE and CHOICE take a level each.
 abbrev pub LevelRows : Type 0
 LevelRows =
     (unfolded tree_step 1 tree ≡ closed (needs 0 cut no_component))

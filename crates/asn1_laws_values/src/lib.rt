@@ -1,6 +1,7 @@
-//! Laws of values and of one message, over the definitions alone: equality of values and normal forms, the order of
-//! tags (X.680 8.6), the values of a type, plain types, unfoldings of recursive types, and what readers with more or
-//! with fewer freedoms take (X.691, X.696). Each function does nothing: its contract is a law.
+//! Laws of values and of single messages, over the definitions alone: equality of values and normal forms, the order
+//! of tags (X.680 8.6), the values of a type, plain types, unfoldings of recursive types, and what readers with more
+//! or fewer freedoms accept (X.691, X.696). A freedom is a departure from the canonical encoding that a reader
+//! accepts. The functions do nothing: their contracts are the laws.
 #![tactic(auto)]
 
 pub mod message_laws;

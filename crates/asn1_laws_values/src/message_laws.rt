@@ -1,30 +1,30 @@
-//! What readers with more or with fewer freedoms take of one message (X.691, X.696), and that what is written is read:
-//! what makes translation between encoding rules possible at all.
+//! What readers with more or fewer freedoms accept of one message (X.691, X.696), and that what is written is read:
+//! the basis of translation between encoding rules.
 
 ghost use Rattle.asn1_laws_values.specs.MessageLaws.{PerWidens, OerWidens, PerCanonical, OerCanonical, StrictIsLenient};
 ghost use Rattle.asn1_laws_values.specs.MessageLaws.{CanonicalIsRead, NormalForms, StrictReadsNormal};
 
-/// What a reader takes, a reader with more freedoms takes as the same value.
+/// What a reader accepts, a reader with more freedoms accepts as the same value (X.691).
 pub fn per_widens()
     ensures { PerWidens }
 {}
 
-/// What a reader takes, a reader with more freedoms takes as the same value (X.696).
+/// What a reader accepts, a reader with more freedoms accepts as the same value (X.696).
 pub fn oer_widens()
     ensures { OerWidens }
 {}
 
-/// A reader with no freedom takes the canonical text and no other.
+/// A reader without freedoms accepts exactly the canonical encoding (X.691).
 pub fn per_canonical()
     ensures { PerCanonical }
 {}
 
-/// A reader with no freedom takes the canonical text and no other (X.696).
+/// A reader without freedoms accepts exactly the canonical encoding (X.696).
 pub fn oer_canonical()
     ensures { OerCanonical }
 {}
 
-/// A strict reader takes nothing that the lenient one does not.
+/// The lenient reader accepts all that the strict one does.
 pub fn strict_is_lenient()
     ensures { StrictIsLenient }
 {}
@@ -34,12 +34,13 @@ pub fn canonical_is_read()
     ensures { CanonicalIsRead }
 {}
 
-/// The normal form of a normal form is itself, and passes the test of normal forms (`is_normal`).
+/// A normal form is its own normal form and satisfies `is_normal`.
 pub fn normal_forms()
     ensures { NormalForms }
 {}
 
-/// What a strict reader takes is its own normal form: nothing at its default is spelled out, and no group is empty.
+/// A value that a strict reader accepts is in normal form: no component is encoded at its default, and no group is
+/// empty.
 pub fn strict_reads_normal()
     ensures { StrictReadsNormal }
 {}

@@ -2,7 +2,7 @@
 
 ghost use Rattle.asn1_laws_values.specs.PlainLaws.{PlainEncoded};
 
-/// In all rules just the values of a plain type have an encoding, before any bound on its length.
+/// In all rules exactly the values of a plain type have an encoding, apart from the limit on its length.
 pub fn plain_encoded()
     ensures { PlainEncoded }
 {}

@@ -1,4 +1,4 @@
-//! Equality of values, in which a bag has no order, and normal forms.
+//! Equality of values, where the elements of a SET OF have no order, and normal forms.
 
 ghost use Rattle.asn1_laws_values.specs.Laws.{SameIsEquivalence, BagsHaveNoOrder, NormalRespectsSame};
 ghost use Rattle.asn1_laws_values.specs.Laws.{NormalNestsNoDeeper, NormalStays, SameIsAsNormal};
@@ -8,27 +8,27 @@ pub fn same_is_equivalence()
     ensures { SameIsEquivalence }
 {}
 
-/// A bag is the bag of its members in any order.
+/// A SET OF is equal to one with the same elements in any order.
 pub fn bags_have_no_order()
     ensures { BagsHaveNoOrder }
 {}
 
-/// What is the same has the same normal form.
+/// Equal values have equal normal forms.
 pub fn normal_respects_same()
     ensures { NormalRespectsSame }
 {}
 
-/// A normal form nests no deeper than the value.
+/// A normal form has at most as many nested levels as the value.
 pub fn normal_nests_no_deeper()
     ensures { NormalNestsNoDeeper }
 {}
 
-/// What is normal is its own normal form.
+/// A value in normal form is its own normal form.
 pub fn normal_stays()
     ensures { NormalStays }
 {}
 
-/// What is the same as something normal is normal.
+/// A value equal to one in normal form is in normal form.
 pub fn same_is_as_normal()
     ensures { SameIsAsNormal }
 {}

@@ -1,4 +1,4 @@
--- Of values that are the same, both or neither can be carried over to a newer version.
+-- Of equal values, both or neither can be carried over to a newer version.
 use Rattle.std.proofs.Common.{◌≡◌, ℕ, zero, suc, Bool, true, false, List, [], ◌∷◌, Option, Some, option_map, option_and_then, refl, ap, sym, ◌∙◌, subst}
 use Rattle.std.proofs.lemmas.Bool.{and_parts, eqb-true}
 use Rattle.asn1_model.specs.Value.{Value, members, bag, fields, chosen, Values, no_more, member, values_of, Parts, end, absent, present, same, same_members, same_parts}
@@ -17,14 +17,14 @@ use Rattle.asn1_laws_versions.proofs.Grown.{each_of, each_again, same_grown}
 abbrev Grows : (Value → Option Value) → Value → Type 0
 Grows g v = (y : Value) × (g v ≡ Some y)
 
--- a function for which a value can be carried over where one that is the same can
+-- a function for which a value can be carried over if an equal one can
 abbrev GrowsAlike : (Value → Option Value) → Type 0
 GrowsAlike g = (v x w : Value) → g v ≡ Some x → same w v ≡ true → Grows g w
 
 false_true : {X : Type 0} → false ≡ true → X
 false_true e = cc
 
--- ---- members
+-- ---- elements
 members_grow : (g : Value → Option Value) (vs us ws : Values) → GrowsAlike g → map_each g vs ≡ Some us → same_members ws vs ≡ true → (ys : Values) × (map_each g ws ≡ Some ys)
 unfolding same_members
 members_grow g no_more us no_more k e f = (no_more, refl)
@@ -37,7 +37,7 @@ members_grow g (member v vs) us (member w ws) k e f =
     let ys = members_grow g vs a.1 ws k a.3 p.1 in
     (member y.0 ys.0, each_again g w y.0 ws ys.0 y.1 ys.1)
 
--- ---- bags
+-- ---- SET OF
 abbrev EachGrows : (Value → Option Value) → List Value → Type 0
 EachGrows g [] = Unit {0}
 EachGrows g (v ∷ vs) = Grows g v × EachGrows g vs
@@ -188,7 +188,7 @@ mutual
   alternative_alike more (alternative t s others) (alternative t' s' others') zero v x w h e f = grows_alike s s' v x w h.1 e f
   alternative_alike more (alternative t s others) (alternative t' s' others') (suc i) v x w h e f = alternative_alike more others others' i v x w h.2 e f
 
--- and what they are carried over as is the same
+-- and the results are equal
 pub carried_alike : (s s' : Schema) (v x w : Value) → Extends s s' → grow s s' v ≡ Some x → same w v ≡ true → (y : Value) × (grow s s' w ≡ Some y) × (same y x ≡ true)
 carried_alike s s' v x w h e f =
     let y = grows_alike s s' v x w h e f in

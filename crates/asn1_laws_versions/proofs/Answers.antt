@@ -1,4 +1,4 @@
--- That no two answers to some octets are right.
+-- At most one answer to given octets is right.
 use Rattle.std.proofs.Common.{◌≡◌, ℕ, List, [], ◌++◌, Some, None, refl, sym, ◌∙◌, ap}
 use Rattle.std.proofs.lemmas.List.{append_cancel_left, append-nil}
 use Rattle.asn1_model.specs.Schema.{Schema}
@@ -16,11 +16,11 @@ module _ (source target : Rules) (s : Schema) (w : List ℕ) (lawful : IsLawful 
   abbrev Message : Value → List ℕ → Type 0
   Message v x = IsMessage source s v x
 
-  -- two messages that are all of the octets are written alike
+  -- two messages that are all of the octets have the same encoding
   pub alike : (v u : Value) → Message v w → Message u w → canonical target s v ≡ canonical target s u
   alike v u p q = same_written target s v u lawful (one_front source s v u w w [] [] lawful p.0 q.0 refl).1
 
-  -- none stands behind a message that is all of them
+  -- none follow a message that is all of them
   pub none_behind : (v u : Value) (front behind : List ℕ) → Message v w → Message u front → front ++ behind ≡ w → behind ≡ []
   none_behind v u front behind p q e =
       let f = (one_front source s u v front w behind [] lawful q.0 p.0 (e ∙ sym (whole w))).0 in

@@ -1,4 +1,4 @@
--- A value that is carried over to a newer version, and then without what the older one lacks, is the value again.
+-- A value that is carried over to a newer version, and then reduced to what the older one knows, is unchanged.
 use Rattle.std.proofs.Common.{◌≡◌, ℕ, zero, suc, Bool, true, false, cond, ◌&&◌, ◌||◌, Option, Some, None, option_map, option_and_then, refl, ap, sym, ◌∙◌, subst}
 use Rattle.std.proofs.lemmas.Bool.{and_parts}
 use Rattle.asn1_model.specs.Value.{Value, item, members, bag, fields, chosen, Values, no_more, member, Parts, end, absent, present}
@@ -28,7 +28,7 @@ members_back g f test (member v vs) us k t e =
     let a = each_of g v vs us e in
     subst (λ us. map_each f us ≡ Some (member v vs)) a.4 (each_again f a.0 v a.1 vs (k v a.0 p.0 a.2) (members_back g f test vs a.1 k p.1 a.3))
 
--- what stays as it is
+-- a value that is unchanged
 as_it_was : (f : Value → Option Value) (v u : Value) → f v ≡ Some v → Some v ≡ Some u → f u ≡ Some v
 as_it_was f v u h e = subst (λ u. f u ≡ Some v) (some_parts e) h
 

@@ -1,4 +1,4 @@
--- Whether causes hold at hops, decided by computing.
+-- Whether causes for refusal hold at hops, decided by computation.
 use Rattle.std.proofs.Common.{◌≡◌, ◌≢◌, ◌⊎◌, inl, inr, ℕ, zero, suc, ◌<◌, ltb, Bool, true, false, List, [], ◌∷◌, Option, Some, None, refl, sym, ◌∙◌, subst, arith}
 use Rattle.std.proofs.lemmas.Bool.{ltb-true, ltb-false}
 use Rattle.asn1_model.specs.Value.{Value, depth}
@@ -18,7 +18,7 @@ use Rattle.asn1_laws_versions.specs.Routes.{Version, older, newer, Hop, schema_o
 abbrev pub Decided : Type 0 → Type 0
 Decided A = A ⊎ ¬ A
 
--- constructors are apart
+-- constructors are distinct
 pub apart : {A : Type 0} → false ≡ true → A
 apart e = cc
 
@@ -70,7 +70,7 @@ three (inl a) (inl b) (inr n) = inr (λ k. n k.2)
 three (inl a) (inr n) c = inr (λ k. n k.1)
 three (inr n) b c = inr (λ k. n k.0)
 
--- a fact on what an option holds
+-- a fact about the contents of an option
 abbrev with : {X : Type 0} (P : X → Type 0) (o : Option X) (x : X) → o ≡ Some x → Decided (P x) → Decided ((x : X) × (o ≡ Some x) × P x)
 with P o x e (inl p) = inl (x, e, p)
 with P o x e (inr n) = inr (λ k. n (subst P (some_parts (sym k.1 ∙ e)) k.2))

@@ -1,4 +1,4 @@
--- A value without what the older version lacks nests no deeper.
+-- A value without what the older version lacks has no more nested levels.
 use Rattle.std.proofs.Common.{◌≡◌, ℕ, zero, suc, ◌≤◌, Bool, true, false, cond, Option, Some, None, option_map, ap, sym, subst, arith}
 use Rattle.asn1_model.specs.Value.{Value, item, members, bag, fields, chosen, Values, no_more, member, Parts, absent, present, depth, depth_of_members, depth_of_parts}
 use Rattle.asn1_model.specs.Schema.{Schema, enumerated, sequence_of, set_of, sequence, set, group, choice, Components, no_component, component, Alternatives, alternative}
@@ -17,7 +17,7 @@ members_less_deep g (member v vs) us k e =
     let i = members_less_deep g vs a.1 k a.3 in
     subst (λ us. depth_of_members us ≤ depth_of_members (member v vs)) a.4 (omega arith)
 
--- what stays as it is, or is not there
+-- a value that is unchanged, or does not exist
 pub if_known : (b : Bool) (x u : Value) → cond b (Some x) None ≡ Some u → x ≡ u
 if_known true x u e = some_parts e
 if_known false x u e = cc

@@ -130,7 +130,7 @@ newer_refuses r old new u x w a y z l k h d e f q = let t = newer_front r old ne
 differs : {X : Type 0} → false ≡ true → X
 differs e = cc
 
--- what a reader takes is normal in the strict rules
+-- what a reader accepts is normal in the strict rules
 taken_normal : (r : Rules) (s : Schema) (v : Value) (w : List ℕ) → IsEncoding r s v w → MayBeRead r s v
 taken_normal uper s v w h e = differs e
 taken_normal aper s v w h e = differs e
@@ -155,7 +155,7 @@ newer_reads uper_strict old new u v w h d n e = packed.newer_reads_uper_strict o
 newer_reads aper_strict old new u v w h d n e = packed.newer_reads_aper_strict old new u v w h d (tells_normal new v (n refl)) e
 newer_reads coer old new u v w h d n e = octets.newer_reads_coer old new u v w h d (tells_normal new v (n refl)) e
 
--- what is the same as what is left is left of something that is the same, and so is written alike
+-- what is equal to what is left is left of an equal value, and so has the same encoding
 left_is_read : (r : Rules) (old new : Schema) (v x : Value) (w : List ℕ) → is_lawful new ≡ true → Extends old new → canonical r new v ≡ Some w → IsLeft r old new v x → IsEncoding r old x w
 left_is_read r old new v x w k h e q =
     let l = lessen_lifted old new (normal new v) q.0 x h q.1 q.2 in

@@ -48,7 +48,7 @@ absent_twice more (component t o s cs) (component t' o' s' cs') us h e =
     let b = absent_of o s t cs us e in
     subst (λ us. carried_parts true (component t o s cs) (component t' o' s' cs') us ≡ all_absent (component t' o' s' cs')) b.2 (kept_absent s s' o o' t t' cs cs' us (carried_parts true cs cs' b.0) h.1 e (absent_twice more cs cs' b.0 h.3 b.1))
 
--- a value that stays as it is
+-- a value that is unchanged
 stays : (f : Value → Option Value) (v u w : Value) → Some v ≡ Some u → f u ≡ Some w → f v ≡ Some w
 stays f v u w e i = subst (λ u. f u ≡ Some w) (sym (some_parts e)) i
 

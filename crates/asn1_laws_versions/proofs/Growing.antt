@@ -25,7 +25,7 @@ either_true : (a b : Bool) → (a || b) ≡ true → (a ≡ true) ⊎ (b ≡ tru
 either_true true b e = inl refl
 either_true false b e = inr e
 
--- ---- members
+-- ---- elements
 members_grow : (g : Value → Option Value) (f : Value → Value) (test : Value → Bool) (vs us : Values) → ((v u : Value) → test v ≡ true → g (f v) ≡ Some u → Grows g v) → are_all test vs ≡ true → map_each g (map_members f vs) ≡ Some us → (ws : Values) × (map_each g vs ≡ Some ws)
 members_grow g f test no_more us k t e = (no_more, refl)
 members_grow g f test (member v vs) us k t e =
@@ -41,7 +41,7 @@ unfolding carried_parts
 kept_absent t t' o o' s s' cs cs' true x ps k a = let u = k a in (absent u.0, ap (option_map absent) u.1)
 kept_absent t t' o o' s s' cs cs' false x ps k a = cc
 
--- a group of which nothing is left gains no parts
+-- a group with nothing left in it gains no parts
 none_left : (cs cs' : Components) (ps : Parts) → ExtendsEach false cs cs' → are_of cs ps ≡ true → are_absent (normal_parts cs ps) ≡ true → PartsGrow cs cs' (normal_parts cs ps)
 unfolding ExtendsEach are_of normal_parts carried_parts
 none_left no_component no_component end h k a = (end, refl)

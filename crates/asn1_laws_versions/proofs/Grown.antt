@@ -1,4 +1,5 @@
--- Values that are carried over to a newer version are equal exactly if they were, and normal exactly as they were.
+-- Values carried over to a newer version are equal exactly if they were before, and normal exactly if they were
+-- before.
 use Rattle.std.proofs.Common.{◌≡◌, ℕ, zero, suc, ◌==◌, Bool, true, false, cond, ◌&&◌, Option, Some, None, option_map, refl, ap, sym, subst}
 use Rattle.std.proofs.lemmas.Bool.{eqb-true}
 use Rattle.asn1_model.specs.Value.{Value, members, bag, fields, chosen, Values, no_more, member, Parts, end, absent, present, same, same_members, same_bag, same_parts, same_truth, taken_out}
@@ -13,7 +14,7 @@ use Rattle.std.specs.Option.{option_map_or}
 as_before : (u u' t t' : Value) (b : Bool) → u' ≡ u → t' ≡ t → same u' t' ≡ b → same u t ≡ b
 as_before u u' t t' b e f g = subst (λ u. same u t ≡ b) e (subst (λ t. same u' t ≡ b) f g)
 
--- a function that takes equal values to equal ones, and others to others
+-- a function that maps equal values to equal ones, and others to others
 abbrev Keeps : (Value → Option Value) → Type 0
 Keeps g = (v w u t : Value) → g v ≡ Some u → g w ≡ Some t → same u t ≡ same v w
 
@@ -45,7 +46,7 @@ members_grown g (member v vs) (member w ws) us ts k e f =
     let b = each_of g w ws ts f in
     members_by us (member a.0 a.1) ts (member b.0 b.1) _ a.4 b.4 (both_same _ _ _ _ (k v w a.0 b.0 a.2 b.2) (members_grown g vs ws a.1 b.1 k a.3 b.3))
 
--- members without one
+-- elements without one
 abbrev Rests : (Value → Option Value) → Option Values → Option Values → Type 0
 Rests g None None = Unit {0}
 Rests g (Some r) (Some r') = map_each g r ≡ Some r'

@@ -1,4 +1,4 @@
--- What a hop answers to what stands written in front of it.
+-- The answer of a hop to what is written before it.
 use Rattle.std.proofs.Common.{◌≡◌, ◌≢◌, ◌⊎◌, inl, inr, ℕ, ◌≤◌, ◌<◌, Bool, true, false, List, [], ◌++◌, Option, Some, None, option_map, option_and_then, refl, ap, sym, ◌∙◌, subst, arith}
 use Rattle.std.proofs.lemmas.Bool.{cases_lt}
 use Rattle.asn1_model.specs.Value.{Value, same, depth}
@@ -29,7 +29,7 @@ use Rattle.asn1_laws_versions.proofs.Answers.{whole}
 use Rattle.asn1_laws_versions.proofs.Growing.{normal_growth}
 use Rattle.asn1_laws_versions.proofs.Dropping.{lessened_depth}
 
--- what a reader takes is a value of the type
+-- what a reader accepts is a value of the type
 pub read_is_of : (r : Rules) (s : Schema) (v : Value) (w : List ℕ) → IsEncoding r s v w → is_of s v ≡ true
 unfolding IsEncoding
 read_is_of uper s v w e = message_of _ false s v _ e.1
@@ -44,7 +44,7 @@ pub normal_written : (r : Rules) (s : Schema) (v : Value) → canonical r s (nor
 unfolding canonical
 normal_written r s v = ap (λ x. option_and_then of_moderate_length (encoding r s x)) (normal_again s v)
 
--- no beginning is a message, whatever stands behind
+-- no prefix is a message, whatever follows
 abbrev pub Unread : Rules → Schema → List ℕ → Type 0
 Unread r s w = (front behind further : List ℕ) (x : Value) → IsMessage r s x front → front ++ behind ≡ w ++ further → ⊥
 
@@ -94,7 +94,7 @@ module _ (old new : Schema) (lo : IsLawful old) (ln : IsLawful new) (ext : Exten
       let i = m.1 in
       omega arith
 
-  -- where a cause of reading holds at a first hop of the older version
+  -- where a cause for refusal holds at reading, at a first hop of the older version
   pub cause_unread : (r t : Rules) (v : Value) (w : List ℕ) → canonical r new v ≡ Some w → HasCause old new (at_first r) (record { version = older; to = t }) v not_an_encoding → Unread r old w
   cause_unread r t v w e c = by_cause c.0 c.1 c.2
     where
@@ -108,7 +108,7 @@ module _ (old new : Schema) (lo : IsLawful old) (ln : IsLawful new) (ext : Exten
   pub left_message : (r : Rules) (v u : Value) (w : List ℕ) → drop old new v ≡ Some u → MayBeRead r old u → depth u ≤ 128 → canonical r new v ≡ Some w → IsMessage r old u w
   left_message r v u w d n k e = ((older_reads_exactly r old new v u w lo ln ext e).0 (u, d, same_self u, n), k)
 
-  -- ---- what is read behind an older hop
+  -- ---- what is read after an older hop
 
   -- what the older version wrote, the newer one reads as the growth
   pub missing_refused : (r t : Rules) (u : Value) (w : List ℕ) → is_of old u ≡ true → grow old new u ≡ None → canonical r old u ≡ Some w → IsAnswer r t new w not_an_encoding
@@ -151,7 +151,7 @@ module _ (old new : Schema) (lo : IsLawful old) (ln : IsLawful new) (ext : Exten
 
   -- ---- each hop
 
-  -- a hop hands on what it writes, or refuses by a cause
+  -- a hop passes on what it writes, or refuses for a cause
   abbrev pub Step : Stage → Hop → Value → List ℕ → Type 0
   Step p h v w = (HasNoCause old new p h v × HandsOn old new p h v w) ⊎ ((a : Answer) × HasCause old new p h v a × HopAnswers old new p.from h w a)
 
@@ -182,7 +182,7 @@ module _ (old new : Schema) (lo : IsLawful old) (ln : IsLawful new) (ext : Exten
       by_target (Some t) e = inl (no_cause t e, (t, (x, m, alike h.to ∙ e), (y, value, e), next t e))
       by_target None e = inr (no_target, (unwritable, (y, value, e), refl, λ f. reads), (x, m, alike h.to ∙ e))
 
-  -- a hop of the newer version, with none of the older one in front
+  -- a hop of the newer version, with none of the older one before it
   own : (p : Passed) (from to : Rules) (v : Value) (w : List ℕ) → value_written old new p newer v ≡ Some v → and_one p newer ≡ newer_alone → p ≢ an_older → canonical from new v ≡ Some w → depth (normal new v) ≤ 128 → Step (record { passed = p; from = from }) (record { version = newer; to = to }) v w
   own p from to v w value next first e d = writes _ _ v (normal new v) v w reads value (own_message from new v w e d) (λ t. normal_written t new v) (λ t f. subst (λ q. StandsWritten old new q to v t) (sym next) (f, d))
     where
@@ -230,7 +230,7 @@ module _ (old new : Schema) (lo : IsLawful old) (ln : IsLawful new) (ext : Exten
     by_drop at None f = refuses _ _ v w unknown refl ((refl, first), f) (unread_answer from to old w (unknown_unread from v w f e))
     by_drop at (Some u) f = by_depth at u f (cases_lt 128 (depth u))
 
-  -- a hop behind one of the older version
+  -- a hop after one of the older version
   module _ (from to : Rules) (v u : Value) (w : List ℕ) (d : drop old new v ≡ Some u) (o : is_of old u ≡ true) (k : depth u ≤ 128) (seen : IsSeen old new from u w) where
     again : Step (record { passed = an_older; from = from }) (record { version = older; to = to }) v w
     again = writes _ _ v (normal old u) u w reads d (older_again from u w o k seen) (λ t. normal_written t old u) (λ t g. (u, d, o, k, inl g))
@@ -287,7 +287,7 @@ module _ (old new : Schema) (lo : IsLawful old) (ln : IsLawful new) (ext : Exten
   pub step : (p : Stage) (h : Hop) (v : Value) (w : List ℕ) → StandsWritten old new p.passed p.from v w → Step p h v w
   step p h v w e = steps p.passed p.from h.version h.to v w e
 
-  -- what a hop answers where a cause holds is one thing alone
+  -- the answer of a hop where a cause holds is unique
   pub one_cause : (p : Stage) (h : Hop) (v : Value) (a b : Answer) → HasCause old new p h v a → HasCause old new p h v b → a ≡ b
   one_cause p h v a b x y = by_answers (answer_to x.0) (answer_to y.0) (either_answer x.0) (either_answer y.0) refl refl
     where

@@ -1,4 +1,4 @@
--- How many levels nest in values that are the same, and in values that are carried over to a newer version.
+-- Nested levels of equal values, and of values that are carried over to a newer version.
 use Rattle.std.proofs.Common.{◌≡◌, ℕ, zero, suc, ◌+◌, ◌≤◌, max, true, false, Option, Some, option_map, refl, ap, sym, subst, arith}
 use Rattle.std.proofs.lemmas.Bool.{and_parts}
 use Rattle.asn1_model.specs.Value.{Value, truth, nothing, number, item, bit_list, octet_list, text, arcs, members, bag, fields, chosen, Values, no_more, member, Parts, end, absent, present, same, same_members, same_bag, same_parts, taken_out, depth, depth_of_members, depth_of_parts}
@@ -11,7 +11,7 @@ use Rattle.asn1_laws_values.proofs.Same.{same_turned}
 use Rattle.asn1_laws_versions.proofs.Extending.{both_parts_parts, absent_of}
 use Rattle.asn1_laws_versions.proofs.Grown.{each_of}
 
--- ---- what is the same nests no deeper, and so as deep
+-- ---- equal values have no more nested levels, and so equally many
 mutual
   unfolding same same_members same_bag same_parts depth depth_of_members depth_of_parts
 
@@ -70,7 +70,7 @@ same_depth v w e =
     let k = no_deeper w v (same_turned v w e) in
     omega arith
 
--- ---- what is carried over nests as deep
+-- ---- what is carried over has the same number of nested levels
 absent_flat : (cs : Components) (us : Parts) → all_absent cs ≡ Some us → depth_of_parts us ≡ 0
 unfolding depth_of_parts
 absent_flat no_component us e = subst (λ us. depth_of_parts us ≡ 0) (some_parts e) refl

@@ -1,4 +1,4 @@
--- What is the same as what a value is carried over as, is what a value that is the same is carried over as.
+-- A value equal to a carried value is the carried value of an equal one.
 use Rattle.std.proofs.Common.{◌≡◌, ℕ, zero, suc, Bool, true, false, cond, ◌||◌, List, [], ◌∷◌, Option, Some, None, option_map, option_and_then, refl, ap, sym, ◌∙◌, subst}
 use Rattle.std.proofs.lemmas.Bool.{and_parts, and_from, eqb-true, eq-eqb}
 use Rattle.asn1_model.specs.Value.{Value, item, members, bag, fields, chosen, Values, no_more, member, values_of, Parts, end, absent, present, same, same_members, same_parts}
@@ -24,7 +24,7 @@ Lifted g x v = (y : Value) × (g y ≡ Some x) × (same y v ≡ true)
 abbrev Lifts : (Value → Option Value) → Type 0
 Lifts g = (v u x : Value) → g v ≡ Some u → same x u ≡ true → Lifted g x v
 
--- ---- members
+-- ---- elements
 members_lifted : (g : Value → Option Value) (vs us xs : Values) → Lifts g → map_each g vs ≡ Some us → same_members xs us ≡ true → (ys : Values) × (map_each g ys ≡ Some xs) × (same_members ys vs ≡ true)
 unfolding same_members
 members_lifted g no_more us no_more k e f = (no_more, refl, refl)
@@ -114,7 +114,7 @@ parts_self ps = (and_parts _ _ (same_self (fields ps end))).0
 put_part : (o : Option Value) (w : Value) (p : Option Parts) (q : Parts) → o ≡ Some w → p ≡ Some q → option_and_then (λ w. option_map (λ q. present w q) p) o ≡ Some (present w q)
 put_part o w p q e f = rw (e, f) refl
 
--- a value that stays as it is
+-- a value that is unchanged
 itself : (g : Value → Option Value) (v u x : Value) → v ≡ u → g x ≡ Some x → same x u ≡ true → Lifted g x v
 itself g v u x e f s = (x, f, subst (λ u. same x u ≡ true) (sym e) s)
 

@@ -1,4 +1,4 @@
--- A dropped value is its own normal form unless a component is left at its default, and how deep it nests.
+-- A dropped value is its own normal form unless a component is left at its default; and its nested levels.
 use Rattle.std.proofs.Common.{◌≡◌, ◌⊎◌, inl, inr, ℕ, zero, suc, ◌+◌, max, Bool, true, false, cond, not, ◌&&◌, ◌||◌, Option, Some, None, option_map, refl, ap, sym, ◌∙◌, subst}
 use Rattle.std.proofs.lemmas.Bool.{and_parts, and_cases, and_left, and_right}
 use Rattle.asn1_model.specs.Value.{Value, item, members, bag, fields, chosen, Values, no_more, member, Parts, end, absent, present, depth, depth_of_members, depth_of_parts, are_all, are_absent}
@@ -94,7 +94,7 @@ mutual
   alternative_clashes (alternative t s others) (alternative t' s' others') (suc i) v w e l = alternative_clashes others others' i v w e l
   alternative_clashes others others' i v w e l = absurd l
 
--- ---- how deep it nests
+-- ---- its nested levels
 members_seen : (g : Value → Option Value) (f : Value → ℕ) (vs us : Values) → ((v u : Value) → g v ≡ Some u → depth u ≡ f v) → map_each g vs ≡ Some us → depth_of_members us ≡ most_of f vs
 unfolding depth_of_members
 members_seen g f no_more us k e = subst (λ us. depth_of_members us ≡ 0) (some_parts e) refl
@@ -259,7 +259,7 @@ mutual
   alternative_leaves (alternative t s others) no_alternative i v w more x o n e f = absurd x
   alternative_leaves no_alternative others' i v w more x o n e f = none_is_some w e
 
-  -- a group in which nothing is left, though something was there
+  -- a group with nothing left in it, though a component was present
   group_leaves : (s s' : Schema) (v w : Value) → Extends s s' → is_of s' v ≡ true → is_normal s' v ≡ true → is_group_left_out s' v ≡ false → carried false s s' v ≡ Some w → is_group_left_out s w ≡ true → LeavesDefault s s' v
   group_leaves (group cs) (group cs') (fields ps end) w x o n k e f =
       let a = both_parts_parts (carried_parts false cs cs' ps) (Some end) w e in
@@ -290,7 +290,7 @@ mutual
   emptied_leave no_component no_component ps us x h n k e f = cc
   emptied_leave no_component (component t' o' s' cs') ps us x h n k e f = absurd x
 
--- ---- what clashes
+-- ---- what conflicts with the normal form
 by_test : {P : Type 0} (s : Schema) (w : Value) (b : Bool) → is_normal s w ≡ b → ¬ (normal s w ≡ w) → (is_normal s w ≡ false → P) → P
 by_test s w true e h k = absurd (h (normal_stays s w e))
 by_test s w false e h k = k e

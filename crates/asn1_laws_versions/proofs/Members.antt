@@ -1,4 +1,4 @@
--- Members of lists and bags in two versions of a type, and pairs of alternatives.
+-- Elements of SEQUENCE OF and SET OF in two versions of a type, and pairs of alternatives.
 use Rattle.std.proofs.Common.{◌≡◌, ℕ, zero, suc, Bool, true, false, cond, ◌||◌, List, [], ◌∷◌, map, Option, Some, None, refl, ap, sym, subst, inl, inr, ◌⊎◌}
 use Rattle.std.specs.Prelude.{ℤ}
 use Rattle.asn1_model.specs.Value.{Value, item, members, bag, fields, chosen, Values, no_more, member, Parts, end}
@@ -15,7 +15,7 @@ use Rattle.asn1_laws_fronts.proofs.Fronts.{Agree, Pairwise, agree_map, agree_tur
 use Rattle.asn1_laws_versions.proofs.Taken.{as_written, covers_written}
 use Rattle.asn1_laws_versions.proofs.Parts.{There, there_map, there_chain, there_both, Carried, PartsCarried}
 
--- ---- what holds of each member
+-- ---- what holds for each element
 abbrev pub Each : (Value → Type 0) → List Value → Type 0
 Each P [] = Unit {0}
 Each P (x ∷ xs) = P x × Each P xs
@@ -32,7 +32,7 @@ each_picked P (suc i) (z ∷ xs) x rest e h k =
     let n : Each P (z ∷ q.0.1) = subst (λ l. Each P l) (sym (ap (λ (p : Value × List Value). p.1) q.2)) k in
     (n.0, each_picked P i xs q.0.0 q.0.1 q.1 (subst (λ z. P z) (sym (ap (λ (p : Value × List Value). p.0) q.2)) h) n.1)
 
--- of each in any order
+-- for each in any order
 pub each_arranged : (P : Value → Type 0) (is : List ℕ) (xs zs : List Value) → arranged is xs ≡ Some zs → Each P zs → Each P xs
 each_arranged P [] [] zs e h = tt
 each_arranged P [] (x ∷ xs) zs e h = cc
@@ -57,7 +57,7 @@ each_there : (g : Value → Option Value) (vs : Values) → Each (λ v. There (g
 each_there g no_more h = (no_more, refl)
 each_there g (member v vs) h = there_chain (g v) _ h.0 (λ w. there_map (λ ws. member w ws) _ (each_there g vs h.1))
 
--- each member can be carried over
+-- each element can be carried over
 pub members_carried : (m : Bool) (z z' : Size) (c c' : Counts) (s s' : Schema) (us vs : Values) → Each (λ v. There (carried false s s' v)) (listed vs) → (m ≡ true → Each (λ x. There (grow s s' x)) (listed us)) → Carried m (sequence_of z c s) (sequence_of z' c' s') (members us) (members vs)
 unfolding carried
 members_carried m z z' c c' s s' us vs h k = (there_map members _ (each_there _ vs h), λ q. there_map members _ (each_there _ us (k q)))
@@ -66,7 +66,7 @@ pub bags_carried : (m : Bool) (z z' : Size) (c c' : Counts) (s s' : Schema) (us 
 unfolding carried
 bags_carried m z z' c c' s s' us vs h k = (there_map bag _ (each_there _ vs h), λ q. there_map bag _ (each_there _ us (k q)))
 
--- ---- members of the older version and of the newer one, in one type
+-- ---- elements of the older version and of the newer one, in one type
 abbrev pub Both : Type 0
 Both = Value ⊎ Value
 

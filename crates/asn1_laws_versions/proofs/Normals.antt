@@ -1,4 +1,4 @@
--- The normal form of what is carried over to a newer version is what the normal form is carried over to.
+-- The normal form of a carried value is what the normal form is carried over to.
 use Rattle.std.proofs.Common.{◌≡◌, ℕ, zero, suc, Bool, true, false, ◌||◌, List, Option, Some, option_map, option_and_then, refl, ap, sym, ◌∙◌, subst}
 use Rattle.asn1_model.specs.Value.{Value, members, bag, fields, chosen, Values, no_more, member, Parts, end, absent, present, map_members, are_absent, same}
 use Rattle.asn1_model.specs.Schema.{Tag, Presence, required, optional, by_default, Schema, cut, boolean, null, integer, enumerated, bit_string, octet_string, character_string, object_identifier, sequence_of, set_of, sequence, set, group, choice, Components, no_component, component, Alternatives, no_alternative, alternative}
@@ -55,7 +55,7 @@ default_kept s s' optional optional x y h k e = refl
 default_kept s s' (by_default d) (by_default d') x y h k e = sym (same_grown s s' x (normal s d) y k.0 h e k.1) ∙ as_the_default y k.0 (normal s' d') k.2
 default_kept s s' o o' x y h k e = absurd k
 
--- ---- members and parts
+-- ---- elements and parts
 members_carried : (g n n' : Value → Option Value) (f f' : Value → Value) (vs us : Values) → ((v u : Value) → g v ≡ Some u → g (f v) ≡ Some (f' u)) → map_each g vs ≡ Some us → map_each g (map_members f vs) ≡ Some (map_members f' us)
 members_carried g n n' f f' no_more us k e = subst (λ us. Some no_more ≡ Some (map_members f' us)) (some_parts e) refl
 members_carried g n n' f f' (member v vs) us k e =
@@ -80,7 +80,7 @@ part_kept t t' o o' s s' cs cs' false true x y ps qs h e f = cc
 either_same : (a a' b b' : Bool) → a ≡ a' → b ≡ b' → (a || b) ≡ (a' || b')
 either_same a a' b b' e f = cc
 
--- what stays as it is
+-- a value that is unchanged
 left_alone : (f : Value → Option Value) (n : Value → Value) (v u : Value) → f v ≡ Some (n v) → v ≡ u → f v ≡ Some (n u)
 left_alone f n v u e h = subst (λ u. f v ≡ Some (n u)) h e
 

@@ -1,4 +1,4 @@
--- What both versions of a type read of the beginning of one text in the octet rules can be carried over.
+-- What both versions of a type read of the beginning of one encoding in the octet rules can be carried over.
 use Rattle.std.specs.Prelude.{ℤ}
 use Rattle.std.proofs.Common.{◌≡◌, ℕ, zero, suc, not, Bool, true, false, cond, ◌&&◌, ◌||◌, IsTrue, List, [], ◌∷◌, ◌++◌, length, map, Option, Some, None, refl, ap, sym, ◌∙◌, subst, append_assoc, ltb}
 use Rattle.std.proofs.lemmas.Bool.{and_parts}
@@ -54,7 +54,7 @@ distinct_older ts more others others' h d =
     let r = tags_begin more others others' h in
     distinct_before tag_same (ts ++ alternative_tags others) r.0 (subst (λ l. are_distinct tag_same l ≡ true) (ap (λ l. ts ++ l) (sym r.1) ∙ sym (append_assoc ts (alternative_tags others) r.0)) d)
 
--- ---- what is taken either way
+-- ---- what is accepted either way
 module _ (free : Oer.Freedom → Bool) where
   abbrev Met : Bool → Oer.OctetForm → Oer.OctetForm → Type 0 → Type 0
   Met m x y P = OctetsAlike free (taken free m x) y P
@@ -81,7 +81,7 @@ module _ (free : Oer.Freedom → Bool) where
   open_meets false x y P h = open_alike free x y P h
   open_meets true x y P h = agree_written free (Oer.open_type x) (Oer.open_type (as_written free x)) (Oer.open_type y) P (covers_within free (covers_written free x) (λ w. covers_same free _)) (open_alike free (as_written free x) y P h)
 
-  -- octets behind their number, and an open type
+  -- octets after their length determinant, and an open type
   octets_and_open : (os : List ℕ) (x : Oer.OctetForm) → OctetsAlike free (Oer.counted os) (Oer.open_type x) (Unit {0})
   unfolding Oer.open_type Reads
   octets_and_open os x = record {
@@ -95,7 +95,7 @@ module _ (free : Oer.Freedom → Bool) where
   unfolding filing.unknown filing.added Oer.spelled
   unknown_added o s v os = tests_right (is_at_default o s v) (is_group_left_out s v) _ _ _ (octets_and_open os _)
 
-  -- ---- members
+  -- ---- elements
   lists_meet : (held : Counts) (g h : Value → Oer.OctetForm) (R : Value → Value → Type 0) → ((x y : Value) → OctetsAlike free (g x) (g y) (Unit {0})) → ((x y : Value) → OctetsAlike free (h x) (h y) (Unit {0})) → ((x y : Value) → OctetsAlike free (g x) (h y) (R x y)) → (us ys : List Value) → OctetsAlike free (Oer.members_form held (map g us)) (Oer.members_form held (map h ys)) (Pairwise R us ys)
   lists_meet held g h R i j k us ys =
       let f = form_of Oer.Freedom Oer.Detail ℕ free g h in
@@ -115,7 +115,7 @@ module _ (free : Oer.Freedom → Bool) where
       abbrev Once : Schema → Type 0
       Once s = (x y : Value) → OctetsAlike free (Oer.form s x) (Oer.form s y) (Unit {0})
 
-      -- ---- lists and bags
+      -- ---- SEQUENCE OF and SET OF
       list_way : (z : Size) (c : Counts) (s s' : Schema) → Once s → Once s' → Way s s' → Way (sequence_of z c s) (sequence_of z c s')
       unfolding Oer.form
       list_way z c s s' i j k (members us) (members vs) =
@@ -216,7 +216,7 @@ module _ (free : Oer.Freedom → Bool) where
       tags_met : (t t' : Tag) → t ≡ t' → OctetsAlike free (Oer.tag_form t) (Oer.tag_form t') (Unit {0})
       tags_met t t' e = subst (λ u. OctetsAlike free (Oer.tag_form t) (Oer.tag_form u) (Unit {0})) e (agree_map free (λ q. tt) (tags_alike free t t))
 
-      -- alternatives of one table, told by their tags
+      -- alternatives of one table, determined by their tags
       alternatives_way : (added more : Bool) (others others' : Alternatives) (i j : ℕ) (x v : Value) → ExtendsAlternatives more others others' → Others others others' → are_distinct tag_same (alternative_tags others') ≡ true → Met m (Oer.alternative_form added others i x) (Oer.alternative_form added others' j v) ((i ≡ j) × AlternativeCarried m others others' i x v)
       unfolding Oer.alternative_form ExtendsAlternatives carried_alternative
       alternatives_way true more no_alternative others' i j x v h k d = taken_refused free m _ _

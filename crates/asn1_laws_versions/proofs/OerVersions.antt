@@ -40,7 +40,7 @@ module _ (free : Oer.Freedom → Bool) (wide : IsTrue (free Oer.other_bitmap)) (
   sim_both : {x x' y y' : Oer.OctetForm} → Sim x x' → Sim y y' → Sim (both x y) (both x' y')
   sim_both h k = covers_both free h k
 
-  -- ---- members
+  -- ---- elements
   pub sim_members : (held : Counts) (xs ys : List Oer.OctetForm) → SimEach xs ys → Sim (Oer.members_form held xs) (Oer.members_form held ys)
   unfolding Oer.members_form
   sim_members held xs ys h =
@@ -48,7 +48,7 @@ module _ (free : Oer.Freedom → Bool) (wide : IsTrue (free Oer.other_bitmap)) (
       let P : ℕ → Type 0 = λ n. Sim (Oer.members_form held xs) (only_if (is_count_within held n) (part n ys)) in
       subst P (each_length free xs ys h) (covers_if free (is_count_within held (length xs)) {x = part (length xs) xs} {y = part (length xs) ys} (λ t. sim_both (sim_itself _) (covers_joined free xs ys h)))
 
-  -- ---- bags
+  -- ---- SET OF
   abbrev key : Oer.OctetForm → Option (List ℕ)
   key x = written x 0
 
@@ -74,7 +74,7 @@ module _ (free : Oer.Freedom → Bool) (wide : IsTrue (free Oer.other_bitmap)) (
       let s = sim_sorted xs ys f (ascending key (stands_before ltb) xs) refl h k in
       record { reads = λ p w e. s.reads p w (order_written xs f p w e) }
 
-  -- ---- open types, and components that are there
+  -- ---- open types, and components that are present
   sim_open : {x y : Oer.OctetForm} → Sim x y → Sim (Oer.open_type x) (Oer.open_type y)
   unfolding Oer.open_type
   sim_open h = covers_within free h (λ w. sim_itself _)
@@ -91,11 +91,11 @@ module _ (free : Oer.Freedom → Bool) (wide : IsTrue (free Oer.other_bitmap)) (
   spelled_left_cases false true x y h = never_written y (λ p. refl)
   spelled_left_cases false false x y h = h
 
-  -- what may be spelled out: all, for a reader with that freedom, and else what is not left out
+  -- what may be encoded: all, for a reader with that freedom, and else what is not left out
   abbrev MaySpell : Bool → Bool → Type 0
   MaySpell a b = (IsTrue (free Oer.default_spelled_out) × IsTrue (free Oer.empty_group)) ⊎ ((a ≡ false) × (b ≡ false))
 
-  -- either the reader takes what is spelled out, or the test says that nothing is
+  -- either the reader accepts what is encoded, or the test says that nothing is
   abbrev Loose : Bool → Type 0
   Loose t = (IsTrue (free Oer.default_spelled_out) × IsTrue (free Oer.empty_group)) ⊎ (t ≡ true)
 
@@ -203,7 +203,7 @@ module _ (free : Oer.Freedom → Bool) (wide : IsTrue (free Oer.other_bitmap)) (
   sim_between : {x x' y y' : Oer.OctetForm} → x ≡ x' → Sim x' y' → y' ≡ y → Sim x y
   sim_between {x' = x'} {y = y} e h f = subst (λ z. Sim z y) (sym e) (subst (λ z. Sim x' z) f h)
 
-  -- with a bitmap, in which some bit is set
+  -- with a bitmap, in which some bit is 1
   abbrev by_bits : List Bool → Oer.OctetForm → List (Option Oer.OctetForm) → Bool → Oer.OctetForm
   by_bits ms r all t = cond t (Oer.with_additions ms r all) (varied Oer.empty_bitmap false (λ e. only_if e (Oer.with_additions ms r all)))
 
@@ -311,7 +311,7 @@ module _ (free : Oer.Freedom → Bool) (wide : IsTrue (free Oer.other_bitmap)) (
       let r = all_unknown cs ps b.0 b.1 in
       (None ∷ r.0, subst (λ l. AllCover (None ∷ unknowns r.0) l) b.2 r.1)
 
-  -- ---- members
+  -- ---- elements
   sim_each : (f f' : Value → Oer.OctetForm) (g : Value → Option Value) (test : Value → Bool) (vs ws : Values) → ((v u : Value) → g v ≡ Some u → Loose (test u) → Sim (f' v) (f u)) → map_each g vs ≡ Some ws → Loose (are_all test ws) → SimEach (each f' vs) (each f ws)
   sim_each f f' g test no_more ws h e m = let a : no_more ≡ ws = cc in subst (λ w. SimEach [] (each f w)) a tt
   sim_each f f' g test (member v vs) ws h e m =
@@ -367,7 +367,7 @@ module _ (free : Oer.Freedom → Bool) (wide : IsTrue (free Oer.other_bitmap)) (
       let same : item n ≡ u = item_known (is_some (item_place n rs) || is_some (item_place n as_)) (item n) u e in
       sim_between left (still_present m (item_place n rs) (item_place n as_) (item_place n as_') (item n) u (Oer.item_form n) e kept) (ap (λ v. Oer.form (enumerated rs m as_) v) same)
 
-  -- lists and bags of the same counts
+  -- SEQUENCE OF and SET OF of the same counts
   sim_list : (c c' : Counts) (us vs : List Oer.OctetForm) → c ≡ c' → SimEach us vs → Sim (Oer.members_form c' us) (Oer.members_form c vs)
   sim_list c c' us vs b h = sim_between (ap (λ c. Oer.members_form c us) (sym b)) (sim_members c us vs h) refl
 

@@ -1,4 +1,4 @@
--- What both versions of a type read of the beginning of one text in the packed rules can be carried over.
+-- What both versions of a type read of the beginning of one encoding in the packed rules can be carried over.
 use Rattle.std.specs.Prelude.{ℤ}
 use Rattle.std.proofs.Common.{◌≡◌, ℕ, zero, suc, ◌+◌, ◌-◌, ◌*◌, Bool, true, false, cond, ◌||◌, IsTrue, List, [], ◌∷◌, ◌++◌, length, map, flat_map, Option, Some, None, refl, ap, sym, ◌∙◌, subst}
 use Rattle.std.proofs.lemmas.Bool.{and_parts}
@@ -28,7 +28,7 @@ use Rattle.asn1_laws_versions.proofs.Parts as parts
 use Rattle.asn1_laws_versions.proofs.Parts.{There, there_map, there_both, Carried, PartsCarried, EachPair, pair_map, presence_bits_meet}
 use Rattle.asn1_laws_versions.proofs.Members.{Both, Related, each_arranged, each_first, each_second, members_carried, bags_carried, older, newer, related_pairs, form_of, older_forms, newer_forms, related_alike, each_written, EachPairOf, AlternativeCarried, fields_carried, set_carried, group_carried, item_carried, chosen_carried, chosen_added_carried}
 
--- ---- what is taken either way
+-- ---- what is accepted either way
 module _ (free : Per.Freedom → Bool) where
   abbrev Met : Bool → Per.BitForm → Per.BitForm → Type 0 → Type 0
   Met m x y P = Alike free (taken free m x) y P
@@ -55,7 +55,7 @@ module _ (free : Per.Freedom → Bool) where
   open_meets false al x y P h = open_alike free al x y P h
   open_meets true al x y P h = agree_written free (Per.open_type al x) (Per.open_type al (as_written free x)) (Per.open_type al y) P (covers_within free (covers_within free (covers_written free x) (λ w. covers_same free _)) (λ w. covers_same free _)) (open_alike free al (as_written free x) y P h)
 
-  -- octets behind their number, and an open type
+  -- octets after their length determinant, and an open type
   octets_and_eights : (al : Bool) (os : List ℕ) (w : List Bool) (k : ℕ) → length w ≡ 8 * k → Alike free (Per.counted_octets al os) (Per.counted al (map (λ o. exactly o) (by_eights w))) (Unit {0})
   unfolding Per.counted_octets
   octets_and_eights al os w k l =
@@ -77,7 +77,7 @@ module _ (free : Per.Freedom → Bool) where
   unfolding packing.unknown packing.added Per.spelled
   unknown_added al o s v os = tests_right (is_at_default o s v) (is_group_left_out s v) _ _ _ (octets_and_open al os _)
 
-  -- ---- members
+  -- ---- elements
   lists_meet : (al : Bool) (z : Size) (held : Counts) (g h : Value → Per.BitForm) (R : Value → Value → Type 0) → ((x y : Value) → Alike free (g x) (g y) (Unit {0})) → ((x y : Value) → Alike free (h x) (h y) (Unit {0})) → ((x y : Value) → Alike free (g x) (h y) (R x y)) → (us ys : List Value) → Alike free (Per.sized al z held (λ c. false) (map g us)) (Per.sized al z held (λ c. false) (map h ys)) (Pairwise R us ys)
   lists_meet al z held g h R i j k us ys =
       let f = form_of Per.Freedom Per.Detail Bool free g h in
@@ -97,7 +97,7 @@ module _ (free : Per.Freedom → Bool) where
       abbrev Once : Schema → Type 0
       Once s = (x y : Value) → Alike free (Per.form al s x) (Per.form al s y) (Unit {0})
 
-      -- ---- lists and bags
+      -- ---- SEQUENCE OF and SET OF
       list_way : (z : Size) (c : Counts) (s s' : Schema) → Once s → Once s' → Way s s' → Way (sequence_of z c s) (sequence_of z c s')
       unfolding Per.form
       list_way z c s s' i j k (members us) (members vs) =

@@ -1,4 +1,5 @@
--- Components and additions of two versions of a type: where both read the beginning of one text, the parts can be carried over.
+-- Components and additions of two versions of a type: if both read the beginning of the same encoding, the parts can
+-- be carried over.
 use Rattle.std.proofs.Common.{◌≡◌, ℕ, suc, not, Bool, true, false, cond, List, [], ◌∷◌, length, take, map, Option, Some, None, option_map, option_and_then, refl, ap, sym, ◌∙◌, subst, inl, inr, ◌⊎◌}
 use Rattle.std.proofs.lemmas.List.{append-nil}
 use Rattle.asn1_model.specs.Value.{Value, Parts, end, absent, present}
@@ -30,7 +31,8 @@ there_both None p t u = let e = t.1 in cc
 there_both (Some ps) None t u = let e = u.1 in cc
 there_both (Some ps) (Some qs) t u = (_, refl)
 
--- the newer value can be carried over to the older version, and, of a text as it is written, the older one to the newer
+-- the newer value can be carried over to the older version, and, if the encoding is read as it is written, the older
+-- one to the newer
 abbrev pub Carried : Bool → Schema → Schema → Value → Value → Type 0
 Carried m s s' x v = There (carried false s s' v) × (m ≡ true → There (grow s s' x))
 
@@ -72,7 +74,7 @@ ends_long no_component (component t' o' s' cs') h = absurd h
 ends_long (component t o s cs) no_component h = absurd h
 ends_long (component t o s cs) (component t' o' s' cs') h = unless_long (is_required o) (is_required o') false _ _ (kept_required s s' o o' h.1) (ends_long cs cs' h.3)
 
--- as many presence bits in both versions
+-- both versions have the same number of presence bits
 pub presence_bits_meet : (cs cs' : Components) (ps qs : Parts) → ExtendsEach false cs cs' → length (presence_bits cs ps) ≡ length (presence_bits cs' qs)
 presence_bits_meet cs cs' ps qs h = presence_bits_long cs ps end ∙ ends_long cs cs' h ∙ presence_bits_long cs' end qs
 
@@ -179,7 +181,7 @@ module _ (F : Type 0) (D : F → Type 0) (A : Type 0) (free : F → Bool) (m : B
     none_further : (xs zs : List (Option Forms)) → None ∷ zs ≡ xs → No xs → No zs
     none_further xs zs e n = subst (λ l. No l) (sym e) n
 
-    -- ---- additions of which none is there
+    -- ---- additions, all of which are absent
     may_be_absent : (o : Presence) (t : List Tag) (s : Schema) (cs : Components) (l : Option (List (Option Forms))) (xs : List (Option Forms)) → cond (is_required o) None l ≡ Some xs → There (all_absent cs) → There (all_absent (component t o s cs))
     may_be_absent required t s cs l xs e h = cc
     may_be_absent optional t s cs l xs e h = there_map absent _ h
@@ -241,7 +243,7 @@ module _ (F : Type 0) (D : F → Type 0) (A : Type 0) (free : F → Bool) (m : B
         some_one : {x y : Forms} → Some x ≡ Some y → x ≡ y
         some_one e = cc
 
-    -- ---- one place in both versions
+    -- ---- one position in both versions
     places_meet : (x y : Option Forms) (xs ys all others : List (Option Forms)) (P : Type 0) → Tells (x ∷ xs) all → (m ≡ true → length all ≡ suc (length xs)) → Tells (y ∷ ys) others → Flags all ≡ Flags others → (No (x ∷ xs) → No (y ∷ ys) → P) → (is_some x ≡ is_some y → (us vs : List (Option Forms)) → Tells xs us → (m ≡ true → length us ≡ length xs) → Tells ys vs → Flags us ≡ Flags vs → Meets (joined (present_ones (x ∷ us))) (joined (present_ones (y ∷ vs))) P) → Meets (joined (present_ones all)) (joined (present_ones others)) P
     places_meet x y xs ys [] [] P t l u e k c = taken_same free m _ _ _ (agree_map free (λ q. k t u) (agree_nothing free))
     places_meet x y xs ys [] (b ∷ others) P t l u e k c = cc
@@ -255,7 +257,7 @@ module _ (F : Type 0) (D : F → Type 0) (A : Type 0) (free : F → Bool) (m : B
         one_less : (i j : ℕ) → suc i ≡ suc j → i ≡ j
         one_less i j e = cc
 
-    -- what is not told of the newer version's additions
+    -- what is not said of the newer version's additions
     not_told : (ys : List (Option Forms)) → Tells ys [] → No ys
     not_told [] t = refl
     not_told (y ∷ ys) t = t
@@ -308,7 +310,7 @@ module _ (F : Type 0) (D : F → Type 0) (A : Type 0) (free : F → Bool) (m : B
         let b = present_added n' o' s' cs' v qs ys f in
         places_meet (Some (added o s x)) (Some (added o' s' v)) a.0 b.0 all others _ (subst (λ l. Tells l all) (sym a.2) t) (further_length (Some (added o s x)) xs a.0 all a.2 l) (subst (λ l. Tells l others) (sym b.2) u) w (λ i j. absurd (true_false i)) (λ i us vs t' l' u' w'. agree_map free (λ q. present_carried m n n' o o' s s' cs cs' x v ps qs q.0 q.1) (taken_both free m _ _ _ _ _ _ (k.0 x v) (λ r. present_meet more cs cs' ps qs a.0 b.0 us vs h.3 k.1 a.1 b.1 t' l' u' w')))
 
-    -- ---- behind a bitmap or without one
+    -- ---- with or without a bitmap
     take_all : (xs : List (Option Forms)) → take (length xs) xs ≡ xs
     take_all [] = refl
     take_all (x ∷ xs) = ap (λ l. x ∷ l) (take_all xs)

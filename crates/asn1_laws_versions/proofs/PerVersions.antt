@@ -80,7 +80,7 @@ module _ (free : Per.Freedom → Bool) (wide : IsTrue (free Per.other_bitmap)) (
       let P : ℕ → Type 0 = λ n. Sim (Per.sized al z held has_padding xs) (only_if (is_count_within held n) (part n ys)) in
       subst P (each_length free xs ys h) (covers_if free (is_count_within held (length xs)) {x = part (length xs) xs} {y = part (length xs) ys} (λ t. sim_with_extension_bit z.extensible (is_count_within z.counts (length xs)) (sim_sized_root al z.counts z.counts.high has_padding xs ys h) (sim_counted al xs ys h)))
 
-  -- ---- bags
+  -- ---- SET OF
   abbrev key : Per.BitForm → Option (List Bool)
   key x = written (Per.complete x) 0
 
@@ -106,7 +106,7 @@ module _ (free : Per.Freedom → Bool) (wide : IsTrue (free Per.other_bitmap)) (
       let s = sim_sorted xs ys f (ascending key (stands_before Per.bit_less) xs) refl h k in
       record { reads = λ p w e. s.reads p w (order_written xs f p w e) }
 
-  -- ---- open types, and components that are there
+  -- ---- open types, and components that are present
   sim_open : (al : Bool) {x y : Per.BitForm} → Sim x y → Sim (Per.open_type al x) (Per.open_type al y)
   unfolding Per.open_type Per.complete
   sim_open al h = covers_within free (covers_within free h (λ w. sim_itself _)) (λ w. sim_itself _)
@@ -123,11 +123,11 @@ module _ (free : Per.Freedom → Bool) (wide : IsTrue (free Per.other_bitmap)) (
   spelled_left_cases false true x y h = never_written y (λ p. refl)
   spelled_left_cases false false x y h = h
 
-  -- what may be spelled out: all, for a reader with that freedom, and else what is not left out
+  -- what may be encoded: all, for a reader with that freedom, and else what is not left out
   abbrev MaySpell : Bool → Bool → Type 0
   MaySpell a b = (IsTrue (free Per.default_spelled_out) × IsTrue (free Per.empty_group)) ⊎ ((a ≡ false) × (b ≡ false))
 
-  -- either the reader takes what is spelled out, or the test says that nothing is
+  -- either the reader accepts what is encoded, or the test says that nothing is
   abbrev Loose : Bool → Type 0
   Loose t = (IsTrue (free Per.default_spelled_out) × IsTrue (free Per.empty_group)) ⊎ (t ≡ true)
 
@@ -243,7 +243,7 @@ module _ (free : Per.Freedom → Bool) (wide : IsTrue (free Per.other_bitmap)) (
   sim_between : {x x' y y' : Per.BitForm} → x ≡ x' → Sim x' y' → y' ≡ y → Sim x y
   sim_between {x' = x'} {y = y} e h f = subst (λ z. Sim z y) (sym e) (subst (λ z. Sim x' z) f h)
 
-  -- with a bitmap, in which some bit is set
+  -- with a bitmap, in which some bit is 1
   abbrev by_bits : Bool → List Bool → Per.BitForm → List (Option Per.BitForm) → Bool → Per.BitForm
   by_bits al ms r all t = cond t (Per.with_additions al ms r all) (varied Per.empty_bitmap false (λ e. only_if e (Per.with_additions al ms r all)))
 
@@ -351,7 +351,7 @@ module _ (free : Per.Freedom → Bool) (wide : IsTrue (free Per.other_bitmap)) (
       let r = all_unknown al cs ps b.0 b.1 in
       (None ∷ r.0, subst (λ l. AllCover (None ∷ unknowns al r.0) l) b.2 r.1)
 
-  -- ---- members
+  -- ---- elements
   sim_each : (f f' : Value → Per.BitForm) (g : Value → Option Value) (test : Value → Bool) (vs ws : Values) → ((v u : Value) → g v ≡ Some u → Loose (test u) → Sim (f' v) (f u)) → map_each g vs ≡ Some ws → Loose (are_all test ws) → SimEach (each f' vs) (each f ws)
   sim_each f f' g test no_more ws h e m = let a : no_more ≡ ws = cc in subst (λ w. SimEach [] (each f w)) a tt
   sim_each f f' g test (member v vs) ws h e m =
@@ -413,7 +413,7 @@ module _ (free : Per.Freedom → Bool) (wide : IsTrue (free Per.other_bitmap)) (
       let same : item n ≡ u = item_known (is_some (item_place n rs) || is_some (item_place n as_)) (item n) u e in
       sim_between left (sim_item al m (length rs) (item_place n rs) (item_place n as_) (item_place n as_') (item n) u e kept) (ap (λ v. Per.form al (enumerated rs m as_) v) same)
 
-  -- lists and bags of the same sizes
+  -- SEQUENCE OF and SET OF of the same sizes
   sized_kept : (al : Bool) (z z' : Size) (c c' : Counts) (us : List Per.BitForm) → z ≡ z' → c ≡ c' → Per.sized al z' c' (λ c. false) us ≡ Per.sized al z c (λ c. false) us
   sized_kept al z z' c c' us a b = ap (λ z. Per.sized al z c' (λ c. false) us) (sym a) ∙ ap (λ c. Per.sized al z c (λ c. false) us) (sym b)
 

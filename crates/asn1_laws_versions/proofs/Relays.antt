@@ -1,4 +1,4 @@
--- What a relay of the older version does to messages of the newer one.
+-- What a relay of the older version does with messages of the newer one.
 use Rattle.std.proofs.Common.{◌≡◌, ◌≢◌, ◌⊎◌, inl, inr, ℕ, suc, ◌≤◌, ◌<◌, List, [], ◌∷◌, ◌++◌, length, Option, Some, None, refl, ap, sym, ◌∙◌, subst, arith}
 use Rattle.std.proofs.lemmas.Bool.{cases_lt}
 use Rattle.std.proofs.lemmas.List.{append_cancel_left, length-append}
@@ -30,7 +30,7 @@ module _ (source target : Rules) (old new : Schema) (limit : ℕ) (lo : IsLawful
   abbrev Stops : List ℕ → Option Stop → Type 0
   Stops w why = StopsAt source target old limit w why
 
-  -- ---- the message in front
+  -- ---- the first message
   module _ (v : Value) (x others w : List ℕ) (e : canonical source new v ≡ Some x) (some : x ≢ []) (joined : x ++ others ≡ w) where
     none_front : Unread source old x → HasNoMessage source old limit w
     none_front u = λ m y q i. u m.octets y others m.value (i.is_encoding, i.is_shallow) (q ∙ sym joined)
@@ -42,7 +42,7 @@ module _ (source target : Rules) (old new : Schema) (limit : ℕ) (lo : IsLawful
         let k = i.is_short in
         omega arith
 
-    -- what stands in front stands there to its end
+    -- after a message at the start of the octets come the other octets
     front_is : (m : Message) (y : List ℕ) → streams.IsMessageWithin source old limit m → m.octets ++ y ≡ w → y ≡ others
     front_is m y i q =
         let f = ((older_reads_exactly source old new v m.value x lo ln ext e).1 m.octets y others i.is_encoding (q ∙ sym joined)).0 in
@@ -52,7 +52,7 @@ module _ (source target : Rules) (old new : Schema) (limit : ℕ) (lo : IsLawful
     no_message (inl c) = none_front (cause_unread old new lo ln ext source target v x e c)
     no_message (inr l) = too_long l
 
-    -- the value that is read is in front
+    -- the value that is read is the first
     begins : (y : Value) (t : Option (List ℕ)) → length x ≤ limit → IsMessage source old y x → canonical target old y ≡ t → Begins t w
     begins y t l m c = (record { octets = x; value = y }, others, joined, record { is_encoding = m.0; is_shallow = m.1; is_some = not_empty x some; is_short = l }, c)
 
@@ -68,7 +68,7 @@ module _ (source target : Rules) (old new : Schema) (limit : ℕ) (lo : IsLawful
         let h = answers_by_cause old new lo ln ext (at_first source) (older_to target) v x no_target e c in
         begins h.0 None l h.1 h.2
 
-    -- what is in front of a stop
+    -- no message is relayed at a stop
     stopped : (why : Halt) → HaltsAt source target old new limit v x why → (m : List Message) (o r : List ℕ) (why' : Option Stop) → RelaysFront source target old limit m o r w → Stops r why'
         → (length m ≡ 0) × (o ≡ []) × (r ≡ w) × IsEnd source target old new limit w (Some why) why'
     stopped untranslated h [] o r why' f s =

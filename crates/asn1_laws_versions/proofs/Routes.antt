@@ -1,4 +1,4 @@
--- What a route does to the canonical encoding of a value of the newer version.
+-- What a route does with the canonical encoding of a value of the newer version.
 use Rattle.std.proofs.Common.{◌≡◌, ◌≢◌, ◌⊎◌, inl, inr, ℕ, zero, suc, List, [], ◌∷◌, Some, refl, ap, sym, ◌∙◌, subst}
 use Rattle.asn1_model.specs.Value.{Value}
 use Rattle.asn1_model.specs.Schema.{Schema}

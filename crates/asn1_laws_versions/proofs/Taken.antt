@@ -1,4 +1,4 @@
--- A form as it is read, or as it is written and in no other way: what is known of either is put together by the same rules.
+-- A form as it is read, or only as it is written: what is known of either is put together by the same rules.
 use Rattle.std.proofs.Common.{◌≡◌, ℕ, Bool, true, false, List, Option, Some, None, refl, ap}
 use Rattle.asn1_model.specs.Form.{Form, exactly, refused, both, placed, varied, written, Reads, only_if, given}
 use Rattle.asn1_laws_values.proofs.Covers.{Covers, covers_same, covers_both}
@@ -37,7 +37,7 @@ module _ {F : Type 0} {D : F → Type 0} {A : Type 0} (free : F → Bool) where
   pub covers_written : (x : Form F D A) → Covers free x (as_written x)
   covers_written x = record { reads = λ p w e. of_text x p w e }
 
-  -- what covers it is read in its place
+  -- what covers it is read instead
   pub agree_written : (x z y : Form F D A) (P : Type 0) → Covers free x z → Agree free z y P → Agree free (as_written x) y P
   agree_written x z y P c h = record { fronts = λ p a b r s u v e. h.fronts p a b r s (c.reads p a (text_of x p a u)) v e }
 

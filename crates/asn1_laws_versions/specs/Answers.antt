@@ -1,25 +1,25 @@
--- What the translation of some octets is, from one set of rules to another.
+-- The result of translating octets from one set of rules to another.
 use Rattle.std.specs.Prelude.{◌≡◌, ◌≢◌, ℕ, ◌≤◌, List, [], ◌++◌, Some, None}
 use Rattle.asn1_model.specs.Schema.{Schema}
 use Rattle.asn1_model.specs.Value.{Value, depth}
 use Rattle.asn1_model.specs.Rules.{Rules, canonical, IsEncoding}
 
--- The octets are one encoding of the value, which nests at most 128 levels.
+-- The octets are one encoding of the value, which has at most 128 nested levels.
 abbrev pub IsMessage : Rules → Schema → Value → List ℕ → Type 0
 IsMessage r s v w = IsEncoding r s v w × (depth v ≤ 128)
 
--- What there is to answer.
+-- The possible answers.
 pub data Answer : Type 0 where
   -- these octets
   answered : List ℕ → Answer
-  -- that no octets in front are a message
+  -- the octets do not begin with a message
   not_an_encoding : Answer
-  -- that a message stands in front, and octets behind it
+  -- the octets begin with a message, and others follow
   surplus : Answer
-  -- that the value of the message has no encoding in the target rules
+  -- the value of the message has no encoding in the target rules
   no_target : Answer
 
--- The answer to some octets, from one set of rules to another.
+-- The answer to given octets, from one set of rules to another.
 abbrev pub IsAnswer : Rules → Rules → Schema → List ℕ → Answer → Type 0
 IsAnswer source target s w (answered octets) =
     (v : Value) × IsMessage source s v w × (canonical target s v ≡ Some octets)

@@ -1,5 +1,5 @@
--- What is lost of a value where the older version of its type reads it, said of the value itself: which components the
--- loss leaves at their default, and how many levels nest in what the older version sees.
+-- What is lost of a value if the older version of its type reads it, in terms of the value itself: which components
+-- the loss leaves at their default, and how many nested levels the older version sees.
 use Rattle.std.specs.Prelude.{◌≡◌, ◌⊎◌, ℕ, zero, suc, ◌+◌, max, true, false, Some}
 use Rattle.asn1_model.specs.Value.{Value, members, bag, fields, chosen, Values, no_more, member, Parts, absent, present}
 use Rattle.asn1_model.specs.Value.{depth, depth_of_parts}
@@ -8,7 +8,7 @@ use Rattle.asn1_model.specs.Schema.{component, Alternatives, alternative}
 use Rattle.asn1_model.specs.Normal.{is_at_default}
 use Rattle.asn1_model.specs.Versions.{carried}
 
--- A component's value, without what the older version lacks, is the default that the component has there.
+-- A component's value, reduced to what the older version knows, is the default of the component.
 abbrev pub IsLeftAtDefault : Presence → Schema → Schema → Value → Type 0
 IsLeftAtDefault o s s' v = (w : Value) × (carried false s s' v ≡ Some w) × (is_at_default o s w ≡ true)
 
@@ -17,8 +17,8 @@ OfSome P no_more = ⊥
 OfSome P (member v vs) = P v ⊎ OfSome P vs
 
 unfoldable mutual
-  -- A component that the older version knows stands in the value, inside nothing that this lacks, and is left at its
-  -- default.
+  -- A component that the older version knows is in the value, inside nothing that the older version lacks, and is left
+  -- at its default.
   pub LeavesDefault : Schema → Schema → Value → Type 0
   LeavesDefault (sequence_of z h s) (sequence_of z' h' s') (members vs) = OfSome (λ v. LeavesDefault s s' v) vs
   LeavesDefault (set_of z h s) (set_of z' h' s') (bag vs) = OfSome (λ v. LeavesDefault s s' v) vs
@@ -33,7 +33,7 @@ unfoldable mutual
       AlternativeLeavesDefault adds adds' i v
   LeavesDefault s s' v = ⊥
 
-  -- One of the parts, or a component within one.
+  -- One of the parts is left at its default, or a component within one.
   pub PartsLeaveDefault : Components → Components → Parts → Type 0
   PartsLeaveDefault (component t o s cs) (component t' o' s' cs') (present v ps) =
       IsLeftAtDefault o s s' v ⊎ LeavesDefault s s' v ⊎ PartsLeaveDefault cs cs' ps
@@ -46,14 +46,14 @@ unfoldable mutual
       AlternativeLeavesDefault others others' i v
   AlternativeLeavesDefault others others' i v = ⊥
 
--- The most that is counted of one of the members.
+-- The greatest count of the elements.
 abbrev pub most_of : (Value → ℕ) → Values → ℕ
 most_of f no_more = 0
 most_of f (member v vs) = max (f v) (most_of f vs)
 
 unfoldable mutual
-  -- How many levels nest in a value, those left out that stand in what the older version lacks. A group of additions
-  -- has its components and no more.
+  -- The number of nested levels of a value, not counting those inside what the older version lacks. A group of
+  -- additions has only components.
   pub seen_depth : Schema → Schema → Value → ℕ
   seen_depth (sequence_of z h s) (sequence_of z' h' s') (members vs) = most_of (λ v. seen_depth s s' v) vs + 1
   seen_depth (set_of z h s) (set_of z' h' s') (bag vs) = most_of (λ v. seen_depth s s' v) vs + 1
@@ -68,7 +68,7 @@ unfoldable mutual
       seen_depth_of_alternative adds adds' i v + 1
   seen_depth s s' v = depth v
 
-  -- The deepest of those that are there and that the older version knows.
+  -- The deepest of the parts that are present and that the older version knows.
   pub seen_depth_of_parts : Components → Components → Parts → ℕ
   seen_depth_of_parts (component t o s cs) (component t' o' s' cs') (present v ps) =
       max (seen_depth s s' v) (seen_depth_of_parts cs cs' ps)

@@ -15,35 +15,35 @@ use Rattle.asn1_laws_across.specs.Relayed.{Stop, Relays}
 
 -- ---- versions
 
--- The normal form of a value of the older version is carried over to the newer one exactly if the value is, and as the
--- normal form of what that is carried over as.
+-- A value of the older version can be carried over to the newer one exactly if its normal form can, and then both
+-- results have the same normal form.
 abbrev pub GrowingIsOfNormalForms : Type 0
 GrowingIsOfNormalForms =
     (s t : Schema) (u : Value) → Extends s t → IsTrue (is_of s u)
     → grow s t (normal s u) ≡ option_map (λ v. normal t v) (grow s t u)
 
--- A value without what the older version lacks nests no deeper than its normal form.
+-- A value reduced to what the older version knows has at most as many nested levels as its normal form.
 abbrev pub DroppingNestsNoDeeper : Type 0
 DroppingNestsNoDeeper = (s t : Schema) (v u : Value) → drop s t v ≡ Some u → depth u ≤ depth (normal t v)
 
 -- ---- answers
 
--- No two answers to some octets are right, whatever the lawful type and the rules.
+-- At most one answer to given octets is right, for any well-formed type and any rules.
 abbrev pub OneAnswerIsRight : Type 0
 OneAnswerIsRight =
     (source target : Rules) (s : Schema) (w : List ℕ) (x y : Answer)
     → IsLawful s → IsAnswer source target s w x → IsAnswer source target s w y → x ≡ y
 
--- ---- hops, of any two versions of a type that are lawful
+-- ---- hops, of any two versions of a well-formed type
 
--- What a hop hands on: the canonical encoding of the value that it writes, which then stands in front of the next one.
+-- What a hop passes on: the canonical encoding of the value that it writes, which the next hop then reads.
 abbrev pub HandsOn : Schema → Schema → Stage → Hop → Value → List ℕ → Type 0
 HandsOn old new p h v w =
     (x : List ℕ) × HopAnswers old new p.from h w (answered x) × Writes old new p.passed h v (Some x)
     × StandsWritten old new (and_one p.passed h.version) h.to v x
 
--- Of what stands written in front of a hop, it hands on what it writes, if no cause holds at it, and refuses it as the
--- cause says, where one holds.
+-- A hop passes on what it writes of the octets it reads if no cause for refusal holds, and refuses them as the cause
+-- says if one holds.
 abbrev pub EachHopAnswers : Type 0
 EachHopAnswers =
     (old new : Schema) (p : Stage) (h : Hop) (v : Value) (w : List ℕ)
@@ -53,7 +53,7 @@ EachHopAnswers =
 
 -- ---- routes of any octets
 
--- A route does one thing at most to octets: they arrive as others, or one hop refuses them in one way.
+-- A route has at most one result on given octets: they arrive as other octets, or one hop refuses them in one way.
 abbrev pub DoesOneThing : Schema → Schema → Rules → List Hop → List ℕ → Type 0
 DoesOneThing old new from hops w =
     ((x y : List ℕ) → Arrives old new from hops w x → Arrives old new from hops w y → x ≡ y)
@@ -66,17 +66,17 @@ RouteDoesOneThing =
     (old new : Schema) (from : Rules) (hops : List Hop) (w : List ℕ)
     → IsLawful old → IsLawful new → DoesOneThing old new from hops w
 
--- ---- routes of the canonical encoding of a value of the newer version, over hops of which there is one at least
+-- ---- routes of the canonical encoding of a value of the newer version, over at least one hop
 
--- What holds of any such encoding.
+-- A property of any such encoding.
 abbrev pub OfCanonical : (Schema → Schema → Rules → List Hop → Value → List ℕ → Type 0) → Type 0
 OfCanonical P =
     (old new : Schema) (from : Rules) (hops : List Hop) (v : Value) (w : List ℕ)
     → IsLawful old → IsLawful new → Extends old new → hops ≢ [] → canonical from new v ≡ Some w
     → P old new from hops v w
 
--- It arrives exactly if no cause holds at any hop, and as the canonical encoding, in the rules of the last hop, of the
--- value that this writes.
+-- It arrives exactly if no cause for refusal holds at any hop, as the canonical encoding, in the rules of the last
+-- hop, of the value that this hop writes.
 abbrev pub ArrivesExactly : Schema → Schema → Rules → List Hop → Value → List ℕ → Type 0
 ArrivesExactly old new from hops v w =
     (GoesThrough old new (at_first from) hops v → (out : List ℕ) × Arrives old new from hops w out)
@@ -86,8 +86,8 @@ ArrivesExactly old new from hops v w =
 abbrev pub RouteArrivesExactly : Type 0
 RouteArrivesExactly = OfCanonical ArrivesExactly
 
--- It is refused at the first hop at which a cause holds, and at no other: as no message where a cause of reading holds
--- there, and else as a value that has no encoding in the target rules.
+-- It is refused at the first hop where a cause for refusal holds, and at no other: as not being a message if the cause
+-- holds at reading, and else as a value without an encoding in the target rules.
 abbrev pub RefusedExactly : Schema → Schema → Rules → List Hop → Value → List ℕ → Type 0
 RefusedExactly old new from hops v w =
     (i : ℕ) (a : Answer)
@@ -105,9 +105,9 @@ Ends old new from hops v w =
 abbrev pub RouteEnds : Type 0
 RouteEnds = OfCanonical Ends
 
--- ---- relays of the older version, of joined canonical encodings of values of the newer one
+-- ---- relays of the older version, of concatenated canonical encodings of values of the newer one
 
--- The joined messages are relayed up to some first one, to which the relay goes no further, or all of them.
+-- The concatenated messages are relayed up to a first one at which the relay stops, or all of them.
 abbrev pub OlderRelayGoes : Type 0
 OlderRelayGoes =
     (source target : Rules) (old new : Schema) (limit : ℕ) (vs : List Value) (w : List ℕ)
@@ -115,7 +115,7 @@ OlderRelayGoes =
     → (number : ℕ) × (out : List ℕ) × (rest : List ℕ) × (halt : Option Halt)
     × RelaysOlder source target old new limit vs w number out rest halt
 
--- That is what a relay does that knows the older version alone.
+-- This is what a relay does that knows only the older version.
 abbrev pub OlderRelayDoes : Type 0
 OlderRelayDoes =
     (source target : Rules) (old new : Schema) (limit : ℕ) (vs : List Value) (w : List ℕ) (number n : ℕ)

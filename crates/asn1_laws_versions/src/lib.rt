@@ -1,6 +1,6 @@
-//! Two versions of a type (X.680 52): what each reads of what the other writes and what it refuses, newer versions of
-//! newer ones, and messages that go from hop to hop through both. Each function does nothing: its contract is a law, or
-//! rows of it.
+//! Two versions of a type (X.680 52): what each reads and refuses of what the other writes, newer versions of newer
+//! ones, and messages that pass from hop to hop through both. The functions do nothing: their contracts are laws, or
+//! rows of worked examples.
 #![tactic(auto)]
 
 pub mod exact_laws;

@@ -1,16 +1,17 @@
-//! What is lost of a value where the older version of its type reads it (X.680 52): when that clashes with the normal
-//! form, and how many levels nest in what is left.
+//! What is lost of a value if the older version of its type reads it (X.680 52): when the loss conflicts with the
+//! normal form, and how many nested levels are left.
 
 ghost use Rattle.asn1_laws_versions.specs.LossLaws.{ClashIsDefaultLeft, DroppedNestsAsSeen};
 
-/// Where there is a value without what the older version lacks, it clashes exactly if a component that this knows, and
-/// that stands in the normal form inside nothing that this lacks, is left at its default.
+/// If a value can be reduced to what the older version knows, the result conflicts with the normal form exactly if a
+/// component that the older version knows, and that in the normal form is inside nothing the older version lacks, is
+/// left at its default.
 pub fn clash_is_default_left()
     ensures { ClashIsDefaultLeft }
 {}
 
-/// Where there is such a value, it nests as many levels as the normal form does, those left out that stand in what the
-/// older version lacks.
+/// If a value can be so reduced, the result has as many nested levels as the normal form, not counting those inside
+/// what the older version lacks.
 pub fn dropped_nests_as_seen()
     ensures { DroppedNestsAsSeen }
 {}

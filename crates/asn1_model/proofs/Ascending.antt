@@ -43,12 +43,12 @@ above_front c (e ∷ cs) d h i =
     go a k (inl q) = omega arith
     go a k (inr q) = let b = k q in omega arith
 
--- what is below all of a list stands in front of it
+-- what is less than all of a list comes before it
 pub in_front : (c : ℕ) (cs : List ℕ) → ((d : ℕ) → Contains cs d → c < d) → are_ascending ltb cs ≡ true → are_ascending ltb (c ∷ cs) ≡ true
 in_front c [] k h = refl
 in_front c (d ∷ cs) k h = and_from _ _ (lt-ltb c d (k d (at_front d cs))) h
 
--- two of the same elements are one
+-- two lists of the same elements are equal
 pub same_ascending : (cs ds : List ℕ) → are_ascending ltb cs ≡ true → are_ascending ltb ds ≡ true → ((c : ℕ) → Contains cs c → Contains ds c) → ((c : ℕ) → Contains ds c → Contains cs c) → cs ≡ ds
 same_ascending [] [] h i f g = refl
 same_ascending [] (d ∷ ds) h i f g = none_in d (g d (at_front d ds))
@@ -71,7 +71,7 @@ same_ascending (c ∷ cs) (d ∷ ds) h i f g =
     also_behind e x l (inl p) = absurd (omega arith)
     also_behind e x l (inr p) = p
 
--- ---- a number put among others
+-- ---- a number inserted among others
 equal_from : (a b : ℕ) → (a == b) ≡ true → a ≡ b
 equal_from a b e = eqb-true a b e
 

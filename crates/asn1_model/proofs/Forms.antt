@@ -58,7 +58,8 @@ by_choice : {X : Type 0} {P : Type 0} (o : Option X) (d : X) → ((e : X) → o 
 by_choice None d h = inl refl
 by_choice (Some e) d h = inr (h e refl)
 
--- A text that a reader may meet: the choice tells the detail at each freedom and position, where it is not the canonical one.
+-- An encoding that a reader may meet: the choice gives the detail at each freedom and position if it is not the
+-- canonical one.
 unfoldable pub written_by : {F : Type 0} {D : F → Type 0} {A : Type 0} → ((c : F) → ℕ → Option (D c)) → Form F D A → ℕ → Option (List A)
 written_by choice (exactly l) p = Some l
 written_by choice refused p = None
@@ -67,7 +68,7 @@ written_by choice (placed f) p = written_by choice (f p) p
 written_by choice (varied c d f) p = written_by choice (f (unwrap_or (choice c p) d)) p
 written_by choice (within x f) p = option_and_then (λ w. written_by choice (f w) p) (written_by choice x 0)
 
--- what is written by choices that a reader is free to meet, it reads
+-- a reader reads what is written by choices that it is free to accept
 pub reads_written_by : {F : Type 0} {D : F → Type 0} {A : Type 0} (free : F → Bool) (choice : (c : F) → ℕ → Option (D c)) (x : Form F D A) (p : ℕ) (w : List A) → ((c : F) (p : ℕ) (d : D c) → choice c p ≡ Some d → IsTrue (free c)) → written_by choice x p ≡ Some w → Reads free x p w
 unfolding Reads written_by
 reads_written_by free choice (exactly l) p w h e = cc

@@ -11,7 +11,7 @@ use Rattle.asn1_model.specs.Numbers.{places_up_to}
 use Rattle.asn1_model.specs.Per
 use Rattle.asn1_model.specs.Oer
 
--- what a proof unfolds to compute the canonical octets of a value, or a text that a reader may meet
+-- what a proof unfolds to compute the canonical octets of a value, or an encoding that a reader may meet
 unfoldable pub on_values : ⊤
 unfolding canonical encoding per octet_encoding written normal normal_parts normal_alternative same same_members same_bag same_parts places_up_to Per.padding
     Per.at_octet Per.in_octets_of Per.constrained_in Per.constrained Per.short_length Per.fragments Per.counted Per.counted_octets Per.semi_constrained Per.unconstrained

@@ -1,7 +1,7 @@
--- Which values are those of a type: of its kind, with the components, alternatives and items of its tables, and within
--- the constraints that count in all sets of rules; what stands below the cut of a recursive type is not judged. And
--- which types are lawful: tables ascend, tags and items are distinct, bounds are ordered, additions stand behind an
--- extension marker, defaults are values of their types.
+-- Which values belong to a type: they have its kind, the components, alternatives and items of its tables, and satisfy
+-- the constraints that count in all rules; what is below the cut of a recursive type is not checked. And which types
+-- are well-formed (lawful): tables ascend, tags and items are distinct, bounds are ordered, additions come after an
+-- extension marker, and defaults are values of their types.
 use Rattle.std.specs.Prelude.{ℕ, zero, suc, ◌==◌, ltb, leb, int_lt, Bool, true, false, cond, not, ◌&&◌, ◌||◌, IsTrue}
 use Rattle.std.specs.Prelude.{List, [], ◌∷◌, ◌++◌, length, is_some}
 use Rattle.std.specs.List.{list_all}
@@ -23,7 +23,7 @@ member_count no_more = 0
 member_count (member v vs) = suc (member_count vs)
 
 unfoldable mutual
-  -- Whether a value is one of a type (X.680 17 to 32 and 51).
+  -- Whether a value belongs to a type (X.680 17 to 32 and 51).
   pub is_of : Schema → Value → Bool
   is_of boolean (truth b) = true
   is_of null nothing = true
@@ -44,14 +44,14 @@ unfoldable mutual
   is_of cut v = true
   is_of s v = false
 
-  -- Whether parts are those of components: each of its type, and those there that must be (X.680 25).
+  -- Whether parts belong to components: each has its type, and the mandatory ones are present (X.680 25).
   pub are_of : Components → Parts → Bool
   are_of no_component end = true
   are_of (component t o s cs) (present v ps) = is_of s v && are_of cs ps
   are_of (component t o s cs) (absent ps) = not (is_required o) && are_of cs ps
   are_of cs ps = false
 
-  -- Whether a value is one of the alternative at a place (X.680 29).
+  -- Whether a value belongs to the alternative with a choice index (X.680 29).
   pub is_of_alternative : Alternatives → ℕ → Value → Bool
   is_of_alternative (alternative t s others) zero v = is_of s v
   is_of_alternative (alternative t s others) (suc i) v = is_of_alternative others i v
@@ -68,7 +68,7 @@ tag_same t u = (t.class == u.class) && (t.number == u.number)
 abbrev pub is_tag : Tag → Bool
 is_tag t = leb t.class 3
 
--- The smallest of some tags. An untagged choice stands by it, its added alternatives counted, by the project's choice.
+-- The smallest of some tags. It orders an untagged CHOICE, whose added alternatives count, by this project's choice.
 abbrev pub smallest : Tag → List Tag → Tag
 smallest t [] = t
 smallest t (u ∷ us) = cond (tag_less u t) (smallest u us) (smallest t us)
@@ -77,7 +77,7 @@ abbrev pub are_distinct : {X : Type 0} → (X → X → Bool) → List X → Boo
 are_distinct e [] = true
 are_distinct e (x ∷ xs) = list_all (λ y. not (e x y)) xs && are_distinct e xs
 
--- Each element stands before the next.
+-- Each element is less than the next.
 abbrev pub are_ascending : {X : Type 0} → (X → X → Bool) → List X → Bool
 are_ascending less [] = true
 are_ascending less (x ∷ []) = true
@@ -105,9 +105,9 @@ is_empty (x ∷ xs) = false
 abbrev pub are_tags : List Tag → Bool
 are_tags ts = not (is_empty ts) && list_all is_tag ts
 
--- Whether a type may begin with these tags: with one that it has or is given, a CHOICE with no tag of its own with
--- those of all its alternatives in their order, and a group of additions with those of its components (X.680 25, 29 and
--- 31). What stands below the cut of a recursive type is not judged.
+-- Whether a type may begin with these tags: its own or the one it is given; for an untagged CHOICE, those of all its
+-- alternatives in order; for a group of additions, those of its components (X.680 25, 29 and 31). What is below the
+-- cut of a recursive type is not checked.
 abbrev pub begins_with : List Tag → Schema → Bool
 begins_with ts (group cs) = pointwise tag_same ts (component_tags cs)
 begins_with (t ∷ []) s = true
@@ -115,7 +115,7 @@ begins_with ts (choice roots e adds) = pointwise tag_same ts (alternative_tags r
 begins_with ts cut = true
 begins_with ts s = false
 
--- The tags of a type are such tags.
+-- Whether a type may begin with these tags, and they are valid.
 abbrev pub are_tags_of : List Tag → Schema → Bool
 are_tags_of ts s = are_tags ts && begins_with ts s
 
@@ -123,7 +123,7 @@ abbrev pub are_no_components : Components → Bool
 are_no_components no_component = true
 are_no_components cs = false
 
--- The low one of two bounds is not above the high one, where both are there.
+-- The lower bound is not above the upper bound, if both are there.
 abbrev pub is_range : Range → Bool
 is_range r = option_map_or (λ low. option_map_or (λ high. is_at_most low high) r.high true) r.low true
 
@@ -138,13 +138,14 @@ abbrev pub is_group : Schema → Bool
 is_group (group cs) = true
 is_group s = false
 
--- Groups stand among additions (true) alone, and there as optional.
+-- Groups occur only among additions (true), and there as optional.
 abbrev pub are_groups_in_place : Bool → Components → Bool
 are_groups_in_place added no_component = true
 are_groups_in_place added (component t o s cs) =
     cond added (not (is_group s) || is_optional o) (not (is_group s)) && are_groups_in_place added cs
 
--- Additions stand behind an extension marker, all tags differ (X.680 25 and 27), and groups stand where they may.
+-- Additions come only after an extension marker, all tags differ (X.680 25 and 27), and groups are where they are
+-- allowed.
 abbrev pub is_sequence_table : Components → Bool → Components → Bool
 is_sequence_table cs e adds =
     (e || are_no_components adds) && are_distinct tag_same (component_tags cs ++ component_tags adds)
@@ -156,7 +157,7 @@ has_typed_default s (by_default d) = is_of s d
 has_typed_default s o = true
 
 unfoldable mutual
-  -- Whether a type is lawful (X.680 20, 25 to 29).
+  -- Whether a type is well-formed (X.680 20, 25 to 29).
   pub is_lawful : Schema → Bool
   is_lawful (integer b held) = is_range b.range && is_range held
   is_lawful (enumerated roots e adds) =
@@ -180,17 +181,18 @@ unfoldable mutual
       && are_lawful_alternatives adds
   is_lawful s = true
 
-  -- Whether the types of all components are, with their tags, and their defaults are values of them (X.680 25).
+  -- Whether the types of all components are well-formed and have their tags, and their defaults are values of them
+  -- (X.680 25).
   pub are_lawful : Components → Bool
   are_lawful no_component = true
   are_lawful (component t o s cs) = are_tags_of t s && has_typed_default s o && is_lawful s && are_lawful cs
 
-  -- Whether the types of all alternatives are.
+  -- Whether the types of all alternatives are well-formed, and their tags are valid.
   pub are_lawful_alternatives : Alternatives → Bool
   are_lawful_alternatives no_alternative = true
   are_lawful_alternatives (alternative t s others) =
       is_tag t && not (is_group s) && is_lawful s && are_lawful_alternatives others
 
--- The same as a proposition.
+-- `is_lawful` as a proposition.
 abbrev pub IsLawful : Schema → Type 0
 IsLawful s = IsTrue (is_lawful s)

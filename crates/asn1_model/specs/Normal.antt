@@ -1,5 +1,5 @@
 -- The normal form of a value: what is equal to its default is absent (X.691 19.5 and X.696 16 in their canonical
--- forms), and so is, by the project's choice, a group of absent additions. And what is asked of tables and bounds.
+-- forms), and so is, by this project's choice, a group of absent additions. Also some functions on tables and bounds.
 use Rattle.std.specs.Prelude.{ℕ, zero, suc, ◌+◌, ℤ, Bool, true, false, cond, ◌||◌, List, [], ◌∷◌, Option, Some, None}
 use Rattle.std.specs.Prelude.{is_some, option_map}
 use Rattle.asn1_model.specs.Value.{Value, members, bag, fields, chosen, Parts, end, absent, present, same, same_number}
@@ -9,18 +9,18 @@ use Rattle.asn1_model.specs.Schema.{group, choice, Components, no_component, com
 use Rattle.asn1_model.specs.Schema.{alternative}
 use Rattle.asn1_model.specs.Form.{Form, Freedom, Detail, varied, only_if, default_spelled_out, empty_group}
 
--- A group none of whose components is there.
+-- A group with no component present.
 abbrev pub is_empty_group : Schema → Value → Bool
 is_empty_group (group cs) (fields ps qs) = are_absent ps
 is_empty_group s v = false
 
--- Whether a value in its normal form is that of the default.
+-- Whether a value in normal form is that of the default.
 abbrev pub is_default_by : (Value → Value) → Presence → Value → Bool
 is_default_by form (by_default d) w = same w (form d)
 is_default_by form o w = false
 
 unfoldable mutual
-  -- The normal form, from the leaves up: every writer writes it.
+  -- The normal form, computed from the leaves up; every encoder writes it.
   pub normal : Schema → Value → Value
   normal (sequence_of z h s) (members vs) = members (map_members (λ v. normal s v) vs)
   normal (set_of z h s) (bag vs) = bag (map_members (λ v. normal s v) vs)
@@ -31,7 +31,7 @@ unfoldable mutual
   normal (choice roots e adds) (chosen true i v) = chosen true i (normal_alternative adds i v)
   normal s v = v
 
-  -- Each part in its normal form, left out if it is then its default or an empty group.
+  -- Each part in its normal form, absent if that is its default or an empty group.
   pub normal_parts : Components → Parts → Parts
   normal_parts (component t o s cs) (present v ps) =
       cond (is_default_by (λ d. normal s d) o (normal s v) || is_empty_group s (normal s v))
@@ -39,7 +39,7 @@ unfoldable mutual
   normal_parts (component t o s cs) (absent ps) = absent (normal_parts cs ps)
   normal_parts cs ps = ps
 
-  -- The value of the chosen alternative in its normal form.
+  -- The value of the chosen alternative in normal form.
   pub normal_alternative : Alternatives → ℕ → Value → Value
   normal_alternative (alternative t s others) zero v = normal s v
   normal_alternative (alternative t s others) (suc i) v = normal_alternative others i v
@@ -49,11 +49,11 @@ unfoldable mutual
 abbrev pub is_at_default : Presence → Schema → Value → Bool
 is_at_default o s v = is_default_by (λ d. normal s d) o (normal s v)
 
--- Whether a part is a group in which nothing is left.
+-- Whether a part is a group with nothing left in it.
 abbrev pub is_group_left_out : Schema → Value → Bool
 is_group_left_out s v = is_empty_group s (normal s v)
 
--- The place of an item among the numbers of a table, from 0 on (X.691 14).
+-- The index of an item among the numbers of a table, from 0 (X.691 14).
 abbrev pub item_place : ℤ → List ℤ → Option ℕ
 item_place v [] = None
 item_place v (d ∷ ds) = cond (same_number v d) (Some zero) (option_map suc (item_place v ds))
@@ -66,12 +66,12 @@ abbrev pub is_required : Presence → Bool
 is_required required = true
 is_required o = false
 
--- A further presence bit, unless there is none for the component.
+-- Prepends a presence bit, unless the component has none.
 abbrev pub presence_bit_unless : Bool → Bool → List Bool → List Bool
 presence_bit_unless true m ms = ms
 presence_bit_unless false m ms = m ∷ ms
 
--- For each component that may be absent, whether it is there, in the order of the table (X.691 19.2, X.696 16).
+-- For each component that may be absent, whether it is present, in the order of the table (X.691 19.2, X.696 16).
 abbrev pub presence_bits : Components → Parts → List Bool
 presence_bits no_component ps = []
 presence_bits (component t o s cs) (present v ps) = presence_bit_unless (is_required o) true (presence_bits cs ps)
@@ -82,8 +82,8 @@ abbrev pub alternative_count : Alternatives → ℕ
 alternative_count no_alternative = 0
 alternative_count (alternative t s others) = alternative_count others + 1
 
--- A component that is there, if it may be: what the normal form leaves out is spelled out only to a reader with the
--- freedom (X.691 19.5, X.696 16).
+-- A component that is present. What the normal form leaves out is encoded only for a reader with the freedom (X.691
+-- 19.5, X.696 16).
 unfoldable pub spelled : {A : Type 0} → Presence → Schema → Value → Form Freedom Detail A → Form Freedom Detail A
 spelled o s v x = cond (is_at_default o s v)
     (varied default_spelled_out false (λ b. only_if b x))

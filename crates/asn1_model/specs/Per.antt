@@ -1,6 +1,6 @@
--- The packed encoding rules (X.691), aligned and not: the form of a value of a type, in bits. Where padding stands in
--- the aligned variant is the project's own statement: before the fields that say so here, up to the next octet of the
--- message or open type that holds them, and never before a field of no bits.
+-- The packed encoding rules (X.691), aligned and unaligned: the form of a value of a type, in bits. Where padding goes
+-- in the aligned variant is stated by this project: before the fields that say so here, up to the next octet boundary
+-- of the message or open type that contains them, and never before a field of no bits.
 use Rattle.std.specs.Prelude.{ℕ, zero, suc, ◌-◌, ◌*◌, ◌/◌, ◌%◌, ◌^◌, ◌==◌, ltb, leb, not, ℤ, Bool, true, false, cond}
 use Rattle.std.specs.Prelude.{◌&&◌, ◌||◌, List, [], ◌∷◌, ◌++◌, length, take, drop, map, replicate, flat_map, Option}
 use Rattle.std.specs.Prelude.{Some, None, is_some, option_map, filter}
@@ -28,24 +28,24 @@ unfoldable pub use Rattle.asn1_model.specs.Normal.{spelled}
 abbrev pub BitForm : Type 0
 BitForm = Form Freedom Detail Bool
 
--- So many zero bits, which a reader may find to be others (X.691 11.1).
+-- The given count of zero bits; a reader may accept other bits (X.691 11.1).
 unfoldable pub padding : ℕ → BitForm
 padding n = varied any_padding (replicate n false) (λ bits. only_if (length bits == n) (exactly bits))
 
--- In the aligned variant, from the next octet on (X.691 11.1).
+-- In the aligned variant, starts at an octet boundary (X.691 11.1).
 unfoldable pub at_octet : Bool → BitForm → BitForm
 at_octet false x = x
 at_octet true x = both (placed (λ p. padding (missing p))) x
 
--- A number of 0 to span in k octets behind their number, which is a constrained whole number, one of 1 to the octets of
+-- A number from 0 to span in k octets, after the length k, which is a constrained whole number from 1 to the octets of
 -- span (X.691 11.5.7.4 and 13.2.6).
 unfoldable pub in_octets_of : (ℕ → ℕ → BitForm) → Bool → ℕ → ℕ → ℕ → BitForm
 in_octets_of whole al span d k = only_if (leb (least_octets d) k && leb k (octet_width span))
     (both (whole (octet_width span - 1) (k - 1)) (at_octet al (exactly (flat_map (binary 8) (digits 256 k d)))))
 
--- A constrained whole number, one of 0 to span (X.691 11.5): not aligned, the bits that span has; aligned, the same up
--- to 255 numbers, one octet for 256, two for up to 65536, and more behind their number, which is such a number again.
--- At most so many stand behind one another.
+-- A constrained whole number from 0 to span (X.691 11.5). Unaligned: the bits that span needs. Aligned: these for a
+-- range of up to 255 numbers, one octet for 256, two for up to 65536, and else octets after their length, which is
+-- again a constrained whole number. The first argument limits how many lengths are nested.
 unfoldable pub constrained_in : ℕ → Bool → ℕ → ℕ → BitForm
 constrained_in zero al span d = refused
 constrained_in (suc most) al span d = only_if (leb d span)
@@ -54,30 +54,31 @@ constrained_in (suc most) al span d = only_if (leb d span)
     (cond (ltb span 65536) (at_octet al (exactly (binary 16 d)))
     (varied longer_number (least_octets d) (λ k. in_octets_of (λ s c. constrained_in most al s c) al span d k)))))
 
--- A constrained whole number (X.691 11.5): the octets of a number are fewer than the number, so that span bounds how
--- many stand behind one another.
+-- A constrained whole number (X.691 11.5). A number has fewer octets than its value, so span limits the nested
+-- lengths.
 unfoldable pub constrained : Bool → ℕ → ℕ → BitForm
 constrained al span d = constrained_in (suc span) al span d
 
--- A length below 16384 (X.691 11.9.3.5 to 11.9.3.7).
+-- A length determinant below 16384 (X.691 11.9.3.5 to 11.9.3.7).
 unfoldable pub short_length : Bool → ℕ → BitForm
 short_length al n = at_octet al (varied two_octet_length (leb 128 n) (λ long. cond long
     (only_if (ltb n 16384) (exactly (true ∷ false ∷ binary 14 n)))
     (only_if (ltb n 128) (exactly (false ∷ binary 7 n)))))
 
--- Units in fragments of so many times 16384, each behind its length, and the rest behind a short one (X.691 11.9.3.8).
--- Each length stands at an octet in the aligned variant.
+-- Units in fragments of given multiples of 16384, each after its length determinant, and the rest after a short one
+-- (X.691 11.9.3.8). In the aligned variant each length determinant starts at an octet boundary.
 unfoldable pub fragments : Bool → List ℕ → List BitForm → BitForm
 fragments al [] us = both (short_length al (length us)) (joined us)
 fragments al (m ∷ ms) us =
     only_if (leb 1 m && leb m 4 && leb (m * 16384) (length us)) (both (at_octet al (exactly (true ∷ true ∷ binary 6 m)))
     (both (joined (take (m * 16384) us)) (fragments al ms (drop (m * 16384) us))))
 
--- The largest fragments first: as many of 65536 units as fit, and one of what is left in whole 16384s (X.691 11.9.3.8).
+-- The largest fragments first: as many of 65536 units as fit, and one for the remaining multiples of 16384 (X.691
+-- 11.9.3.8).
 abbrev pub largest_first : ℕ → List ℕ
 largest_first n = replicate (n / 65536) 4 ++ filter (λ m. not (m == 0)) (n / 16384 % 4 ∷ [])
 
--- Units behind their number (X.691 11.9).
+-- Units after their length determinant (X.691 11.9).
 unfoldable pub counted : Bool → List BitForm → BitForm
 counted al us = varied other_fragments (largest_first (length us)) (λ ms. fragments al ms us)
 
@@ -87,21 +88,21 @@ bit_units bs = map (λ b. exactly (b ∷ [])) bs
 abbrev pub octet_units : List ℕ → List BitForm
 octet_units os = map (λ o. exactly (binary 8 o)) os
 
--- Octets behind their number (X.691 11.9).
+-- Octets after their length determinant (X.691 11.9).
 unfoldable pub counted_octets : Bool → List ℕ → BitForm
 counted_octets al os = only_if (list_all is_octet os) (counted al (octet_units os))
 
--- A number with a lower bound alone, by how far it is above that, in the fewest octets (X.691 11.7 and 13.2.3).
+-- A semi-constrained whole number, given minus its lower bound, in the fewest octets (X.691 11.7 and 13.2.3).
 unfoldable pub semi_constrained : Bool → ℕ → BitForm
 semi_constrained al d =
     varied longer_number (least_octets d) (λ k. only_if (leb (least_octets d) k) (counted_octets al (digits 256 k d)))
 
--- A number with no lower bound, in the fewest octets of two's complement (X.691 11.8 and 13.2.4).
+-- An unconstrained whole number, in the fewest octets of two's complement (X.691 11.8 and 13.2.4).
 unfoldable pub unconstrained : Bool → ℤ → BitForm
 unconstrained al v =
     varied longer_number (signed_octets v) (λ k. only_if (leb (signed_octets v) k) (counted_octets al (complement k v)))
 
--- A normally small number: up to 63 in six bits (X.691 11.6).
+-- A normally small non-negative whole number: up to 63 in six bits (X.691 11.6).
 unfoldable pub normally_small : Bool → ℕ → BitForm
 normally_small al n = varied long_small_number (leb 64 n) (λ long. cond long
     (both (exactly (true ∷ [])) (semi_constrained al n))
@@ -111,8 +112,8 @@ normally_small al n = varied long_small_number (leb 64 n) (λ long. cond long
 abbrev pub is_from_1_to_64 : ℕ → Bool
 is_from_1_to_64 n = leb 1 n && leb n 64
 
--- Units behind a normally small length, up to 64 in six bits (X.691 11.9.3.4). That from 16384 on the units stand in
--- fragments is the project's choice.
+-- Units after a normally small length, up to 64 in six bits (X.691 11.9.3.4). That units from 16384 on are in
+-- fragments is this project's choice.
 unfoldable pub normally_few : Bool → List BitForm → BitForm
 normally_few al us = varied long_small_number (not (is_from_1_to_64 (length us))) (λ long. cond long
     (both (exactly (true ∷ [])) (counted al us))
@@ -126,22 +127,23 @@ whole_number al (Some low) None v = given (above low v) (λ d. semi_constrained 
 whole_number al None (Some high) v = only_if (is_at_most v high) (unconstrained al v)
 whole_number al None None v = unconstrained al v
 
--- What stands behind an extension bit, if there is one, set outside the root (X.691 13.1, 16.6, 17.3, 20.4 and 30.4).
+-- What follows an extension bit, if there is one; the bit is 1 outside the root (X.691 13.1, 16.6, 17.3, 20.4 and
+-- 30.4).
 unfoldable pub with_extension_bit : Bool → Bool → BitForm → BitForm → BitForm
 with_extension_bit false in_root root outside = only_if in_root root
 with_extension_bit true in_root root outside = varied root_told_outside (not in_root) (λ out. cond out
     (both (exactly (true ∷ [])) outside)
     (only_if in_root (both (exactly (false ∷ [])) root)))
 
--- INTEGER (X.691 13): the program's type holds the number, and under a value constraint 128 bits do, by the project's
--- choice.
+-- INTEGER (X.691 13): the user-defined type has to hold the number, and under a value constraint so do 128 bits, by
+-- this project's choice.
 unfoldable pub integer_form : Bool → Bounds → Range → ℤ → BitForm
 integer_form al b held v = only_if (is_within held v && (not (is_bounded b) || fits_128 v))
     (with_extension_bit b.extensible (is_within b.range v) (whole_number al b.range.low b.range.high v)
     (unconstrained al v))
 
--- Units of a size: behind their number by its bounds, if the highest is below 65536, else behind a general length
--- (X.691 11.9.4, 16, 17, 20 and 30).
+-- Units after their length, a constrained whole number if the upper bound is below 65536, else after a general length
+-- determinant (X.691 11.9.4, 16, 17, 20 and 30).
 unfoldable pub sized_root : Bool → Counts → Option ℕ → (Counts → Bool) → List BitForm → BitForm
 sized_root al c None has_padding us = counted al us
 sized_root al c (Some high) has_padding us = cond (ltb high 65536)
@@ -154,12 +156,13 @@ sized al z held has_padding us = only_if (is_count_within held (length us))
     (with_extension_bit z.extensible (is_count_within z.counts (length us))
     (sized_root al z.counts z.counts.high has_padding us) (counted al us))
 
--- Contents of no bits take no padding, nor do those of one size of at most 16 bits (X.691 16.9 to 16.11, 17.6 to 17.8).
+-- Contents of no bits have no padding, nor do those of a fixed size of at most 16 bits (X.691 16.9 to 16.11, 17.6 to
+-- 17.8).
 abbrev pub string_has_padding : ℕ → ℕ → Counts → Bool
 string_has_padding unit n c = not (n * unit == 0) && not (is_fixed_at c c.high && leb (c.low * unit) 16)
 
--- Characters also take none where as many as there may be have fewer than 16 bits (X.691 30.5.6 and 30.5.7). Where they
--- take padding is the project's choice.
+-- Characters also have none if the greatest size has fewer than 16 bits (X.691 30.5.6 and 30.5.7). Where they have
+-- padding is this project's choice.
 abbrev pub characters_have_padding : ℕ → ℕ → Counts → Bool
 characters_have_padding unit n c = string_has_padding unit n c
     && elim (c.high) [ None ↦ true | Some high ↦ leb 16 (high * unit) ]
@@ -168,39 +171,41 @@ characters_have_padding unit n c = string_has_padding unit n c
 abbrev pub raised : ℕ → ℕ
 raised b = cond (leb b 2) b (cond (leb b 4) 4 (cond (leb b 8) 8 16))
 
--- The bits of a character: those that the number of permitted ones needs, raised in the aligned variant (X.691 30.5.2).
+-- The bits of a character: those that the number of permitted characters needs, raised in the aligned variant (X.691
+-- 30.5.2).
 abbrev pub character_bits : Bool → List Run → ℕ
 character_bits al rs = cond al (raised (width (how_many rs - 1))) (width (how_many rs - 1))
 
--- A character by its own number, if the largest fits in the bits, else by its place (X.691 30.5.4).
+-- A character as its value, if the largest value fits the bits, else as its index (X.691 30.5.4).
 unfoldable pub character : ℕ → List Run → ℕ → BitForm
 character b rs c = given (place_of c rs) (λ i. exactly (binary b (cond (ltb (largest rs) (2 ^ b)) c i)))
 
--- Characters behind their number (X.691 30.5).
+-- Characters after their length determinant (X.691 30.5).
 unfoldable pub characters : Bool → Size → Counts → List Run → List ℕ → BitForm
 characters al z held rs cs =
     sized al z held (characters_have_padding (character_bits al rs) (length cs))
     (map (character (character_bits al rs) rs) cs)
 
--- A restricted character string (X.691 30). Sizes and alphabets of UTF8String, General-, Graphic- and TeletexString
--- count for nothing, by the project's choice.
+-- A restricted character string (X.691 30). Sizes and alphabets of UTF8String, GeneralString, GraphicString and
+-- TeletexString are ignored, by this project's choice.
 unfoldable pub string_form : Bool → StringKind → Size → Alphabet → Counts → List ℕ → BitForm
 string_form al k z a held cs = only_if (may_hold k cs) (cond (is_of_octets k)
     (only_if (is_count_within held (length cs)) (counted_octets al cs))
     (characters al z held (permitted k a) cs))
 
--- The extension bit, where the type has an extension marker.
+-- The extension bit, if the type has an extension marker.
 abbrev pub extension_bit_of : Bool → Bool → BitForm
 extension_bit_of false m = exactly []
 extension_bit_of true m = exactly (m ∷ [])
 
--- ENUMERATED (X.691 14): an item by its place in the root, or behind a set extension bit by that among those added.
+-- ENUMERATED (X.691 14): an item as its enumeration index in the root, or after an extension bit of 1 among the
+-- additions.
 unfoldable pub item_form : Bool → ℕ → Bool → Option ℕ → Option ℕ → BitForm
 item_form al roots e (Some i) j = both (extension_bit_of e false) (constrained al (roots - 1) i)
 item_form al roots true None (Some j) = both (exactly (true ∷ [])) (normally_small al j)
 item_form al roots e None j = refused
 
--- Padded with zero bits to whole octets, and one zero octet in place of no bits (X.691 11.1).
+-- Padded with zero bits to whole octets; one zero octet if there are no bits (X.691 11.1).
 unfoldable pub padded : List Bool → BitForm
 padded [] = exactly (replicate 8 false)
 padded (b ∷ bs) = both (exactly (b ∷ bs)) (padding (missing (length (b ∷ bs))))
@@ -209,7 +214,7 @@ padded (b ∷ bs) = both (exactly (b ∷ bs)) (padding (missing (length (b ∷ b
 unfoldable pub complete : BitForm → BitForm
 complete x = within x padded
 
--- An open type: a complete encoding behind its number of octets (X.691 11.2).
+-- An open type: a complete encoding after its length determinant (X.691 11.2).
 unfoldable pub open_type : Bool → BitForm → BitForm
 open_type al x = within (complete x) (λ w.
     varied octets_behind [] (λ more. only_if (list_all is_octet more)
@@ -218,15 +223,16 @@ open_type al x = within (complete x) (λ w.
 abbrev pub flag : Option BitForm → BitForm
 flag a = exactly (is_some a ∷ [])
 
--- The number of bits of the bitmap, these bits, and each addition that is there as an open type (X.691 19.7 to 19.9).
+-- The number of bits of the bitmap, these bits, and each addition that is present as an open type (X.691 19.7 to
+-- 19.9).
 unfoldable pub additions : Bool → List (Option BitForm) → BitForm
 additions al xs = both (normally_few al (map flag xs)) (joined (present_ones xs))
 
--- The extension bit set, the root, and the additions (X.691 19.1).
+-- The extension bit of 1, the root, and the additions (X.691 19.1).
 unfoldable pub with_additions : Bool → List Bool → BitForm → List (Option BitForm) → BitForm
 with_additions al ms root xs = both (exactly (true ∷ ms)) (both root (additions al xs))
 
--- With no bitmap, or with one; the additions that it tells of are then there (X.691 19.7).
+-- Without a bitmap, or with one and the additions that it describes (X.691 19.7).
 unfoldable pub bitmapped : Bool → List Bool → BitForm → List (Option BitForm) → Option Bitmap → BitForm
 bitmapped al ms root xs None = only_if (not (is_any_present xs)) (both (exactly (false ∷ ms)) root)
 bitmapped al ms root xs (Some b) =
@@ -240,12 +246,12 @@ sequence_form al false ms root [] = both (exactly ms) root
 sequence_form al false ms root (a ∷ xs) = refused
 sequence_form al true ms root xs = varied other_bitmap (own_bitmap xs) (λ b. bitmapped al ms root xs b)
 
--- A bit of 0 before one of 1.
+-- The bit 0 is less than 1.
 abbrev pub bit_less : Bool → Bool → Bool
 bit_less a b = not a && b
 
--- SET OF, in ascending order of the members' complete encodings (X.691 22 for canonical PER; that each variant stands
--- in its own order is the project's choice). Whole octets are compared by their bits, which is the same.
+-- SET OF, in ascending order of the elements' complete encodings (X.691 22 for canonical PER; that each variant has
+-- its own order is this project's choice). Comparing whole octets by their bits gives the same order.
 unfoldable pub in_any_order : List BitForm → (List BitForm → BitForm) → BitForm
 in_any_order xs f =
     varied other_order None
@@ -254,7 +260,7 @@ in_any_order xs f =
 unfoldable mutual
   -- The form of a value of a type: BOOLEAN (X.691 12), INTEGER (13), ENUMERATED (14), BIT STRING (16), OCTET STRING
   -- (17), NULL (18), SEQUENCE (19), SEQUENCE OF (20), SET (21), SET OF (22), CHOICE (23), OBJECT IDENTIFIER (24),
-  -- restricted character strings (30). No padding stands in front of the members of a list or a bag.
+  -- restricted character strings (30). There is no padding before the elements of a SEQUENCE OF or SET OF.
   pub form : Bool → Schema → Value → BitForm
   form al boolean (truth b) = exactly (b ∷ [])
   form al null nothing = exactly []
@@ -286,7 +292,7 @@ unfoldable mutual
   component_forms al (component t o s cs) (absent ps) = cond (is_required o) refused (component_forms al cs ps)
   component_forms al cs ps = refused
 
-  -- The additions, of which those that are required are there, by the project's choice.
+  -- The additions; those that are required have to be present, by this project's choice.
   pub addition_forms : Bool → Components → Parts → Option (List (Option BitForm))
   addition_forms al no_component end = Some []
   addition_forms al (component t o s cs) (present v ps) =
@@ -295,7 +301,7 @@ unfoldable mutual
       cond (is_required o) None (option_map (λ xs. None ∷ xs) (addition_forms al cs ps))
   addition_forms al cs ps = None
 
-  -- The value of the alternative at a place (X.691 23).
+  -- The value of the alternative with a choice index (X.691 23).
   pub alternative_form : Bool → Alternatives → ℕ → Value → BitForm
   alternative_form al (alternative t s others) zero v = form al s v
   alternative_form al (alternative t s others) (suc i) v = alternative_form al others i v

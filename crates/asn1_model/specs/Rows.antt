@@ -15,7 +15,7 @@ use Rattle.asn1_model.specs.Types.{null_alternatives, yes_and, list_of, null_lis
 -- bounds at which a form changes
 abbrev pub RangeRows : Type 0
 RangeRows =
-    -- a range of 255, 256, 257, 65536 and 65537 numbers, one bit behind the beginning
+    -- a range of 255, 256, 257, 65536 and 65537 numbers, starting at bit 1
     Writes uper (flagged (between (pos 0) (pos 254))) (yes_and (num 254)) (0xFF ∷ 0x00 ∷ [])
     × Writes aper (flagged (between (pos 0) (pos 254))) (yes_and (num 254)) (0xFF ∷ 0x00 ∷ [])
     × Writes uper (flagged octet_number) (yes_and (num 254)) (0xFF ∷ 0x00 ∷ [])
@@ -43,7 +43,7 @@ RangeRows =
     × Writes aper (between (minus (2 ^ 63)) (pos (2 ^ 63 - 1))) (num 0) (0xE0 ∷ 0x80 ∷ replicate 7 0x00)
     × Writes uper (between (minus (2 ^ 127)) (pos (2 ^ 127 - 1))) (num 0) (0x80 ∷ replicate 15 0x00)
     × Writes aper (between (minus (2 ^ 127)) (pos (2 ^ 127 - 1))) (num 0) (0xF0 ∷ 0x80 ∷ replicate 15 0x00)
-    -- ranges whose numbers have up to 255, 256 and 257 octets: how many of them, in bits, in an octet and in two
+    -- ranges whose numbers have up to 255, 256 and 257 octets: the length in bits, in an octet and in two
     × Writes aper (flagged (between (pos 0) (pos (256 ^ 254)))) (yes_and (num 256)) (0x80 ∷ 0x80 ∷ 0x01 ∷ 0x00 ∷ [])
     × Writes aper (flagged (between (pos 0) (pos (256 ^ 255)))) (yes_and (num 256)) (0x80 ∷ 0x01 ∷ 0x01 ∷ 0x00 ∷ [])
     × Writes aper (flagged (between (pos 0) (pos (256 ^ 255)))) (yes_and (num 0)) (0x80 ∷ 0x00 ∷ 0x00 ∷ [])
@@ -54,7 +54,7 @@ RangeRows =
     × Writes uper (between (pos 0) (pos (256 ^ 255))) (num 256) (replicate 254 0x00 ++ 0x80 ∷ 0x00 ∷ [])
     × Writes coer (between (pos 0) (pos (256 ^ 255))) (num 256) (0x02 ∷ 0x01 ∷ 0x00 ∷ [])
     × WritesNothing aper (between (pos 0) (pos (256 ^ 255))) (num (2 ^ 127))
-    -- a lower bound alone: the number above it in PER, the number itself in OER
+    -- a lower bound only: the difference to it in PER, the number itself in OER
     × Writes uper from_zero (num 127) (0x01 ∷ 0x7F ∷ [])
     × Writes aper from_zero (num 127) (0x01 ∷ 0x7F ∷ [])
     × Writes uper from_zero (num 128) (0x01 ∷ 0x80 ∷ [])
@@ -75,7 +75,7 @@ RangeRows =
     × WritesNothing coer (at_least (pos 5)) (num 4)
     × Writes coer from_zero (num (2 ^ 127 - 1)) (0x10 ∷ 0x7F ∷ replicate 15 0xFF)
     × Writes uper from_zero (num (2 ^ 127 - 1)) (0x10 ∷ 0x7F ∷ replicate 15 0xFF)
-    -- an upper bound alone
+    -- an upper bound only
     × Writes uper at_most_5 (num 5) (0x01 ∷ 0x05 ∷ [])
     × Writes aper at_most_5 (num 5) (0x01 ∷ 0x05 ∷ [])
     × Writes coer at_most_5 (num 5) (0x01 ∷ 0x05 ∷ [])
@@ -88,7 +88,7 @@ RangeRows =
     × WritesNothing uper at_most_5 (below (2 ^ 127 + 1))
     × WritesNothing aper at_most_5 (below (2 ^ 127 + 1))
     × WritesNothing coer at_most_5 (below (2 ^ 127 + 1))
-    -- neither, but a value constraint
+    -- neither bound, but a value constraint
     × Writes uper min_to_max (num 7) (0x01 ∷ 0x07 ∷ [])
     × Writes aper min_to_max (num 7) (0x01 ∷ 0x07 ∷ [])
     × Writes coer min_to_max (num 7) (0x01 ∷ 0x07 ∷ [])
@@ -134,13 +134,13 @@ RangeRows =
     × Writes coer (between (minus (2 ^ 63 + 1)) (pos (2 ^ 63))) (below 1) (0x01 ∷ 0xFF ∷ [])
     × Writes coer (between (minus (2 ^ 63 + 1)) (pos (2 ^ 63))) (num 127) (0x01 ∷ 0x7F ∷ [])
     × Writes coer (between (minus 1) (pos (2 ^ 63))) (num 128) (0x02 ∷ 0x00 ∷ 0x80 ∷ [])
-    -- what the program's type holds: no text, whatever the constraint
+    -- numbers that the user-defined type does not hold: no encoding, whatever the constraint
     × WritesNothing coer (integer (from_to (Some (pos 0)) (Some (pos 255)) true)
     (record { low = Some (pos 0); high = Some (pos 255) })) (num 300)
     × WritesNothing uper (integer (from_to (Some (pos 0)) (Some (pos 255)) true)
     (record { low = Some (pos 0); high = Some (pos 255) })) (num 300)
 
--- enumerations, identifiers and tags
+-- enumerations, object identifiers and tags
 abbrev pub TableRows : Type 0
 TableRows =
     Writes coer (enumerated signed_items false []) (item (pos 127)) (0x7F ∷ [])
@@ -166,7 +166,7 @@ TableRows =
     × Writes coer (enumerated (pos 0 ∷ []) true (numbers_from 1 65)) (item (pos 65)) (0x41 ∷ [])
     × WritesNothing uper colour_old (item (pos 1))
     × WritesNothing coer colour_old (item (pos 1))
-    -- identifiers
+    -- object identifiers
     × Writes coer object_identifier (arcs (2 ∷ 47 ∷ [])) (0x01 ∷ 0x7F ∷ [])
     × Writes coer object_identifier (arcs (2 ∷ 48 ∷ [])) (0x02 ∷ 0x81 ∷ 0x00 ∷ [])
     × Writes coer object_identifier (arcs (1 ∷ 39 ∷ [])) (0x01 ∷ 0x4F ∷ [])
@@ -196,7 +196,7 @@ TableRows =
     × Writes coer (only_tagged (record { class = 0; number = 63 })) (chosen false 0 nothing) (0x3F ∷ 0x3F ∷ [])
     × Writes uper (only_tagged (context 16384)) (chosen false 0 nothing) (0x00 ∷ [])
     × Writes aper (only_tagged (context 16384)) (chosen false 0 nothing) (0x00 ∷ [])
-    -- root alternatives by their place, added ones 63 and 64
+    -- root alternatives by their choice index, added ones 63 and 64
     × Writes uper (flagged (one_of (null_alternatives 0 3))) (yes_and (chosen false 2 nothing)) (0xC0 ∷ [])
     × Writes aper (flagged (one_of (null_alternatives 0 256))) (yes_and (chosen false 255 nothing)) (0x80 ∷ 0xFF ∷ [])
     × Writes uper (choice (null_alternatives 0 1) true (null_alternatives 1 65)) (chosen true 63 nothing)
@@ -217,7 +217,7 @@ TableRows =
 -- sizes at which a form changes
 abbrev pub SizeRows : Type 0
 SizeRows =
-    -- fixed at 16 and 17 bits, at 2 and 3 octets, one bit behind the beginning
+    -- fixed at 16 and 17 bits, at 2 and 3 octets, starting at bit 1
     Writes uper (flagged (bit_text (sizes 16 16))) (yes_and (set_bits 16)) (0xFF ∷ 0xFF ∷ 0x80 ∷ [])
     × Writes aper (flagged (bit_text (sizes 16 16))) (yes_and (set_bits 16)) (0xFF ∷ 0xFF ∷ 0x80 ∷ [])
     × Writes uper (flagged (bit_text (sizes 17 17))) (yes_and (set_bits 17)) (0xFF ∷ 0xFF ∷ 0xC0 ∷ [])
@@ -269,7 +269,7 @@ SizeRows =
     × Writes uper (flagged (list (sizes_or_more 1 2) boolean)) (yes_and (list_of (yes ∷ yes ∷ yes ∷ [])))
     (0xC0 ∷ 0xF8 ∷ [])
     × Writes uper (flagged (list (sizes_or_more 1 2) boolean)) (yes_and (list_of (yes ∷ yes ∷ []))) (0xB8 ∷ [])
-    -- sizes of lists don't count in OER, sizes of strings do
+    -- sizes of lists are ignored in OER, sizes of strings are not
     × Writes coer one_or_two (list_of (yes ∷ yes ∷ yes ∷ [])) (0x01 ∷ 0x03 ∷ 0xFF ∷ 0xFF ∷ 0xFF ∷ [])
     × WritesNothing uper (octet_text (sizes 0 1)) (octets (1 ∷ 2 ∷ []))
     × WritesNothing aper (octet_text (sizes 0 1)) (octets (1 ∷ 2 ∷ []))

@@ -1,4 +1,4 @@
--- Character strings and object identifiers: what may stand in them, and the octets of an identifier.
+-- Character strings and object identifiers: what they may contain, and the octets of an object identifier.
 use Rattle.std.specs.Prelude.{ℕ, ◌+◌, ◌-◌, ◌*◌, ◌^◌, ◌==◌, ltb, leb, max, Bool, true, false, cond, ◌&&◌, ◌||◌, List, []}
 use Rattle.std.specs.Prelude.{◌∷◌, ◌++◌, filter, map, flat_map, Option, Some, None, option_map}
 use Rattle.std.specs.List.{list_all, list_any}
@@ -20,7 +20,7 @@ abbrev pub is_in_run : ℕ → Run → Bool
 is_in_run c r = leb r.first c && leb c r.last
 
 -- The characters of each kind of string, in ascending order (X.680 41 and 43). That BMPString has all of 0 to 65535,
--- and that General-, Graphic- and TeletexString hold any octets, is the project's choice.
+-- and that GeneralString, GraphicString and TeletexString hold any octets, is this project's choice.
 abbrev pub characters_of : StringKind → List Run
 characters_of numeric = run 32 32 ∷ run 48 57 ∷ []
 characters_of printable = run 32 32 ∷ run 39 41 ∷ run 43 58 ∷ run 61 61 ∷ run 63 63 ∷ run 65 90 ∷ run 97 122 ∷ []
@@ -38,7 +38,7 @@ largest [] = 0
 largest (r ∷ []) = r.last
 largest (r ∷ s ∷ rs) = largest (s ∷ rs)
 
--- The place of a character among them, from 0 on.
+-- The index of a character among them, from 0.
 abbrev pub place_of : ℕ → List Run → Option ℕ
 place_of c [] = None
 place_of c (r ∷ rs) =
@@ -47,7 +47,7 @@ place_of c (r ∷ rs) =
 abbrev pub is_among : List Run → ℕ → Bool
 is_among rs c = list_any (is_in_run c) rs
 
--- A character put among others that ascend, unless it is one of them.
+-- Inserts a character into an ascending list, unless it is there.
 abbrev pub put_in : ℕ → List ℕ → List ℕ
 put_in c [] = c ∷ []
 put_in c (d ∷ ds) = cond (ltb c d) (c ∷ d ∷ ds) (cond (c == d) (d ∷ ds) (d ∷ put_in c ds))
@@ -57,13 +57,13 @@ abbrev pub sorted : List ℕ → List ℕ
 sorted [] = []
 sorted (c ∷ cs) = put_in c (sorted cs)
 
--- The characters that a constraint leaves of the type's own, in whatever order it lists them (X.680 51.7, X.691 30.5).
--- A constraint with an extension marker counts for nothing, by the project's choice.
+-- The characters that a constraint permits of the type's, in whatever order it lists them (X.680 51.7, X.691 30.5). A
+-- constraint with an extension marker is ignored, by this project's choice.
 abbrev pub permitted : StringKind → Alphabet → List Run
 permitted k a = cond a.extensible (characters_of k) (option_map_or
     (λ cs. map (λ c. run c c) (sorted (filter (is_among (characters_of k)) cs))) a.characters (characters_of k))
 
--- Whether a value holds octets in place of characters (X.691 30, types whose characters have no fixed width).
+-- Whether a value holds octets instead of characters (X.691 30, types whose characters have no fixed width).
 abbrev pub is_of_octets : StringKind → Bool
 is_of_octets general = true
 is_of_octets graphic = true
@@ -71,8 +71,8 @@ is_of_octets teletex = true
 is_of_octets utf8 = true
 is_of_octets k = false
 
--- Whether a value of the kind may hold these: of UTF8String octets that are well-formed UTF-8 (ISO/IEC 10646 annex D),
--- as std has it.
+-- Whether a value of the kind may hold these; for UTF8String they have to be well-formed UTF-8 octets (ISO/IEC 10646
+-- annex D), as std defines it.
 abbrev pub may_hold : StringKind → List ℕ → Bool
 may_hold utf8 os = is_utf8 os
 may_hold k cs = list_all (is_among (characters_of k)) cs
@@ -82,18 +82,19 @@ with_top_bits [] = []
 with_top_bits (o ∷ []) = o ∷ []
 with_top_bits (o ∷ p ∷ os) = (o + 128) ∷ with_top_bits (p ∷ os)
 
--- A number in the fewest groups of seven bits, highest first, the top bit set on all but the last (X.690 8.1 and 8.19).
+-- A number in the fewest groups of seven bits, the most significant first, with bit 8 set on all but the last (X.690
+-- 8.1 and 8.19).
 abbrev pub groups_of_seven : ℕ → List ℕ
 groups_of_seven n = with_top_bits (digits 128 (max 1 (places 128 n)) n)
 
--- The contents of an object identifier: the first two arcs share a number (X.690 8.19). An identifier of fewer arcs has
--- none, by the project's choice.
+-- The contents octets of an object identifier; the first two arcs share a subidentifier (X.690 8.19). An identifier of
+-- fewer arcs has none, by this project's choice.
 abbrev pub identifier_octets : List ℕ → List ℕ
 identifier_octets (a ∷ b ∷ rest) = groups_of_seven (40 * a + b) ++ flat_map groups_of_seven rest
 identifier_octets arcs = []
 
--- Whether arcs have contents: a first arc of at most 2, a second one below 40 unless the first is 2 (X.680 32), and
--- each within 32 bits, by the project's choice.
+-- Whether arcs have contents octets: the first is at most 2, the second is below 40 unless the first is 2 (X.680 32),
+-- and each fits 32 bits, by this project's choice.
 abbrev pub is_identifier : List ℕ → Bool
 is_identifier (a ∷ b ∷ rest) = leb a 2 && (a == 2 || ltb b 40) && list_all (λ arc. ltb arc (2 ^ 32)) (b ∷ rest)
 is_identifier arcs = false

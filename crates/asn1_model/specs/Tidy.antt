@@ -1,5 +1,5 @@
--- Tests by which types and values are told to be in normal form: a value that passes is its own normal form, and its
--- own normal form passes. Laws and the tables of types compute with them; what is written and read is said without.
+-- Tests for types and values in normal form: a value passes exactly if it is its own normal form. Laws and the tables
+-- of types compute with these tests; the definitions of what is written and read do not use them.
 use Rattle.std.specs.Prelude.{ℕ, zero, suc, Bool, true, false, ◌&&◌, not, IsTrue}
 use Rattle.asn1_model.specs.Value.{Value, members, bag, fields, chosen, Parts, absent, present, are_all}
 use Rattle.asn1_model.specs.Schema.{Presence, by_default, Schema, sequence_of, set_of, sequence, set, group, choice}
@@ -7,7 +7,7 @@ use Rattle.asn1_model.specs.Schema.{Components, no_component, component, Alterna
 use Rattle.asn1_model.specs.Normal.{is_at_default, is_group_left_out}
 
 unfoldable mutual
-  -- Whether nothing that the normal form leaves out stands in a value.
+  -- Whether a value has nothing that the normal form leaves out.
   pub is_normal : Schema → Value → Bool
   is_normal (sequence_of z h s) (members vs) = are_all (λ v. is_normal s v) vs
   is_normal (set_of z h s) (bag vs) = are_all (λ v. is_normal s v) vs
@@ -29,14 +29,14 @@ unfoldable mutual
   is_normal_alternative (alternative t s others) (suc i) v = is_normal_alternative others i v
   is_normal_alternative no_alternative i v = true
 
--- Whether a default is in normal form. It is one abstract value however it is written (X.680 25), so that no type is
--- lost by it.
+-- Whether a default is in normal form. It is one abstract value however it is written (X.680 25), so this excludes no
+-- type.
 abbrev pub has_normal_default : Schema → Presence → Bool
 has_normal_default s (by_default d) = is_normal s d
 has_normal_default s o = true
 
 unfoldable mutual
-  -- Whether each default in a type is in normal form. Where one is not, two unfoldings of a recursive type may differ.
+  -- Whether each default in a type is in normal form. If one is not, two unfoldings of a recursive type may differ.
   pub is_tidy : Schema → Bool
   is_tidy (sequence_of z h s) = is_tidy s
   is_tidy (set_of z h s) = is_tidy s
@@ -54,6 +54,6 @@ unfoldable mutual
   are_tidy_alternatives no_alternative = true
   are_tidy_alternatives (alternative t s others) = is_tidy s && are_tidy_alternatives others
 
--- The same as a proposition.
+-- `is_tidy` as a proposition.
 abbrev pub IsTidy : Schema → Type 0
 IsTidy s = IsTrue (is_tidy s)

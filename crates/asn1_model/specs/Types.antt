@@ -155,12 +155,12 @@ colour_old = enumerated (pos 0 ∷ []) true []
 abbrev pub colour_new : Schema
 colour_new = enumerated (pos 0 ∷ []) true (pos 1 ∷ [])
 
--- so many numbers from one on
+-- consecutive numbers: how many, and the first
 abbrev pub numbers_from : ℕ → ℕ → List ℤ
 numbers_from first zero = []
 numbers_from first (suc n) = pos first ∷ numbers_from (first + 1) n
 
--- numbers of items at which the octets that they take change
+-- enumeration values at which the number of octets changes
 abbrev pub signed_items : List ℤ
 signed_items = minus 129 ∷ minus 128 ∷ minus 1 ∷ pos 127 ∷ pos 128 ∷ pos 255 ∷ []
 
@@ -178,7 +178,7 @@ extensible_octets = octet_text (sizes_or_more 1 3)
 abbrev pub visible_of : List ℕ → Schema
 visible_of cs = character_string visible any_size (letters cs) any_count
 
--- SEQUENCE {a BOOLEAN, b S}, whose second component stands one bit behind the beginning
+-- SEQUENCE {a BOOLEAN, b S}, whose second component starts at bit 1
 abbrev pub flagged : Schema → Schema
 flagged s = closed (needs 0 boolean (needs 1 s no_component))
 
@@ -193,7 +193,7 @@ chained =
     (needs 1 (closed (needs 0 whole (may_have 1 (closed (needs 0 whole (may_have 1 whole no_component))) no_component)))
     no_component))
 
--- so many optional numbers, and so many absent parts
+-- optional numbers, and absent parts, as many as given
 abbrev pub optional_numbers : ℕ → ℕ → Components
 optional_numbers first zero = no_component
 optional_numbers first (suc n) = may_have first whole (optional_numbers (first + 1) n)
@@ -243,7 +243,7 @@ choice_of_choice =
     choice (or_tagged 0 boolean (or_tagged 2 extensible_choice no_alternative)) true
     (or_tagged 1 boolean no_alternative)
 
--- so many alternatives, each NULL
+-- a given number of alternatives, each NULL
 abbrev pub null_alternatives : ℕ → ℕ → Alternatives
 null_alternatives first zero = no_alternative
 null_alternatives first (suc n) = or_tagged first null (null_alternatives (first + 1) n)
@@ -318,13 +318,13 @@ octets_and_null = open_behind (may_have 0 any_octets no_component) (may_have 1 n
 abbrev pub listed : Schema
 listed = open_behind (needs 0 one_or_two no_component) no_component
 
--- SEQUENCE {..., and so many optional NULL additions}
+-- SEQUENCE {..., and a given number of optional NULL additions}
 abbrev pub null_additions : ℕ → ℕ → Components
 null_additions first zero = no_component
 null_additions first (suc n) = may_have first null (null_additions (first + 1) n)
 
--- Nest ::= CHOICE {leaf [0] NULL, more [1] Nest}, unfolded to so many levels, and SEQUENCE {a BOOLEAN, ..., n Nest
--- OPTIONAL}
+-- Nest ::= CHOICE {leaf [0] NULL, more [1] Nest}, unfolded to a given number of levels, and SEQUENCE {a BOOLEAN, ...,
+-- n Nest OPTIONAL}
 abbrev pub nest : ℕ → Schema
 nest zero = cut
 nest (suc n) = one_of (or_tagged 0 null (or_tagged 1 (nest n) no_alternative))
@@ -332,7 +332,7 @@ nest (suc n) = one_of (or_tagged 0 null (or_tagged 1 (nest n) no_alternative))
 abbrev pub nest_added : Schema
 nest_added = open_behind (needs 0 boolean no_component) (may_have 1 (nest 128) no_component)
 
--- a leaf nested so often
+-- a leaf nested a given number of times
 abbrev pub nested : ℕ → Value
 nested zero = chosen false 0 nothing
 nested (suc n) = chosen false 1 (nested n)
@@ -343,7 +343,7 @@ nested (suc n) = chosen false 1 (nested n)
 abbrev pub yes_and : Value → Value
 yes_and v = roots (present yes (present v end))
 
--- a TRUE root and one addition, there or absent
+-- a TRUE root and one addition, present or absent
 abbrev pub yes_with : Value → Value
 yes_with v = fields (present yes end) (present v end)
 
@@ -353,14 +353,14 @@ yes_without = fields (present yes end) (absent end)
 abbrev pub yes_alone : Value
 yes_alone = fields (present yes end) end
 
--- a list or a bag of these
+-- a SEQUENCE OF or a SET OF these
 abbrev pub list_of : List Value → Value
 list_of vs = members (values_of vs)
 
 abbrev pub bag_with : List Value → Value
 bag_with vs = bag (values_of vs)
 
--- so often the same value
+-- copies of a value
 abbrev pub copies : ℕ → Value → Values
 copies zero v = no_more
 copies (suc n) v = member v (copies n v)
@@ -375,7 +375,7 @@ null_list n = members (nulls n)
 abbrev pub bits_14 : Value
 bits_14 = bits_of (1 ∷ 1 ∷ 1 ∷ 1 ∷ 1 ∷ 1 ∷ 1 ∷ 1 ∷ 0 ∷ 1 ∷ 0 ∷ 0 ∷ 0 ∷ 0 ∷ [])
 
--- so many bits that are set
+-- a given number of bits that are set
 abbrev pub set_bits : ℕ → Value
 set_bits n = bit_list (ones n)
 

@@ -1,5 +1,5 @@
--- Two versions of a type: the newer has further additions, alternatives and items behind its extension markers, and is
--- as the older one else (X.680 52).
+-- Two versions of a type: the newer has further additions, alternatives and items after its extension markers, and is
+-- otherwise as the older one (X.680 52).
 use Rattle.std.specs.Prelude.{◌≡◌, ℕ, zero, suc, Bool, true, false, cond, ◌||◌, List, ◌++◌, All, Contains, Option, Some}
 use Rattle.std.specs.Prelude.{None, is_some, option_map, option_and_then}
 use Rattle.asn1_model.specs.Value.{Value, item, members, bag, fields, chosen, Values, no_more, member, Parts, end}
@@ -14,21 +14,21 @@ abbrev pub map_each : (Value → Option Value) → Values → Option Values
 map_each f no_more = Some no_more
 map_each f (member v vs) = option_and_then (λ w. option_map (λ ws. member w ws) (map_each f vs)) (f v)
 
--- All parts absent; none where one of them is required.
+-- All parts absent; None if one of them is required.
 abbrev pub all_absent : Components → Option Parts
 all_absent no_component = Some end
 all_absent (component t required s cs) = None
 all_absent (component t o s cs) = option_map absent (all_absent cs)
 
--- Root and additions, if both are there.
+-- Root and additions, if both exist.
 abbrev pub both_parts : Option Parts → Option Parts → Option Value
 both_parts (Some ps) (Some qs) = Some (fields ps qs)
 both_parts ps qs = None
 
 unfoldable mutual
   -- A value of the older version as one of the newer (true), or of the newer one as one of the older (false). To the
-  -- newer one: None where a part that only that has is required in a sequence or set that is there. To the older one:
-  -- None where it lacks an alternative or an item that is not inside a part that is left out.
+  -- newer one: None if a part that only it has is required in a SEQUENCE or SET that is present. To the older one:
+  -- None if it lacks an alternative or an item that is not inside a part that is left out.
   pub carried : Bool → Schema → Schema → Value → Option Value
   carried false (enumerated roots e adds) (enumerated roots' e' adds') (item v) =
       cond (is_some (item_place v roots) || is_some (item_place v adds)) (Some (item v)) None
@@ -46,7 +46,7 @@ unfoldable mutual
       option_map (λ w. chosen true i w) (carried_alternative newer adds adds' i v)
   carried newer s s' v = Some v
 
-  -- The parts that only the newer version has are absent in it, and are not there in the older one.
+  -- The parts that only the newer version has are absent in its value, and do not exist in the older one.
   pub carried_parts : Bool → Components → Components → Parts → Option Parts
   carried_parts newer (component t o s cs) (component t' o' s' cs') (present v ps) =
       option_and_then (λ w. option_map (λ qs. present w qs) (carried_parts newer cs cs' ps)) (carried newer s s' v)
@@ -62,7 +62,7 @@ unfoldable mutual
       carried_alternative newer others others' i v
   carried_alternative newer others others' i v = None
 
--- A value of the older version as one of the newer: the parts that only that has are absent.
+-- A value of the older version as one of the newer: the parts that only the newer one has are absent.
 abbrev pub grow : Schema → Schema → Value → Option Value
 grow old new v = carried true old new v
 
@@ -70,8 +70,8 @@ grow old new v = carried true old new v
 abbrev pub drop : Schema → Schema → Value → Option Value
 drop old new v = carried false old new (normal new v)
 
--- By the loss a part that the older version knows has become its default, or a group has become empty, so that what is
--- left is not in normal form.
+-- The loss leaves a part that the older version knows at its default, or a group empty, so that the result is not in
+-- normal form.
 abbrev pub IsClash : Schema → Schema → Value → Type 0
 IsClash old new v = (w : Value) × (drop old new v ≡ Some w) × ¬ (normal old w ≡ w)
 
@@ -79,9 +79,9 @@ IsClash old new v = (w : Value) × (drop old new v ≡ Some w) × ¬ (normal old
 abbrev pub Begins : {X : Type 0} → List X → List X → Type 0
 Begins {X} xs ys = (zs : List X) × (xs ++ zs ≡ ys)
 
--- Both required, both optional, or both with one default: that of the older version, carried over, is the same value as
--- that of the newer, whatever order a bag in it has and whether or not it spells out what is at a default of its own
--- (X.680 25).
+-- Both required, both optional, or both with the same default: the default of the older version, carried over, is the
+-- same value as that of the newer, whatever the order of a SET OF in it, and whether or not it encodes components at
+-- their own defaults (X.680 25).
 abbrev pub KeepsPresence : Schema → Schema → Presence → Presence → Type 0
 KeepsPresence s s' required required = Unit {0}
 KeepsPresence s s' optional optional = Unit {0}
@@ -91,7 +91,7 @@ KeepsPresence s s' o o' = ⊥
 
 unfoldable mutual
   -- The second type is a newer version of the first: the same kinds, bounds, sizes, alphabets, extension markers and
-  -- root tables, with further additions, items and alternatives behind extension markers alone.
+  -- root tables, with further additions, items and alternatives only after extension markers.
   pub Extends : Schema → Schema → Type 0
   Extends cut cut = Unit {0}
   Extends boolean boolean = Unit {0}
@@ -111,8 +111,8 @@ unfoldable mutual
       ExtendsAlternatives false roots roots' × (e ≡ e') × ExtendsAlternatives e adds adds'
   Extends s s' = ⊥
 
-  -- One by one, and behind them further ones if these may come. Each tag of the older version is one of the newer: an
-  -- untagged choice and a group gain the tags of what they gain, wherever it stands among them.
+  -- One by one, followed by further ones if these are allowed. Each tag of the older version is one of the newer: an
+  -- untagged CHOICE and a group gain the tags of what they gain, at any position.
   pub ExtendsEach : Bool → Components → Components → Type 0
   ExtendsEach more no_component no_component = Unit {0}
   ExtendsEach true no_component (component t' o' s' cs') = Unit {0}
@@ -120,7 +120,7 @@ unfoldable mutual
       All (Contains t') t × KeepsPresence s s' o o' × Extends s s' × ExtendsEach more cs cs'
   ExtendsEach more cs cs' = ⊥
 
-  -- The same of alternatives, whose tags are equal.
+  -- The same for alternatives, whose tags are equal.
   pub ExtendsAlternatives : Bool → Alternatives → Alternatives → Type 0
   ExtendsAlternatives more no_alternative no_alternative = Unit {0}
   ExtendsAlternatives true no_alternative (alternative t' s' others') = Unit {0}

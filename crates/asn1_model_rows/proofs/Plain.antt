@@ -1,4 +1,4 @@
--- Forms on whose canonical way a reader meets no freedom that it has: it takes the canonical text alone.
+-- Forms with a canonical encoding in which a reader meets none of its freedoms: it accepts only that encoding.
 use Rattle.std.proofs.Common.{◌≡◌, ℕ, ◌+◌, ◌==◌, [], ◌∷◌, Bool, true, false, not, ◌&&◌, IsTrue, List, length, Option, Some, None, refl, ap, inl, inr}
 use Rattle.std.proofs.Common.{subst, ◌⊎◌}
 use Rattle.std.proofs.lemmas.Bool.{eq-eqb}
@@ -50,7 +50,7 @@ plain_reads free (within x f) p w h r =
     let e2 = plain_reads free (f r.0) p w h2 r.2 in
     rw (e1, e2) refl
 
--- ---- texts compared by computation
+-- ---- encodings compared by computation
 
 same_bits : (bs : List Bool) → pointwise same_truth bs bs ≡ true
 same_bits [] = refl
@@ -65,7 +65,7 @@ abbrev pub is_text : {A : Type 0} → (A → A → Bool) → Option (List A) →
 is_text same None w = false
 is_text same (Some l) w = pointwise same l w
 
--- so a text that the canonical one is not is not read
+-- so an encoding other than the canonical one is not read
 not_read : {F : Type 0} {D : F → Type 0} {A : Type 0} (same : A → A → Bool) (h : (l : List A) → pointwise same l l ≡ true) (free : F → Bool) (x : Form F D A) (w : List A) → is_plain free x 0 ≡ true → is_text same (written x 0) w ≡ false → Reads free x 0 w → ⊥
 not_read same h free x w p n r = let e : is_text same (written x 0) w ≡ true = rw (plain_reads free x 0 w p r) (h w) in let q : false ≡ true = subst (λ b. b ≡ true) n e in cc
 

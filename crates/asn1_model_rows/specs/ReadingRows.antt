@@ -1,4 +1,4 @@
--- Rows: octets that are an encoding of a value, many of which are not the canonical one, and octets that are none.
+-- Rows: octets that are an encoding of a value, many of which are not the canonical one, and octets that are not.
 use Rattle.std.specs.Prelude.{◌≡◌, ℕ, ◌+◌, ◌^◌, pos, Bool, true, false, List, [], ◌∷◌, ◌++◌, map, replicate, Some, None}
 use Rattle.asn1_model.specs.Value.{Value, nothing, item, text, arcs, fields, chosen, end, absent, present}
 use Rattle.asn1_model.specs.Schema.{visible, ia5, numeric, utf8, Schema, boolean, null, integer, enumerated}
@@ -99,7 +99,7 @@ ReadingRows =
     × IsEncoding oer (bit_text (sizes 4 4)) (set_bits 4) (0xFF ∷ [])
     × IsEncoding oer any_octets (octets []) (0x81 ∷ 0x00 ∷ [])
 
--- no encoding of the value that a more lenient reader would find there, or that the octets seem to say
+-- not an encoding of the value that a more lenient reader would find, or that the octets seem to encode
 abbrev pub RefusedRows : Type 0
 RefusedRows =
     IsNoEncoding coer boolean yes (0x05 ∷ [])
@@ -154,7 +154,7 @@ RefusedRows =
     × IsNoEncoding uper_strict colour_new (item (pos 1)) (0xC0 ∷ 0x40 ∷ 0x00 ∷ [])
     × IsNoEncoding uper_strict many_nulls (null_list 32768) (0xC1 ∷ 0xC1 ∷ 0x00 ∷ [])
 
--- which freedoms the strict readers have: of thirteen in OER three, of twelve in PER two
+-- the freedoms of the strict readers: three of thirteen in OER, two of twelve in PER
 abbrev pub FreedomRows : Type 0
 FreedomRows =
     (map strict_oer (Oer.longer_length ∷ Oer.longer_number ∷ Oer.any_truth ∷ Oer.longer_item ∷ Oer.empty_bit_string
@@ -168,7 +168,7 @@ FreedomRows =
     ∷ Per.octets_behind ∷ []) ≡ replicate 5 false)
     × (map strict_per (Per.other_bitmap ∷ Per.other_order ∷ []) ≡ replicate 2 true)
 
--- details that no freedom brings: there is no such text
+-- details that no freedom permits: no such encoding exists
 abbrev pub FormRows : Type 0
 FormRows =
     -- a PER fragment of 0 units, of 5 times 16384, and of more than there are
@@ -179,35 +179,36 @@ FormRows =
     × (written (Per.in_octets_of (Per.constrained true) true 1234311 0 0) 0 ≡ None)
     × (written (Per.in_octets_of (Per.constrained true) true 1234311 0 4) 0 ≡ None)
     × (written (Per.in_octets_of (Per.constrained true) true 1234311 256 1) 0 ≡ None)
-    -- a number or a size told as inside the root that is not
+    -- a number or a size outside the root, encoded as inside it
     × (written (Per.with_extension_bit true false (exactly []) (exactly [])) 0 ≡ Some (true ∷ []))
     × (written (Per.with_extension_bit false false (exactly []) (exactly [])) 0 ≡ None)
-    -- an OER length in no octets, in 128, and in fewer than it needs; one past 64 bits
+    -- an OER length determinant of no octets, of 128, and of fewer than needed; a length over 64 bits
     × (written (Oer.long_length 5 0) 0 ≡ None)
     × (written (Oer.long_length 5 128) 0 ≡ None)
     × (written (Oer.long_length 256 1) 0 ≡ None)
     × (written (Oer.length_form (2 ^ 64)) 0 ≡ None)
-    -- an item of no octets, of fewer than it needs, and a negative one in one octet; a long tag of number 0
+    -- an enumeration value in no octets, in fewer than needed, and a negative one in one octet; a tag number 0 in the
+    -- long form
     × (written (Oer.long_item 0 (pos 5)) 0 ≡ None)
     × (written (Oer.long_item 1 (pos 128)) 0 ≡ None)
     × (written (Oer.short_item (minus 1)) 0 ≡ None)
     × (written (Oer.long_tag_octets (context 0)) 0 ≡ None)
-    -- a bitmap too narrow for what is there, and unknown additions before ones that the type has
+    -- a bitmap too narrow for what is present, and unknown additions before ones that the type has
     × (covered_by (λ os. os) (record { covered = 0; further = [] }) (Some [] ∷ []) ≡ None)
     × (covered_by (λ os. os) (record { covered = 0; further = None ∷ [] }) (None ∷ []) ≡ None)
     × (covered_by (λ os. os) (record { covered = 1; further = None ∷ [] }) (None ∷ []) ≡ Some (None ∷ None ∷ []))
-    -- an order that names a place past those that are left, and one that leaves a member out
+    -- an order with an index past the elements left, and one that leaves out an element
     × (arranged {X = ℕ} (0 ∷ 1 ∷ []) (7 ∷ 8 ∷ []) ≡ None)
     × (arranged {X = ℕ} (0 ∷ []) (7 ∷ 8 ∷ []) ≡ None)
     × (arranged {X = ℕ} (1 ∷ 0 ∷ []) (7 ∷ 8 ∷ []) ≡ Some (8 ∷ 7 ∷ []))
 
--- no PER reader takes what is outside the root behind an extension bit that says inside, whatever follows
+-- no PER reader accepts a value outside the root after an extension bit of 0, whatever follows
 abbrev pub OutsideIsTold : Type 0
 OutsideIsTold =
     (root outside : Per.BitForm) (p : ℕ) (w : List Bool)
     → Reads lenient (Per.with_extension_bit true false root outside) p (false ∷ w) → ⊥
 
--- octets that are an encoding of no value at all
+-- octets that are not an encoding of any value
 abbrev pub NoValueRows : Type 0
 NoValueRows =
     ((v : Value) → IsNoEncoding coer boolean v (0x05 ∷ []))

@@ -132,7 +132,7 @@ StringRows =
     × Writes coer (string visible any_size) john (0x04 ∷ 0x4A ∷ 0x6F ∷ 0x68 ∷ 0x6E ∷ [])
     × Writes uper (visible_of (0x30 ∷ 0x31 ∷ [])) (text (0x30 ∷ 0x31 ∷ 0x31 ∷ 0x30 ∷ [])) (0x04 ∷ 0x60 ∷ [])
     × Writes aper (visible_of (0x30 ∷ 0x31 ∷ [])) (text (0x30 ∷ 0x31 ∷ 0x31 ∷ 0x30 ∷ [])) (0x04 ∷ 0x60 ∷ [])
-    -- FROM ("1" "0") in whatever order, and a character listed twice
+    -- FROM ("1" "0") in any order, and with a character listed twice
     × Writes uper (visible_of (0x31 ∷ 0x30 ∷ [])) (text (0x31 ∷ [])) (0x01 ∷ 0x80 ∷ [])
     × Writes aper (visible_of (0x31 ∷ 0x30 ∷ [])) (text (0x31 ∷ [])) (0x01 ∷ 0x80 ∷ [])
     × Writes uper (visible_of (0x31 ∷ 0x30 ∷ 0x31 ∷ [])) (text (0x31 ∷ 0x30 ∷ [])) (0x02 ∷ 0x80 ∷ [])
@@ -268,7 +268,7 @@ AdditionRows =
 -- alphabets
 abbrev pub CharacterRows : Type 0
 CharacterRows =
-    -- of no character and of one: no bits
+    -- of no characters and of one: no bits
     Writes uper (visible_of []) (text []) (0x00 ∷ [])
     × Writes aper (visible_of []) (text []) (0x00 ∷ [])
     × WritesNothing uper (visible_of []) (text (0x30 ∷ []))
@@ -278,17 +278,17 @@ CharacterRows =
     × Writes aper (visible_of (0x30 ∷ [])) (text (0x30 ∷ 0x30 ∷ 0x30 ∷ [])) (0x03 ∷ [])
     × Writes aper (flagged (character_string visible (sizes 3 3) (letters (0x30 ∷ [])) any_count))
     (yes_and (text (0x30 ∷ 0x30 ∷ 0x30 ∷ []))) (0x80 ∷ [])
-    -- of three: places, or the characters' own numbers where all of these fit
+    -- of three: indices, or the characters' values if all of these fit
     × Writes uper (character_string ia5 any_size (letters (0 ∷ 1 ∷ 3 ∷ [])) any_count) (text (3 ∷ []))
     (0x01 ∷ 0xC0 ∷ [])
     × Writes uper (character_string ia5 any_size (letters (0 ∷ 1 ∷ 4 ∷ [])) any_count) (text (4 ∷ []))
     (0x01 ∷ 0x80 ∷ [])
-    -- of five: three bits and places, but four bits and own numbers where widths are raised
+    -- of five: three bits and indices, but four bits and values if widths are raised
     × Writes uper (character_string ia5 any_size (letters (0 ∷ 1 ∷ 2 ∷ 3 ∷ 9 ∷ [])) any_count) (text (9 ∷ []))
     (0x01 ∷ 0x80 ∷ [])
     × Writes aper (character_string ia5 any_size (letters (0 ∷ 1 ∷ 2 ∷ 3 ∷ 9 ∷ [])) any_count) (text (9 ∷ []))
     (0x01 ∷ 0x90 ∷ [])
-    -- whole alphabets: 4, 7, 8 and 16 bits
+    -- alphabets of all characters: 4, 7, 8 and 16 bits
     × Writes uper (string printable any_size) (text (0x48 ∷ 0x69 ∷ [])) (0x02 ∷ 0x91 ∷ 0xA4 ∷ [])
     × Writes aper (string printable any_size) (text (0x48 ∷ 0x69 ∷ [])) (0x02 ∷ 0x48 ∷ 0x69 ∷ [])
     × Writes uper (string ia5 any_size) (text (0x7F ∷ [])) (0x01 ∷ 0xFE ∷ [])
@@ -318,11 +318,11 @@ CharacterRows =
     (0xC0 ∷ 0x02 ∷ 0x23 ∷ [])
     × Writes uper (flagged (string numeric (sizes_or_more 1 1))) (yes_and (text (0x31 ∷ 0x32 ∷ [])))
     (0xC0 ∷ 0x88 ∷ 0xC0 ∷ [])
-    -- an alphabet with an extension marker counts for nothing, and one in OER neither
+    -- an alphabet with an extension marker is ignored in PER, and any alphabet in OER
     × Writes uper (character_string visible any_size
     (record { characters = Some (0x30 ∷ 0x31 ∷ []); extensible = true }) any_count) (text (0x32 ∷ []))
     (0x01 ∷ 0x64 ∷ [])
-    -- an alphabet that goes past the type's own: the characters that both have, here one
+    -- an alphabet with characters outside the type's: the characters that both have, here one
     × Writes uper (character_string numeric any_size (letters (0x30 ∷ 0x61 ∷ [])) any_count) (text (0x30 ∷ []))
     (0x01 ∷ [])
     × Writes aper (character_string numeric any_size (letters (0x30 ∷ 0x61 ∷ [])) any_count) (text (0x30 ∷ []))
@@ -330,7 +330,7 @@ CharacterRows =
     × WritesNothing uper (character_string numeric any_size (letters (0x30 ∷ 0x61 ∷ [])) any_count) (text (0x61 ∷ []))
     × WritesNothing aper (character_string numeric any_size (letters (0x30 ∷ 0x61 ∷ [])) any_count) (text (0x61 ∷ []))
     × WritesNothing coer (character_string numeric any_size (letters (0x30 ∷ 0x61 ∷ [])) any_count) (text (0x61 ∷ []))
-    -- a size of UTF8String and its kin counts in OER alone, and in octets
+    -- a size of UTF8String and similar types counts only in OER, and in octets
     × Writes uper (string utf8 any_size) (text (0xC3 ∷ 0xA9 ∷ [])) (0x02 ∷ 0xC3 ∷ 0xA9 ∷ [])
     × Writes aper (string utf8 any_size) (text (0xC3 ∷ 0xA9 ∷ [])) (0x02 ∷ 0xC3 ∷ 0xA9 ∷ [])
     × Writes coer (string utf8 any_size) (text (0xC3 ∷ 0xA9 ∷ [])) (0x02 ∷ 0xC3 ∷ 0xA9 ∷ [])
@@ -348,7 +348,7 @@ CharacterRows =
     × Writes coer (string teletex (sizes 1 1)) (text (0xFF ∷ [])) (0xFF ∷ [])
     × WritesNothing uper (string general any_size) (text (256 ∷ []))
     × WritesNothing coer (string general any_size) (text (256 ∷ []))
-    -- well-formed UTF-8: no long forms, no surrogates, nothing past the last plane, nothing cut short
+    -- well-formed UTF-8: no overlong forms, no surrogates, nothing above U+10FFFF, nothing truncated
     × Writes coer (string utf8 any_size) (text (0xF4 ∷ 0x8F ∷ 0xBF ∷ 0xBF ∷ [])) (0x04 ∷ 0xF4 ∷ 0x8F ∷ 0xBF ∷ 0xBF ∷ [])
     × Writes coer (string utf8 any_size) (text (0xED ∷ 0x9F ∷ 0xBF ∷ [])) (0x03 ∷ 0xED ∷ 0x9F ∷ 0xBF ∷ [])
     × WritesNothing coer (string utf8 any_size) (text (0xC0 ∷ 0x80 ∷ []))
@@ -386,10 +386,10 @@ CharacterRows =
     × WritesNothing uper (string bmp any_size) (text (0x10000 ∷ []))
     × WritesNothing coer (string bmp any_size) (text (0x10000 ∷ []))
 
--- additions, open types and bags
+-- additions, open types and SET OF
 abbrev pub OpenRows : Type 0
 OpenRows =
-    -- an addition alone at its default, and a group whose only part is: the extension bit says none
+    -- a single addition at its default, and a group whose only component is: the extension bit is 0
     Writes uper default_added (yes_with (num 3)) (0x40 ∷ [])
     × Writes aper default_added (yes_with (num 3)) (0x40 ∷ [])
     × Writes coer default_added (yes_with (num 3)) (0x00 ∷ 0xFF ∷ [])
@@ -398,7 +398,7 @@ OpenRows =
     × Writes coer default_grouped (yes_with (roots (present (num 5) end))) (0x00 ∷ 0xFF ∷ [])
     × Writes coer default_grouped (yes_with (roots (present (num 6) end)))
     (0x80 ∷ 0xFF ∷ 0x02 ∷ 0x07 ∷ 0x80 ∷ 0x03 ∷ 0x80 ∷ 0x01 ∷ 0x06 ∷ [])
-    -- an open type around a value of no bits
+    -- an open type with a value of no bits
     × Writes uper null_added (yes_with nothing) (0xC0 ∷ 0x40 ∷ 0x40 ∷ 0x00 ∷ [])
     × Writes aper null_added (yes_with nothing) (0xC0 ∷ 0x40 ∷ 0x01 ∷ 0x00 ∷ [])
     × Writes coer null_added (yes_with nothing) (0x80 ∷ 0xFF ∷ 0x02 ∷ 0x07 ∷ 0x80 ∷ 0x00 ∷ [])
@@ -428,19 +428,19 @@ OpenRows =
     (0x00 ∷ 0x80 ∷ 0x01 ∷ 0x01 ∷ [])
     × Writes uper (open_behind (optional_numbers 0 7) no_component) (fields (absent_parts 6 (present (num 1) end)) end)
     (0x01 ∷ 0x01 ∷ 0x01 ∷ [])
-    -- positions begin anew in an open type
+    -- positions start anew in an open type
     × Writes aper (open_behind (needs 0 boolean no_component) (needs 1 (flagged octet_number) no_component))
     (yes_with (yes_and (num 9)))
     (0xC0 ∷ 0x40 ∷ 0x02 ∷ 0x80 ∷ 0x09 ∷ [])
     × Writes uper (open_behind (needs 0 boolean no_component) (needs 1 (flagged octet_number) no_component))
     (yes_with (yes_and (num 9)))
     (0xC0 ∷ 0x40 ∷ 0xA1 ∷ 0x20 ∷ 0x00 ∷ [])
-    -- required parts that are not there
+    -- required components that are absent
     × WritesNothing uper (flagged boolean) (roots (present yes (absent end)))
     × WritesNothing coer (flagged boolean) (roots (present yes (absent end)))
     × WritesNothing uper (flagged boolean) (roots (present yes end))
     × WritesNothing coer (flagged boolean) (roots (present yes end))
-    -- a bag stands in the order of its complete encodings in the same rules, which ends in padding bits
+    -- a SET OF is in the order of its complete encodings in the same rules, with their padding bits
     × Writes uper (bag_of boolean) (bag_with (yes ∷ no ∷ [])) (0x02 ∷ 0x40 ∷ [])
     × Writes aper (bag_of (octet_text (sizes 0 2))) (bag_with (octets (1 ∷ 2 ∷ []) ∷ octets (3 ∷ []) ∷ []))
     (0x02 ∷ 0x40 ∷ 0x03 ∷ 0x80 ∷ 0x01 ∷ 0x02 ∷ [])
@@ -450,14 +450,14 @@ OpenRows =
     × Writes coer (bag_of null) (bag_with []) (0x01 ∷ 0x00 ∷ [])
     × Writes coer (bag_of (bag_of octet_number)) (bag_with (bag_with (num 2 ∷ num 1 ∷ []) ∷ bag_with (num 9 ∷ []) ∷ []))
     (0x01 ∷ 0x02 ∷ 0x01 ∷ 0x01 ∷ 0x09 ∷ 0x01 ∷ 0x02 ∷ 0x01 ∷ 0x02 ∷ [])
-    -- a default that is a bag is equal in any order
+    -- a default that is a SET OF is equal in any order
     × Writes uper (closed (has_default 0 (bag_of octet_number) (bag_with (num 1 ∷ num 2 ∷ [])) no_component))
     (roots (present (bag_with (num 2 ∷ num 1 ∷ [])) end))
     (0x00 ∷ [])
     × Writes uper (closed (has_default 0 (list any_size octet_number) (list_of (num 1 ∷ num 2 ∷ [])) no_component))
     (roots (present (list_of (num 2 ∷ num 1 ∷ [])) end))
     (0x81 ∷ 0x01 ∷ 0x00 ∷ 0x80 ∷ [])
-    -- 129 levels are written, and are too many to be read
+    -- 129 nested levels are written, but too many to be read
     × Writes coer (nest 129) (nested 128) (replicate 128 0x81 ++ 0x80 ∷ [])
     × (depth (nested 127) ≡ 128)
     × (depth (nested 128) ≡ 129)
@@ -498,12 +498,13 @@ FragmentRows =
     × (largest_first 65536 ≡ 4 ∷ [])
     × (largest_first 147456 ≡ 4 ∷ 4 ∷ 1 ∷ [])
 
--- a fixed size of 65535 and of 65536, and elements that end between octets
+-- a fixed size of 65535 and of 65536, and elements that do not end at octet boundaries
 abbrev pub WholeSizeRows : Type 0
 WholeSizeRows =
     Writes uper (list (sizes 65535 65535) null) (null_list 65535) (0x00 ∷ [])
     × Writes aper (list (sizes 65536 65536) null) (null_list 65536) (0xC4 ∷ 0x00 ∷ [])
-    -- elements that end between octets: the length behind the first fragment stands at an octet in the aligned variant
+    -- elements that do not end at octet boundaries: the length determinant after the first fragment is at an octet
+    -- boundary in the aligned variant
     × Writes uper (list any_size (one_of (or_tagged 0 null (or_tagged 1 boolean no_alternative))))
     (members (member (chosen false 1 yes) (copies 16384 (chosen false 0 nothing))))
     (0xC1 ∷ 0xC0 ∷ replicate 2048 0x00 ++ 0x80 ∷ [])
@@ -511,7 +512,7 @@ WholeSizeRows =
     (members (member (chosen false 1 yes) (copies 16384 (chosen false 0 nothing))))
     (0xC1 ∷ 0xC0 ∷ replicate 2048 0x00 ++ 0x01 ∷ 0x00 ∷ [])
 
--- long texts
+-- long encodings
 abbrev pub LongRows : Type 0
 LongRows =
     Writes coer any_octets (octets (replicate 16384 0x61)) (0x82 ∷ 0x40 ∷ 0x00 ∷ replicate 16384 0x61)

@@ -1,4 +1,4 @@
-//! More rows of the model: worked encodings, and octets that are none, computed from the definitions.
+//! More worked examples of the model, computed from the definitions: encodings, and octets that are not encodings.
 #![tactic(auto)]
 
 ghost use Rattle.asn1_model_rows.specs.ReadingRows.{FormRows, FreedomRows, NoValueRows, OutsideIsTold, ReadingRows};
@@ -6,7 +6,7 @@ ghost use Rattle.asn1_model_rows.specs.ReadingRows.{RefusedRows};
 ghost use Rattle.asn1_model_rows.specs.Rows.{NumberRows, StringRows, StructureRows, AdditionRows, LongRows};
 ghost use Rattle.asn1_model_rows.specs.Rows.{CharacterRows, OpenRows, LengthRows, FragmentRows, WholeSizeRows};
 
-/// Truth values and whole numbers (X.691 11.5 to 13, X.696 9 and 10).
+/// BOOLEAN and INTEGER (X.691 11.5 to 13, X.696 9 and 10).
 pub fn number_rows()
     ensures { NumberRows }
 {}
@@ -16,27 +16,27 @@ pub fn string_rows()
     ensures { StringRows }
 {}
 
-/// Sequences, sets, lists, bags and choices (X.691 19 to 23, X.696 16 to 20).
+/// SEQUENCE, SET, SEQUENCE OF, SET OF and CHOICE (X.691 19 to 23, X.696 16 to 20).
 pub fn structure_rows()
     ensures { StructureRows }
 {}
 
-/// Additions to sequences, choices and enumerations (X.691 19, 14 and 23, X.696 16, 11 and 20).
+/// Extension additions to SEQUENCE, CHOICE and ENUMERATED (X.691 19, 14 and 23, X.696 16, 11 and 20).
 pub fn addition_rows()
     ensures { AdditionRows }
 {}
 
-/// Alphabets.
+/// Permitted alphabets.
 pub fn character_rows()
     ensures { CharacterRows }
 {}
 
-/// Additions, open types and bags.
+/// Extension additions, open types and SET OF.
 pub fn open_rows()
     ensures { OpenRows }
 {}
 
-/// Lengths at which a form changes.
+/// Lengths at which the form of the length determinant changes.
 pub fn length_rows()
     ensures { LengthRows }
 {}
@@ -46,12 +46,12 @@ pub fn fragment_rows()
     ensures { FragmentRows }
 {}
 
-/// A fixed size of 65535 and of 65536, and elements that end between octets.
+/// A fixed size of 65535 and of 65536, and elements that do not end at octet boundaries.
 pub fn whole_size_rows()
     ensures { WholeSizeRows }
 {}
 
-/// Long texts.
+/// Long encodings.
 pub fn long_rows()
     ensures { LongRows }
 {}
@@ -61,27 +61,27 @@ pub fn reading_rows()
     ensures { ReadingRows }
 {}
 
-/// No encoding of the value that a more lenient reader would find there, or that the octets seem to say.
+/// Octets that are not an encoding of the value that a more lenient reader would find, or that they seem to encode.
 pub fn refused_rows()
     ensures { RefusedRows }
 {}
 
-/// Details that no freedom brings: there is no such text.
+/// Details that no freedom permits: no such encoding exists.
 pub fn form_rows()
     ensures { FormRows }
 {}
 
-/// Octets that are an encoding of no value at all.
+/// Octets that are not an encoding of any value.
 pub fn no_value_rows()
     ensures { NoValueRows }
 {}
 
-/// No PER reader takes what is outside the root behind an extension bit that says inside, whatever follows.
+/// No PER reader accepts a value outside the root after an extension bit of zero, whatever follows.
 pub fn outside_is_told()
     ensures { OutsideIsTold }
 {}
 
-/// Which freedoms the strict readers have: of thirteen in OER three, of twelve in PER two.
+/// The freedoms of the strict readers: three of thirteen in OER, two of twelve in PER.
 pub fn freedom_rows()
     ensures { FreedomRows }
 {}

@@ -1,4 +1,4 @@
--- What a run did that answered one message.
+-- What a run did that translated one message.
 use Rattle.std.proofs.Common.{OnOk, IfErr, MatchResult, ◌≡◌, ℕ, List, Option, Result, Ok, Err, sym, subst}
 use Rattle.std.specs.Io.KnownBytes.{Appends}
 use Rattle.asn1_relay_core.specs.Ends.{BeginsToAppend}

@@ -14,7 +14,7 @@ use Rattle.asn1_relay_command.specs.declared.fault.Place.TheVariants as place
 abbrev Texts : Type 0
 Texts = List (Bor (List ℕ))
 
--- one text more
+-- one more text
 joined_more : (ps : Texts) (n : ℕ) (d : Bor (List ℕ)) → n < length ps → joined (take (suc n) ps) ≡ joined (take n ps) ++ (slice_index_or ps n d).now
 joined_more [] n d h = absurd (omega (arith, h))
 joined_more (p ∷ ps) zero d h = append-nil p.now

@@ -1,4 +1,4 @@
--- What a command line asks for, from what a parse gives.
+-- What a command line requests, from the result of a parse.
 use Rattle.std.proofs.Common.{◌≡◌, ◌∙◌, ◌⊎◌, ◌<◌, ◌≤◌, inl, inr, arith, subst, ℕ, Bool, not, true, false, List, [], ◌∷◌, Option, Some, None, option_map, option_and_then, refl, sym, ap, ap₂, codes, if◌then◌else◌, ◌++◌, ◌+◌, zero, suc, length, slice_index_or, add-one, append_assoc, drop}
 use Rattle.std.specs.Borrow.{Bor}
 use Rattle.clap.specs.Walk.{texts}
@@ -43,7 +43,7 @@ nothing_asked : (faults : Kinds) → unless_fault faults None ≡ None
 nothing_asked [] = refl
 nothing_asked (fault ∷ faults) = refl
 
--- an error that is no want of memory shows that the words ask for nothing
+-- an error other than out of memory shows that the words request nothing
 pub bad_words : (a : App) (words : List Text) (e : Error) → a ≡ program_app → (is_simple_and_free a ≡ true → HasKind (fault_of a words) e) → (asked_by words ≡ None) ⊎ (kind_of e ≡ OutOfMemory)
 unfolding asked_by
 bad_words a words e same kinds =
@@ -52,7 +52,7 @@ bad_words a words e same kinds =
       | inr among ↦ inl (ap (λ (b : App). unless_fault (fault_of b words) (task_in_command (subcommand_of program_app words))) (sym same) ∙ refused_by _ (fault_of a words) _ among)
     ]
 
--- matches tell what the words ask for
+-- matches determine what the words request
 pub words_ask : (a : App) (words : List Text) (m : ArgMatches) (task : Option Task) → a ≡ program_app → HasMatchesOf a words m → (is_simple_and_free a ≡ true → fault_of a words ≡ []) → task ≡ task_in_command (subcommand_rows_of m) → asked_by words ≡ task
 unfolding asked_by
 words_ask a words m task same matches kinds asked =
@@ -60,7 +60,7 @@ words_ask a words m task same matches kinds asked =
     let entered : subcommand_rows_of m ≡ subcommand_of program_app words = (matches (ap is_simple same ∙ simple)).1 ∙ ap (λ (b : App). subcommand_of b words) same in
     ap₂ unless_fault faultless (ap task_in_command (sym entered)) ∙ sym asked
 
--- what the options ask for, by the rows of what was found
+-- what the options request, by the rows of what was found
 pub translation_rows : (f : Found) → translation_by_names (first_value f (codes "from")) (first_value f (codes "to")) (first_value f (codes "type")) ≡ translation_in_rows (rows_of f)
 translation_rows f =
     let asked : Option Text → Option Text → Option Text → Option Translation = translation_by_names in
@@ -154,7 +154,7 @@ module _ (names : List (Bor Text)) (i : ℕ) (done : List Hop) (whole : hops_by_
       some_hops : List Hop → Option (List Hop)
       some_hops l = Some l
 
--- a command that is like these has no option that holds for others
+-- a command like these has no option that holds for others
 pub local_of : (c : Command) (a : App) → app_of c ≡ a → a.top.is_plain ≡ true → (out-Command c).has_globals ≡ false
 local_of c a e p =
     let plain : has_plain_fields (out-Command c) ≡ true = ap (λ (x : App). x.top.is_plain) e ∙ p in

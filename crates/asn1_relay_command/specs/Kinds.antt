@@ -14,7 +14,7 @@ use Rattle.asn1_relay_command.specs.declared.order.Kind.TheVariants as kind
 use Rattle.asn1_relay_command.specs.declared.order.Pair.{Pair}
 use Rattle.asn1_relay_command.specs.declared.order.Pair.TheVariants as pair
 
--- The type of a name, where it leads back to itself unfolded to 128 nested levels.
+-- The type with a name, unfolded to 128 nested levels if it is recursive.
 abbrev pub schema_named : Kind → Schema
 schema_named kind.Bool = boolean
 schema_named kind.Small = small_schema

@@ -1,4 +1,4 @@
--- What the program says on standard error of a fault that stops it.
+-- What the program writes to standard error for an error that stops it.
 use Rattle.std.specs.Prelude.{ℕ, List, [], ◌∷◌, ◌++◌, Option, Some, None, codes, decimal}
 use Rattle.std.specs.Borrow.{Bor}
 use Rattle.asn1_relay_core.specs.declared.fault.RelayFaultKind.{RelayFaultKind}
@@ -37,7 +37,7 @@ text_of fault.WriteFailed = codes "write failed"
 text_of (fault.AtMessage at) = text_at_message at.kind
 text_of (fault.AtHop i kind) = text_at_hop kind
 
--- the message of a stream, or the hop of a route, at which it is wrong, if it is one's
+-- the message of a stream, or the hop of a route, at which an error occurred, if there is one
 abbrev pub place_of : Fault → Option Place
 place_of (fault.AtMessage at) = Some (place.Message at.number)
 place_of (fault.AtHop i kind) = Some (place.Hop i)
@@ -55,11 +55,11 @@ behind_place (Some (place.Hop n)) text = behind_number (codes "hop ") n text
 abbrev pub line_of : Fault → List ℕ
 line_of f = codes "asn1_relay: " ++ behind_place (place_of f) (text_of f ++ (10 ∷ []))
 
--- the line of an argument that is no text
+-- the line for an argument that is not text
 abbrev pub not_text_line : List ℕ
 not_text_line = codes "error: an argument is not text" ++ (10 ∷ [])
 
--- texts, one behind the other
+-- texts in sequence
 abbrev pub joined : List (Bor (List ℕ)) → List ℕ
 joined [] = []
 joined (text ∷ texts) = text.now ++ joined texts

@@ -1,5 +1,5 @@
--- What a run of the command does with its reader, whose octets are those that it still gives, and its writer, whose
--- octets are those that it holds, where these are known.
+-- What a run of the command does with its reader, whose octets are those that it will still return, and its writer,
+-- whose octets are those that it holds, if these are known.
 use Rattle.std.specs.Prelude.{◌≡◌, ◌⊎◌, ℕ, List, Option, Some, None}
 use Rattle.std.specs.Io.KnownBytes.{Appends, Consumes, IsAtEnd, Keeps}
 use Rattle.asn1_model.specs.Schema.{Schema}
@@ -26,17 +26,17 @@ use Rattle.asn1_relay_command.specs.declared.fault.HopFault.{HopFault}
 use Rattle.asn1_relay_command.specs.declared.fault.HopFault.TheVariants as hop
 use Rattle.asn1_relay_command.specs.declared.order.Translation.{Translation}
 
--- octets, where they are known
+-- octets, if they are known
 abbrev pub Known : Type 0
 Known = Option (List ℕ)
 
 -- ---- translating
 
--- what a message of a type becomes, by the rules that were asked for
+-- what a message of a type becomes, by the requested rules
 abbrev pub BecomesAs : Schema → Translation → List ℕ → Answer → Type 0
 BecomesAs s t message answer = IsAnswer (rules_of t.from) (rules_of t.to) s message answer
 
--- what it becomes, by what was asked for
+-- what it becomes, by what was requested
 abbrev pub Becomes : Translation → List ℕ → Answer → Type 0
 Becomes t message answer = BecomesAs (schema_named t.kind) t message answer
 
@@ -46,7 +46,7 @@ fault_named recode_fault.Surplus = fault.SurplusOctets
 fault_named (recode_fault.NoTarget e) = fault.NoTargetEncoding
 fault_named recode_fault.Memory = fault.OutOfMemory
 
--- a fault of translating a message of a type is what becomes of it, or want of memory
+-- an error of translating a message of a type is what becomes of it, or memory ran out
 abbrev pub IsRefusedAs : Schema → Translation → List ℕ → Fault → Type 0
 IsRefusedAs s t message fault.NotAnEncoding = BecomesAs s t message not_an_encoding
 IsRefusedAs s t message fault.SurplusOctets = BecomesAs s t message surplus
@@ -54,18 +54,18 @@ IsRefusedAs s t message fault.NoTargetEncoding = BecomesAs s t message no_target
 IsRefusedAs s t message fault.OutOfMemory = Unit {0}
 IsRefusedAs s t message _ = ⊥
 
--- the same of what was asked for
+-- the same for what was requested
 abbrev pub IsRefusedBy : Translation → List ℕ → Fault → Type 0
 IsRefusedBy t message f = IsRefusedAs (schema_named t.kind) t message f
 
 -- ---- one message
 
--- a reader gave all its octets
+-- a reader returned all its octets
 pub record IsAllRead (old new : Known) (message : List ℕ) : Type 0 where
   pub read : Consumes old new message
   pub ended : IsAtEnd new
 
--- all was read, and this became of it
+-- everything was read, and became this
 pub record IsAnswered (t : Translation) (old new : Known) (answer : Answer) : Type 0 where
   pub message : List ℕ
   pub read : IsAllRead old new message
@@ -77,21 +77,21 @@ pub record HasWritten (IsRight : List ℕ → Type 0) (held held' : Known) : Typ
   pub right : IsRight octets
   pub wrote : Appends held held' octets
 
--- of octets that are right a beginning was written, and then the writer failed
+-- a prefix of octets that are right was written, and then the writer failed
 pub record IsCutOff (IsRight : List ℕ → Type 0) (held held' : Known) : Type 0 where
   pub octets : List ℕ
   pub right : IsRight octets
   pub began : BeginsToAppend held held' octets
 
--- all was read, and this is the translation of it
+-- everything was read, and this is its translation
 abbrev pub IsTranslated : Translation → Known → Known → List ℕ → Type 0
 IsTranslated t unread unread' octets = IsAnswered t unread unread' (answered octets)
 
--- all was read and translated, and the answer was written
+-- everything was read and translated, and the result was written
 abbrev pub DoesOnce : Translation → Known → Known → Known → Known → Type 0
 DoesOnce t unread unread' held held' = HasWritten (IsTranslated t unread unread') held held'
 
--- a fault before there is an answer leaves the writer as it was
+-- an error before there is a result leaves the writer as it was
 abbrev pub StopsOnceBy : Translation → Known → Known → Known → Known → Fault → Type 0
 StopsOnceBy t unread unread' held held' fault.NotAnEncoding =
     IsAnswered t unread unread' not_an_encoding × Keeps held held'
@@ -106,18 +106,18 @@ StopsOnceBy t unread unread' held held' _ = ⊥
 
 -- ---- a stream of messages
 
--- all was read, to its end, and relayed to its end, by messages of a type. Std's readers and writers count no failed
--- calls: those of the run are counted from 0 on, here and below
+-- the input was read and relayed to its end, as messages of a type. Std's readers and writers count no failed calls:
+-- those of the run are counted from 0, here and below
 abbrev pub DoesStreamAs : Schema → Codec → Codec → ℕ → Known → Known → Known → Known → Type 0
 DoesStreamAs s from to limit unread unread' held held' =
     IsDone (rules_of from) (rules_of to) s limit (ends unread held 0 0) (ends unread' held' 0 0)
 
--- the same by what was asked for
+-- the same for what was requested
 abbrev pub DoesStream : Translation → ℕ → Known → Known → Known → Known → Type 0
 DoesStream t limit unread unread' held held' =
     DoesStreamAs (schema_named t.kind) t.from t.to limit unread unread' held held'
 
--- a fault stops it
+-- an error stops it
 pub record StopsStreamAs (s : Schema) (from to : Codec) (limit : ℕ) (unread unread' held held' : Known)
     (reason : RunFault) : Type 0 where
   pub reads : ℕ
@@ -125,7 +125,7 @@ pub record StopsStreamAs (s : Schema) (from to : Codec) (limit : ℕ) (unread un
   pub stops : RunFaultOf (rules_of from) (rules_of to) s limit
       (ends unread held 0 0) (ends unread' held' reads writes) reason
 
--- the same by what was asked for
+-- the same for what was requested
 abbrev pub StopsStreamBy : Translation → ℕ → Known → Known → Known → Known → RunFault → Type 0
 StopsStreamBy t limit unread unread' held held' =
     StopsStreamAs (schema_named t.kind) t.from t.to limit unread unread' held held'
@@ -136,7 +136,7 @@ run_fault_named run_fault.Write = fault.WriteFailed
 run_fault_named (run_fault.Relay at) = fault.AtMessage at
 run_fault_named run_fault.Memory = fault.OutOfMemory
 
--- a fault of the run stops it, under the command's name for it
+-- an error of the run stops it, under the command's name for it
 pub record IsRunFault (t : Translation) (limit : ℕ) (unread unread' held held' : Known) (f : Fault) : Type 0 where
   pub reason : RunFault
   pub is : f ≡ run_fault_named reason
@@ -148,7 +148,7 @@ pub record IsRunFault (t : Translation) (limit : ℕ) (unread unread' held held'
 abbrev pub ComesAs : Schema → Schema → Codec → List Hop → List ℕ → Outcome → Type 0
 ComesAs old new from hops message outcome = IsOutcome old new (rules_of from) (hops_of hops) message outcome
 
--- there is such a hop, and those in front of it answer
+-- there is such a hop, and those before it succeed
 abbrev pub ReachesAs : Schema → Schema → Codec → List Hop → List ℕ → ℕ → Type 0
 ReachesAs old new from hops message i = Reaches old new (rules_of from) (hops_of hops) message i
 
@@ -161,7 +161,7 @@ hop_fault_named route_fault.Memory = hop.OutOfMemory
 abbrev pub route_fault_named : RouteFault → Fault
 route_fault_named f = fault.AtHop f.hop (hop_fault_named f.kind)
 
--- a fault at a hop is what comes of the message, or want of memory at a hop that it reaches
+-- an error at a hop is what becomes of the message, or memory ran out at a hop that it reaches
 abbrev pub IsTurnedBackAs : Schema → Schema → Codec → List Hop → List ℕ → Fault → Type 0
 IsTurnedBackAs old new from hops message (fault.AtHop i hop.NotAnEncoding) =
     ComesAs old new from hops message (refused i not_an_encoding)
@@ -172,30 +172,30 @@ IsTurnedBackAs old new from hops message (fault.AtHop i hop.NoTargetEncoding) =
 IsTurnedBackAs old new from hops message (fault.AtHop i hop.OutOfMemory) = ReachesAs old new from hops message i
 IsTurnedBackAs old new from hops message _ = ⊥
 
--- the same by what was asked for
+-- the same for what was requested
 abbrev pub ComesBy : Route → List ℕ → Outcome → Type 0
 ComesBy r message outcome = ComesAs (older_named r.pair) (newer_named r.pair) r.from r.hops message outcome
 
 abbrev pub IsTurnedBackBy : Route → List ℕ → Fault → Type 0
 IsTurnedBackBy r message f = IsTurnedBackAs (older_named r.pair) (newer_named r.pair) r.from r.hops message f
 
--- all was read, and these octets come of it
+-- everything was read, and becomes these octets
 pub record IsSent (r : Route) (unread unread' : Known) (octets : List ℕ) : Type 0 where
   pub message : List ℕ
   pub read : IsAllRead unread unread' message
   pub arrives : ComesBy r message (arrived octets)
 
--- all was read and sent, and what arrived was written
+-- everything was read and sent, and what arrived was written
 abbrev pub DoesRoute : Route → Known → Known → Known → Known → Type 0
 DoesRoute r unread unread' held held' = HasWritten (IsSent r unread unread') held held'
 
--- all was read, and a hop turned it back
+-- everything was read, and a hop rejected it
 pub record IsTurnedBack (r : Route) (unread unread' : Known) (f : Fault) : Type 0 where
   pub message : List ℕ
   pub read : IsAllRead unread unread' message
   pub refuses : IsTurnedBackBy r message f
 
--- a fault before the message has arrived leaves the writer as it was
+-- an error before the message has arrived leaves the writer as it was
 abbrev pub StopsRouteBy : Route → Known → Known → Known → Known → Fault → Type 0
 StopsRouteBy r unread unread' held held' (fault.AtHop i kind) =
     IsTurnedBack r unread unread' (fault.AtHop i kind) × Keeps held held'
@@ -218,13 +218,13 @@ StopsBy (route r) unread unread' held held' f = StopsRouteBy r unread unread' he
 
 -- ---- statuses
 
--- status 0: the command line asks for something, and that is done
+-- status 0: the command line requests something, and that is done
 pub record HasDone (asked : Option Task) (unread unread' held held' : Known) : Type 0 where
   pub task : Task
   pub asks : asked ≡ Some task
   pub done : Does task unread unread' held held'
 
--- the command line asks for something, a fault stops it, and its line is written
+-- the command line requests something, an error stops it, and its line is written
 pub record IsStopped (asked : Option Task) (unread unread' held held' said said' : Known) : Type 0 where
   pub task : Task
   pub asks : asked ≡ Some task
@@ -232,24 +232,24 @@ pub record IsStopped (asked : Option Task) (unread unread' held held' said said'
   pub stops : StopsBy task unread unread' held held' reason
   pub says : BeginsToAppend said said' (line_of reason)
 
--- nothing was read, and nothing written
+-- nothing was read and nothing written
 pub record IsUntouched (unread unread' held held' : Known) : Type 0 where
   pub unread_still : Keeps unread unread'
   pub held_still : Keeps held held'
 
--- no memory was left to read the command line
+-- memory ran out while the command line was read
 pub record IsUnasked (unread unread' held held' said said' : Known) : Type 0 where
   pub untouched : IsUntouched unread unread' held held'
   pub says : BeginsToAppend said said' (line_of fault.OutOfMemory)
 
--- status 1: no memory was left to read the command line, or a fault stopped the run; the errors' writer took the line
--- of it
+-- status 1: memory ran out while the command line was read, or an error stopped the run; its line was written to
+-- `errors`
 abbrev pub HasFailed : Option Task → Known → Known → Known → Known → Known → Known → Type 0
 HasFailed asked unread unread' held held' said said' =
     IsUnasked unread unread' held held' said said'
     ⊎ IsStopped asked unread unread' held held' said said'
 
--- status 2: the command line asks for nothing
+-- status 2: the command line requests nothing
 pub record HasRefused (asked : Option Task) (unread unread' held held' : Known) : Type 0 where
   pub bad : asked ≡ None
   pub untouched : IsUntouched unread unread' held held'

@@ -1,4 +1,4 @@
-//! Why the program stops, and what it says of it.
+//! Why the program stops, and its message.
 ghost use Rattle.std.specs.Prelude.{◌≡◌, OnOk};
 ghost use Rattle.std.specs.Io.KnownBytes.{Appends};
 ghost use Rattle.asn1_relay_core.specs.Ends.{BeginsToAppend};
@@ -12,67 +12,67 @@ use std::alloc::AllocError;
 use std::io::{self, Write};
 use thiserror::Error;
 
-/// Why a hop of a route turns a message back. Its text is what the program says of it.
+/// Why a hop of a route rejects a message. Its text is the program's message.
 #[derive(Clone, Copy, Debug, PartialEq, Eq, Error)]
 pub enum HopFault {
-    /// No beginning of what it reads is an encoding of a value of its type.
+    /// The hop's input does not begin with an encoding of a value of its type.
     #[error("not an encoding")]
     NotAnEncoding,
-    /// Octets stand behind an encoding.
+    /// Octets follow an encoding.
     #[error("surplus octets")]
     SurplusOctets,
-    /// The value has no encoding in the rules in which it writes.
+    /// The value has no encoding in the hop's output rules.
     #[error("no target encoding")]
     NoTargetEncoding,
-    /// No memory was left.
+    /// Memory ran out.
     #[error("out of memory")]
     OutOfMemory,
 }
 
-/// Why the input was not translated, or the answer not written. Its text is what the program says of it.
+/// Why the input was not translated, or the result not written. Its text is the program's message.
 #[derive(Clone, Copy, Debug, PartialEq, Eq, Error)]
 pub enum Fault {
-    /// No beginning of the input is an encoding of a value of the type.
+    /// The input does not begin with an encoding of a value of the type.
     #[error("not an encoding")]
     NotAnEncoding,
-    /// Octets stand behind an encoding.
+    /// Octets follow an encoding.
     #[error("surplus octets")]
     SurplusOctets,
     /// The value has no encoding in the target rules.
     #[error("no target encoding")]
     NoTargetEncoding,
-    /// No memory was left.
+    /// Memory ran out.
     #[error("out of memory")]
     OutOfMemory,
-    /// The input could not be read to its end.
+    /// The input could not be read to the end.
     #[error("read failed")]
     ReadFailed,
-    /// The answer could not be written, or not be flushed.
+    /// The result could not be written or flushed.
     #[error("write failed")]
     WriteFailed,
-    /// A stream stops at a message.
+    /// A stream stopped at a message.
     #[error("{0}")]
     AtMessage(RelayFault),
-    /// A hop of a route turns the message back; hops are counted from 0 on.
+    /// A hop of a route rejected the message; hops are counted from 0.
     #[error("hop {0}: {1}")]
     AtHop(usize, HopFault),
 }
 
-/// Where a fault is: at a message of a stream, or at a hop of a route.
+/// Where an error occurred: at a message of a stream, or at a hop of a route.
 #[derive(Clone, Copy, Debug, PartialEq, Eq)]
 enum Place {
-    /// The message of this number.
+    /// The message with this number.
     Message(u64),
-    /// The hop at this place.
+    /// The hop with this index.
     Hop(usize),
 }
 
 impl Fault {
-    /// Writes its line: the program's name, the message where it is at one, and what is wrong.
+    /// Writes the line of the error: the program's name, the message or hop if there is one, and what is wrong.
     ///
     /// # Errors
     ///
-    /// Where the writer fails. Then it has taken a beginning of the line.
+    /// Those of the writer. It has then taken a prefix of the line.
     pub fn write_line<E: Write>(self, errors: &mut E) -> io::Result<()>
         ensures all { OnOk result (Appends (E.contents errors.old) (E.contents errors.new) (line_of self)) }
         ensures begins { BeginsToAppend (E.contents errors.old) (E.contents errors.new) (line_of self) }
@@ -106,7 +106,7 @@ impl Fault {
         }
     }
 
-    /// The message or the hop at which it is, if it is at one.
+    /// The message or hop at which the error occurred, if there is one.
     fn place(self) -> Option<Place>
         ensures { result ≡ place_of self }
     {
@@ -160,7 +160,7 @@ fn text_at_hop(fault: HopFault) -> &'static str
     }
 }
 
-/// Writes texts, one behind the other. Where that fails, the writer took a beginning of them.
+/// Writes texts in sequence. After an error the writer has taken a prefix of them.
 fn write_parts<W: Write>(parts: &[&str], writer: &mut W) -> io::Result<()>
     ensures all { OnOk result (Appends (W.contents writer.old) (W.contents writer.new) (joined parts.now)) }
     ensures begins { BeginsToAppend (W.contents writer.old) (W.contents writer.new) (joined parts.now) }

@@ -32,10 +32,12 @@ use std::alloc::Global;
 use std::convert::AsStr;
 use std::io::{self, ErrorKind, Read, Write};
 
-/// Runs the program on a command line, whose first word is the program's name, and answers its exit status: 0 when all
-/// was read and the answer written and flushed, 1 when the input could not be read or translated, the answer not
-/// written, or no memory was left (not even to read the command line), and 2 for a bad command line. At status 1 the
-/// line of the fault is written to `errors`, one line; at 2 a text.
+/// Runs the program on a command line, whose first word is the program's name, and returns its exit status:
+///
+/// * 0: everything was read, and the result was written and flushed.
+/// * 1: the input could not be read or translated, the result could not be written, or memory ran out, even for
+///   reading the command line. One line with the error is written to `errors`.
+/// * 2: the command line is not valid. A text is written to `errors`.
 pub fn command<S: AsStr, R: Read, W: Write, E: Write>(
     alloc: Global,
     words: &[S],
@@ -63,7 +65,7 @@ pub fn command<S: AsStr, R: Read, W: Write, E: Write>(
     }
 }
 
-/// Does what is asked for.
+/// Does what was requested.
 fn follow<R: Read, W: Write>(
     alloc: Global,
     order: Order,
@@ -89,8 +91,8 @@ fn follow<R: Read, W: Write>(
     }
 }
 
-/// Says that the program's arguments cannot be had, and answers the exit status: 1 when no memory was left for them,
-/// and 2 when one of them is no text.
+/// Reports that the program's arguments are not available, and returns the exit status: 1 if memory ran out, and 2 if
+/// one of them is not text.
 pub fn refuse_arguments<E: Write>(error: &io::Error, errors: &mut E) -> u8
     ensures memory { error_kind error.now ≡ ErrorKind.OutOfMemory → (result ≡ 1)
         × BeginsToAppend (E.contents errors.old) (E.contents errors.new) (line_of Fault.OutOfMemory) }
@@ -104,7 +106,7 @@ pub fn refuse_arguments<E: Write>(error: &io::Error, errors: &mut E) -> u8
     2
 }
 
-/// Says what is wrong with a command line, and answers the exit status.
+/// Reports what is wrong with a command line, and returns the exit status.
 fn refuse<E: Write>(error: &clap::Error, errors: &mut E) -> u8
     ensures memory { kind_of error.now ≡ ParseErrorKind.OutOfMemory → (result ≡ 1)
         × BeginsToAppend (E.contents errors.old) (E.contents errors.new) (line_of Fault.OutOfMemory) }
@@ -117,7 +119,7 @@ fn refuse<E: Write>(error: &clap::Error, errors: &mut E) -> u8
     2
 }
 
-/// Says what went wrong, and answers the exit status. That the line cannot be written changes nothing.
+/// Reports an error, and returns the exit status. It ignores a line that cannot be written.
 fn report<E: Write>(fault: Fault, errors: &mut E) -> u8
     ensures status { result ≡ 1 }
     ensures says { BeginsToAppend (E.contents errors.old) (E.contents errors.new) (line_of fault) }
@@ -126,7 +128,7 @@ fn report<E: Write>(fault: Fault, errors: &mut E) -> u8
     1
 }
 
-/// Translates the message that is all of the input. Nothing is written before all of it is translated.
+/// Translates one message, the whole input. Nothing is written before all of it is translated.
 fn once<R: Read, W: Write>(
     alloc: Global,
     translation: Translation,
@@ -144,15 +146,15 @@ fn once<R: Read, W: Write>(
     write_all(answer.as_slice(), output)
 }
 
-/// Reads to the end.
+/// Reads the whole input.
 fn read_all<R: Read>(alloc: Global, input: &mut R) -> Result<Vec<u8>, Fault>
     ensures ok { IfOk result (λ v. IsAllRead (R.remaining input.old) (R.remaining input.new) v.items) }
     ensures err { IfErr result (λ f. (f ≡ Fault.ReadFailed) ⊎ (f ≡ Fault.OutOfMemory)) }
 {
     let mut octets = Vec::new(alloc);
     let mut block = [0u8; 4096];
-    // A turn adds an octet, of which memory holds fewer than 2^64, or is an interruption; so many of those count as a
-    // failure.
+    // Each turn adds an octet, of which memory holds fewer than 2^64, or is an interruption; 2^64 interruptions count
+    // as a failure.
     for _ in 0..u64::MAX {
         match input.read(&mut block) {
             Ok(0) => return Ok(octets),
@@ -164,7 +166,7 @@ fn read_all<R: Read>(alloc: Global, input: &mut R) -> Result<Vec<u8>, Fault>
     Err(Fault::ReadFailed)
 }
 
-/// A call at the type of a message that a kind names.
+/// A call with the message type of a `Kind`.
 macro_rules! at_kind {
     ($kind:expr, $call:ident::<T $(, $other:ty)*>($($argument:expr),*)) => {
         match $kind {
@@ -204,7 +206,7 @@ fn translate<T: Encode + Decode>(
 ///
 /// # Errors
 ///
-/// That of `recode` for the type, the rules of the input and those of the output.
+/// Those of `recode` for the type and both sets of rules.
 pub fn translate_all(
     alloc: Global,
     translation: Translation,
@@ -219,7 +221,7 @@ pub fn translate_all(
     )
 }
 
-/// Translates messages of the type `T` that are strung together, and writes each as it comes.
+/// Translates a stream of messages of the type `T`, and writes each as it comes.
 fn stream_of<T: Encode + Decode, R: Read, W: Write>(
     alloc: Global,
     translation: Translation,
@@ -246,7 +248,7 @@ fn stream_of<T: Encode + Decode, R: Read, W: Write>(
     )
 }
 
-/// Translates messages that are strung together, and writes each as it comes.
+/// Translates a stream of messages, and writes each as it comes.
 fn stream<R: Read, W: Write>(
     alloc: Global,
     translation: Translation,
@@ -267,7 +269,7 @@ fn stream<R: Read, W: Write>(
     )
 }
 
-/// Sends a message of a type from hop to hop, each of which knows the older or the newer version of it.
+/// Sends a message from hop to hop; each hop knows the older or the newer version of its type.
 fn send_as<Older: Encode + Decode, Newer: Encode + Decode + Extends<Older>>(
     alloc: Global,
     from: Codec,
@@ -304,7 +306,7 @@ fn send_all(
     }
 }
 
-/// Sends the message that is all of the input from hop to hop. Nothing is written before it has arrived.
+/// Sends one message, the whole input, from hop to hop. Nothing is written before it has arrived.
 fn send<R: Read, W: Write>(
     alloc: Global,
     from: Codec,

@@ -26,8 +26,9 @@ use std::alloc::Global;
 /// The canonical encoding of a value of the newer version arrives as that, by the rules of the last hop, of the value
 /// without what an older hop on the way did not know. It is refused at a hop for five causes alone: the first older
 /// hop lacks an alternative or an item that stands outside what it leaves out; what the first hop of all reads nests
-/// over 128 levels; the first older hop reads COER, and by the loss a part is at its default; a newer hop behind an
-/// older one requires a part that was lost; or what a hop writes has no encoding in its rules.
+/// over 128 levels; the first older hop reads COER, strict UPER or strict APER, and by the loss a part is at its
+/// default; a newer hop behind an older one requires a part that was lost; or what a hop writes has no encoding in its
+/// rules.
 ///
 /// # Errors
 ///

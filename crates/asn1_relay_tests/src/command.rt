@@ -1,4 +1,4 @@
-//! Calls of the command's parts: its arguments, its lines, and what is asked for.
+//! Calls of the command's parts: its arguments, its lines, and what it was requested to do.
 use crate::assertions::assert_same;
 use crate::fakes::{FakeReader, FakeWriter};
 use asn1_relay_command::{
@@ -11,8 +11,7 @@ use std::alloc::Global;
 use std::io::{Error, ErrorKind, Write};
 use std::str;
 
-/// Whether an error ends the program with this status, and this is written of it; any text but none where it is not
-/// fixed.
+/// Whether an error ends the program with this status and this text; without a `line`, any text that is not empty.
 fn is_refused(kind: ErrorKind, status: u8, line: Option<&str>) -> bool {
     let mut errors = FakeWriter::new();
     let found = refuse_arguments(&Error::from(kind), &mut errors);
@@ -32,7 +31,7 @@ fn arguments_that_cannot_be_had(rt: HostRuntime) {
     );
 }
 
-/// Whether the octets of a word stand in those of a text.
+/// Whether a text contains a word.
 fn names(text: &[u8], word: &str) -> bool {
     for place in 0..text.len() {
         if text[place..].starts_with(word.as_bytes()) {
@@ -42,7 +41,7 @@ fn names(text: &[u8], word: &str) -> bool {
     false
 }
 
-/// Whether octets are a text that names each command.
+/// Whether octets are text that names each command.
 fn names_commands(text: &[u8]) -> bool {
     str::from_utf8(text).is_ok()
         && names(text, "once")
@@ -62,11 +61,11 @@ fn help_is_whole(alloc: Global) -> bool {
 
 #[test]
 fn help(rt: HostRuntime) {
-    // one request at most is refused
+    // at most one request is refused
     assert!(rt; help_is_whole(rt.alloc()) || help_is_whole(rt.alloc()));
 }
 
-/// The fault of a stream at a message.
+/// An error of a stream at a message.
 macro_rules! at_message {
     ($number:expr, $kind:ident) => {
         Fault::AtMessage(RelayFault {
@@ -76,14 +75,14 @@ macro_rules! at_message {
     };
 }
 
-/// The fault of a route at its tenth hop.
+/// An error at hop 10 of a route.
 macro_rules! at_hop_10 {
     ($kind:ident) => {
         Fault::AtHop(10, HopFault::$kind)
     };
 }
 
-/// Faults, and the lines of those.
+/// Errors and their lines.
 const LINES: [(Fault, &'static str); 16] = [
     (Fault::NotAnEncoding, "not an encoding"),
     (Fault::SurplusOctets, "surplus octets"),
@@ -106,7 +105,7 @@ const LINES: [(Fault, &'static str); 16] = [
     (at_hop_10!(OutOfMemory), "hop 10: out of memory"),
 ];
 
-/// Whether the line of a fault is its text behind the program's name, and this.
+/// Whether the line of an error is the program's name and this text.
 fn is_said(fault: Fault, text: &str) -> bool {
     let mut written = FakeWriter::new();
     let mut shown = FakeWriter::new();
@@ -118,7 +117,7 @@ fn is_said(fault: Fault, text: &str) -> bool {
         && shown.holds(wanted.octets())
 }
 
-/// The first line that is not said of its fault.
+/// The first error whose line is wrong.
 fn wrong_line() -> Option<&'static str> {
     for (fault, text) in LINES {
         if !is_said(fault, text) {
@@ -133,7 +132,7 @@ fn lines(rt: HostRuntime) {
     assert_same(&rt, &wrong_line(), &None);
 }
 
-/// What the program makes of each fault of a translation, and of each fault of a run.
+/// The program's error for each error of a translation and of a run.
 fn made_of_faults(at: RelayFault) -> [Fault; 8] {
     [
         Fault::from(RecodeFault::NotAnEncoding(DecodeError::Incomplete)),
@@ -166,14 +165,14 @@ fn faults_of_translations_and_runs(rt: HostRuntime) {
     assert_same(&rt, &made_of_faults(at), &wanted);
 }
 
-/// Of booleans, from the unaligned packed encoding rules to the canonical octet ones.
+/// From UPER to COER, for booleans.
 const TRUTHS: Translation = Translation {
     from: Codec::Uper,
     to: Codec::Coer,
     kind: Kind::Bool,
 };
 
-/// Whether words ask for this.
+/// Whether words request this.
 fn asks(alloc: Global, words: &[&str], wanted: &Order) -> bool {
     match read_order(alloc, words) {
         Ok(order) => order == *wanted,
@@ -181,12 +180,12 @@ fn asks(alloc: Global, words: &[&str], wanted: &Order) -> bool {
     }
 }
 
-/// Whether words ask for this, at the second try at the latest: one request for memory at most is refused.
+/// Whether words request this, at the second try at the latest: at most one request for memory is refused.
 fn asks_for(alloc: Global, words: &[&str], wanted: &Order) -> bool {
     asks(alloc, words, wanted) || asks(alloc, words, wanted)
 }
 
-/// Whether a message and a stream are asked for.
+/// Whether words request a message and a stream.
 fn are_asked_for(alloc: Global) -> bool {
     let (rules, limit) = (["--to=coer", "--from=uper"], "--limit=4294967295");
     let once = ["relay", "once", "--type=bool", rules[0], rules[1]];
@@ -208,7 +207,7 @@ fn is_true_translated(alloc: Global) -> Result<bool, Fault> {
 fn orders(rt: HostRuntime) {
     assert!(rt; are_asked_for(rt.alloc()));
     let mut answer = is_true_translated(rt.alloc());
-    // one request at most is refused
+    // at most one request is refused
     if answer == Err(Fault::OutOfMemory) {
         answer = is_true_translated(rt.alloc());
     }

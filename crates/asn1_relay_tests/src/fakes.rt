@@ -1,10 +1,10 @@
-//! A reader and a writer that do what a text says, and octets that a text spells.
+//! A reader and a writer that follow a text, and octets in hexadecimal digits.
 use std::io::{self, Error, ErrorKind, Read, Write};
 
-/// How many octets a text may spell.
+/// The most octets in a text.
 const SPELLED: usize = 20;
 
-/// The octets of words of two hexadecimal digits.
+/// The octets in words of two hexadecimal digits.
 #[derive(Clone, Copy)]
 pub struct Octets {
     octets: [u8; SPELLED],
@@ -12,7 +12,7 @@ pub struct Octets {
 }
 
 impl Octets {
-    /// The octets of a text.
+    /// The octets in a text.
     pub fn of(text: &str) -> Octets {
         let mut found = Octets {
             octets: [0; SPELLED],
@@ -37,8 +37,8 @@ impl Octets {
     }
 }
 
-/// A reader whose reads do these steps in turn, with a comma between two of them, and then tell the end: they give
-/// octets, are interrupted by a signal (`interrupted`), or fail (`fails`).
+/// A reader that does these steps, separated by commas, one for each read, and then is at its end. A step gives
+/// octets, is interrupted by a signal (`interrupted`), or fails (`fails`).
 #[derive(Clone, Copy)]
 pub struct FakeReader<'a> {
     steps: &'a str,
@@ -54,7 +54,7 @@ impl<'a> FakeReader<'a> {
         }
     }
 
-    /// Whether it was never asked for octets.
+    /// Whether it was never read.
     pub fn is_unread(&self) -> bool {
         !self.is_read
     }
@@ -79,21 +79,21 @@ impl<'a> Read for FakeReader<'a> {
     }
 }
 
-/// How many octets a fake writer keeps.
+/// The number of octets that a fake writer stores.
 const ROOM: usize = 64;
 
-/// A writer that keeps the first octets, and may fail.
+/// A writer that stores the first octets, and may fail.
 #[derive(Clone, Copy)]
 pub struct FakeWriter {
     kept: [u8; ROOM],
     len: usize,
-    /// How many octets one write takes at most.
+    /// The most octets that one write takes.
     write_size: usize,
-    /// How many writes succeed.
+    /// The number of writes that succeed.
     writes_left: u32,
     /// Whether a flush succeeds.
     can_flush: bool,
-    /// Whether all that was written has been flushed.
+    /// Whether everything written has been flushed.
     pub is_flushed: bool,
 }
 
@@ -110,8 +110,8 @@ impl FakeWriter {
         }
     }
 
-    /// A writer of which so many writes succeed, of one octet each, and the flush behind them or not. Of an empty text
-    /// it does not fail.
+    /// A writer that takes a number of writes, of one octet each, and then fails; with another word, a flush fails.
+    /// With an empty text it does not fail.
     pub fn failing(text: &str) -> Self {
         let mut writer = FakeWriter::new();
         for word in text.split_whitespace() {
@@ -126,12 +126,12 @@ impl FakeWriter {
         writer
     }
 
-    /// The first octets that were written, as many as it keeps.
+    /// The first octets that were written, as far as they are stored.
     pub fn octets(&self) -> &[u8] {
         &self.kept[..self.len.min(ROOM)]
     }
 
-    /// Whether these octets were written, and no others.
+    /// Whether exactly these octets were written.
     pub fn holds(&self, octets: &[u8]) -> bool {
         self.octets() == octets
     }

@@ -1,5 +1,5 @@
-//! Tests of the program's command and of streams, with readers and writers that fail, and of values of types of a
-//! program's own.
+//! Tests of the program's command and of streams, with readers and writers that fail, and of values of user-defined
+//! types.
 #![tactic(auto)]
 
 #[cfg(test)]

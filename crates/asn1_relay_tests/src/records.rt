@@ -1,4 +1,4 @@
-//! Values through the codec that keeps records.
+//! Values through the codec that stores records.
 use crate::assertions::assert_same;
 use asn1_schema_decode::{Decode, Decoder};
 use asn1_schema_encode::{Encode, Encoder};
@@ -22,12 +22,12 @@ fn setting_records(alloc: Global, level: Option<u8>) -> Result<Vec<Item>, Encode
     Ok(encoder.into_items())
 }
 
-/// What a decoder finds, through its bound.
+/// What a decoder finds, called through its bound.
 fn found<T: Decode, D: Decoder>(alloc: Global, decoder: &mut D) -> Result<T, DecodeError> {
     T::decode(alloc, decoder)
 }
 
-/// Whether a decoder finds a setting, and nothing behind it.
+/// Whether a decoder finds a setting, and nothing after it.
 fn is_found<D: Decoder>(
     alloc: Global,
     decoder: &mut D,
@@ -46,7 +46,7 @@ fn is_read_back(alloc: Global, level: Option<u8>) -> Result<bool, Fail> {
     Ok(is_found(alloc, &mut decoder, level)?)
 }
 
-/// Whether an encoder tells its rules, and keeps each record of a setting.
+/// Whether an encoder returns its rules, and stores each record of a setting.
 fn is_named_and_kept(alloc: Global) -> Result<bool, EncodeError> {
     let codec = RecordEncoder::new(alloc, CodecKind::Uper).codec();
     Ok(setting_records(alloc, Some(7))?.len() == 6 && codec == CodecKind::Uper)
@@ -61,7 +61,7 @@ fn a_setting_is_read_back(rt: HostRuntime) -> Result<(), Fail> {
     Ok(())
 }
 
-/// Why a setting is not read from so many of its records, if it is not.
+/// Why a setting is not read from the first `count` of its records, if it is not.
 fn refusal(
     alloc: Global,
     level: Option<u8>,
@@ -75,7 +75,8 @@ fn refusal(
     Ok(setting.err())
 }
 
-/// So many of its six records from which a setting is read, or refused for another reason than that they end early.
+/// The first count of its six records from which a setting is read, or which fails with an error other than
+/// `Incomplete`.
 fn first_unrefused(alloc: Global) -> Result<Option<usize>, EncodeError> {
     for count in 0..6 {
         if refusal(alloc, Some(7), count, 128)? != Some(DecodeError::Incomplete) {
@@ -105,7 +106,7 @@ fn measure_records(alloc: Global, offset: i64) -> Result<Vec<Item>, EncodeError>
     Ok(encoder.into_items())
 }
 
-/// Whether records are those of a measure with a default, which is left out, and nothing else.
+/// Whether records are exactly those of a measure whose default is absent.
 fn is_left_out(records: &[Item]) -> bool {
     matches!(
         records,
@@ -126,7 +127,7 @@ fn is_number(item: &Item, number: &Integer) -> bool {
     }
 }
 
-/// Whether records are those of a measure with this number, and nothing else.
+/// Whether records are exactly those of a measure with this number.
 fn is_measure(records: &[Item], number: &Integer) -> bool {
     match records {
         [
@@ -140,7 +141,7 @@ fn is_measure(records: &[Item], number: &Integer) -> bool {
     }
 }
 
-/// Whether a default is left out.
+/// Whether a default is absent.
 fn a_default_is_left_out(alloc: Global) -> Result<bool, EncodeError> {
     let records = measure_records(alloc, 0)?;
     Ok(is_left_out(&records))

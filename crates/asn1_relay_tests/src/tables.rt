@@ -1,4 +1,4 @@
-//! Tables of fields, of alternatives and of items, by calls of their own.
+//! Tables of fields, of alternatives and of items, by direct calls.
 use crate::assertions::assert_same;
 use asn1_relay_types::{Extra, ExtraFields, New, Set};
 use asn1_schema_authored::Group;
@@ -21,8 +21,8 @@ fn first_name(fields: Fields<'_>) -> Option<&'static str> {
     fields.iter().next().map(|field| field.name)
 }
 
-/// A choice without a tag of its own stands by the smallest of its alternatives' tags (X.680 8.6), and additions as
-/// they are declared.
+/// A choice without a tag is ordered by the smallest tag of its alternatives (X.680 8.6), and additions are in the
+/// order of their declaration.
 #[test]
 fn fields(rt: HostRuntime) -> Result<(), Fail> {
     let added = Grown::extended_fields().unwrap_or(Fields::from_static(&[]));
@@ -79,8 +79,7 @@ fn alternatives(rt: HostRuntime) {
     assert!(rt; Power::variants().len() == 2);
 }
 
-/// The items of the root stand in the order of their numbers (X.680 20), and those that were added behind the extension
-/// marker.
+/// The items of the root are in the order of their values (X.680 20), and those added follow the extension marker.
 #[test]
 fn items(rt: HostRuntime) {
     let places = [

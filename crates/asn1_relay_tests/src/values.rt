@@ -1,4 +1,4 @@
-//! Values of a program's types, written by each set of rules and read back: that they mean what the octets say.
+//! Values of user-defined types, written in each set of rules and read back: they mean what the octets say.
 use crate::rows::{CODECS, octets_by};
 use asn1_relay_core::{Codec, DecodeError, EncodeError, RecodeFault, recode};
 use asn1_relay_types::{
@@ -26,7 +26,7 @@ fn is_written<T: Encode>(
     Ok(octets.as_slice() == octets_by(row, codec).all())
 }
 
-/// What these rules read of the octets of a row.
+/// What these rules read from the octets of a row.
 fn read<T: Decode>(alloc: Global, codec: Codec, row: &str) -> Result<T, DecodeError> {
     codec.decode(alloc, octets_by(row, codec).all())
 }
@@ -130,7 +130,7 @@ fn message_is_read(alloc: Global, codec: Codec) -> Result<bool, DecodeError> {
     }
 }
 
-/// {offset 0}, a default, which is left out (X.691 19.5, X.696 16.2).
+/// {offset 0}, a default, which is absent (X.691 19.5, X.696 16.2).
 const MEASURE: &str = "00 | 00 | 00";
 
 /// Whether these rules write a default as its row says.
@@ -206,14 +206,14 @@ fn is_written_in_order(alloc: Global, bag: &Bag) -> Result<bool, EncodeError> {
     Ok(true)
 }
 
-/// Whether a bag of these numbers is the same as {1, 2, 3}, and is written so by each set of rules.
+/// Whether a bag of these numbers equals {1, 2, 3}, and each set of rules writes it so.
 fn is_bag(alloc: Global, numbers: &[u8]) -> Result<bool, Fail> {
     let bag = bag_of(alloc, numbers)?;
     let is_same = bag == bag_of(alloc, &[1, 2, 3])?;
     Ok(is_written_in_order(alloc, &bag)? && is_same)
 }
 
-/// Members are handed in in any order, and written in that of their encodings.
+/// Members are given in any order, and written in that of their encodings.
 #[test]
 fn members_are_handed_in_any_order(rt: HostRuntime) -> Result<(), Fail> {
     for numbers in [[3, 1, 2], [2, 3, 1]] {
@@ -244,14 +244,14 @@ fn in_order(alloc: Global) -> Result<Vec<u8>, AllocError> {
     Ok(members)
 }
 
-/// A list of 100000 members in the octet rules: its length in octets, its number of members, and these.
+/// A list of 100000 members in OER: the number of octets of its count, its count, and the members.
 fn with_its_count(alloc: Global, members: &[u8]) -> Result<Vec<u8>, AllocError> {
     let mut octets = vec![in alloc; 0x03u8, 0x01, 0x86, 0xA0]?;
     octets.extend_from_slice(members)?;
     Ok(octets)
 }
 
-/// The same in the packed rules: 65536, 32768 and 1696 members, each time behind their number.
+/// The same in PER: 65536, 32768 and 1696 members, each after their length determinant.
 fn in_fragments(alloc: Global, members: &[u8]) -> Result<Vec<u8>, AllocError> {
     let mut octets = Vec::new(alloc);
     for (place, member) in members.iter().enumerate() {
@@ -278,7 +278,7 @@ fn becomes(
     Ok(translated.as_slice() == output)
 }
 
-/// Whether a bag is put in order by each set of rules, and carried on from each to another.
+/// Whether a bag is put in order by each set of rules, and translated from each to each other.
 fn are_put_in_order(
     alloc: Global,
     input: &[u8],

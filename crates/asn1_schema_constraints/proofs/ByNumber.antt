@@ -29,7 +29,7 @@ to_is : {X : Type 0} (number : X → ℤ) (high : Option X) (v : X) → option_m
 to_is number None v = refl
 to_is number (Some a) v = refl
 
--- what bounds admit lies between their ends
+-- what bounds admit is between their ends
 ends : {X : Type 0} (number : X → ℤ) (b : Bounded X) (v : X) → admits_by number b v ≡ (is_above (at_most_by number) (lower b) v && is_below (at_most_by number) (upper b) v)
 ends number b v = both_by (from_is number (lower b) v) (to_is number (upper b) v)
 
@@ -48,7 +48,7 @@ common_admits {X} number o a b v = go (is_inverted le (later le (lower a) (lower
       ∙ (sym (ends number (meet le a b) v) ∙ meet_admits_by number o a b v)
   go false e = meet_admits_by number o a b v
 
--- what is answered admits some value
+-- the result admits some value
 pub common_some : {X : Type 0} (number : X → ℤ) → IsOrder (at_most_by number) → X → (a b : Bounded X) → IfSome (common (at_most_by number) a b) (λ r. (v : X) × (admits_by number r v ≡ true))
 common_some {X} number o x a b = go (is_inverted le (later le (lower a) (lower b)) (earlier le (upper a) (upper b))) refl where
   le : X → X → Bool

@@ -1,4 +1,4 @@
--- What bounds of whole numbers, and of counts, admit together.
+-- What bounds of integers, and of counts, both admit.
 use Rattle.std.proofs.Common.{◌≡◌, ◌∙◌, refl, sym, ap, ℕ, ℤ, pos, negsuc, ◌-ℤ◌, ◌≤ℤ◌, ◌<ℤ◌, leb, Bool, true, false, cond, ◌&&◌, Option, Some, None, unwrap_or, IfSome, arith}
 use Rattle.std.proofs.lemmas.Int.{ints}
 use Rattle.std.proofs.lemmas.Bool.{leb-true, leb-false, le-leb}
@@ -49,7 +49,7 @@ pub to_is : (high : Option ℤ) (v : ℤ) → option_map_or (λ x. is_at_most v 
 to_is None v = refl
 to_is (Some a) v = refl
 
--- what bounds of numbers admit lies between their ends
+-- what bounds of numbers admit is between their ends
 number_ends : (b : Bounded ℤ) (v : ℤ) → admits_number b v ≡ (is_above is_at_most (lower b) v && is_below is_at_most (upper b) v)
 number_ends b v = ap (λ t. t && (option_map_or (λ x. is_at_most v x) (upper b) true)) (from_is (lower b) v) ∙ ap (λ t. is_above is_at_most (lower b) v && t) (to_is (upper b) v)
 
@@ -61,27 +61,27 @@ count_to_is : (high : Option ℕ) (n : ℕ) → option_map_or (λ x. leb n x) hi
 count_to_is None n = refl
 count_to_is (Some a) n = refl
 
--- what bounds of counts admit lies between their ends
+-- what bounds of counts admit is between their ends
 count_ends : (b : Bounded ℕ) (n : ℕ) → admits_count b n ≡ (is_above leb (lower b) n && is_below leb (upper b) n)
 count_ends b n = ap (λ t. t && (option_map_or (λ x. leb n x) (upper b) true)) (count_from_is (lower b) n) ∙ ap (λ t. is_above leb (lower b) n && t) (count_to_is (upper b) n)
 
--- two truth values by two equations
+-- two booleans by two equations
 pub both_by : {p p' q q' : Bool} → p ≡ p' → q ≡ q' → (p && q) ≡ (p' && q')
 both_by {p} {p'} {q} {q'} e f = ap (λ t. t && q) e ∙ ap (λ t. p' && t) f
 
--- the meet of two bounds of numbers admits what both do
+-- the intersection of two bounds of numbers admits what both do
 pub number_meet_admits : (a b : Bounded ℤ) (v : ℤ) → admits_number (meet is_at_most a b) v ≡ (admits_number a v && admits_number b v)
 number_meet_admits a b v = number_ends (meet is_at_most a b) v
     ∙ (meet_admits is_at_most number_order a b v ∙ sym (both_by (number_ends a v) (number_ends b v)))
 
--- the meet of two bounds of counts admits what both do
+-- the intersection of two bounds of counts admits what both do
 pub count_meet_admits : (a b : Bounded ℕ) (n : ℕ) → admits_count (meet leb a b) n ≡ (admits_count a n && admits_count b n)
 count_meet_admits a b n = count_ends (meet leb a b) n
     ∙ (meet_admits leb count_order a b n ∙ sym (both_by (count_ends a n) (count_ends b n)))
 
--- ---- the same where there may be nothing common
+-- ---- the same where there may be nothing in common
 
--- the ends of a meet are those that are compared
+-- the ends of an intersection are those that are compared
 pub inverted_meet : {X : Type 0} (le : X → X → Bool) → IsOrder le → (a b : Bounded X) (t : Bool)
     → is_inverted le (later le (lower a) (lower b)) (earlier le (upper a) (upper b)) ≡ t → is_inverted le (lower (meet le a b)) (upper (meet le a b)) ≡ t
 inverted_meet le o a b t e = ap (λ low. is_inverted le low (upper (meet le a b))) (lower_meet le a b)
@@ -103,7 +103,7 @@ count_common_admits a b n = go (is_inverted leb (later leb (lower a) (lower b)) 
       ∙ (sym (count_ends (meet leb a b) n) ∙ count_meet_admits a b n)
   go false e = count_meet_admits a b n
 
--- what is answered admits some number
+-- the result admits some number
 pub number_common_some : (a b : Bounded ℤ) → IfSome (common is_at_most a b) (λ r. (v : ℤ) × (admits_number r v ≡ true))
 number_common_some a b = go (is_inverted is_at_most (later is_at_most (lower a) (lower b)) (earlier is_at_most (upper a) (upper b))) refl where
   go : (t : Bool) → is_inverted is_at_most (later is_at_most (lower a) (lower b)) (earlier is_at_most (upper a) (upper b)) ≡ t
@@ -112,7 +112,7 @@ number_common_some a b = go (is_inverted is_at_most (later is_at_most (lower a) 
   go false e = let w = straight_admits is_at_most number_order (pos 0) (lower (meet is_at_most a b)) (upper (meet is_at_most a b)) (inverted_meet is_at_most number_order a b false e)
       in (w.0, number_ends (meet is_at_most a b) w.0 ∙ w.1)
 
--- what is answered admits some count
+-- the result admits some count
 pub count_common_some : (a b : Bounded ℕ) → IfSome (common leb a b) (λ r. (n : ℕ) × (admits_count r n ≡ true))
 count_common_some a b = go (is_inverted leb (later leb (lower a) (lower b)) (earlier leb (upper a) (upper b))) refl where
   go : (t : Bool) → is_inverted leb (later leb (lower a) (lower b)) (earlier leb (upper a) (upper b)) ≡ t

@@ -1,4 +1,4 @@
--- What the program's type holds under a value constraint: what it holds at all, within 128 bits.
+-- What a user-defined type holds under a value constraint: what it holds at all, within 128 bits.
 use Rattle.asn1_model.specs.Schema.{wide_range}
 use Rattle.std.proofs.Common.{◌≡◌, ◌∙◌, refl, sym, ◌-◌, ◌^◌, ◌<◌, ℤ, pos, negsuc, Bool, true, false, ◌&&◌, ◌||◌, Option, Some, None, arith}
 use Rattle.std.proofs.lemmas.Int.{ints}
@@ -16,7 +16,7 @@ use Rattle.asn1_schema_constraints.proofs.Common.{number_order, told_at_most, fr
 use Rattle.asn1_schema_constraints.proofs.Meets.{later_admits, earlier_admits, regroup}
 use Rattle.std.specs.Option.{option_map_or}
 
--- a range of the later of the lower and the earlier of the upper ends has what both have
+-- a range from the greater lower bound to the lesser upper bound has what both have
 meet_within : (a b : Range) (v : ℤ) → is_within (record { low = later is_at_most a.low b.low; high = earlier is_at_most a.high b.high }) v ≡ (is_within a v && is_within b v)
 meet_within a b v =
     both_by (from_is (later is_at_most a.low b.low) v ∙ (later_admits is_at_most number_order a.low b.low v ∙ sym (both_by (from_is a.low v) (from_is b.low v))))
@@ -58,7 +58,7 @@ pub admitted_within : (c : Option (Extensible Value)) (v : ℤ) → admits_whole
 admitted_within None v e = refl
 admitted_within (Some c) v e = (and_parts (is_within wide_range v) _ e).1
 
--- and what it does not hold, or is not admitted
+-- and what it does not hold, or the constraint does not admit
 pub not_held : (c : Option (Extensible Value)) (h : Range) (v : ℤ) → is_within h v ≡ false → is_within (held_of c h) v ≡ true → ⊥
 not_held None h v e f = false≢true (sym e ∙ f)
 not_held (Some c) h v e f = false≢true (sym e ∙ (and_parts (is_within h v) (is_within wide_range v) (sym (held_within c h v) ∙ f)).0)

@@ -1,21 +1,21 @@
--- What two bounds admit together, over any order that is told by a test.
+-- The intersection of two bounds, over any order decided by a test.
 use Rattle.std.proofs.Common.{◌≡◌, ◌∙◌, refl, sym, ap, Bool, true, false, not, cond, ◌&&◌, Option, Some, None}
 use Rattle.asn1_schema_constraints.specs.declared.bounds.Bounded.{Bounded}
 use Rattle.asn1_schema_constraints.specs.Bounds.{lower, upper, later, earlier, between, meet, is_inverted}
 
--- A test tells a total order.
+-- A test that decides a total order.
 pub record IsOrder {X : Type 0} (le : X → X → Bool) : Type 0 where
   pub total : (a b : X) → le a b ≡ false → le b a ≡ true
   pub chained : (a b c : X) → le a b ≡ true → le b c ≡ true → le a c ≡ true
   pub equal : (a b : X) → le a b ≡ true → le b a ≡ true → a ≡ b
 
--- truth values, the second of which tells the first
+-- booleans, the second of which determines the first
 and_right : (p q : Bool) → (q ≡ true → p ≡ true) → q ≡ (p && q)
 and_right true q f = refl
 and_right false true f = sym (f refl)
 and_right false false f = refl
 
--- the same the other way round
+-- the same with the arguments exchanged
 and_left : (p q : Bool) → (p ≡ true → q ≡ true) → p ≡ (p && q)
 and_left true q f = sym (f refl)
 and_left false q f = refl
@@ -24,12 +24,12 @@ and_left false q f = refl
 pub differ : {A : Type 0} → false ≡ true → A
 differ e = cc
 
--- two truths
+-- two booleans that are true
 pub both_true : (p q : Bool) → (p && q) ≡ true → (p ≡ true) × (q ≡ true)
 both_true true q e = (refl, e)
 both_true false q e = differ e
 
--- the middle two of four change places
+-- the middle two of four are exchanged
 pub regroup : (a b c d : Bool) → ((a && b) && (c && d)) ≡ ((a && c) && (b && d))
 regroup true true c d = refl
 regroup true false true d = refl
@@ -38,17 +38,17 @@ regroup false b c d = refl
 
 -- ---- what ends admit
 
--- Whether a value is not below a bound, where there is one.
+-- Whether a value is at least a bound, if there is one.
 abbrev pub is_above : {X : Type 0} → (X → X → Bool) → Option X → X → Bool
 is_above le None v = true
 is_above le (Some a) v = le a v
 
--- Whether a value is not above a bound, where there is one.
+-- Whether a value is at most a bound, if there is one.
 abbrev pub is_below : {X : Type 0} → (X → X → Bool) → Option X → X → Bool
 is_below le None v = true
 is_below le (Some a) v = le v a
 
--- the later of two lower bounds admits what both do
+-- the greater of two lower bounds admits what both do
 pub later_admits : {X : Type 0} (le : X → X → Bool) → IsOrder le → (a b : Option X) (v : X) → is_above le (later le a b) v ≡ (is_above le a v && is_above le b v)
 later_admits le o (Some a) (Some b) v = go (le a b) refl where
   go : (t : Bool) → le a b ≡ t → le (cond t b a) v ≡ (le a v && le b v)
@@ -57,7 +57,7 @@ later_admits le o (Some a) (Some b) v = go (le a b) refl where
 later_admits le o (Some a) None v = and_left (le a v) true (λ h. refl)
 later_admits le o None b v = refl
 
--- the earlier of two upper bounds admits what both do
+-- the lesser of two upper bounds admits what both do
 pub earlier_admits : {X : Type 0} (le : X → X → Bool) → IsOrder le → (a b : Option X) (v : X) → is_below le (earlier le a b) v ≡ (is_below le a v && is_below le b v)
 earlier_admits le o (Some a) (Some b) v = go (le a b) refl where
   go : (t : Bool) → le a b ≡ t → le v (cond t a b) ≡ (le v a && le v b)
@@ -66,7 +66,7 @@ earlier_admits le o (Some a) (Some b) v = go (le a b) refl where
 earlier_admits le o (Some a) None v = and_left (le v a) true (λ h. refl)
 earlier_admits le o None b v = refl
 
--- ---- the ends of what lies between two ends
+-- ---- the ends of what is between two ends
 
 pub lower_between : {X : Type 0} (le : X → X → Bool) (low high : Option X) → lower (between le low high) ≡ low
 lower_between le (Some a) (Some b) = go (le a b && le b a) where
@@ -184,7 +184,7 @@ itself le o a = go (le a a) refl where
   go true e = refl
   go false e = sym e ∙ o.total a a e
 
--- ends that stand the wrong way round admit nothing
+-- a start above the end admits nothing
 pub inverted_admits : {X : Type 0} (le : X → X → Bool) → IsOrder le → (low high : Option X) (v : X) → is_inverted le low high ≡ true
     → (is_above le low v && is_below le high v) ≡ false
 inverted_admits le o (Some a) (Some b) v i = go (le a v) (le v b) (le a b) refl refl refl where
@@ -196,7 +196,7 @@ inverted_admits le o (Some a) (Some b) v i = go (le a v) (le v b) (le a b) refl 
 inverted_admits le o (Some a) None v i = differ i
 inverted_admits le o None high v i = differ i
 
--- ends that stand the right way round admit something
+-- a start not above the end admits something
 pub straight_admits : {X : Type 0} (le : X → X → Bool) → IsOrder le → X → (low high : Option X) → is_inverted le low high ≡ false
     → (v : X) × ((is_above le low v && is_below le high v) ≡ true)
 straight_admits le o x (Some a) (Some b) i = (a, ap (λ t. t && le a b) (itself le o a) ∙ go (le a b) i) where

@@ -59,7 +59,7 @@ both_groups a b c = by_kinds
     (parts_group later_alphabet alphabets_group a.permitted_alphabet b.permitted_alphabet c.permitted_alphabet)
     (markers_group a.is_extensible b.is_extensible c.is_extensible)
 
--- ---- no constraint changes nothing
+-- ---- an empty list changes nothing
 
 part_and_none : {X : Type 0} (met : X → X → X) (x : Option (Extensible X)) → both_parts met x None ≡ x
 part_and_none met (Some a) = refl
@@ -79,7 +79,7 @@ one_by_one : (a : Constraints) (cs : List Constraint) → fold both a (map alone
 one_by_one a [] = sym (both_none a)
 one_by_one a (c ∷ cs) = one_by_one (both a (alone c)) cs ∙ (both_groups a (alone c) (all_of cs) ∙ ap (both a) (sym (one_by_one (alone c) cs)))
 
--- a list followed by another comes to what both come to, applied in turn
+-- a list followed by another has the effective constraints of both, applied in turn
 pub all_of_joined : (cs ds : List Constraint) → all_of (cs ++ ds) ≡ both (all_of cs) (all_of ds)
 all_of_joined cs ds = go unconstrained cs ∙ one_by_one (all_of cs) ds where
   go : (a : Constraints) (xs : List Constraint) → fold both a (map alone (xs ++ ds)) ≡ fold both (fold both a (map alone xs)) (map alone ds)
@@ -110,7 +110,7 @@ both_admit_number a b v = root_of_both met_values (λ root. admits_number root.v
 pub both_admit_count : (a b : Constraints) (n : ℕ) → admit_count (both a b) n ≡ (admit_count a n && admit_count b n)
 both_admit_count a b n = root_of_both met_sizes (λ root. admits_count root.range n) (λ x y. count_meet_admits x.range y.range n) a.size b.size
 
--- what respects both, respects lists
+-- a property preserved by both is preserved by lists
 each_alone : (test : Constraints → Bool) → ((a b : Constraints) → test (both a b) ≡ (test a && test b)) → (a : Constraints) (cs : List Constraint)
     → test (fold both a (map alone cs)) ≡ (test a && list_all (λ c. test (alone c)) cs)
 each_alone test h a [] = and_true (test a)

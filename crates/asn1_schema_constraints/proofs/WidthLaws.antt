@@ -1,4 +1,4 @@
--- Fixed forms, by the cases of their bounds and by how large the numbers are.
+-- Fixed forms, by cases of the bounds and of the size of the numbers.
 use Rattle.std.proofs.Common.{◌≡◌, ◌∙◌, refl, sym, ap, ℕ, ◌^◌, ◌<◌, ◌≤◌, max, ℤ, pos, negsuc, ◌<ℤ◌, ◌≤ℤ◌, true, false, cond, Option, Some, None, inl, inr, arith}
 use Rattle.std.proofs.lemmas.Int.{ints}
 use Rattle.std.proofs.lemmas.Bool.{le-leb, lt-leb, cases_lt}
@@ -26,7 +26,7 @@ eight k g h = let a = lt-leb k 1 (omega arith) in let b = lt-leb k 2 (omega arit
 pub more : (k : ℕ) → 8 < k → None ≡ fixed_octets k
 more k g = let a = lt-leb k 1 (omega arith) in let b = lt-leb k 2 (omega arith) in let d = lt-leb k 4 (omega arith) in let e = lt-leb k 8 g in rw (a, b, d, e) refl
 
--- ---- numbers without a sign
+-- ---- unsigned numbers
 
 pub width_at_most : (n k : ℕ) → n < 256 ^ k → octet_width n ≤ k
 width_at_most n k h = octets-least n k (octet_width n) (octet_width-octets n) h
@@ -43,7 +43,7 @@ above n k h = elim (cases_lt k (octet_width n)) [
   | inr g ↦ let b = held_in n k g in absurd (omega (arith, b))
 ]
 
--- ---- numbers with a sign
+-- ---- signed numbers
 
 signed_at_most : (m n : ℕ) → m ≤ n → signed_octets (pos m) ≤ signed_octets (pos n)
 signed_at_most m n h =
@@ -87,7 +87,7 @@ pub sign_above : (z : ℤ) → pos 0 ≤ℤ z → false ≡ has_sign (Some z)
 sign_above (pos n) h = refl
 sign_above (negsuc n) h = absurd (omega (arith, ints))
 
--- ---- the form of a number under bounds is told by the sign and the width
+-- ---- the sign and the width determine the form of a number under bounds
 pub form_told : (low high : Option ℤ) (v : ℤ) → bounded low high v ≡ cond (has_sign low) (signed_form (fixed_width low high) v) (natural_form (fixed_width low high) v)
 unfolding bounded
 form_told (Some (pos low)) (Some (pos high)) v = refl

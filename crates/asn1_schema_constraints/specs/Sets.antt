@@ -1,4 +1,4 @@
--- What lists of constraints come to.
+-- The effective constraints of a list of constraints.
 use Rattle.std.specs.Prelude.{ℕ, ℤ, leb, Bool, true, false, ◌||◌, List, fold, map, Option, Some, None, is_some}
 use Rattle.asn1_model.specs.Numbers.{is_at_most}
 use Rattle.asn1_schema_constraints.specs.Bounds.{meet, admits_number, admits_count}
@@ -28,17 +28,17 @@ kind_number kind.Size = 1
 kind_number kind.PermittedAlphabet = 2
 kind_number kind.Extensible = 3
 
--- The constraint on a value, where it is one.
+-- The constraint on a value, if it is one.
 abbrev pub value_part : Constraint → Option (Extensible Value)
 value_part (OfValue c) = Some c
 value_part c = None
 
--- The constraint on a size, where it is one.
+-- The constraint on a size, if it is one.
 abbrev pub size_part : Constraint → Option (Extensible Size)
 size_part (OfSize c) = Some c
 size_part c = None
 
--- The constraint on characters, where it is one.
+-- The constraint on characters, if it is one.
 abbrev pub alphabet_part : Constraint → Option (Extensible PermittedAlphabet)
 alphabet_part (OfAlphabet c) = Some c
 alphabet_part c = None
@@ -54,16 +54,16 @@ has_marker (OfSize c) = has_additions c
 has_marker (OfAlphabet c) = has_additions c
 has_marker Marker = true
 
--- Whether there is a constraint and it has an extension marker.
+-- Whether there is a constraint, and it has an extension marker.
 abbrev pub is_extended : {X : Type 0} → Option (Extensible X) → Bool
 is_extended None = false
 is_extended (Some c) = has_additions c
 
--- Whether some constraint has an extension marker, or the type itself.
+-- Whether a constraint or the type itself has an extension marker.
 abbrev pub is_extensible : Constraints → Bool
 is_extensible c = c.is_extensible || (is_extended c.value || (is_extended c.size || is_extended c.permitted_alphabet))
 
--- The constraints of the program where there are none.
+-- No constraints, as a Rust value.
 abbrev pub unconstrained : Constraints
 unconstrained = record { value = None; size = None; permitted_alphabet = None; is_extensible = false }
 
@@ -74,13 +74,13 @@ alone (OfSize c) = record unconstrained { size = Some c }
 alone (OfAlphabet c) = record unconstrained { permitted_alphabet = Some c }
 alone Marker = record unconstrained { is_extensible = true }
 
--- What is behind the later extension marker, or else behind the earlier one.
+-- What follows the later extension marker, or else the earlier one.
 abbrev pub later_marker : {X : Type 0} → Option X → Option X → Option X
 later_marker a None = a
 later_marker a (Some b) = Some b
 
--- Two constraints of a kind, applied in turn: the roots met, with an extension marker where either has one (X.680 50
--- and 52).
+-- Two constraints of a kind, applied in turn: the intersection of the roots, with an extension marker if either has
+-- one (X.680 50 and 52).
 abbrev pub in_turn : {X : Type 0} → (X → X → X) → Extensible X → Extensible X → Extensible X
 in_turn met a b = record {
   constraint = met a.constraint b.constraint;
@@ -88,18 +88,18 @@ in_turn met a b = record {
       b.extensible;
 }
 
--- The same, where there are any.
+-- Two optional constraints of a kind, applied in turn.
 abbrev pub both_parts : {X : Type 0} → (X → X → X) → Option (Extensible X) → Option (Extensible X)
     → Option (Extensible X)
 both_parts met (Some a) (Some b) = Some (in_turn met a b)
 both_parts met (Some a) None = Some a
 both_parts met None o = o
 
--- What two value constraints admit together (X.680 51.4).
+-- The intersection of two value constraints (X.680 51.4).
 abbrev pub met_values : Value → Value → Value
 met_values a b = record { value = meet is_at_most a.value b.value }
 
--- What two size constraints admit together (X.680 51.5).
+-- The intersection of two size constraints (X.680 51.5).
 abbrev pub met_sizes : Size → Size → Size
 met_sizes a b = record { range = meet leb a.range b.range }
 
@@ -107,7 +107,7 @@ met_sizes a b = record { range = meet leb a.range b.range }
 abbrev pub later_alphabet : PermittedAlphabet → PermittedAlphabet → PermittedAlphabet
 later_alphabet a b = b
 
--- Constraints and then further ones, kind by kind.
+-- Constraints followed by other ones, kind by kind.
 abbrev pub both : Constraints → Constraints → Constraints
 both a b = record {
   value = both_parts met_values a.value b.value;
@@ -116,11 +116,11 @@ both a b = record {
   is_extensible = a.is_extensible || b.is_extensible;
 }
 
--- What some constraints come to, applied in turn.
+-- The effective constraints of a list, applied in turn.
 abbrev pub all_of : List Constraint → Constraints
 all_of cs = fold both unconstrained (map alone cs)
 
--- Whether the root of a constraint, where there is one, passes a test.
+-- Whether the root of a constraint passes a test, if there is a constraint.
 abbrev pub root_passes : {X : Type 0} → (X → Bool) → Option (Extensible X) → Bool
 root_passes test None = true
 root_passes test (Some c) = test c.constraint

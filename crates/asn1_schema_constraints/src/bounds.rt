@@ -17,12 +17,12 @@ ghost use Rattle.asn1_schema_constraints.specs.Texts.{bounds_text};
 use asn1_values_integers::IntegerType;
 use std::fmt;
 
-/// Bounds of a number (X.680 51.4): none, the one value, or a range, each end of which may be missing.
+/// Bounds of a number (X.680 51.4): none, a single value, or a range with one end or both.
 #[derive(Clone, Copy, Debug, PartialEq, Eq)]
 pub enum Bounded<T> {
     /// No bounds.
     None,
-    /// This value alone.
+    /// A single value.
     Single(T),
     /// The values from the start to the end, both included.
     Range {
@@ -33,17 +33,17 @@ pub enum Bounded<T> {
     },
 }
 
-/// A number as it is written under bounds.
+/// A number as it is encoded under bounds.
 #[derive(Clone, Copy, Debug, PartialEq, Eq)]
 pub enum Effective<T> {
-    /// The number less the lower bound.
+    /// The number minus the lower bound.
     Offset(T),
     /// The number itself.
     Plain(T),
 }
 
 impl<T> Bounded<T> {
-    /// The values from this one on.
+    /// The values from `value` on.
     pub fn start_from(value: T) -> Self
         ensures { result ≡ Bounded.Range (Some value) None }
     {
@@ -53,7 +53,7 @@ impl<T> Bounded<T> {
         }
     }
 
-    /// The values up to this one.
+    /// The values up to `value`.
     pub fn up_to(value: T) -> Self
         ensures { result ≡ Bounded.Range None (Some value) }
     {
@@ -63,14 +63,14 @@ impl<T> Bounded<T> {
         }
     }
 
-    /// This value alone.
+    /// A single value.
     pub fn single_value(value: T) -> Self
         ensures { result ≡ Bounded.Single value }
     {
         Self::Single(value)
     }
 
-    /// The values from one to another.
+    /// The values from `start` to `end`.
     pub fn const_new(start: T, end: T) -> Self
         ensures { result ≡ Bounded.Range (Some start) (Some end) }
     {
@@ -102,7 +102,7 @@ impl<T> Bounded<T> {
         }
     }
 
-    /// The least and the greatest value, where there are these.
+    /// The least and the greatest value, if there are any.
     #[inline(always)]
     pub fn start_and_end(&self) -> (Option<&T>, Option<&T>)
         ensures low { option_copied result.0 ≡ lower self.now }
@@ -112,7 +112,7 @@ impl<T> Bounded<T> {
     }
 }
 
-// The later of two lower bounds, where there are any.
+// The greater of two lower bounds, if there are any.
 fn later_number(one: Option<i128>, other: Option<i128>) -> Option<i128>
     ensures { result ≡ later is_at_most one other }
 {
@@ -123,7 +123,7 @@ fn later_number(one: Option<i128>, other: Option<i128>) -> Option<i128>
     }
 }
 
-// The earlier of two upper bounds, where there are any.
+// The lesser of two upper bounds, if there are any.
 fn earlier_number(one: Option<i128>, other: Option<i128>) -> Option<i128>
     ensures { result ≡ earlier is_at_most one other }
 {
@@ -134,7 +134,7 @@ fn earlier_number(one: Option<i128>, other: Option<i128>) -> Option<i128>
     }
 }
 
-// The later of two lower bounds, where there are any.
+// The greater of two lower bounds, if there are any.
 fn later_count(one: Option<usize>, other: Option<usize>) -> Option<usize>
     ensures { result ≡ later leb one other }
 {
@@ -145,7 +145,7 @@ fn later_count(one: Option<usize>, other: Option<usize>) -> Option<usize>
     }
 }
 
-// The earlier of two upper bounds, where there are any.
+// The lesser of two upper bounds, if there are any.
 fn earlier_count(one: Option<usize>, other: Option<usize>) -> Option<usize>
     ensures { result ≡ earlier leb one other }
 {
@@ -192,7 +192,7 @@ fn counts_between(low: Option<usize>, high: Option<usize>) -> Bounded<usize>
     }
 }
 
-// Whether the numbers that 128 bits do not hold are not below a bound, those below or those above.
+// Whether the numbers outside `i128`, below it or above it, are at least a bound.
 fn reaches_up(_low: i128, below: bool) -> bool
     ensures { (z : ℤ) → is_within (whole_range (2 ^ 127 - 1)) z ≡ false → is_below_zero z ≡ below → result
         ≡ is_at_most _low z }
@@ -200,7 +200,7 @@ fn reaches_up(_low: i128, below: bool) -> bool
     !below
 }
 
-// Whether the numbers that 128 bits do not hold are not above a bound, those below or those above.
+// Whether the numbers outside `i128`, below it or above it, are at most a bound.
 fn reaches_down(_high: i128, below: bool) -> bool
     ensures { (z : ℤ) → is_within (whole_range (2 ^ 127 - 1)) z ≡ false → is_below_zero z ≡ below → result
         ≡ is_at_most z _high }
@@ -209,7 +209,7 @@ fn reaches_down(_high: i128, below: bool) -> bool
 }
 
 impl Bounded<i128> {
-    // From the later of the lower bounds to the earlier of the upper ones.
+    // From the greater lower bound to the lesser upper bound.
     pub fn joined(&self, other: Self) -> Self
         ensures { result ≡ meet is_at_most self.now other }
     {
@@ -218,7 +218,7 @@ impl Bounded<i128> {
         numbers_between(low, high)
     }
 
-    /// The upper bound less the lower one, plus one, exactly if both are there and that number fits.
+    /// The upper bound minus the lower bound, plus one; `None` exactly if one is missing or the result does not fit.
     pub fn range(&self) -> Option<i128>
         ensures { IsSpan (lower self.now) (upper self.now) result }
     {
@@ -246,8 +246,8 @@ impl Bounded<i128> {
         self.admits(*element)
     }
 
-    /// How a number is written under the bounds: less the start of a range that has one, else as it is. The
-    /// caller sees to it that the number is not below that start, and that the difference fits.
+    /// How a number is encoded under the bounds: minus the start of a range that has one, else unchanged. The number
+    /// must not be below that start, and the difference has to fit.
     pub fn effective_value(&self, value: i128) -> Effective<i128>
         requires { CanOffset self.now value }
         ensures { result ≡ effective self.now value }
@@ -274,7 +274,7 @@ impl Bounded<i128> {
         }
     }
 
-    // Whether the numbers that 128 bits do not hold are within the bounds, those below or those above.
+    // Whether the numbers outside `i128`, below it or above it, are within the bounds.
     fn admits_past(&self, below: bool) -> bool
         ensures { (z : ℤ) → is_within (whole_range (2 ^ 127 - 1)) z ≡ false → is_below_zero z ≡ below → result
             ≡ admits_number self.now z }
@@ -297,7 +297,7 @@ impl Bounded<i128> {
         }
     }
 
-    /// What both bounds admit, or `None` exactly if they admit no number together.
+    /// The bounds of what both admit, or `None` exactly if no number is within both.
     pub fn intersect(&self, other: Self) -> Option<Self>
         ensures bounds { result ≡ common is_at_most self.now other }
         ensures admits { (v : ℤ) → are_admitting admits_number result v
@@ -307,7 +307,7 @@ impl Bounded<i128> {
         self.common(other)
     }
 
-    // From the later of the lower bounds to the earlier of the upper ones, or `None` if the first is above.
+    // From the greater lower bound to the lesser upper bound, or `None` if the former is above the latter.
     fn common(&self, other: Self) -> Option<Self>
         ensures { result ≡ common is_at_most self.now other }
     {
@@ -321,7 +321,7 @@ impl Bounded<i128> {
 }
 
 impl Bounded<usize> {
-    // From the later of the lower bounds to the earlier of the upper ones.
+    // From the greater lower bound to the lesser upper bound.
     pub fn joined(&self, other: Self) -> Self
         ensures { result ≡ meet leb self.now other }
     {
@@ -330,7 +330,7 @@ impl Bounded<usize> {
         counts_between(low, high)
     }
 
-    /// The upper bound less the lower one, plus one, if both are there and that number fits.
+    /// The upper bound minus the lower bound, plus one, if both are there and the result fits.
     pub fn range(&self) -> Option<usize>
         ensures { result ≡ counted (lower self.now) (upper self.now) }
     {
@@ -363,7 +363,7 @@ impl Bounded<usize> {
         }
     }
 
-    /// Whether a type of the program with these bounds holds so many members (X.680 51.5).
+    /// Whether a user-defined type with these bounds holds `count` elements (X.680 51.5).
     #[inline(always)]
     pub fn holds(&self, count: usize) -> bool
         ensures { result ≡ is_count_within (members_of self.now) count }
@@ -371,8 +371,8 @@ impl Bounded<usize> {
         self.contains(&count)
     }
 
-    /// How a count is written under the bounds: less the start of a range that has one, else as it is. The
-    /// caller sees to it that the count is not below that start.
+    /// How a count is encoded under the bounds: minus the start of a range that has one, else unchanged. The count
+    /// must not be below that start.
     pub fn effective_value(&self, value: usize) -> Effective<usize>
         requires { CanOffsetCount self.now value }
         ensures { result ≡ effective_count self.now value }
@@ -386,7 +386,7 @@ impl Bounded<usize> {
         }
     }
 
-    /// What both bounds admit, or `None` exactly if they admit no count together.
+    /// The bounds of what both admit, or `None` exactly if no count is within both.
     pub fn intersect(&self, other: Self) -> Option<Self>
         ensures bounds { result ≡ common leb self.now other }
         ensures admits { (n : ℕ) → are_admitting admits_count result n
@@ -396,7 +396,7 @@ impl Bounded<usize> {
         self.common(other)
     }
 
-    // From the later of the lower bounds to the earlier of the upper ones, or `None` if the first is above.
+    // From the greater lower bound to the lesser upper bound, or `None` if the former is above the latter.
     fn common(&self, other: Self) -> Option<Self>
         ensures { result ≡ common leb self.now other }
     {

@@ -149,7 +149,7 @@ impl From<Bounded<i128>> for Value {
     }
 }
 
-// An end of bounds, if 128 bits of two's complement hold it.
+// An end of bounds, if an `i128` holds it.
 fn held_end(end: Option<u128>) -> Result<Option<i128>, TryFromIntError>
     ensures { OkIff result (is_held end ≡ true) (option_map pos end) }
 {

@@ -7,12 +7,12 @@ use std::ops::DerefSlice;
 /// A permitted alphabet (X.680 51.7): the characters that a string may hold, in any order.
 #[derive(Clone, Copy, Debug, PartialEq, Eq)]
 pub struct PermittedAlphabet<'a> {
-    /// The characters, by their numbers.
+    /// The values of the characters.
     pub characters: &'a [u32],
 }
 
 impl<'a> PermittedAlphabet<'a> {
-    /// The constraint to these characters.
+    /// A constraint to these characters.
     pub fn new(range: &'a [u32]) -> Self
         ensures { result.characters.now ≡ range.now }
     {
@@ -26,8 +26,8 @@ impl<'a> PermittedAlphabet<'a> {
         self.characters
     }
 
-    /// The alphabet under both constraints, of which the other one is the later: that of the later one, since
-    /// its characters are among those of the earlier one (X.680 50.8).
+    /// The alphabet of two constraints in turn: that of the later one, `other`, as its characters are among those of
+    /// the earlier one (X.680 50.8).
     pub fn intersect(&self, other: &Self) -> Self
         ensures { result ≡ other.now }
     {
@@ -45,12 +45,12 @@ impl<'a> DerefSlice for PermittedAlphabet<'a> {
     }
 }
 
-/// A constraint, and the constraints behind its extension marker (X.680 52), if it has one.
+/// A constraint, and the constraints after its extension marker (X.680 52), if it has one.
 #[derive(Clone, Copy, Debug, PartialEq, Eq)]
 pub struct Extensible<'a, T> {
     /// The constraint before the extension marker: the root.
     pub constraint: T,
-    /// The constraints behind the extension marker, if there is one.
+    /// The constraints after the extension marker, if there is one.
     pub extensible: Option<&'a [T]>,
 }
 
@@ -66,7 +66,7 @@ impl<'a, T> Extensible<'a, T> {
         }
     }
 
-    /// This constraint, and behind its extension marker these ones.
+    /// This constraint, followed by an extension marker and these constraints.
     pub fn new_extensible(constraint: T, constraints: &'a [T]) -> Self
         ensures root { result.constraint ≡ constraint }
         ensures marker { result.extensible ≡ Some constraints.entry }
@@ -77,7 +77,7 @@ impl<'a, T> Extensible<'a, T> {
         }
     }
 
-    /// The same root with an extension marker and nothing behind it, or without an extension marker.
+    /// The same root with an extension marker and nothing after it, or without an extension marker.
     pub fn set_extensible(self, extensible: bool) -> Self
         ensures root { result.constraint ≡ self.entry.constraint }
         ensures marker { is_some result.extensible ≡ extensible }
@@ -86,7 +86,7 @@ impl<'a, T> Extensible<'a, T> {
         self.extensible_with_constraints(if extensible { Some(&[]) } else { None })
     }
 
-    /// The same root, and behind its extension marker these constraints, or without an extension marker.
+    /// The same root, with an extension marker and these constraints after it, or without an extension marker.
     pub fn extensible_with_constraints(self, constraints: Option<&'a [T]>) -> Self
         ensures root { result.constraint ≡ self.entry.constraint }
         ensures marker { result.extensible ≡ constraints.entry }

@@ -7,20 +7,20 @@ ghost use Rattle.asn1_schema_constraints.specs.declared.lists.Constraint.{Constr
 ghost use Rattle.asn1_schema_constraints.specs.declared.lists.Constraints.{Constraints};
 ghost use Rattle.asn1_schema_constraints.specs.Sets.{unconstrained, met_values, met_sizes, both, all_of};
 
-/// What `Value::intersect` answers commutes and associates.
+/// `Value::intersect` is commutative and associative.
 pub fn values_intersect()
     ensures commute { (a b : Value) → met_values a b ≡ met_values b a }
     ensures associate { (a b c : Value) → met_values (met_values a b) c ≡ met_values a (met_values b c) }
 {}
 
-/// What `Size::intersect` answers commutes and associates.
+/// `Size::intersect` is commutative and associative.
 pub fn sizes_intersect()
     ensures commute { (a b : Size) → met_sizes a b ≡ met_sizes b a }
     ensures associate { (a b c : Size) → met_sizes (met_sizes a b) c ≡ met_sizes a (met_sizes b c) }
 {}
 
-/// What `Constraints::intersect` answers associates, with `Constraints::NONE` as its identity; a list of
-/// constraints followed by another comes to what both come to, intersected.
+/// `Constraints::intersect` is associative, with `Constraints::NONE` as its identity; the effective constraints of two
+/// concatenated lists are the intersection of those of both.
 pub fn lists_join()
     ensures associate { (a b c : Constraints) → both (both a b) c ≡ both a (both b c) }
     ensures before { (a : Constraints) → both unconstrained a ≡ a }

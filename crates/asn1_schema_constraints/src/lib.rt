@@ -1,5 +1,5 @@
-//! Constraints on values, sizes and alphabets (X.680 clauses 50 to 52), their bounds (X.680 51.4 and 51.5), and what a
-//! list of them comes to.
+//! Constraints on values, sizes and alphabets (X.680 clauses 50 to 52), their bounds (X.680 51.4 and 51.5), and the
+//! effective constraints of a list of them.
 #![tactic(auto)]
 
 pub mod bounds;

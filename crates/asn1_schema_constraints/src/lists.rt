@@ -1,4 +1,4 @@
-//! Single constraints of any kind, and what a list of them comes to (X.680 clauses 50 to 52).
+//! Single constraints of any kind, and the effective constraints of a list of them (X.680 clauses 50 to 52).
 ghost use Rattle.std.specs.Prelude.{◌≡◌, ℕ, ℤ, ◌&&◌, Some, None, false, pos};
 ghost use Rattle.std.specs.List.{list_all};
 ghost use Rattle.std.specs.Option.{option_copied};
@@ -20,7 +20,7 @@ pub enum Constraint<'a> {
     Size(Extensible<'a, Size>),
     /// On the characters of a string (X.680 51.7).
     PermittedAlphabet(Extensible<'a, PermittedAlphabet<'a>>),
-    /// None: the type itself has an extension marker (X.680 20, 25, 27 and 29).
+    /// The type itself has an extension marker (X.680 20, 25, 27 and 29).
     Extensible,
 }
 
@@ -33,7 +33,7 @@ pub enum ConstraintDiscriminant {
     Size,
     /// On the characters of a string.
     PermittedAlphabet,
-    /// An extension marker of the type itself.
+    /// An extension marker of the type.
     Extensible,
 }
 
@@ -160,7 +160,7 @@ impl<'a> From<Extensible<'a, PermittedAlphabet<'a>>> for Constraint<'a> {
     }
 }
 
-// A value constraint and then another, where there are any.
+// A value constraint followed by another, if there are any.
 fn values_in_turn<'a>(
     one: Option<Extensible<'a, Value>>,
     other: Option<Extensible<'a, Value>>,
@@ -177,7 +177,7 @@ fn values_in_turn<'a>(
     }
 }
 
-// A size constraint and then another, where there are any.
+// A size constraint followed by another, if there are any.
 fn sizes_in_turn<'a>(
     one: Option<Extensible<'a, Size>>,
     other: Option<Extensible<'a, Size>>,
@@ -194,7 +194,7 @@ fn sizes_in_turn<'a>(
     }
 }
 
-// A permitted alphabet and then another, where there are any.
+// A permitted alphabet followed by another, if there are any.
 fn alphabets_in_turn<'a>(
     one: Option<Extensible<'a, PermittedAlphabet<'a>>>,
     other: Option<Extensible<'a, PermittedAlphabet<'a>>>,
@@ -211,8 +211,7 @@ fn alphabets_in_turn<'a>(
     }
 }
 
-/// What a list of constraints comes to: at most one constraint of each kind, and whether the type itself
-/// has an extension marker.
+/// The effective constraints of a list: at most one of each kind, and whether the type itself has an extension marker.
 #[derive(Clone, Copy, Debug, PartialEq, Eq)]
 pub struct Constraints<'a> {
     /// The constraint on the value of a number.
@@ -234,7 +233,7 @@ impl<'a> Constraints<'a> {
         is_extensible: false,
     };
 
-    /// These constraints together, applied in turn.
+    /// The effective constraints of these constraints, applied in turn.
     pub fn new(constraints: &[Constraint<'a>]) -> Self
         ensures list { result ≡ all_of constraints.now }
         ensures numbers { (v : ℤ) → admit_number result v ≡ list_all (λ c. admit_number (alone c) v) constraints.now }
@@ -247,8 +246,8 @@ impl<'a> Constraints<'a> {
         all
     }
 
-    /// These constraints and then the other ones: what both admit, with an extension marker where either has one, and
-    /// behind it what stands behind the later extension marker. Of two permitted alphabets the later one stands.
+    /// These constraints followed by `rhs`: what both admit, with an extension marker if either has one, and after it
+    /// what follows the later extension marker. Of two permitted alphabets the later one applies.
     pub fn intersect(&self, rhs: Constraints<'a>) -> Self
         ensures parts { result ≡ both self.now rhs.entry }
         ensures numbers { (v : ℤ) → admit_number result v ≡ (admit_number self.now v && admit_number rhs.entry v) }
@@ -276,7 +275,7 @@ impl<'a> Constraints<'a> {
         self.permitted_alphabet.as_ref()
     }
 
-    /// Whether there is an extension marker: of the type itself, or of a constraint.
+    /// Whether the type or a constraint has an extension marker.
     pub fn extensible(&self) -> bool
         ensures { result ≡ is_extensible self.now }
     {

@@ -13,7 +13,8 @@ ghost use Rattle.asn1_schema_constraints.specs.Bounds.{CanOffsetBy, IsEffectiveB
 use crate::{Bounded, Effective};
 use asn1_values_natives::{NativeInteger, Wide};
 
-/// What bounds of a native integer type answer. Those of `i128` and of `usize` have calls of their own by these names.
+/// Operations on the bounds of a native integer type. Those of `i128` and of `usize` have inherent methods of these
+/// names.
 pub trait NativeBounds<T: NativeInteger> {
     ghost use Rattle.asn1_schema_constraints.specs.declared.bounds.Bounded.{Bounded};
 
@@ -24,7 +25,8 @@ pub trait NativeBounds<T: NativeInteger> {
     fn minimum(&self) -> T
         ensures { result ≡ unwrap_or (lower (bounds self.now)) T.ZERO };
 
-    /// The upper bound less the lower one, plus one, exactly if both are there and the type holds that number.
+    /// The upper bound minus the lower bound, plus one; `None` exactly if one is missing or the type does not hold the
+    /// result.
     fn range(&self) -> Option<T>
         ensures { option_map T.number result ≡ counted_within (range_of T.SIGNED T.greatest)
             (option_map T.number (lower (bounds self.now))) (option_map T.number (upper (bounds self.now))) };
@@ -33,13 +35,13 @@ pub trait NativeBounds<T: NativeInteger> {
     fn contains(&self, element: &T) -> bool
         ensures { result ≡ admits_by T.number (bounds self.now) element.now };
 
-    /// How a number is written under the bounds: less the start of a range that has one, else as it is. The
-    /// caller sees to it that the number is not below that start, and that the type holds the difference.
+    /// How a number is encoded under the bounds: minus the start of a range that has one, else unchanged. The number
+    /// must not be below that start, and the type has to hold the difference.
     fn effective_value(&self, value: T) -> Effective<T>
         requires { CanOffsetBy (range_of T.SIGNED T.greatest) T.number (bounds self.now) value }
         ensures { IsEffectiveBy T.number (bounds self.now) value result };
 
-    /// What both bounds admit, or `None` exactly if they admit no number together.
+    /// The bounds of what both admit, or `None` exactly if no number is within both.
     fn intersect(&self, other: Bounded<T>) -> Option<Bounded<T>>
         ensures bounds { result ≡ common (at_most_by T.number) (bounds self.now) other }
         ensures admits { (v : T) → are_admitting (admits_by T.number) result v
@@ -47,7 +49,7 @@ pub trait NativeBounds<T: NativeInteger> {
         ensures some { IfSome result (λ r. (v : T) × (admits_by T.number r v ≡ true)) };
 }
 
-// Whether a number is not above another.
+// Whether a number is at most another.
 fn is_in_order(one: Wide, other: Wide) -> bool
     ensures { result ≡ is_at_most (signed_by one.negative one.magnitude) (signed_by other.negative other.magnitude) }
 {
@@ -59,7 +61,7 @@ fn is_in_order(one: Wide, other: Wide) -> bool
     }
 }
 
-// A natural number less another.
+// A natural number minus another.
 fn apart(one: u128, other: u128) -> Wide
     ensures { signed_by result.negative result.magnitude ≡ pos one -ℤ pos other }
 {
@@ -76,7 +78,7 @@ fn apart(one: u128, other: u128) -> Wide
     }
 }
 
-// A number less another, if it is within the range.
+// A number minus another, if it is within the range of `Wide`.
 fn difference(one: Wide, other: Wide) -> Option<Wide>
     ensures value { IfSome result (λ d. signed_by d.negative d.magnitude
         ≡ signed_by one.negative one.magnitude -ℤ signed_by other.negative other.magnitude) }
@@ -97,7 +99,7 @@ fn difference(one: Wide, other: Wide) -> Option<Wide>
     }
 }
 
-// A number less another, if the type holds that.
+// A number minus another, if the type holds the result.
 fn offset<T: NativeInteger>(one: T, other: T) -> Option<T>
     ensures value { IfSome result (λ d. T.number d ≡ T.number one -ℤ T.number other) }
     ensures fits { is_some result ≡ is_within (range_of T.SIGNED T.greatest) (T.number one -ℤ T.number other) }
@@ -105,7 +107,7 @@ fn offset<T: NativeInteger>(one: T, other: T) -> Option<T>
     T::from_wide(difference(one.to_wide(), other.to_wide())?)
 }
 
-// How many numbers there are from one to another, if the type holds that number.
+// How many numbers there are from `low` to `high`, if the type holds that count.
 fn count_of<T: NativeInteger>(low: T, high: T) -> Option<T>
     ensures value { IfSome result (λ n. T.number n ≡ (T.number high -ℤ T.number low) +ℤ pos 1) }
     ensures fits { is_some result
@@ -119,14 +121,14 @@ fn count_of<T: NativeInteger>(low: T, high: T) -> Option<T>
     T::from_wide(difference(apart, below_zero)?)
 }
 
-// Whether a value is not above another.
+// Whether a value is at most another.
 fn is_at_most<T: NativeInteger>(one: T, other: T) -> bool
     ensures { result ≡ at_most_by T.number one other }
 {
     is_in_order(one.to_wide(), other.to_wide())
 }
 
-// The later of two lower bounds, where there are any.
+// The greater of two lower bounds, if there are any.
 fn later<T: NativeInteger>(one: Option<T>, other: Option<T>) -> Option<T>
     ensures { result ≡ later (at_most_by T.number) one other }
 {
@@ -137,7 +139,7 @@ fn later<T: NativeInteger>(one: Option<T>, other: Option<T>) -> Option<T>
     }
 }
 
-// The earlier of two upper bounds, where there are any.
+// The lesser of two upper bounds, if there are any.
 fn earlier<T: NativeInteger>(one: Option<T>, other: Option<T>) -> Option<T>
     ensures { result ≡ earlier (at_most_by T.number) one other }
 {
@@ -166,7 +168,7 @@ fn between<T: NativeInteger>(low: Option<T>, high: Option<T>) -> Bounded<T>
     }
 }
 
-// What both bounds admit, or `None` if the later of the lower ends is above the earlier of the upper ones.
+// The bounds of what both admit, or `None` if the greater lower bound is above the lesser upper bound.
 fn common<T: NativeInteger>(one: &Bounded<T>, other: &Bounded<T>) -> Option<Bounded<T>>
     ensures { result ≡ common (at_most_by T.number) one.now other.now }
 {

@@ -17,30 +17,30 @@ pub struct Value {
 }
 
 impl Value {
-    /// The constraint to these bounds.
+    /// A constraint to these bounds.
     pub fn new(value: Bounded<i128>) -> Self
         ensures { result.value ≡ value }
     {
         Value { value }
     }
 
-    /// Whether numbers under the constraint are written with a sign (X.696 10), as [`Bounded::range_in_bytes`] tells.
+    /// Whether numbers under the constraint are encoded with a sign (X.696 10); see [`Bounded::range_in_bytes`].
     pub fn get_sign(&self) -> bool
         ensures { result ≡ has_sign (lower self.now.value) }
     {
         self.value.range_in_bytes().0
     }
 
-    /// In how many octets numbers under the constraint are written, if their form is fixed (X.696 10), as
-    /// [`Bounded::range_in_bytes`] tells.
+    /// The number of octets in which numbers under the constraint are encoded, if it is fixed (X.696 10); see
+    /// [`Bounded::range_in_bytes`].
     pub fn get_range(&self) -> Option<u8>
         ensures { result ≡ fixed_width (lower self.now.value) (upper self.now.value) }
     {
         self.value.range_in_bytes().1
     }
 
-    /// The constraint to what both admit: from the greater lower bound to the lesser upper one. If they
-    /// admit no number together, the answer's bounds are the wrong way round, and it admits none.
+    /// The constraint to what both admit: from the greater lower bound to the lesser upper bound. If no number is
+    /// within both, the start of the result is above its end, and it admits none.
     pub fn intersect(&self, other: &Self) -> Self
         ensures bounds { result.value ≡ meet is_at_most self.now.value other.now.value }
         ensures admits { (v : ℤ) → admits_number result.value v
@@ -70,14 +70,14 @@ pub struct Size {
 }
 
 impl Size {
-    /// The constraint to these bounds.
+    /// A constraint to these bounds.
     pub fn new(range: Bounded<usize>) -> Self
         ensures { result.range ≡ range }
     {
         Size { range }
     }
 
-    /// The constraint to one size.
+    /// A constraint to one size.
     pub fn fixed(length: usize) -> Self
         ensures { result.range ≡ Bounded.Single length }
     {
@@ -86,7 +86,7 @@ impl Size {
         }
     }
 
-    /// Whether there is one size alone: the greatest is the least, which is 0 where none is given.
+    /// Whether only one size is allowed: the greatest size is the least one, which is 0 if none is given.
     pub fn is_fixed(&self) -> bool
         ensures { result ≡ is_one_size self.now.range }
     {
@@ -96,7 +96,7 @@ impl Size {
         }
     }
 
-    /// Whether a least or a greatest size is given, and there is not one size alone.
+    /// Whether a least or a greatest size is given, and not only one size is allowed.
     pub fn is_range(&self) -> bool
         ensures { result ≡ is_size_range self.now.range }
     {
@@ -104,8 +104,8 @@ impl Size {
         is_bounded && !self.is_fixed()
     }
 
-    /// The constraint to what both admit: from the greater lower bound to the lesser upper one. If they
-    /// admit no size together, the answer's bounds are the wrong way round, and it admits none.
+    /// The constraint to what both admit: from the greater lower bound to the lesser upper bound. If no size is within
+    /// both, the start of the result is above its end, and it admits none.
     pub fn intersect(&self, other: &Self) -> Self
         ensures bounds { result.range ≡ meet leb self.now.range other.now.range }
         ensures admits { (n : ℕ) → admits_count result.range n
@@ -127,7 +127,7 @@ impl Deref for Size {
     }
 }
 
-/// Once the bounds are given back, the constraint is to what was left in them.
+/// When the mutable borrow ends, the constraint has the bounds left in it.
 impl DerefMut for Size {
     ghost use Rattle.asn1_schema_constraints.specs.contracts.bounds.Bounded.{the_row as bounds_row};
     ghost use Rattle.asn1_schema_constraints.specs.contracts.parts.Size.{the_row};

@@ -1,4 +1,5 @@
-//! The sizes that constraints leave to a string, a list or a bag (X.680 51.5), as its encoders and decoders need them.
+//! The effective size constraint of a string, a SEQUENCE OF or a SET OF (X.680 51.5), as encoders and decoders need
+//! it.
 ghost use Rattle.std.specs.Prelude.{◌≡◌};
 ghost use Rattle.asn1_model.specs.Oer.{is_fixed};
 ghost use Rattle.asn1_model.specs.Numbers.{admits};
@@ -7,17 +8,17 @@ ghost use Rattle.asn1_schema_constraints.specs.Terms.{sizes_of, size_of, one_siz
 
 use crate::{Bounded, Constraints};
 
-/// The sizes of the root, and whether an extension marker follows them (X.680 51.5 and 52).
+/// The sizes in the root, and whether there is an extension marker (X.680 51.5 and 52).
 #[derive(Clone, Copy, Debug, PartialEq, Eq)]
 pub struct Sizes {
-    /// The sizes of the root.
+    /// The sizes in the root.
     pub root: Bounded<usize>,
-    /// Whether an extension marker follows.
+    /// Whether there is an extension marker.
     pub is_extensible: bool,
 }
 
 impl Constraints<'_> {
-    /// The sizes that these constraints leave: all, and no extension marker, where there is no size constraint.
+    /// The sizes that these constraints allow: all, without an extension marker, if there is no size constraint.
     #[inline(always)]
     pub fn sizes(&self) -> Sizes
         ensures { size_of result ≡ sizes_of self.now.size }
@@ -36,8 +37,8 @@ impl Constraints<'_> {
 }
 
 impl Sizes {
-    /// The one size, if the root has no other and no extension marker follows: no length determinant is written then
-    /// (X.696 13, 14 and 27).
+    /// The fixed size, if the root has only one and there is no extension marker. Then no length determinant is
+    /// encoded (X.696 13, 14 and 27).
     #[inline(always)]
     pub fn fixed(&self) -> Option<usize>
         ensures { result ≡ one_size (size_of self.now) }
@@ -48,7 +49,7 @@ impl Sizes {
         }
     }
 
-    /// Whether the root has one size alone and no extension marker follows.
+    /// Whether the root has only one size and there is no extension marker.
     #[inline(always)]
     pub fn is_fixed(&self) -> bool
         ensures { result ≡ is_fixed (size_of self.now) }
@@ -56,8 +57,8 @@ impl Sizes {
         self.fixed().is_some()
     }
 
-    /// Whether a type of the program that holds these numbers holds so many, and the root has so many, or an extension
-    /// marker follows it.
+    /// Whether a user-defined type with the bounds `held` holds `count` units, and `count` is in the root or there is
+    /// an extension marker.
     #[inline(always)]
     pub fn admits(&self, held: Bounded<usize>, count: usize) -> bool
         ensures { result ≡ admits (size_of self.now) (counts_of held) count }

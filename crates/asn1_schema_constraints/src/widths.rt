@@ -9,9 +9,9 @@ ghost use Rattle.asn1_schema_constraints.specs.Widths.{has_sign, fixed_width};
 use crate::Bounded;
 
 impl Bounded<i128> {
-    /// In which form INTEGER is written under these bounds (X.696 10): whether it has a sign, as the lower
-    /// bound is negative or missing, and in how many octets, 1, 2, 4 or 8. It is `None` of them where an end
-    /// is open, where no so many octets hold both ends, and where the start is not negative but the end is.
+    /// The form of an INTEGER under these bounds (X.696 10): whether it is signed, as the lower bound is negative or
+    /// missing, and its fixed number of octets, 1, 2, 4 or 8. The latter is `None` if a bound is missing, if 8 octets
+    /// do not hold both bounds, or if the lower bound is not negative but the upper one is.
     #[inline(always)]
     pub fn range_in_bytes(&self) -> (bool, Option<u8>)
         ensures sign { result.0 ≡ has_sign (lower self.now) }
@@ -24,7 +24,7 @@ impl Bounded<i128> {
     }
 }
 
-// Whether numbers from a bound on may be negative.
+// Whether numbers from a lower bound on may be negative.
 #[inline(always)]
 fn may_be_negative(start: Option<i128>) -> bool
     ensures { result ≡ has_sign start }
@@ -35,7 +35,7 @@ fn may_be_negative(start: Option<i128>) -> bool
     }
 }
 
-// How many octets the fixed form of the numbers between two bounds has.
+// The fixed number of octets for the numbers between two bounds.
 #[inline(always)]
 fn octets_of_range(start: Option<i128>, end: Option<i128>) -> Option<u8>
     ensures { result ≡ fixed_width start end }
@@ -46,7 +46,7 @@ fn octets_of_range(start: Option<i128>, end: Option<i128>) -> Option<u8>
     }
 }
 
-// How many octets the fixed form of the numbers between two bounds has.
+// The fixed number of octets for the numbers between two bounds.
 #[inline(always)]
 fn octets_between(low: i128, high: i128) -> Option<u8>
     ensures { result ≡ fixed_width (Some low) (Some high) }
@@ -60,7 +60,7 @@ fn octets_between(low: i128, high: i128) -> Option<u8>
     natural_width(high as u128)
 }
 
-// A number that is not negative, or how far a negative one is below -1.
+// A number that is not negative, or -1 minus a negative number.
 #[inline(always)]
 fn plain_number(number: i128) -> u128
     ensures { result ≡ plain number }
@@ -72,7 +72,7 @@ fn plain_number(number: i128) -> u128
     }
 }
 
-// The least of 1, 2, 4 and 8 octets that hold a number without a sign.
+// The least of 1, 2, 4 and 8 octets that hold an unsigned number.
 #[inline(always)]
 fn natural_width(number: u128) -> Option<u8>
     ensures { result ≡ fixed_octets (octet_width number) }
@@ -92,7 +92,7 @@ fn natural_width(number: u128) -> Option<u8>
     None
 }
 
-// The least of 1, 2, 4 and 8 octets whose two's complement holds a number and -1 less it.
+// The least of 1, 2, 4 and 8 octets that hold a number and -1 minus that number in two's complement.
 #[inline(always)]
 fn signed_width(number: u128) -> Option<u8>
     ensures { result ≡ fixed_octets (signed_octets (pos number)) }

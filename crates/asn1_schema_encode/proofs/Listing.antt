@@ -63,7 +63,7 @@ module _ {S : Type 0} {step : S → Record → S → Type 0} (s : ℕ → Schema
   unfolding list_type scope presents Fits
   cannot_list one {vs} {a} {b} i k = record { none = λ w n c. elim n as (λ n. Fits (scope n (λ m. sequence_of z h (s m))) (members vs) → Chain step (presents (scope n (λ m. sequence_of z h (s m))) (members vs)) a c → ⊥) [ zero ↦ λ f p. f | suc j ↦ λ f p. k.none w j c f (subst (λ (y : S). Chain step (member_records (λ v. presents (s j) v) vs) y c) (one a _ _ _ p.1 i) p.2) ] }
 
--- a loop over the items: what is to be written behind the first i of them
+-- a loop over the items: what is to be written after the first i of them
 pub record WritesFrom {S A : Type 0} (step : S → Record → S → Type 0) (s : ℕ → Schema) (f : A → Value) (xs : List A) (i : ℕ) (start now : S) : Type 0 where
   pub done : (c : S) → WritesMembers step s (values_of f (drop i xs)) now c → WritesMembers step s (values_of f xs) start c
   pub stuck : (x : EncodeError) → CannotWriteMembers step s (values_of f (drop i xs)) now x → CannotWriteMembers step s (values_of f xs) start x

@@ -1,4 +1,4 @@
--- Numbers within a range, as they are written.
+-- How numbers within a range are written.
 use Rattle.std.proofs.Common.{◌≡◌, ℤ, true, subst}
 use Rattle.asn1_model.specs.Numbers.{is_at_most}
 use Rattle.asn1_model.specs.Value.{number}
@@ -12,7 +12,7 @@ use Rattle.asn1_schema_types.specs.Told.{whole_under}
 use Rattle.asn1_schema_encode.specs.Writes.{Refused, Writes, CannotWrite}
 use Rattle.asn1_schema_encode.proofs.SingleRecords.{writes_integer, cannot_integer}
 
--- the record of a number under constraints of which it is known what they mean
+-- the record of a number under constraints with a known meaning
 abbrev pub told : Meant → ℤ → Record
 told m z = whole m.bounds (held_where m.is_bounded any_number) z
 

@@ -1,4 +1,4 @@
--- How what an encoder takes is put together.
+-- How what an encoder accepts is put together.
 use Rattle.std.proofs.Common.{◌≡◌, ℕ, zero, suc, Bool, true, false, List, ◌++◌, refl, subst, sym}
 use Rattle.asn1_model.specs.Value.{Value, fields, Parts, end, same}
 use Rattle.asn1_model.specs.Schema.{Tag, Presence, required, optional, by_default, Schema, sequence}
@@ -85,7 +85,7 @@ module _ {S : Type 0} {step : S → Record → S → Type 0} where
   pub writes_there : {ts : List Tag} (o : Presence) {s : ℕ → Schema} {v : Value} {a b c : S} → is_required o ≡ false → IsType ts s → ((n : ℕ) → is_at_default o (s n) v ≡ false) → step a (presence_bit true) b → Writes step s v b c → WritesPart step o s (there v) a c
   writes_there o {s} {v} {a} {b} {c} r t d m h = record { chain = λ n f. subst (λ rs. Chain step rs a c) (sym (present_records o (s n) v r (nothing_noted o (s n) v (not_empty (s n) (normal (s n) v) (t.no_group n)) (d n)))) (b, m, h.chain n f) }
 
--- sequences, by what their tables have
+-- SEQUENCE types, by their tables
 module _ {S : Type 0} (step : S → Record → S → Type 0) (t : Table) {x : Bool} {k : ℕ} (e : k ≡ presence_bits t.root) (f : t.extensible ≡ x) where
   by_table : {a b : S} → step a (sequence_begins x k) b → step a (sequence_begins t.extensible (presence_bits t.root)) b
   by_table {a} {b} h = subst (λ (i : ℕ). step a (sequence_begins t.extensible i) b) e (subst (λ (y : Bool). step a (sequence_begins y k) b) (sym f) h)
@@ -102,14 +102,14 @@ module _ {S : Type 0} (step : S → Record → S → Type 0) (t : Table) {x : Bo
   pub cannot_this : OneAfter step → {ps qs : Parts} {a b : S} {y : EncodeError} → step a (sequence_begins x k) b → CannotWriteTail step t ps qs b y → CannotWrite step (sequence_type t) (fields ps qs) a y
   cannot_this one h w = cannot_sequence one t (by_table h) w
 
--- another spelling of the same type
+-- another form of the same type
 pub writes_as : {S : Type 0} {step : S → Record → S → Type 0} (s t : ℕ → Schema) {v : Value} {a b : S} → ((n : ℕ) → t n ≡ s n) → Writes step s v a b → Writes step t v a b
 writes_as {step = step} s t {v} {a} {b} e h = record { chain = λ n. subst (λ (x : Schema). Fits x v → Chain step (presents x v) a b) (sym (e n)) (h.chain n) }
 
 pub cannot_as : {S : Type 0} {step : S → Record → S → Type 0} (s t : ℕ → Schema) {v : Value} {a : S} {x : EncodeError} → ((n : ℕ) → t n ≡ s n) → CannotWrite step s v a x → CannotWrite step t v a x
 cannot_as {step = step} s t {v} {a} e h = record { none = λ m n c. subst (λ (x : Schema). Fits x v → Chain step (presents x v) a c → ⊥) (sym (e n)) (h.none m n c) }
 
--- components behind a presence bit, under given constraints
+-- components after a presence bit, under given constraints
 module _ {S : Type 0} {step : S → Record → S → Type 0} {s : ℕ → Schema} {v : Value} where
   pub writes_present : {a b c : S} → step a (presence_bit true) b → Writes step s v b c → WritesPresent step s v a c
   writes_present {b = b} m h = record { behind_presence_bit = b; presence_bits = m; writes = h }
@@ -120,7 +120,7 @@ module _ {S : Type 0} {step : S → Record → S → Type 0} {s : ℕ → Schema
   pub cannot_present : OneAfter step → {a b : S} {x : EncodeError} → step a (presence_bit true) b → CannotWrite step s v b x → CannotWritePresent step s v a x
   cannot_present one {a} {b} m h = record { none = λ w n y c k f p. h.none w n c f (subst (λ (z : S). Chain step (presents (s n) v) z c) (one a (presence_bit true) y b k m) p) }
 
-  -- what stands behind a presence bit under a type's own constraints is a component of the type
+  -- what follows a presence bit under a type's own constraints is a component of the type
   pub part_present : {ts : List Tag} (o : Presence) {t : ℕ → Schema} {a c : S} → is_required o ≡ false → IsType ts t → ((n : ℕ) → is_at_default o (t n) v ≡ false) → ((n : ℕ) → t n ≡ s n) → WritesPresent step s v a c → WritesPart step o t (there v) a c
   part_present o {t} r k d e h = writes_there o r k d h.presence_bits (writes_as s t e h.writes)
 

@@ -1,4 +1,4 @@
--- What the calls that write answer, by the octets that their encoder holds.
+-- The results of encoding, by the octets that their encoder holds.
 use Rattle.std.proofs.Common.{◌≡◌, ℕ, ◌<◌, ◌≤◌, ◌^◌, ltb, suc, Bool, true, false, cond, List, length, Option, Some, None, option_and_then, Result, Ok, Err, Vec, Global, IfOk, IfErr, MatchResult, refl, sym, ◌∙◌, ap, subst, arith}
 use Rattle.std.proofs.lemmas.Bool.{le-leb, leb-true}
 use Rattle.asn1_model.specs.Schema.{Schema}
@@ -8,7 +8,7 @@ use Rattle.asn1_schema_faults.specs.declared.EncodeError.{EncodeError}
 use Rattle.asn1_schema_faults.specs.declared.EncodeError.TheVariants.{TooLongValue}
 use Rattle.asn1_schema_encode.specs.Written.{IsWrittenIn, HasTextIn, NotWrittenIn}
 
--- the bound on the length of an encoding
+-- the limit on the length of an encoding
 pub short_enough : (w : List ℕ) → length w < 2 ^ 60 → of_moderate_length w ≡ Some w
 short_enough w h = ap (λ b. cond b (Some w) None) (le-leb (suc (length w)) (2 ^ 60) h)
 
@@ -19,7 +19,7 @@ too_long w h = go (ltb (length w) (2 ^ 60)) refl
     go false e = ap (λ b. cond b (Some w) None) e
     go true e = let l = leb-true (suc (length w)) (2 ^ 60) e in absurd (omega (arith, h, l))
 
--- what is answered: the octets, or that they are too many
+-- the result: the octets, or that they are too many
 abbrev pub Kept : List ℕ → Result (Vec ℕ Global) EncodeError → Type 0
 Kept w r = MatchResult r (λ kept. (kept.items ≡ w) × (length w < 2 ^ 60)) (λ e. (e ≡ TooLongValue) × (2 ^ 60 ≤ length w))
 

@@ -1,4 +1,4 @@
--- How the states of an encoder go, by its relation between what it holds before a record and after it.
+-- How the state of an encoder changes, by its relation between the states before and after a record.
 use Rattle.std.specs.Prelude.{◌≡◌, ℕ, Bool, true, false}
 use Rattle.asn1_model.specs.Value.{Value, Values, Parts}
 use Rattle.asn1_model.specs.Schema.{Presence, Schema}
@@ -10,22 +10,23 @@ use Rattle.asn1_schema_presented.specs.Tables.{Table}
 use Rattle.asn1_schema_presented.specs.Chains.{Chain}
 use Rattle.asn1_schema_presented.specs.Parts.{tail_records, TailFits}
 
--- Why an encoder answers the error x: for want of memory, or because no state stands after the record.
+-- Why an encoder returns the error x: memory ran out, or no state follows the record.
 pub record Refused {S : Type 0} (step : S → Record → S → Type 0) (r : Record) (old : S) (x : EncodeError) : Type 0 where
   pub none : ¬ (x ≡ OutOfMemory) → (new : S) → step old r new → ⊥
 
--- The state goes from old to new by the records of v, in whatever depth the type is unfolded in which the value fits.
+-- The state changes from old to new by the records of v, at any depth of unfolding of the type in which the value
+-- fits.
 pub record Writes {S : Type 0} (step : S → Record → S → Type 0) (schema : ℕ → Schema) (v : Value) (old new : S) : Type
     0 where
   pub chain : (n : ℕ) → Fits (schema n) v → Chain step (presents (schema n) v) old new
 
--- Why a value is refused: for want of memory, or because no state stands after its records.
+-- Why a value is not written: memory ran out, or no state follows its records.
 pub record CannotWrite {S : Type 0} (step : S → Record → S → Type 0) (schema : ℕ → Schema) (v : Value) (old : S)
     (x : EncodeError) : Type 0 where
   pub none : ¬ (x ≡ OutOfMemory) → (n : ℕ) (new : S) → Fits (schema n) v → Chain step (presents (schema n) v) old new
       → ⊥
 
--- The same of one component.
+-- `Writes` for one component.
 pub record WritesPart {S : Type 0} (step : S → Record → S → Type 0) (o : Presence) (schema : ℕ → Schema) (x : Part)
     (old new : S) : Type 0 where
   pub chain : (n : ℕ) → PartFits (λ v. Fits (schema n) v) o x
@@ -36,7 +37,7 @@ pub record CannotWritePart {S : Type 0} (step : S → Record → S → Type 0) (
   pub none : ¬ (e ≡ OutOfMemory) → (n : ℕ) (new : S) → PartFits (λ v. Fits (schema n) v) o x
       → Chain step (part_records (λ v. presents (schema n) v) o (schema n) x) old new → ⊥
 
--- One that may be absent: a presence bit says that it is there, and the records of its value follow.
+-- A component that may be absent and is present: a presence bit of 1, followed by the records of its value.
 pub record WritesPresent {S : Type 0} (step : S → Record → S → Type 0) (schema : ℕ → Schema) (v : Value)
     (old new : S) : Type 0 where
   pub behind_presence_bit : S
@@ -48,7 +49,7 @@ pub record CannotWritePresent {S : Type 0} (step : S → Record → S → Type 0
   pub none : ¬ (x ≡ OutOfMemory) → (n : ℕ) (mid new : S) → step old (presence_bit true) mid → Fits (schema n) v
       → Chain step (presents (schema n) v) mid new → ⊥
 
--- One with a default is left out where it is equal to this.
+-- A component with a default is absent if it is equal to the default (true).
 abbrev pub WritesUnless : Bool → {S : Type 0} → (S → Record → S → Type 0) → (ℕ → Schema) → Value → S → S → Type 0
 WritesUnless true step schema v old new = step old (presence_bit false) new
 WritesUnless false step schema v old new = WritesPresent step schema v old new
@@ -58,7 +59,7 @@ abbrev pub CannotWriteUnless : Bool → {S : Type 0} → (S → Record → S →
 CannotWriteUnless true step schema v old x = Refused step (presence_bit false) old x
 CannotWriteUnless false step schema v old x = CannotWritePresent step schema v old x
 
--- The same of what is left of a sequence.
+-- `Writes` for the rest of a SEQUENCE.
 pub record WritesTail {S : Type 0} (step : S → Record → S → Type 0) (t : Table) (ps qs : Parts) (old new : S) : Type 0
   where
     pub chain : (n : ℕ) → TailFits n t ps qs → Chain step (tail_records n t ps qs) old new
@@ -68,7 +69,7 @@ pub record CannotWriteTail {S : Type 0} (step : S → Record → S → Type 0) (
   pub none : ¬ (e ≡ OutOfMemory) → (n : ℕ) (new : S) → TailFits n t ps qs
       → Chain step (tail_records n t ps qs) old new → ⊥
 
--- The same of the members of a list, and its end.
+-- `Writes` for the elements of a list, and its end.
 pub record WritesMembers {S : Type 0} (step : S → Record → S → Type 0) (schema : ℕ → Schema) (vs : Values)
     (old new : S) : Type 0 where
   pub chain : (n : ℕ) → AllFit (λ v. Fits (schema n) v) vs

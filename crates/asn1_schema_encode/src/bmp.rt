@@ -1,4 +1,4 @@
-//! BMPString (X.680 41), as it is written.
+//! How a BMPString is encoded (X.680 41).
 use crate::encode::{Encode, Encoder};
 use asn1_schema_constraints::Constraints;
 use asn1_schema_faults::EncodeError;

@@ -1,13 +1,13 @@
-//! What a call of an encoder asks before it writes.
+//! Checks that a call of an encoder makes first.
 ghost use Rattle.std.specs.Prelude.{◌≡◌, true, false, OnOk, IfErr};
 
 use asn1_schema_faults::EncodeError;
 
-/// Goes on, unless an earlier call was refused.
+/// Continues, unless an earlier call failed.
 ///
 /// # Errors
 ///
-/// `AlreadyFailed` if one was.
+/// `AlreadyFailed` if an earlier call failed.
 #[inline(always)]
 pub fn go_on(failed: bool) -> Result<(), EncodeError>
     ensures ok { OnOk result (failed ≡ false) }
@@ -19,7 +19,7 @@ pub fn go_on(failed: bool) -> Result<(), EncodeError>
     Ok(())
 }
 
-/// Begins a record, unless an earlier call was refused. The encoder counts as failed until the record is written.
+/// Begins a record, unless an earlier call failed. Until the record is written, the encoder counts as failed.
 ///
 /// # Errors
 ///

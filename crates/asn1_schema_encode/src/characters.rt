@@ -1,4 +1,4 @@
-//! The restricted character strings whose characters are octets (X.680 41), as they are written.
+//! How the restricted character strings with one octet per character are encoded (X.680 41).
 use crate::encode::{Encode, Encoder};
 use asn1_schema_constraints::Constraints;
 use asn1_schema_faults::EncodeError;

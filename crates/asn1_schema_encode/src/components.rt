@@ -1,4 +1,4 @@
-//! The components of a sequence, as they are written.
+//! How the components of a SEQUENCE are encoded.
 ghost use Rattle.std.specs.Prelude.{◌≡◌, false, OnOk, OnErr, IfErr};
 ghost use Rattle.asn1_model.specs.Value.{fields, same};
 ghost use Rattle.asn1_model.specs.Schema.{optional, by_default};
@@ -16,9 +16,9 @@ use asn1_schema_faults::EncodeError;
 use asn1_schema_tags::Tag;
 use asn1_schema_types::{ComponentsOf, DefaultOf, Defaulted, End, Optional, Required};
 
-/// Components that are written.
+/// Components that can be encoded.
 pub trait EncodeComponents: ComponentsOf {
-    /// Writes the records of the components, and the end of the sequence.
+    /// Writes the records of the components, and the end of the SEQUENCE.
     fn encode_components<E: Encoder>(&self, encoder: &mut E) -> Result<(), EncodeError>
         ensures ok { OnOk result
             (WritesTail E.step Self.table (Self.root self.now) (Self.added self.now) encoder.old encoder.new) }
@@ -62,9 +62,9 @@ impl<'a, V: DefaultOf<T>, T: Encode, R: EncodeComponents> EncodeComponents
     }
 }
 
-/// How components and sequences are written.
+/// Encodes components and SEQUENCE types.
 pub trait EncodeSequence: Encoder {
-    /// A component that may be absent and is there.
+    /// Encodes an OPTIONAL component that is present.
     final fn encode_some<T: Encode>(&mut self, value: &T) -> Result<(), EncodeError>
     where
         Self: Sized,
@@ -80,7 +80,7 @@ pub trait EncodeSequence: Encoder {
         self.encode_some_with_tag(T::TAG, value)
     }
 
-    /// The same with another tag.
+    /// As `encode_some`, with another tag.
     final fn encode_some_with_tag<T: Encode>(
         &mut self,
         tag: Tag,
@@ -101,7 +101,7 @@ pub trait EncodeSequence: Encoder {
         Ok(())
     }
 
-    /// The same with another tag, under these constraints.
+    /// As `encode_some`, with another tag and under these constraints.
     final fn encode_some_with_tag_and_constraints<T: Encode>(
         &mut self,
         tag: Tag,
@@ -124,7 +124,7 @@ pub trait EncodeSequence: Encoder {
         Ok(())
     }
 
-    /// A component that may be absent and is absent.
+    /// Encodes an OPTIONAL component that is absent.
     final fn encode_none<T: Encode>(&mut self) -> Result<(), EncodeError>
     where
         Self: Sized,
@@ -138,7 +138,7 @@ pub trait EncodeSequence: Encoder {
         self.encode_none_with_tag::<T>(T::TAG)
     }
 
-    /// The same with another tag.
+    /// As `encode_none`, with another tag.
     final fn encode_none_with_tag<T: Encode>(&mut self, _tag: Tag) -> Result<(), EncodeError>
     where
         Self: Sized,
@@ -153,7 +153,7 @@ pub trait EncodeSequence: Encoder {
         Ok(())
     }
 
-    /// A component that may be absent.
+    /// Encodes an OPTIONAL component.
     final fn encode_optional<T: Encode>(&mut self, value: &Option<T>) -> Result<(), EncodeError>
     where
         Self: Sized,
@@ -172,8 +172,8 @@ pub trait EncodeSequence: Encoder {
         }
     }
 
-    /// A component with a default: left out where it means what the default is, so a default is never spelled
-    /// out (X.691 19.5 and X.696 16 in their canonical forms). Takes no memory of its own.
+    /// Encodes a component with a default. It is left out if it is equal to the default, so a default is never encoded
+    /// (X.691 19.5 and X.696 16 in their canonical forms). Allocates nothing itself.
     final fn encode_default<V: DefaultOf<T>, T: Encode>(
         &mut self,
         value: &T,
@@ -194,7 +194,7 @@ pub trait EncodeSequence: Encoder {
         self.encode_default_with_tag::<V, T>(T::TAG, value)
     }
 
-    /// The same with another tag.
+    /// As `encode_default`, with another tag.
     final fn encode_default_with_tag<V: DefaultOf<T>, T: Encode>(
         &mut self,
         tag: Tag,
@@ -217,7 +217,7 @@ pub trait EncodeSequence: Encoder {
         Ok(())
     }
 
-    /// The same under these constraints.
+    /// As `encode_default`, under these constraints.
     final fn encode_default_with_constraints<V: DefaultOf<T>, T: Encode>(
         &mut self,
         value: &T,
@@ -239,7 +239,7 @@ pub trait EncodeSequence: Encoder {
         self.encode_default_with_tag_and_constraints::<V, T>(T::TAG, value, constraints)
     }
 
-    /// The same with another tag, under these constraints.
+    /// As `encode_default`, with another tag and under these constraints.
     final fn encode_default_with_tag_and_constraints<V: DefaultOf<T>, T: Encode>(
         &mut self,
         tag: Tag,
@@ -268,7 +268,7 @@ pub trait EncodeSequence: Encoder {
         Ok(())
     }
 
-    /// SEQUENCE (X.680 25) of these components, of which so many may be absent.
+    /// Encodes a SEQUENCE (X.680 25) of these components, `optional` of which may be absent.
     final fn encode_sequence_components<C: EncodeComponents>(
         &mut self,
         tag: Tag,

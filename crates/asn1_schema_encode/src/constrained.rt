@@ -1,4 +1,4 @@
-//! INTEGER within a range of the type's own (X.680 19 and 51.4), as it is written.
+//! How an INTEGER within a range that the type fixes is encoded (X.680 19 and 51.4).
 
 use crate::encode::{Encode, Encoder};
 use asn1_schema_constraints::Constraints;

@@ -1,4 +1,4 @@
-//! What writes the values of types.
+//! The traits `Encoder` and `Encode`.
 ghost use Rattle.std.specs.Prelude.{◌≡◌, ℕ, List, OnOk, OnErr, IfErr};
 ghost use Rattle.asn1_model.specs.Schema.{utf8};
 ghost use Rattle.asn1_schema_faults.specs.declared.CodecKind.{CodecKind};
@@ -23,26 +23,27 @@ use asn1_values_bits::BitStr;
 use asn1_values_identifiers::Oid;
 use asn1_values_integers::IntegerType;
 
-/// What takes the records of a value, one a call. An error other than want of memory comes only where nothing
-/// can stand after the record. After an error each call answers `AlreadyFailed`, and no call does before. No call
-/// changes the octets in front of those that are written (`front`). Tags and names of types leave no trace.
+/// An encoder of values, each given as a sequence of records, one per call. Apart from running out of memory, a call
+/// fails only if no state follows the record. After an error each call returns `AlreadyFailed`, and no call does
+/// before. No call changes the octets before those that are written (`front`). Tags and names of types are not
+/// encoded.
 pub trait Encoder {
-    /// How what is held before a record and what is held after it go together.
+    /// Relates the state before a record, the record, and the state after it.
     ghost step: { Self → Record → Self → Type 0 };
 
-    /// An earlier call was refused.
+    /// An earlier call failed.
     ghost has_failed: { Self → Type 0 };
 
-    /// The octets in front of those that it writes, which stay what they were, also after a refusal. `step` does not
-    /// name them, so that they are worth what the encoder says of them where it is made and where its octets are
-    /// taken: that of OER is made with what its buffer held, and `into_front` answers that again. An encoder that
-    /// writes into room of its own has none (`no_front`), and the clauses on them then say nothing.
+    /// The octets before those that are written. They never change, not even after an error. `step` does not mention
+    /// them, so their use depends on what the encoder states where it is made and where its octets are taken: that of
+    /// OER is made with what its buffer held, and `into_front` returns that again. An encoder that writes into its own
+    /// buffer has none (`no_front`), and the clauses on them then say nothing.
     ghost front: { Self → List ℕ };
 
-    /// The rules that are followed.
+    /// The encoding rules.
     ghost rules: { Self → CodecKind };
 
-    /// The rules that are followed.
+    /// The encoding rules.
     fn codec(&self) -> CodecKind
         ensures { result ≡ rules self.now };
 
@@ -84,7 +85,7 @@ pub trait Encoder {
         ensures already { has_failed self.old → result ≡ Err EncodeError.AlreadyFailed }
         ensures after { result ≡ Err EncodeError.AlreadyFailed → has_failed self.old };
 
-    /// ENUMERATED (X.680 20): an item, by its number and by its place among the items of its table.
+    /// ENUMERATED (X.680 20): an item, given by its number and its enumeration index.
     fn encode_enumerated<T: Enumerated>(
         &mut self,
         tag: Tag,
@@ -100,7 +101,8 @@ pub trait Encoder {
         ensures already { has_failed self.old → result ≡ Err EncodeError.AlreadyFailed }
         ensures after { result ≡ Err EncodeError.AlreadyFailed → has_failed self.old };
 
-    /// BIT STRING (X.680 22) under a size constraint, in a type of the program that holds so many bits.
+    /// BIT STRING (X.680 22) under a size constraint; `held` bounds the number of bits that the user-defined type can
+    /// hold.
     fn encode_bit_string(
         &mut self,
         tag: Tag,
@@ -116,7 +118,8 @@ pub trait Encoder {
         ensures already { has_failed self.old → result ≡ Err EncodeError.AlreadyFailed }
         ensures after { result ≡ Err EncodeError.AlreadyFailed → has_failed self.old };
 
-    /// OCTET STRING (X.680 23) under a size constraint, in a type of the program that holds so many octets.
+    /// OCTET STRING (X.680 23) under a size constraint; `held` bounds the number of octets that the user-defined type
+    /// can hold.
     fn encode_octet_string(
         &mut self,
         tag: Tag,
@@ -147,8 +150,8 @@ pub trait Encoder {
         ensures already { has_failed self.old → result ≡ Err EncodeError.AlreadyFailed }
         ensures after { result ≡ Err EncodeError.AlreadyFailed → has_failed self.old };
 
-    /// A restricted character string (X.680 41) of one of the kinds with an alphabet of their own, under a size and an
-    /// alphabet constraint.
+    /// A restricted character string (X.680 41) of a kind with a permitted alphabet, under size and alphabet
+    /// constraints.
     fn encode_characters<S: StaticPermittedAlphabet>(
         &mut self,
         tag: Tag,
@@ -179,8 +182,8 @@ pub trait Encoder {
         ensures already { has_failed self.old → result ≡ Err EncodeError.AlreadyFailed }
         ensures after { result ≡ Err EncodeError.AlreadyFailed → has_failed self.old };
 
-    /// A SEQUENCE OF begins (X.680 26) under a size constraint, in a type of the program that holds so many
-    /// members, with so many members.
+    /// Begins a SEQUENCE OF (X.680 26) of `count` elements under a size constraint; `held` bounds the number of
+    /// elements that the user-defined type can hold.
     fn begin_list(
         &mut self,
         tag: Tag,
@@ -195,9 +198,9 @@ pub trait Encoder {
         ensures already { has_failed self.old → result ≡ Err EncodeError.AlreadyFailed }
         ensures after { result ≡ Err EncodeError.AlreadyFailed → has_failed self.old };
 
-    /// A SET OF begins (X.680 28) under a size constraint, in a type of the program that holds so many members,
-    /// with so many members. They are written in any order; the encoder puts them in the order that its rules
-    /// ask for (X.691 22 and X.696 19, in the ascending order of their complete encodings).
+    /// Begins a SET OF (X.680 28) of `count` elements under a size constraint; `held` bounds the number of elements
+    /// that the user-defined type can hold. The elements are given in any order; the encoder writes them in the order
+    /// of its rules (X.691 22 and X.696 19: ascending order of their complete encodings).
     fn begin_bag(
         &mut self,
         tag: Tag,
@@ -212,7 +215,7 @@ pub trait Encoder {
         ensures already { has_failed self.old → result ≡ Err EncodeError.AlreadyFailed }
         ensures after { result ≡ Err EncodeError.AlreadyFailed → has_failed self.old };
 
-    /// Whether a further member comes.
+    /// Says whether another element follows.
     fn encode_further(&mut self, more: bool) -> Result<(), EncodeError>
         ensures ok { OnOk result (step self.old (further more) self.new) }
         ensures only { IfErr result (Refused step (further more) self.old) }
@@ -221,8 +224,8 @@ pub trait Encoder {
         ensures already { has_failed self.old → result ≡ Err EncodeError.AlreadyFailed }
         ensures after { result ≡ Err EncodeError.AlreadyFailed → has_failed self.old };
 
-    /// A SEQUENCE begins (X.680 25), with or without an extension marker, of whose root components so
-    /// many may be absent.
+    /// Begins a SEQUENCE (X.680 25), with or without an extension marker; `optional` of its root components may be
+    /// absent.
     fn begin_sequence(
         &mut self,
         tag: Tag,
@@ -236,8 +239,8 @@ pub trait Encoder {
         ensures already { has_failed self.old → result ≡ Err EncodeError.AlreadyFailed }
         ensures after { result ≡ Err EncodeError.AlreadyFailed → has_failed self.old };
 
-    /// A SET begins (X.680 27), with or without an extension marker, of whose root components so many may be
-    /// absent. They are written in the ascending order of their tags.
+    /// Begins a SET (X.680 27), with or without an extension marker; `optional` of its root components may be absent.
+    /// Its components are given in ascending order of their tags.
     fn begin_set(&mut self, tag: Tag, extensible: bool, optional: usize) -> Result<(), EncodeError>
         ensures ok { OnOk result (step self.old (set_begins extensible optional) self.new) }
         ensures only { IfErr result (Refused step (set_begins extensible optional) self.old) }
@@ -246,7 +249,7 @@ pub trait Encoder {
         ensures already { has_failed self.old → result ≡ Err EncodeError.AlreadyFailed }
         ensures after { result ≡ Err EncodeError.AlreadyFailed → has_failed self.old };
 
-    /// A group of additions begins (X.680 25.1), of whose components so many may be absent.
+    /// Begins an extension addition group (X.680 25.1); `optional` of its components may be absent.
     fn begin_group(&mut self, optional: usize) -> Result<(), EncodeError>
         ensures ok { OnOk result (step self.old (group_begins optional) self.new) }
         ensures only { IfErr result (Refused step (group_begins optional) self.old) }
@@ -255,7 +258,7 @@ pub trait Encoder {
         ensures already { has_failed self.old → result ≡ Err EncodeError.AlreadyFailed }
         ensures after { result ≡ Err EncodeError.AlreadyFailed → has_failed self.old };
 
-    /// Whether the next component is there, of those that may be absent.
+    /// Says whether the next component that may be absent is present.
     fn encode_presence_bit(&mut self, present: bool) -> Result<(), EncodeError>
         ensures ok { OnOk result (step self.old (presence_bit present) self.new) }
         ensures only { IfErr result (Refused step (presence_bit present) self.old) }
@@ -264,8 +267,8 @@ pub trait Encoder {
         ensures already { has_failed self.old → result ≡ Err EncodeError.AlreadyFailed }
         ensures after { result ≡ Err EncodeError.AlreadyFailed → has_failed self.old };
 
-    /// Behind the root components of a type with an extension marker come its additions (X.680 25 and 27), so
-    /// many.
+    /// Begins the `count` extension additions, after the root components of a type with an extension marker (X.680 25
+    /// and 27).
     fn begin_additions(&mut self, count: usize) -> Result<(), EncodeError>
         ensures ok { OnOk result (step self.old (additions_begin count) self.new) }
         ensures only { IfErr result (Refused step (additions_begin count) self.old) }
@@ -274,7 +277,7 @@ pub trait Encoder {
         ensures already { has_failed self.old → result ≡ Err EncodeError.AlreadyFailed }
         ensures after { result ≡ Err EncodeError.AlreadyFailed → has_failed self.old };
 
-    /// Whether the next addition is there.
+    /// Says whether the next addition is present.
     fn encode_addition(&mut self, present: bool) -> Result<(), EncodeError>
         ensures ok { OnOk result (step self.old (addition present) self.new) }
         ensures only { IfErr result (Refused step (addition present) self.old) }
@@ -283,7 +286,7 @@ pub trait Encoder {
         ensures already { has_failed self.old → result ≡ Err EncodeError.AlreadyFailed }
         ensures after { result ≡ Err EncodeError.AlreadyFailed → has_failed self.old };
 
-    /// The end of an addition that is there.
+    /// Ends an addition that is present.
     fn end_addition(&mut self) -> Result<(), EncodeError>
         ensures ok { OnOk result (step self.old addition_ends self.new) }
         ensures only { IfErr result (Refused step addition_ends self.old) }
@@ -292,8 +295,8 @@ pub trait Encoder {
         ensures already { has_failed self.old → result ≡ Err EncodeError.AlreadyFailed }
         ensures after { result ≡ Err EncodeError.AlreadyFailed → has_failed self.old };
 
-    /// A CHOICE begins (X.680 29), with the tags of its root alternatives, whether it has an extension marker,
-    /// the tags of its added alternatives, and the chosen one. Its end is called behind the value of the alternative.
+    /// Begins a CHOICE (X.680 29), given the tags of its root alternatives, whether it has an extension marker, the
+    /// tags of its added alternatives, and the chosen one. `end` is called after the value of the alternative.
     fn begin_choice(
         &mut self,
         tag: Tag,
@@ -309,7 +312,7 @@ pub trait Encoder {
         ensures already { has_failed self.old → result ≡ Err EncodeError.AlreadyFailed }
         ensures after { result ≡ Err EncodeError.AlreadyFailed → has_failed self.old };
 
-    /// The end of what began last and has not ended.
+    /// Ends what was begun last and has not ended.
     fn end(&mut self) -> Result<(), EncodeError>
         ensures ok { OnOk result (step self.old ends self.new) }
         ensures only { IfErr result (Refused step ends self.old) }
@@ -318,22 +321,22 @@ pub trait Encoder {
         ensures already { has_failed self.old → result ≡ Err EncodeError.AlreadyFailed }
         ensures after { result ≡ Err EncodeError.AlreadyFailed → has_failed self.old };
 
-    /// At most one state stands after a record.
+    /// At most one state follows a record.
     ghost one_after: { (a : Self) (r : Record) (b c : Self) → step a r b → step a r c → b ≡ c };
 
-    /// None stands after one that has failed.
+    /// No state follows one that has failed.
     ghost none_after: { (a : Self) (r : Record) (b : Self) → has_failed a → step a r b → ⊥ };
 
-    /// What stands after a record has not failed.
+    /// A state that follows a record has not failed.
     ghost goes_on: { (a : Self) (r : Record) (b : Self) → step a r b → has_failed b → ⊥ };
 
-    /// No record changes the rules.
+    /// No record changes the encoding rules.
     ghost same_rules: { (a : Self) (r : Record) (b : Self) → step a r b → rules b ≡ rules a };
 }
 
-/// A type whose values are written.
+/// A type whose values can be encoded.
 pub trait Encode: AsnType {
-    /// Writes the records of the value by its type under these constraints, each once.
+    /// Writes each record of the value once, by its type under these constraints.
     fn encode_with_tag_and_constraints<E: Encoder>(
         &self,
         encoder: &mut E,
@@ -349,7 +352,7 @@ pub trait Encode: AsnType {
         ensures already { E.has_failed encoder.old → result ≡ Err EncodeError.AlreadyFailed }
         ensures after { result ≡ Err EncodeError.AlreadyFailed → E.has_failed encoder.old };
 
-    /// Writes the records of the value by its type, each once.
+    /// Writes each record of the value once, by its type.
     #[inline(always)]
     final fn encode<E: Encoder>(&self, encoder: &mut E) -> Result<(), EncodeError>
     where
@@ -364,7 +367,7 @@ pub trait Encode: AsnType {
         self.encode_with_tag(encoder, Self::TAG)
     }
 
-    /// The same with another tag.
+    /// As `encode`, with another tag.
     #[inline(always)]
     final fn encode_with_tag<E: Encoder>(
         &self,
@@ -384,7 +387,7 @@ pub trait Encode: AsnType {
         Ok(())
     }
 
-    /// Writes the records of the value by its type under these constraints, each once.
+    /// Writes each record of the value once, by its type under these constraints.
     #[inline(always)]
     final fn encode_with_constraints<E: Encoder>(
         &self,

@@ -1,4 +1,4 @@
-//! BIT STRING and OCTET STRING of a fixed size (X.680 22 and 23), as they are written.
+//! How BIT STRING and OCTET STRING of a fixed size are encoded (X.680 22 and 23).
 use crate::encode::{Encode, Encoder};
 use asn1_schema_constraints::{Bounded, Constraints};
 use asn1_schema_faults::EncodeError;

@@ -1,8 +1,8 @@
-//! What is open in an encoder.
+//! The open frames of an encoder.
 use std::mem;
 
-/// Lets go of what is open, the innermost and what is around it. At the end of a message nothing is open, and mostly no
-/// memory was taken: then there is nothing to call.
+/// Drops the open frames, the innermost and those around it. At the end of a message none are open, and usually
+/// nothing was allocated; then no destructor is called.
 #[inline(always)]
 pub fn let_go<T: Drop>(innermost: Option<T>, outer: Vec<T>) {
     if innermost.is_none() {

@@ -1,4 +1,4 @@
-//! Values that are lent, or lent until they have to be owned, as they are written.
+//! How borrowed values, and values borrowed until they have to be owned, are encoded.
 use crate::encode::{Encode, Encoder};
 use crate::lists::EncodeList;
 use asn1_schema_constraints::{Bounded, Constraints};

@@ -1,4 +1,4 @@
-//! The traits of types that are written and of encoders, and what each keeps.
+//! The traits of encodable types and of encoders, and the laws they keep.
 #![tactic(auto)]
 
 pub mod bmp;

@@ -1,4 +1,4 @@
-//! Lists, as they are written.
+//! How SEQUENCE OF types are encoded.
 
 ghost use Rattle.std.specs.Prelude.{◌≡◌, OnOk, OnErr, IfErr};
 ghost use Rattle.asn1_model.specs.Value.{members};
@@ -11,9 +11,10 @@ use asn1_schema_constraints::{Bounded, Constraints};
 use asn1_schema_faults::EncodeError;
 use asn1_schema_tags::Tag;
 
-/// How a list is written.
+/// Encodes SEQUENCE OF types.
 pub trait EncodeList: Encoder {
-    /// SEQUENCE OF (X.680 26) under a size constraint, in a type of the program that holds so many members.
+    /// Encodes a SEQUENCE OF (X.680 26) under a size constraint; `held` bounds the number of elements that the
+    /// user-defined type can hold.
     final fn encode_sequence_of<T: Encode>(
         &mut self,
         tag: Tag,

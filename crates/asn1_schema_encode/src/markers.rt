@@ -1,4 +1,4 @@
-//! Markers of types, as they are written.
+//! How marker types are encoded.
 use crate::encode::{Encode, Encoder};
 use asn1_schema_constraints::Constraints;
 use asn1_schema_faults::EncodeError;

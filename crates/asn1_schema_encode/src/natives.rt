@@ -1,4 +1,4 @@
-//! INTEGER (X.680 19) in the native types, as they are written.
+//! How INTEGER in the native types is encoded (X.680 19).
 use crate::encode::{Encode, Encoder};
 use asn1_schema_constraints::Constraints;
 use asn1_schema_faults::EncodeError;

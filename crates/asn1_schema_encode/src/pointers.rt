@@ -1,4 +1,4 @@
-//! Values behind pointers.
+//! How values held by pointers are encoded.
 use crate::encode::{Encode, Encoder};
 use asn1_schema_constraints::Constraints;
 use asn1_schema_faults::EncodeError;

@@ -1,4 +1,4 @@
-//! SEQUENCE OF (X.680 26) as it is written: vectors, arrays and slices.
+//! How SEQUENCE OF is encoded (X.680 26) from vectors, arrays and slices.
 use crate::encode::{Encode, Encoder};
 use crate::lists::EncodeList;
 use asn1_schema_constraints::{Bounded, Constraints};

@@ -1,4 +1,4 @@
-//! BIT STRING, OCTET STRING, UTF8String and OBJECT IDENTIFIER (X.680 22, 23, 41 and 32), as they are written.
+//! How BIT STRING, OCTET STRING, UTF8String and OBJECT IDENTIFIER are encoded (X.680 22, 23, 41 and 32).
 use crate::encode::{Encode, Encoder};
 use asn1_schema_constraints::{Bounded, Constraints};
 use asn1_schema_faults::EncodeError;

@@ -1,9 +1,9 @@
--- What is known of a refusal that a codec passes on.
+-- The error that a codec reports for an error of a type.
 use Rattle.std.proofs.Common.{◌≡◌, refl, sym, ◌∙◌}
 use Rattle.asn1_schema_faults.specs.declared.EncodeError.{EncodeError}
 use Rattle.asn1_schema_faults.specs.declared.EncodeError.TheVariants.{ValueConstraintNotSatisfied, SizeConstraintNotSatisfied, TooLongValue, LengthExceedsPlatformSize, CallOutOfPlace, OutOfMemory}
 
--- how a refusal is passed on
+-- how an error is reported
 pub record PassedOn (x e : EncodeError) : Type 0 where
   pub length : x ≡ TooLongValue → e ≡ SizeConstraintNotSatisfied
   pub platform : x ≡ LengthExceedsPlatformSize → e ≡ SizeConstraintNotSatisfied

@@ -1,5 +1,4 @@
-//! Why a value has no encoding, why octets are no encoding or no value of the program's type, how many octets an
-//! encoding may have, and which rules a codec follows.
+//! Errors of encoders and decoders, the greatest length of an encoding, and the encoding rules.
 #![tactic(auto)]
 
 ghost use Rattle.std.specs.Prelude.{◌≡◌};
@@ -18,7 +17,7 @@ pub use refusals::refusal;
 use std::alloc::{AllocError, AllocFailed};
 use thiserror::Error;
 
-/// The rules that an encoder or a decoder follows.
+/// The encoding rules of an encoder or a decoder.
 #[derive(Clone, Copy, Debug, PartialEq, Eq)]
 pub enum CodecKind {
     /// Packed encoding rules, unaligned (X.691).
@@ -31,46 +30,47 @@ pub enum CodecKind {
     Coer,
 }
 
-/// Why octets are no encoding of a value of the type.
+/// Why octets are not decoded to a value of the type.
 #[derive(Clone, Copy, Debug, PartialEq, Eq, Error)]
 pub enum DecodeError {
     /// The input ends early.
     #[error("the input ends early")]
     Incomplete,
-    /// Octets are left behind the value in an open type, in the canonical octet encoding rules.
+    /// In COER, octets are left after the value in an open type.
     #[error("octets are left behind the value in an open type")]
     SurplusOctets,
-    /// A length is outside a size that is not extensible, or the program's type cannot hold it.
+    /// A length is outside a size constraint without an extension marker, or the user-defined type cannot hold it.
     #[error("a length is outside its size constraint")]
     SizeConstraintNotSatisfied,
-    /// A number is outside bounds that are not extensible, or outside 128 bits under any value constraint.
+    /// A number is outside a value constraint without an extension marker, or outside 128 bits under any value
+    /// constraint.
     #[error("a number is outside its value constraint")]
     ValueConstraintNotSatisfied,
-    /// A character is outside its permitted alphabet, or a code stands for no character.
+    /// A character is outside its permitted alphabet, or no character has a code.
     #[error("a character is outside its permitted alphabet")]
     PermittedAlphabet,
-    /// Octets are not UTF-8, or the octets of a BMP string are odd in number.
+    /// Octets are not UTF-8, or a BMPString has an odd number of octets.
     #[error("octets are no character string")]
     StringConversionFailed,
-    /// The type has no such item.
+    /// The enumeration has no such item.
     #[error("the enumeration has no such item")]
     DiscriminantValueNotFound,
-    /// The type has no such alternative.
+    /// The CHOICE has no such alternative.
     #[error("the choice has no such alternative")]
     InvalidTagVariantOnChoice,
-    /// A tag has a leading group of zero bits, or a number past 32 bits.
+    /// A tag number has a leading group of zero bits, or does not fit 32 bits.
     #[error("a tag number is malformed")]
     InvalidTagNumberOnChoice,
-    /// A length, a count, an integer or an enumeration has no octets.
+    /// A length, a count, an integer or an enumeration value has no octets.
     #[error("a length, count or number has no octets")]
     ZeroLengthOfLength,
-    /// A length is past 64 bits, or a fragment has no unit or more than four.
+    /// A length does not fit 64 bits, or a fragment has no 16K units or more than four.
     #[error("a length is too large")]
     LengthExceedsPlatformWidth,
-    /// The program's type cannot hold a number.
+    /// The user-defined type cannot hold a number.
     #[error("a number is too large for its type")]
     IntegerOverflow,
-    /// A truth value is neither 0x00 nor 0xFF, in the canonical octet encoding rules.
+    /// In COER, a BOOLEAN is neither 0x00 nor 0xFF.
     #[error("a truth value is malformed")]
     InvalidBool,
     /// A bit string has more than seven unused bits, or unused bits and no octet.
@@ -79,34 +79,34 @@ pub enum DecodeError {
     /// An unused bit of a preamble is set.
     #[error("an unused bit of a preamble is set")]
     InvalidPreamble,
-    /// A presence bitmap has no octets, or a wrong first octet.
+    /// A presence bitmap has no octets, or a wrong initial octet.
     #[error("a presence bitmap is malformed")]
     InvalidExtensionHeader,
     /// A required addition is absent in the presence bitmap, or there is no bitmap.
     #[error("a required addition is absent")]
     RequiredExtensionNotPresent,
-    /// The canonical octet encoding rules refuse the form.
+    /// COER does not allow the form.
     #[error("the form is not the canonical one")]
     NotValidCanonicalEncoding,
-    /// A tag has no class or number. No call answers this.
+    /// A tag has no class or number. Never returned.
     #[error("a tag has no class or number")]
     MissingTagClassOrValue,
-    /// A type without an extension marker has additions. No call answers this.
+    /// A type without an extension marker has additions. Never returned.
     #[error("the type is not extensible")]
     TypeNotExtensible,
-    /// An object identifier is truncated, padded or empty, or an arc is past 32 bits.
+    /// An object identifier is truncated, padded or empty, or an arc does not fit 32 bits.
     #[error("an object identifier is malformed")]
     InvalidObjectIdentifier,
-    /// The one octet of a value of no bits is not zero, in the packed encoding rules.
+    /// In PER, the one octet of an empty encoding is not zero.
     #[error("the octet of a value of no bits is not zero")]
     InvalidPadding,
-    /// A value nests more than 128 levels.
+    /// A value has more than 128 nested levels.
     #[error("the value nests too deep")]
     ExceedsMaxParseDepth,
-    /// No memory was left.
+    /// An allocation failed.
     #[error("out of memory")]
     OutOfMemory,
-    /// An earlier call of the same decoder was refused.
+    /// An earlier call of the same decoder failed.
     #[error("an earlier call was refused")]
     AlreadyFailed,
 }
@@ -127,7 +127,7 @@ impl<T: Drop> From<AllocFailed<T>> for DecodeError {
     }
 }
 
-/// Why a value has no encoding.
+/// Why a value is not encoded.
 #[derive(Clone, Copy, Debug, PartialEq, Eq, Error)]
 pub enum EncodeError {
     /// A number is outside its value constraint.
@@ -136,22 +136,22 @@ pub enum EncodeError {
     /// A length is outside its size constraint.
     #[error("a length is outside its size constraint")]
     SizeConstraintNotSatisfied,
-    /// A character is outside its permitted alphabet, in the packed encoding rules.
+    /// In PER, a character is outside its permitted alphabet.
     #[error("a character is outside its permitted alphabet")]
     AlphabetConstraintNotSatisfied,
     /// The encoding has 2^60 octets or more.
     #[error("the encoding is too long")]
     TooLongValue,
-    /// A length in bits does not fit 64 bits. No call answers this: no memory is left before.
+    /// A length in bits does not fit 64 bits. Never returned: memory runs out before.
     #[error("a length in bits does not fit")]
     LengthExceedsPlatformSize,
-    /// A call of an encoder comes out of its place: nothing that is open takes such a record.
+    /// A call of an encoder is out of place: nothing that is open takes such a record.
     #[error("the call is out of its place")]
     CallOutOfPlace,
-    /// No memory was left.
+    /// An allocation failed.
     #[error("out of memory")]
     OutOfMemory,
-    /// An earlier call of the same encoder was refused.
+    /// An earlier call of the same encoder failed.
     #[error("an earlier call was refused")]
     AlreadyFailed,
 }

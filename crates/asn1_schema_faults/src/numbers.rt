@@ -1,4 +1,4 @@
-//! Whole numbers in a type of the program, or why it does not hold them.
+//! Converts decoded numbers to user-defined types.
 ghost use Rattle.std.specs.Prelude.{◌≡◌, ◌<◌, ◌⊎◌, true, false, length, IfOk, OnOk, IfErr};
 ghost use Rattle.asn1_model.specs.Numbers.{is_within};
 ghost use Rattle.asn1_values_natives.specs.Octets.{own_number};
@@ -7,7 +7,7 @@ use crate::DecodeError;
 use asn1_values_integers::{IntegerError, IntegerType};
 use std::alloc::Global;
 
-/// Why octets are not read as a number of the program's type, in all rules.
+/// The decoder's error for octets that are not a number of the target type, in all rules.
 fn number_fault(error: IntegerError) -> DecodeError
     ensures memory { error ≡ IntegerError.Memory → result ≡ DecodeError.OutOfMemory }
     ensures fresh { ¬ (result ≡ DecodeError.AlreadyFailed) }
@@ -18,7 +18,7 @@ fn number_fault(error: IntegerError) -> DecodeError
     }
 }
 
-/// The number that octets are, in two's complement (`signed`) or without a sign, in a type of the program.
+/// The number that octets encode, in two's complement (`signed`) or unsigned, in the target type.
 ///
 /// # Errors
 ///
@@ -47,11 +47,11 @@ pub fn number_from_octets<I: IntegerType>(
     }
 }
 
-/// A number of 128 bits in a type of the program.
+/// A 128-bit number in the target type.
 ///
 /// # Errors
 ///
-/// `IntegerOverflow` if the type does not hold it.
+/// `IntegerOverflow` if the type does not hold the number.
 #[inline(always)]
 pub fn held_number<I: IntegerType>(number: i128) -> Result<I, DecodeError>
     ensures value { IfOk result (λ x. I.value x ≡ number) }

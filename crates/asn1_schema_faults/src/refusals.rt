@@ -1,11 +1,11 @@
-//! How a codec passes on that a type refuses its value.
+//! How an encoder reports an error of a user-defined type.
 ghost use Rattle.std.specs.Prelude.{◌≡◌};
 
 use crate::EncodeError;
 
-/// How a refusal of the value's type is passed on. That an encoding is too long is found by `within_limit` alone, and
-/// no codec meets a length past 64 bits: a type that says so itself refuses a length. One that makes a call out of its
-/// place refuses its value.
+/// The error that an encoder reports if the type of a value returns `error`. Only `within_limit` reports that an
+/// encoding is too long, and no encoder meets a length that does not fit 64 bits; from a type, both become a size
+/// constraint error. A call out of place becomes a value constraint error.
 pub fn refusal(error: EncodeError) -> EncodeError
     ensures length { error ≡ EncodeError.TooLongValue → result ≡ EncodeError.SizeConstraintNotSatisfied }
     ensures platform { error ≡ EncodeError.LengthExceedsPlatformSize → result ≡ EncodeError.SizeConstraintNotSatisfied }

@@ -1,4 +1,4 @@
--- Values that are the same up to the order of bags, by their parts, members and alternatives.
+-- Values that are equal up to the order of the elements of a SET OF, by their parts, elements and alternatives.
 use Rattle.std.proofs.Common.{◌≡◌, ℕ, ◌==◌, Bool, true, false, cond, ◌&&◌, List, [], ◌∷◌, length, map, replicate, Option, Some, refl, ap, sym, ◌∙◌, subst}
 use Rattle.std.proofs.lemmas.Bool.{and_parts, and_from, eq-eqb}
 use Rattle.asn1_model.specs.Value.{Value, members as in_list, bag, fields, chosen, Values, no_more, member, Parts, end, absent, present, each, values_of, same, same_members, same_parts}
@@ -12,7 +12,7 @@ use Rattle.asn1_laws_values.proofs.Normal.{normal_same, default_tests, group_tes
 use Rattle.asn1_schema_presented.specs.Records.{Record, is_default, is_empty}
 use Rattle.asn1_schema_finding.specs.Bags.{has_no_bag, have_no_bag}
 
--- another value that is the same up to the order of bags, so itself where the type has no bag
+-- another value that is equal up to the order of a SET OF, so equal if the type has none
 abbrev pub Like : Schema → Value → Value → Type 0
 Like s v w = (same v w ≡ true) × (has_no_bag s ≡ true → w ≡ v)
 
@@ -53,7 +53,7 @@ both_same ps qs rs ss e f = and_from _ _ e f
 pub like_fields : (cs adds : Components) (ps qs rs ss : Parts) → LikeParts cs ps rs → LikeParts adds qs ss → (same (fields ps qs) (fields rs ss) ≡ true) × ((have_no_bag cs && have_no_bag adds) ≡ true → fields rs ss ≡ fields ps qs)
 like_fields cs adds ps qs rs ss h k = (both_same ps qs rs ss h.0 k.0, λ e. let p = and_parts _ _ e in ap (λ x. fields x ss) (h.1 p.0) ∙ ap (λ x. fields ps x) (k.1 p.1))
 
--- what is noted behind a component
+-- what is noted after a component
 abbrev pub noted_by : Bool → Bool → List Record
 noted_by d g = cond d (is_default ∷ []) (cond g (is_empty ∷ []) [])
 
@@ -69,7 +69,7 @@ unfolding same
 chosen_same true i v w e = and_from (i == i) (same v w) (eq-eqb i i refl) e
 chosen_same false i v w e = and_from (i == i) (same v w) (eq-eqb i i refl) e
 
--- ---- members
+-- ---- elements
 pub no_members : same_members no_more no_more ≡ true
 unfolding same_members
 no_members = refl
@@ -82,7 +82,7 @@ pub list_same : (vs ws : Values) → same_members vs ws ≡ true → same (in_li
 unfolding same
 list_same vs ws e = e
 
--- ---- bags
+-- ---- SET OF
 pub in_place : {X : Type 0} (xs : List X) → arranged (replicate (length xs) 0) xs ≡ Some xs
 in_place [] = refl
 in_place (x ∷ xs) = let e = in_place xs in rw e refl
@@ -104,7 +104,7 @@ listed_values : (us : List Value) → listed (values_of us) ≡ us
 listed_values [] = refl
 listed_values (u ∷ us) = ap (λ l. u ∷ l) (listed_values us)
 
--- members in another order, of which these are made
+-- elements in another order, made from these
 abbrev pub Arranged : {X : Type 0} → (Value → X) → Values → List X → Type 0
 Arranged f vs ys = (is : List ℕ) × (us : List Value) × (arranged is (listed vs) ≡ Some us) × (each f (values_of us) ≡ ys)
 

@@ -1,4 +1,4 @@
--- What a presence bitmap tells of a type's own additions and of unknown ones, whatever stands for an addition.
+-- What a presence bitmap says of a type's additions and of unknown ones, whatever represents an addition.
 use Rattle.std.proofs.Common.{◌≡◌, ℕ, zero, suc, ◌+◌, ◌==◌, ltb, not, Bool, true, false, ◌&&◌, ◌||◌, List, [], ◌∷◌, ◌++◌, length, take, drop, map, Option, Some, None, option_map, refl, ap, sym, ◌∙◌, arith}
 use Rattle.std.proofs.lemmas.List.{append-nil}
 use Rattle.std.proofs.lemmas.Bool.{lt-ltb, ltb-true}
@@ -11,7 +11,7 @@ use Rattle.asn1_schema_finding.specs.PresenceBits.{first_bits, is_any_set}
 abbrev pub Octets : Type 0
 Octets = List (Option (List ℕ))
 
--- which are there
+-- which ones are present
 abbrev pub flags : {X : Type 0} → List (Option X) → List Bool
 flags xs = map (λ a. is_some a) xs
 
@@ -21,7 +21,7 @@ pub any_set : {X : Type 0} (xs : List (Option X)) → is_any_set (flags xs) ≡ 
 any_set [] = refl
 any_set (x ∷ xs) = ap (λ t. is_some x || t) (any_set xs)
 
--- where none is there
+-- where none is present
 pub none_flags : {X : Type 0} (xs : List (Option X)) → is_any_present xs ≡ false → (flags xs ≡ first_bits (length xs) []) × (present_ones xs ≡ [])
 none_flags [] e = (refl, refl)
 none_flags (None ∷ xs) e = let r = none_flags xs e in (ap (λ l. false ∷ l) r.0, r.1)
@@ -49,14 +49,14 @@ or_true : (t : Bool) → (t || true) ≡ true
 or_true true = refl
 or_true false = refl
 
--- one more in front of those that are there
+-- one more before those that are present
 one_more : {X : Type 0} (x y : Option X) (all xs : List (Option X)) (ys : List X) → x ≡ y → present_ones all ≡ present_ones xs ++ ys → present_ones (y ∷ all) ≡ present_ones (x ∷ xs) ++ ys
 one_more None None all xs ys e f = f
 one_more None (Some z) all xs ys e f = cc
 one_more (Some z) None all xs ys e f = cc
 one_more (Some z) (Some w) all xs ys e f = let h : z ≡ w = cc e in ap (λ u. u ∷ present_ones all) (sym h) ∙ ap (λ l. z ∷ l) f
 
--- ---- the additions that a bitmap tells of, by what stands for the octets of an unknown one
+-- ---- the additions that a bitmap describes, by what represents the octets of an unknown one
 
 module _ {X : Type 0} (unknown : List ℕ → X) where
   abbrev pub unknown_ones : Octets → List (Option X)

@@ -1,10 +1,10 @@
--- Records that answer one question leave as many levels.
+-- Records that answer one question leave the same number of levels.
 use Rattle.std.proofs.Common.{◌≡◌, ℕ, Option, Some, refl, sym, ◌∙◌, ap}
 use Rattle.asn1_schema_presented.specs.Records.{Record, Question, question, flag}
 use Rattle.asn1_schema_presented.specs.Records.{asks_list, asks_bag, asks_sequence, asks_set, asks_group, asks_choice, asks_end}
 use Rattle.asn1_schema_presented.specs.Levels.{level, inside, outside}
 
--- the levels that are left behind a record, by what it answers
+-- the levels that are left after a record, by the question that it answers
 asked : ℕ → Question → ℕ → Option ℕ
 asked most (asks_list z h) l = inside l
 asked most (asks_bag z h) l = inside l

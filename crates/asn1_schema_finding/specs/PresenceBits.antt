@@ -6,18 +6,18 @@ abbrev pub preamble_bits : Option Bool → List Bool → List Bool
 preamble_bits None ms = ms
 preamble_bits (Some x) ms = x ∷ ms
 
--- The bits of a preamble whose extension bit, if there is one, is not set.
+-- The bits of a preamble whose extension bit, if there is one, is 0.
 abbrev pub preamble : Bool → List Bool → List Bool
 preamble true ms = false ∷ ms
 preamble false ms = ms
 
--- So many bits, those that are wanting being 0.
+-- The first bits, a given number of them; missing ones are 0.
 abbrev pub first_bits : ℕ → List Bool → List Bool
 first_bits zero bs = []
 first_bits (suc n) [] = false ∷ first_bits n []
 first_bits (suc n) (b ∷ bs) = b ∷ first_bits n bs
 
--- Whether a bit is set.
+-- Whether any bit is 1.
 abbrev pub is_any_set : List Bool → Bool
 is_any_set [] = false
 is_any_set (b ∷ bs) = b || is_any_set bs

@@ -1,4 +1,4 @@
--- A list in ascending order, in which those of one place stand as they stood, is the one that the model's arrangement gives.
+-- A list in ascending order, in which equal elements keep their order, is the one that the model's arrangement gives.
 use Rattle.std.proofs.Common.{◌≡◌, ℕ, suc, ◌<◌, ◌≤◌, Bool, true, false, cond, not, ltb, ◌&&◌, List, [], ◌∷◌, ◌++◌, length, map, get_or, Some, option_map, refl, ap, sym, ◌∙◌, arith, inl, inr}
 use Rattle.std.specs.Prelude.{◌==◌, ⊤}
 use Rattle.std.specs.List.{filter}
@@ -14,7 +14,7 @@ use Rattle.std.proofs.lemmas.List.MinMax.{ranks_by}
 use Rattle.std.proofs.lemmas.List.Sorted.{sorted_far}
 use Rattle.asn1_model.specs.Form.{ascending, stands_before, put_in_place, with_keys}
 
--- ---- the order of lists of octets is that in which slices are compared
+-- ---- the order of lists of octets is that of slices
 
 by_tests : (a b c : Bool) (t : Bool) (r : Ordering) → t ≡ is_lt r → (a ≡ false → b ≡ not c) → cond a true (cond b false t) ≡ is_lt (ordering_then (cond a Less (cond c Equal Greater)) r)
 by_tests true b c t r e h = refl
@@ -38,7 +38,7 @@ stands_by [] (y ∷ ys) = refl
 stands_by (x ∷ xs) [] = refl
 stands_by (x ∷ xs) (y ∷ ys) = by_tests (ltb x y) (ltb y x) (x == y) _ _ (stands_by xs ys) (above_or_same x y)
 
--- ---- one element after another, each put in its place
+-- ---- one element after another, each inserted
 
 module _ {X : Type 0} (lt : X → X → Bool) where
   abbrev put : X → List X → List X
@@ -89,7 +89,7 @@ module _ {X : Type 0} (lt : X → X → Bool) where
     up_in_turn [] = tt
     up_in_turn (x ∷ xs) = up_put x (in_turn xs) (up_in_turn xs)
 
-    -- ---- those of one place stand as they stood
+    -- ---- equal elements keep their order
 
     not_both : (x e f : X) → lt f e ≡ true → ties lt x f ≡ true → ties lt x e ≡ true → ⊥
     not_both x e f h a b = apart (sym h ∙ o.chain f x e (second (lt x f) (lt f x) a) (first (lt x e) (lt e x) b))
@@ -123,7 +123,7 @@ module _ {X : Type 0} (lt : X → X → Bool) where
     kept_in_turn x [] = refl
     kept_in_turn x (y ∷ ys) = kept_put x y (in_turn ys) ∙ ap (λ l. cond (ties lt x y) (y ∷ l) l) (kept_in_turn x ys)
 
-    -- ---- only one list is so
+    -- ---- there is only one such list
 
     tied_itself : (x : X) → ties lt x x ≡ true
     tied_itself x = ap (λ b. not b && not b) (itself x)
@@ -249,7 +249,7 @@ module _ {X : Type 0} (key : X → List ℕ) where
   ascending_in_turn : (xs : List X) → ascending (λ x. Some (key x)) (stands_before ltb) xs ≡ Some (in_turn less xs)
   ascending_in_turn xs = ap (option_map (map (λ e. e.1))) (all_keyed xs) ∙ ap Some (plain (in_turn before xs) ∙ in_turn_same xs)
 
--- sorted by other keys that agree with these on what the list holds
+-- sorted by other keys that agree with these on the list
 pub is_ascending_by : {X : Type 0} (P : X → Type 0) (key near : X → List ℕ) → ((x y : X) → P x → P y → less key x y ≡ less near x y) → (xs ys : List X) → Each P xs → IsSortedBy (less near) ys → IsStableBy (less near) xs ys → ascending (λ x. Some (key x)) (stands_before ltb) xs ≡ Some ys
 is_ascending_by P key near agree xs ys q up stable =
     ascending_in_turn key xs ∙ ap Some (in_turn_alike P (less key) (less near) agree xs q ∙ sorted_in_turn (less near) (ranks near) xs ys up stable)

@@ -1,4 +1,4 @@
--- The order of the numbers that the first octets of two encodings are, where these numbers differ, is that of the encodings.
+-- If the numbers of the first octets of two encodings differ, their order is that of the encodings.
 use Rattle.std.proofs.Common.{◌≡◌, ℕ, zero, suc, ◌+◌, ◌-◌, ◌*◌, ◌/◌, ◌^◌, ◌<◌, ◌≤◌, List, [], ◌∷◌, length, get_or, take, refl, ap, sym, ◌∙◌, arith}
 use Rattle.std.specs.Cmp.{ranked}
 use Rattle.std.specs.Cmp.Lexicographic.{slice_cmp}
@@ -31,7 +31,7 @@ leading_below (suc n) (o ∷ os) h = rw (pow-suc 256 n) (mul-add-lt o (256 ^ n) 
 
 -- ---- their order
 
--- the first octets tell, where they differ
+-- the first octets decide if they differ
 first_tells : (x y p u v : ℕ) → y < x → v < p → x * p + u < y * p + v → ⊥
 first_tells x y p u v h k l = let m : (y + 1) * p ≤ x * p = mul-le-mul_right p (omega (arith, h)) in omega (arith, k, l, m)
 
@@ -56,7 +56,7 @@ leads_less (suc n) (x ∷ xs) (y ∷ ys) a h =
 leads_greater : (n : ℕ) (xs ys : List ℕ) → AreOctets xs → leading n ys < leading n xs → slice_cmp nat_cmp xs ys ≡ Greater
 leads_greater n xs ys a h = nat_list_cmp_total.antisymm xs ys ∙ ap ordering_reverse (leads_less n ys xs a h)
 
--- octets behind the number of the first stand as those alone
+-- octets after the number of the first compare as the octets alone
 pub leads : (n a b : ℕ) (xs ys : List ℕ) → a ≡ leading n xs → b ≡ leading n ys → AreOctets xs → AreOctets ys → slice_cmp nat_cmp (a ∷ xs) (b ∷ ys) ≡ slice_cmp nat_cmp xs ys
 leads n a b xs ys e f p q = go (nat_cmp a b) (ranked a b (nat_cmp a b) refl)
   where
@@ -67,7 +67,7 @@ leads n a b xs ys e f p q = go (nat_cmp a b) (ranked a b (nat_cmp a b) refl)
 
 -- ---- the number, octet by octet
 
--- the place value of the first of so many octets, and zero of none
+-- the place value of the first of a number of octets, and zero if there are none
 abbrev pub worth : ℕ → ℕ
 worth zero = 0
 worth (suc n) = 256 ^ n
@@ -100,7 +100,7 @@ octets_take (suc n) [] h i = omega arith
 octets_take (suc n) (o ∷ os) h zero = h 0
 octets_take (suc n) (o ∷ os) h (suc i) = octets_take n os (λ j. h (suc j)) i
 
--- one more octet, with its worth
+-- one more octet, with its weight
 pub with_next : (os : List ℕ) (i front weight octet : ℕ) → i < 8 → i < length os → front ≡ leading 8 (take i os) → weight ≡ worth (8 - i) → octet ≡ get_or os i 0 → front + octet * weight ≡ leading 8 (take (i + 1) os)
 with_next os i front weight octet h k e f g =
     let j : 8 - i ≡ suc (7 - i) = omega (arith, h) in
@@ -108,14 +108,14 @@ with_next os i front weight octet h k e f g =
     ap (λ x. x + octet * weight) e ∙ ap (λ x. leading 8 (take i os) + x * weight) g ∙ ap (λ x. leading 8 (take i os) + get_or os i 0 * x) w
     ∙ sym (leading_next 8 i (7 - i) os 0 (omega (arith, h)) k)
 
--- it has room
+-- it fits
 pub room : (os : List ℕ) (i front weight octet : ℕ) → AreOctets os → i < 8 → i < length os → front ≡ leading 8 (take i os) → weight ≡ worth (8 - i) → octet ≡ get_or os i 0 → front + octet * weight < 2 ^ 64
 room os i front weight octet a h k e f g =
     let sum = with_next os i front weight octet h k e f g in
     let most = leading_below 8 (take (i + 1) os) (octets_take (i + 1) os a) in
     omega (arith, sum, most)
 
--- those behind the first do not tell
+-- those after the first do not decide
 pub leading_front : (n k : ℕ) (os : List ℕ) → (k < n → length os ≤ k) → leading n (take k os) ≡ leading n os
 leading_front zero k os h = refl
 leading_front (suc n) zero [] h = refl

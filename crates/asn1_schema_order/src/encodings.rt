@@ -1,4 +1,4 @@
-//! Encodings that share memory.
+//! Encodings in shared memory.
 ghost use Rattle.std.specs.Prelude.{◌≡◌, ◌++◌, ◌<◌, [], ◌∷◌, length, OnOk, OnErr, IfOk, IsTrue, ◌↔◌, get_or};
 ghost use Rattle.std.specs.Cmp.Lexicographic.{slice_cmp};
 ghost use Rattle.std.specs.Ordering.{nat_cmp};
@@ -9,14 +9,14 @@ use std::alloc::{AllocError, Global};
 use std::cmp::Ordering;
 use std::marker::Model;
 
-// The octets from one on and up to another.
+// The octets from `from` up to, but not including, `to`.
 #[derive(Clone, Copy)]
 struct Span {
     from: usize,
     to: usize,
 }
 
-/// Encodings, one behind the other, in memory that they share.
+/// A list of encodings in one shared buffer.
 #[derive(Drop)]
 pub struct Encodings {
     octets: Vec<u8>,
@@ -35,7 +35,7 @@ impl Model for Encodings {
     ghost invariant = { λ e. AreWithin (length e.octets.items) e.spans.items };
 }
 
-// The first eight octets as a number, the highest first, with zero octets in place of those that are not there.
+// The first eight octets as a number, the most significant first; missing octets are zero.
 #[inline]
 fn front_of(octets: &[u8]) -> u64
     ensures { result ≡ leading 8 octets.now }
@@ -50,19 +50,19 @@ fn front_of(octets: &[u8]) -> u64
     front
 }
 
-/// One of some encodings: its octets, and its place among them. Only [`Encodings::in_order`] makes one.
+/// One of the encodings: its octets, and its index. Only [`Encodings::in_order`] makes one.
 #[derive(Clone, Copy)]
 pub struct Entry<'a> {
     /// Its octets.
     pub octets: &'a [u8],
     /// How many of the encodings were added before it.
     pub index: usize,
-    // Its first eight octets as a number, which mostly tells which of two stands before the other.
+    // Its first eight octets as a number, which mostly decides a comparison.
     front: u64,
 }
 
 impl Entry<'_> {
-    // How it stands to another, by their first eight octets and, where these are the same, by all.
+    // Compares two entries by their first eight octets and, if these are equal, by all octets.
     #[inline]
     fn compare(&self, other: &Entry<'_>) -> Ordering
         ensures { result ≡ slice_cmp nat_cmp (fronted self.now) (fronted other.now) }
@@ -75,7 +75,7 @@ impl Entry<'_> {
 }
 
 impl Encodings {
-    /// No encodings. It takes no memory before it is handed one.
+    /// No encodings. Allocates nothing until one is added.
     pub fn new(alloc: Global) -> Self
         ensures { result ≡ [] }
     {
@@ -85,7 +85,7 @@ impl Encodings {
         }
     }
 
-    /// How many there are.
+    /// The number of encodings.
     #[inline]
     pub fn len(&self) -> usize
         ensures { result ≡ length self.now }
@@ -93,7 +93,7 @@ impl Encodings {
         self.spans.len()
     }
 
-    /// Whether there are none.
+    /// Whether there are no encodings.
     #[inline]
     pub fn is_empty(&self) -> bool
         ensures { IsTrue result ↔ (self.now ≡ []) }
@@ -101,11 +101,11 @@ impl Encodings {
         self.len() == 0
     }
 
-    /// Adds one behind the others.
+    /// Appends an encoding.
     ///
     /// # Errors
     ///
-    /// Want of memory; nothing is changed then.
+    /// Out of memory; nothing is changed then.
     #[inline]
     pub fn push(&mut self, octets: &[u8]) -> Result<(), AllocError>
         ensures ok { OnOk result (self.new ≡ self.old ++ (octets.now ∷ [])) }
@@ -118,7 +118,7 @@ impl Encodings {
         Ok(())
     }
 
-    /// The octets of the one at a place.
+    /// The octets of the encoding at an index.
     #[inline]
     pub fn get(&self, index: usize) -> &[u8]
         requires { index < length self.now }
@@ -128,13 +128,12 @@ impl Encodings {
         &self.octets[span.from..span.to]
     }
 
-    /// All of them in ascending order (X.691 22, X.696 19), each with its place among them; those of the same octets
-    /// stand as they stood. The first octet in which two differ tells which stands before the other, and one with
-    /// which another begins stands before that.
+    /// All encodings in ascending order (X.691 22, X.696 19), each with its index; equal ones keep their order. The
+    /// first octet in which two differ decides, and a prefix comes before the longer one.
     ///
     /// # Errors
     ///
-    /// Want of memory.
+    /// Out of memory.
     pub fn in_order(&self, alloc: Global) -> Result<Vec<Entry<'_>>, AllocError>
         ensures { IfOk result (λ all. AreInOrder self.now all.items) }
     {

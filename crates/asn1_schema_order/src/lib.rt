@@ -1,5 +1,5 @@
-//! The ascending order of encodings, in which the members of a bag stand (X.691 22 and X.696 19), and encodings that
-//! share memory.
+//! The ascending order of encodings, in which the elements of a SET OF are encoded (X.691 22 and X.696 19), and
+//! encodings in shared memory.
 #![tactic(auto)]
 
 mod encodings;

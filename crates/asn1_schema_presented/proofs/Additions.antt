@@ -1,4 +1,4 @@
--- Types and values of additions, put together of those of their parts.
+-- Types and values of additions, built from those of their parts.
 use Rattle.std.proofs.Common.{ℕ, ◌≤◌, List, refl, ◌∙◌, ap, arith}
 use Rattle.std.specs.Prelude.{max}
 use Rattle.std.proofs.lemmas.Bool.{and_parts}
@@ -16,7 +16,7 @@ use Rattle.asn1_schema_presented.specs.Additions.{extensible_table, IsAddition, 
 
 -- ---- types
 
--- a type that is no group may stand there, whatever its presence
+-- a type that is not a group is allowed, whatever its presence
 pub as_addition : {ts : List Tag} {s : ℕ → Schema} (o : Presence) → IsType ts s → IsAddition ts o s
 as_addition o h = record { tagged = h.tagged; lawful = h.lawful; tidy = h.tidy; optional_group = λ n. rw (h.no_group n) refl }
 

@@ -1,4 +1,4 @@
--- With which tags types begin.
+-- The tags with which types begin.
 use Rattle.std.proofs.Common.{◌≡◌, Bool, true, false, cond, List, [], ◌∷◌, ◌++◌, refl, ap, ◌∙◌, eq-eqb}
 use Rattle.std.specs.Prelude.{◌&&◌, ◌==◌}
 use Rattle.std.proofs.lemmas.Bool.{and_parts, and_from}
@@ -15,7 +15,7 @@ pub same_tags : (ts : List Tag) → pointwise tag_same ts ts ≡ true
 same_tags [] = refl
 same_tags (t ∷ ts) = and_from _ _ (tag_itself t) (same_tags ts)
 
--- one tag, of a type that is no group
+-- one tag, of a type that is not a group
 one_begins : (t : Tag) (s : Schema) → is_group s ≡ false → begins_with (t ∷ []) s ≡ true
 one_begins t (group cs) g = absurd (let z : true ≡ false = g in cc)
 one_begins t s g = refl
@@ -25,7 +25,7 @@ tags_of_one [] s g e = absurd (let z : false ≡ true = e in cc)
 tags_of_one (t ∷ []) s g e = and_from _ _ (and_from _ _ refl (and_from _ _ e refl)) (one_begins t s g)
 tags_of_one (t ∷ u ∷ ts) s g e = absurd (let z : false ≡ true = e in cc)
 
--- what is cut begins with any tags
+-- a cut begins with any tags
 cut_begins : (ts : List Tag) → begins_with ts cut ≡ true
 cut_begins [] = refl
 cut_begins (t ∷ []) = refl
@@ -34,7 +34,7 @@ cut_begins (t ∷ u ∷ ts) = refl
 pub tags_of_cut : (ts : List Tag) → are_tags ts ≡ true → are_tags_of ts cut ≡ true
 tags_of_cut ts e = and_from _ _ e (cut_begins ts)
 
--- a choice: one tag, or those of its alternatives
+-- a CHOICE: one tag, or those of its alternatives
 pub tags_of_choice : (ts : List Tag) (roots : Alternatives) (e : Bool) (adds : Alternatives) → are_choice_tags ts (alternative_tags roots ++ alternative_tags adds) ≡ true → are_tags_of ts (choice roots e adds) ≡ true
 tags_of_choice [] roots e adds h = absurd (let z : false ≡ true = h in cc)
 tags_of_choice (t ∷ []) roots e adds h = and_from _ _ (and_from _ _ refl (and_from _ _ h refl)) refl
@@ -45,7 +45,7 @@ choice_tags [] us h = absurd (let z : false ≡ true = h in cc)
 choice_tags (t ∷ []) us h = and_from _ _ refl (and_from _ _ h refl)
 choice_tags (t ∷ u ∷ ts) us h = (and_parts _ _ h).0
 
--- a choice begins with the tags of all its alternatives
+-- a CHOICE begins with the tags of all its alternatives
 pub all_tags_begin : (ts : List Tag) → are_tags ts ≡ true → are_choice_tags ts ts ≡ true
 all_tags_begin [] e = e
 all_tags_begin (t ∷ []) e = (and_parts (is_tag t) true ((and_parts true (is_tag t && true) e).1)).0

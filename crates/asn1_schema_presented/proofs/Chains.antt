@@ -18,14 +18,14 @@ chain_one step one (x ∷ xs) a b c p q =
     let P : _ → Type 0 = λ s. Chain step xs s b in
     chain_one step one xs q.0 b c (subst P e p.2) q.2
 
--- what is read of a chain so far is behind it
+-- what is read of a chain so far precedes the rest
 pub chain_rest : {S : Type 0} (step : S → Record → S → Type 0) → OneAfter step → (xs ys : List Record) (a b c : S) → Chain step xs a b → Chain step (xs ++ ys) a c → Chain step ys b c
 chain_rest step one xs ys a b c p q =
     let t = chain_split step xs ys a c q in
     let P : _ → Type 0 = λ s. Chain step ys s c in
     subst P (chain_one step one xs a t.0 b t.1 p) t.2
 
--- where none has failed that stands after a record, what has failed behind records had failed in front of them
+-- if no state that follows a record has failed, a state that has failed after records had failed before them
 pub failed_before : {S : Type 0} {step : S → Record → S → Type 0} {has_failed : S → Type 0} → GoesOn step has_failed → (rs : List Record) (a b : S) → Chain step rs a b → has_failed b → has_failed a
 failed_before {has_failed} law [] a b p f = subst has_failed p f
 failed_before law (r ∷ rs) a b p f = absurd (law a r p.0 p.1 (failed_before law rs p.0 b p.2 f))

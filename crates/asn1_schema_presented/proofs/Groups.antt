@@ -34,7 +34,7 @@ no_tags : (n : ℕ) → component_tags (components_at n no_field) ≡ []
 unfolding components_at
 no_tags n = refl
 
--- what a lawful sequence without additions has, a group has
+-- a group has what a well-formed SEQUENCE without additions has
 lawful_group : (cs : Components) (e : Bool) (adds : Components) → are_no_components cs ≡ false → component_tags adds ≡ [] → is_lawful (sequence cs e adds) ≡ true → is_lawful (group cs) ≡ true
 unfolding is_lawful
 lawful_group cs e adds some none h =
@@ -78,7 +78,7 @@ module _ {t : Table} (g : IsGroup t) where
       normal = λ n. elim n as (λ n. normal_part optional (group_type t n) (there (fields ps end)) ≡ there (fields ps end)) [ zero ↦ refl | suc m ↦ rw (root_normal m, k) refl ];
     }
 
-    -- a group that is there, as an addition
+    -- a group that is present, as an addition
     pub group_kept : (b : Bool) → are_absent ps ≡ b → IsPart optional (group_type t) (part_unless b (fields ps end))
     group_kept true k = record { fits = λ n le. refl; normal = λ n. refl }
     group_kept false k = group_there k

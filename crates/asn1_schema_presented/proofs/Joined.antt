@@ -1,4 +1,4 @@
--- How the records of components are put together, for what writes and what reads them.
+-- How the records of components are put together, for encoders and decoders.
 use Rattle.std.proofs.Common.{◌≡◌, ℕ, Bool, true, false, cond, List, [], ◌∷◌, ◌++◌, refl, subst, sym, ◌∙◌, ap, Result, Ok, Err}
 use Rattle.std.specs.Result.{IfErr, IsErrAnd}
 use Rattle.asn1_model.specs.Value.{Value, Parts, same}
@@ -15,7 +15,7 @@ pub raised : {T E : Type 0} (P : E → Type 0) (x : E) (r : Result T E) → IsEr
 raised P x (Ok v) h p = tt
 raised P x (Err y) h p = subst P (sym h) p
 
--- whether a component is there
+-- whether a component is present
 abbrev pub is_there : Part → Bool
 is_there left_out = false
 is_there (there v) = true
@@ -29,11 +29,11 @@ unfolding components_at
 presence_bits_at n no_field = refl
 presence_bits_at n (field ts o s fs) = rw (presence_bits_at n fs) refl
 
--- nothing is noted behind what the normal form keeps
+-- nothing is noted after what the normal form keeps
 pub nothing_noted : (o : Presence) (s : Schema) (v : Value) → is_group_left_out s v ≡ false → is_at_default o s v ≡ false → noted o s v ≡ []
 nothing_noted o s v g d = rw (d, g) refl
 
--- a component in front of the others
+-- a component before the others
 pub tail_field : (n : ℕ) (ts : List Tag) (o : Presence) (s : ℕ → Schema) (t : Table) (x : Part) (ps qs : Parts) → tail_records n (with_field ts o s t) (with_part x ps) qs ≡ part_records (λ v. presents (s n) v) o (s n) x ++ tail_records n t ps qs
 unfolding components_at root_records
 tail_field n ts o s t left_out ps qs = refl
@@ -44,13 +44,13 @@ unfolding components_at PartsFit
 tail_fits n ts o s t left_out ps qs f = (f.0.0, (f.0.1, f.1))
 tail_fits n ts o s t (there v) ps qs f = (f.0.0, (f.0.1, f.1))
 
--- a component that is there and has nothing noted behind it
+-- a component that is present and has nothing noted after it
 pub there_records : (o : Presence) (s : Schema) (v : Value) → noted o s v ≡ [] → part_records (λ w. presents s w) o s (there v) ≡ cond (is_required o) (presents s v) (presence_bit true ∷ presents s v)
 there_records required s v e = rw e (append_nothing (presents s v))
 there_records optional s v e = rw e (ap (λ rs. presence_bit true ∷ rs) (append_nothing (presents s v)))
 there_records (by_default d) s v e = rw e (ap (λ rs. presence_bit true ∷ rs) (append_nothing (presents s v)))
 
--- a value behind its extension marker
+-- a value after its extension marker
 pub present_records : (o : Presence) (s : Schema) (v : Value) → is_required o ≡ false → noted o s v ≡ [] → part_records (λ w. presents s w) o s (there v) ≡ presence_bit true ∷ presents s v
 present_records o s v r e = there_records o s v e ∙ rw r refl
 

@@ -1,4 +1,4 @@
--- How many levels nest in the records of a value.
+-- The number of nested levels in the records of a value.
 use Rattle.std.proofs.Common.{◌≡◌, ℕ, zero, suc, ◌<◌, ◌≤◌, ◌⊎◌, inl, inr, Bool, true, false, cond, List, [], ◌∷◌, ◌++◌, refl, sym, ◌∙◌, ap, append_assoc, arith}
 use Rattle.std.proofs.Math.Dec.{leb-suc-zero, leb-suc-suc}
 use Rattle.std.proofs.lemmas.List.{append-nil}
@@ -37,7 +37,7 @@ no_way_in d x = let e : d + 1 ≡ suc d = omega arith in sym (ap (λ c. cond c x
 one_deeper : (d l : ℕ) (x y : Option ℕ) → y ≡ cond (leb d l) x None → y ≡ cond (leb (d + 1) (suc l)) x None
 one_deeper d l x y h = h ∙ ap (λ c. cond c x None) (sym (deeper d l))
 
--- what is behind one value, where it may stand
+-- what follows a value, where it is allowed
 behind : (c : Bool) (x y : Option ℕ) → x ≡ y → cond c x None ≡ cond c y None
 behind true x y h = h
 behind false x y h = refl
@@ -60,7 +60,7 @@ none_deep l x = go (leb_tells 0 l)
     go (inl p) = rw p.0 refl
     go (inr p) = let f : ⊥ = omega (arith, p.1) in absurd f
 
--- ---- members
+-- ---- elements
 
 of_members : (s : Schema) → ((v : Value) → Fits s v → LowersAt s v) → (vs : Values) → AllFit (λ v. Fits s v) vs → (most l : ℕ) (rest : List Record) → suc l ≤ most → levels most (member_records (λ v. presents s v) vs ++ rest) l ≡ cond (leb (depth_of_members vs) l) (levels most rest (suc l)) None
 unfolding depth presents
@@ -85,7 +85,7 @@ presence_bit_level : (r : Bool) (rs rest : List Record) (most l : ℕ) → level
 presence_bit_level true rs rest most l = refl
 presence_bit_level false rs rest most l = refl
 
--- a value that is there, what is noted behind it, and further records
+-- a value that is present, what is noted after it, and further records
 value_there : (s : Schema) (v : Value) → LowersAt s v → (d g : Bool) (rest : List Record) (most l : ℕ) → l ≤ most → levels most ((presents s v ++ noted_by d g) ++ rest) l ≡ cond (leb (depth v) l) (levels most rest l) None
 value_there s v ih d g rest most l h =
     ap (λ rs. levels most rs l) (append_assoc (presents s v) (noted_by d g) rest)
@@ -123,7 +123,7 @@ absent_addition : (cs : Components) → Added cs → (r : Bool) → r ≡ false 
 absent_addition cs others true e x ps f rest most l h = cc
 absent_addition cs others false e x ps f rest most l h = others ps f rest most l h
 
--- ---- what stands behind the root, and the whole
+-- ---- what follows the root, and the whole
 
 behind_level : (e : Bool) (n : ℕ) (rs rest : List Record) (most l : ℕ) → levels most (cond e (additions_begin n ∷ rs) rs ++ rest) l ≡ levels most (rs ++ rest) l
 behind_level true n rs rest most l = refl
@@ -333,7 +333,7 @@ nests s v most l m f h = (λ c. tells (leb_tells (depth v) l) (sym at ∙ chain_
     passes (inl p) t = ap (λ c. cond c (Some l) None) p.0 ∙ ap Some (sym t.1)
     passes (inr p) t = let g : ⊥ = omega (arith, p.1, t.0) in absurd g
 
--- ---- two relations side by side
+-- ---- two relations combined
 
 pub side_by_side : {A B : Type 0} (f : A → Record → A → Type 0) (g : B → Record → B → Type 0) (rs : List Record) (a b : A × B) → Chain (Both f g) rs a b → Chain f rs a.0 b.0 × Chain g rs a.1 b.1
 side_by_side f g [] a b h = (ap (λ x. x.0) h, ap (λ x. x.1) h)

@@ -1,4 +1,4 @@
--- The records of one value of a type at most are next.
+-- The records of at most one value of a type come next.
 use Rattle.std.proofs.Common.{◌≡◌, ℕ, ℤ, zero, suc, Bool, true, false, cond, List, [], ◌∷◌, ◌++◌, refl, subst, sym, ◌∙◌, ap}
 use Rattle.std.specs.Prelude.{◌||◌, not}
 use Rattle.asn1_model.specs.Value.{Value, truth, nothing, number, item, bit_list, octet_list, text, arcs, members, bag, fields, chosen, no_more, member, Parts, end, absent, present}
@@ -13,7 +13,7 @@ use Rattle.asn1_schema_presented.proofs.Chains.{chain_split}
 abbrev pub One : {S V : Type 0} → (S → Record → S → Type 0) → (V → Type 0) → (V → List Record) → Type 0
 One {S} {V} step fit f = (v w : V) (a b c : S) → fit v → fit w → Chain step (f v) a b → Chain step (f w) a c → (v ≡ w) × (b ≡ c)
 
--- the same in front of further records
+-- the same before further records
 abbrev pub OneThen : {S V : Type 0} → (S → Record → S → Type 0) → (V → Type 0) → (V → List Record → List Record) → Type 0
 OneThen {S} {V} step fit f = (v w : V) (xs ys : List Record) (a b c : S) → fit v → fit w → Chain step (f v xs) a b → Chain step (f w ys) a c → (m : S) × (v ≡ w) × Chain step xs m b × Chain step ys m c
 
@@ -22,7 +22,7 @@ module _ {S : Type 0} {step : S → Record → S → Type 0} (one : OneRecord st
   single : (r s : Record) (a b c : S) → question r ≡ question s → Chain step (r ∷ []) a b → Chain step (s ∷ []) a c → (told r ≡ told s) × (b ≡ c)
   single r s a b c k p q = let e = one a r s p.0 q.0 k p.1 q.1 in (e.0, p.2 ∙ e.1 ∙ sym q.2)
 
-  -- one record, and what is behind it
+  -- one record, and what follows it
   pub same_first : (r s : Record) (xs ys : List Record) (a b c : S) → question r ≡ question s → Chain step (r ∷ xs) a b → Chain step (s ∷ ys) a c → (m : S) × (told r ≡ told s) × Chain step xs m b × Chain step ys m c
   same_first r s xs ys a b c k p q = let e = one a r s p.0 q.0 k p.1 q.1 in (q.0, e.0, subst (λ (z : S). Chain step xs z b) e.1 p.2, q.2)
 
@@ -74,7 +74,7 @@ module _ {S : Type 0} {step : S → Record → S → Type 0} (one : OneRecord st
   one_arcs (arcs x) w a b c f g p q = absurd g
   one_arcs v w a b c f g p q = absurd f
 
-  -- members, and the end
+  -- elements, and the end
   one_members : (fit : Value → Type 0) (f : Value → List Record) → One step fit f → One step (AllFit fit) (member_records f)
   one_members fit f ih no_more no_more a b c u t p q =
       let r = same_first (further false) (further false) (ends ∷ []) (ends ∷ []) a b c refl p q in
@@ -118,7 +118,7 @@ module _ {S : Type 0} {step : S → Record → S → Type 0} (one : OneRecord st
   same_records [] a b c p q = p ∙ sym q
   same_records (x ∷ xs) a b c p q = let r = same_first x x xs xs a b c refl p q in same_records xs r.0 b c r.2 r.3
 
-  -- a value, and what is noted behind it
+  -- a value, and what is noted after it
   one_noted : (fit : Value → Type 0) (f : Value → List Record) (g : Value → List Record) → One step fit f → One step fit (λ v. f v ++ g v)
   one_noted fit f g ih v w a b c u t p q =
       let p' = chain_split step (f v) (g v) a b p in
@@ -175,7 +175,7 @@ module _ {S : Type 0} {step : S → Record → S → Type 0} (one : OneRecord st
   one_addition (by_default d) s ih left_out (there w) a b c u t p q = absurd (one_addition_not _ a b c p q)
   one_addition (by_default d) s ih (there v) left_out a b c u t p q = absurd (one_addition_not _ a c b q p)
 
-  -- a component and those behind it
+  -- a component and those after it
   behind_part : (o : Presence) (s : Schema) (f : Part → List Record) → One step (PartFits (λ v. Fits s v) o) f → (cs : Components) → OneThen step (PartsFit cs) (root_records cs) → (x y : Part) (ps qs : Parts) (xs ys : List Record) (a b c : S) → PartFits (λ v. Fits s v) o x → PartFits (λ v. Fits s v) o y → PartsFit cs ps → PartsFit cs qs → Chain step (f x ++ root_records cs ps xs) a b → Chain step (f y ++ root_records cs qs ys) a c → (m : S) × (with_part x ps ≡ with_part y qs) × Chain step xs m b × Chain step ys m c
   behind_part o s f ih cs jh x y ps qs xs ys a b c u t g h p q =
       let p' = chain_split step (f x) (root_records cs ps xs) a b p in
@@ -199,7 +199,7 @@ module _ {S : Type 0} {step : S → Record → S → Type 0} (one : OneRecord st
   no_components end qs xs ys a b c f g p q = absurd g
   no_components ps qs xs ys a b c f g p q = absurd f
 
-  -- an addition and those behind it
+  -- an addition and those after it
   behind_addition : (o : Presence) (s : Schema) (f : Part → List Record) → One step (PartFits (λ v. Fits s v) o) f → (cs : Components) → One step (PartsFit cs) (added_records cs) → (x y : Part) (ps qs : Parts) (a b c : S) → PartFits (λ v. Fits s v) o x → PartFits (λ v. Fits s v) o y → PartsFit cs ps → PartsFit cs qs → Chain step (f x ++ added_records cs ps) a b → Chain step (f y ++ added_records cs qs) a c → (with_part x ps ≡ with_part y qs) × (b ≡ c)
   behind_addition o s f ih cs jh x y ps qs a b c u t g h p q =
       let p' = chain_split step (f x) (added_records cs ps) a b p in
@@ -223,7 +223,7 @@ module _ {S : Type 0} {step : S → Record → S → Type 0} (one : OneRecord st
   no_additions end qs a b c f g p q = absurd g
   no_additions ps qs a b c f g p q = absurd f
 
-  -- behind the root
+  -- after the root
   one_behind : (z : Bool) (n : ℕ) (xs ys : List Record) (a b c : S) → Chain step (cond z (additions_begin n ∷ xs) xs) a b → Chain step (cond z (additions_begin n ∷ ys) ys) a c → (m : S) × Chain step xs m b × Chain step ys m c
   one_behind true n xs ys a b c p q = let r = same_first (additions_begin n) (additions_begin n) xs ys a b c refl p q in (r.0, r.2, r.3)
   one_behind false n xs ys a b c p q = (a, p, q)

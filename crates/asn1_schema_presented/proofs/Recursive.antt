@@ -1,4 +1,4 @@
--- Types that lead back to themselves, and their values.
+-- Recursive types, and their values.
 use Rattle.std.proofs.Common.{◌≡◌, ℕ, zero, suc, true, List, ◌++◌, Some, refl}
 use Rattle.asn1_model.specs.Value.{Value}
 use Rattle.asn1_model.specs.Schema.{Tag, Schema, cut, optional}
@@ -27,7 +27,7 @@ module _ {ts : List Tag} (f : (ℕ → Schema) → Table) (e : is_one_tag ts ≡
   pub recursive_type : IsType ts (recursive_sequence f)
   recursive_type = record { tagged = λ n. (each_level n).tagged n; lawful = λ n. (each_level n).lawful n; tidy = λ n. (each_level n).tidy n; no_group = λ n. (each_level n).no_group n }
 
--- another spelling of the same type
+-- another form of the same type
 pub value_as : (s t : ℕ → Schema) {v : Value} → ((n : ℕ) → t n ≡ s n) → IsValue s v → IsValue t v
 value_as s t {v} e h = record {
   fits = λ n le. rw e (h.fits n le);

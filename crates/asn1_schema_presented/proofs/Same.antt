@@ -51,7 +51,7 @@ mutual
   same_parts_self (absent ps) = same_parts_self ps
   same_parts_self (present v ps) = rw (same_self v, same_parts_self ps) refl
 
--- equality as the program's types have it
+-- equality as the Rust types have it
 
 same_truth_as : (a b : Bool) → beq a b ≡ same_truth a b
 same_truth_as true true = refl

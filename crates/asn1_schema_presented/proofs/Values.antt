@@ -1,4 +1,4 @@
--- Types and values put together of those of their parts.
+-- Types and values built from those of their parts.
 use Rattle.std.proofs.Common.{◌≡◌, ℕ, ◌≤◌, ◌+◌, zero, suc, Bool, true, false, cond, List, ◌++◌, Option, Some, None, refl, sym, ◌∙◌, ap, arith}
 use Rattle.std.specs.Prelude.{◌||◌, max}
 use Rattle.std.proofs.lemmas.Bool.{and_parts}
@@ -38,7 +38,7 @@ pub no_values : AreValues no_table end end
 unfolding components_at PartsFit normal_parts
 no_values = record { fits = λ n le. tt; fits_added = λ n le. tt; normal = λ n. refl; normal_added = λ n. refl }
 
--- a part in front of the others
+-- a part before the others
 kept_part : (b : Bool) (w : Value) (ps : Parts) → cond b (absent ps) (present w ps) ≡ with_part (cond b left_out (there w)) ps
 kept_part true w ps = refl
 kept_part false w ps = refl
@@ -71,7 +71,7 @@ more_values ts {o} {s} {t} {x} {ps} {qs} h k = record {
   normal_added = k.normal_added;
 }
 
--- a value that is there, and not left out by its default
+-- a value that is present, and not left out as its default
 kept_there : {ts : List Tag} (o : Presence) (s : ℕ → Schema) (v : Value) → IsType ts s → IsValue s v → ((n : ℕ) → is_at_default o (s n) v ≡ false) → (n : ℕ) → normal_part o (s n) (there v) ≡ there v
 kept_there o s v t h d n =
     let e : is_group_left_out (s n) v ≡ false = not_empty (s n) (normal (s n) v) (t.no_group n) in
@@ -88,7 +88,7 @@ pub part_default : {ts : List Tag} {s : ℕ → Schema} {v d : Value} (b : Bool)
 part_default true t h k e = record { fits = λ n le. refl; normal = λ n. refl }
 part_default {s = s} {v} {d} false t h k e = record { fits = h.fits; normal = kept_there (by_default d) s v t h (λ n. rw (h.normal n, k.normal n) (sym e)) }
 
--- a sequence
+-- a SEQUENCE
 pub tags_at : (n : ℕ) (fs : Fields) → component_tags (components_at n fs) ≡ field_tags fs
 unfolding components_at
 tags_at n no_field = refl

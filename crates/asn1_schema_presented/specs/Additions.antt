@@ -1,4 +1,4 @@
--- The additions behind an extension marker, and groups of them (X.680 25).
+-- Extension additions, and groups of them (X.680 25).
 use Rattle.std.specs.Prelude.{◌≡◌, ◌≤◌, ℕ, suc, true, false, not, ◌||◌, List, Option, Some, None}
 use Rattle.asn1_model.specs.Value.{Parts, fields, end, are_absent, depth_of_parts}
 use Rattle.asn1_model.specs.Schema.{Tag, Presence, Schema, group}
@@ -12,33 +12,33 @@ use Rattle.asn1_schema_presented.specs.Tables.{Fields, no_field, field, Table, c
 use Rattle.asn1_schema_presented.specs.Tables.{scope}
 use Rattle.asn1_schema_presented.specs.Typed.{DefaultsThen}
 
--- How many additions there are.
+-- The number of additions.
 abbrev pub addition_count : Fields → ℕ
 addition_count no_field = 0
 addition_count (field t o s fs) = suc (addition_count fs)
 
--- What stands behind the root components of a type with an extension marker: these additions.
+-- The additions, which follow the root components of a type with an extension marker.
 abbrev pub extensible_table : Fields → Table
 extensible_table fs = record { root = no_field; extensible = true; additions = fs }
 
--- Each default of these additions may stand there.
+-- Each default of these additions is allowed.
 abbrev pub HaveDefaults : Fields → Type 0
 HaveDefaults fs = DefaultsThen fs (Unit {0})
 
--- A type may stand among additions: it is lawful, and a group stands there as optional.
+-- A type is allowed as an addition: it is well-formed, and a group is optional.
 pub record IsAddition (tags : List Tag) (o : Presence) (schema : ℕ → Schema) : Type 0 where
   pub tagged : (n : ℕ) → are_tags_of tags (schema n) ≡ true
   pub lawful : (n : ℕ) → is_lawful (schema n) ≡ true
   pub tidy : (n : ℕ) → is_tidy (schema n) ≡ true
   pub optional_group : (n : ℕ) → (not (is_group (schema n)) || is_optional o) ≡ true
 
--- So may the types of all additions.
+-- The types of all additions are allowed.
 pub record AreAdditionTypes (fs : Fields) : Type 0 where
   pub lawful : (n : ℕ) → are_lawful (components_at n fs) ≡ true
   pub tidy : (n : ℕ) → are_tidy (components_at n fs) ≡ true
   pub optional_groups : (n : ℕ) → are_groups_in_place true (components_at n fs) ≡ true
 
--- The parts are of these types, and in their normal form.
+-- The parts are of these types, and in normal form.
 pub record AreAdditionValues (fs : Fields) (qs : Parts) : Type 0 where
   pub fits : (n : ℕ) → depth_of_parts qs ≤ n → PartsFit (components_at n fs) qs
   pub normal : (n : ℕ) → normal_parts (components_at n fs) qs ≡ qs
@@ -47,13 +47,13 @@ pub record AreAdditionValues (fs : Fields) (qs : Parts) : Type 0 where
 unfoldable pub group_type : Table → ℕ → Schema
 group_type t n = scope n (λ m. group (components_at m t.root))
 
--- A table may be that of a group: there is no extension marker, and one component or more.
+-- A table may be that of a group: it has no extension marker, and at least one component.
 pub record IsGroup (t : Table) : Type 0 where
   pub not_extensible : t.extensible ≡ false
   pub no_additions : t.additions ≡ no_field
   pub tagged : are_tags (field_tags t.root) ≡ true
 
--- A group as an addition: one in which nothing is left is absent, by the project's choice.
+-- A group as an addition: one with nothing left in it is absent, by this project's choice.
 abbrev pub group_part : {A : Type 0} → (A → Parts) → Option A → Part
 group_part root None = left_out
 group_part root (Some x) = part_unless (are_absent (root x)) (fields (root x) end)

@@ -1,4 +1,4 @@
--- The law of records: they tell a value.
+-- The law that records determine a value.
 use Rattle.std.specs.Prelude.{◌≡◌}
 use Rattle.asn1_model.specs.Schema.{Schema}
 use Rattle.asn1_model.specs.Value.{Value}
@@ -6,7 +6,7 @@ use Rattle.asn1_schema_presented.specs.Records.{Record}
 use Rattle.asn1_schema_presented.specs.Presents.{presents, Fits}
 use Rattle.asn1_schema_presented.specs.Chains.{Chain}
 
--- From one state the records of one value of a type at most are next, and one state stands behind them.
+-- From a state, the records of at most one value of a type come next, and one state follows them.
 abbrev pub OneValue : {S : Type 0} → (S → Record → S → Type 0) → Type 0
 OneValue {S} step = (s : Schema) (v w : Value) (a b c : S) → Fits s v → Fits s w → Chain step (presents s v) a b
     → Chain step (presents s w) a c → (v ≡ w) × (b ≡ c)

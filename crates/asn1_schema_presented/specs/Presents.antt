@@ -1,4 +1,4 @@
--- The records of a value by its type: the calls by which it reaches an encoder, and by which a decoder finds it.
+-- The records of a value by its type: the calls that give it to an encoder, and by which a decoder finds it.
 use Rattle.std.specs.Prelude.{◌≡◌, ℕ, zero, suc, Bool, true, false, cond, not, ◌||◌, List, [], ◌∷◌, ◌++◌}
 use Rattle.asn1_model.specs.Value.{Value, truth, nothing, number, item, bit_list, octet_list, text, arcs, members}
 use Rattle.asn1_model.specs.Value.{bag, fields, chosen, Values, no_more, member, Parts, end, absent, present}
@@ -17,31 +17,31 @@ use Rattle.asn1_schema_presented.specs.Records.{additions_begin, addition, addit
 
 -- ---- counts
 
--- How many components may be absent.
+-- The number of components that may be absent.
 abbrev pub optional_count : Components → ℕ
 optional_count no_component = 0
 optional_count (component t o s cs) = cond (is_required o) (optional_count cs) (suc (optional_count cs))
 
--- How many components there are.
+-- The number of components.
 abbrev pub component_count : Components → ℕ
 component_count no_component = 0
 component_count (component t o s cs) = suc (component_count cs)
 
 -- ---- parts
 
--- One component: there or left out.
+-- One component: present or absent.
 pub data Part : Type 0 where
   left_out : Part
   there : Value → Part
 
--- A component and those behind it.
+-- A component and those after it.
 abbrev pub with_part : Part → Parts → Parts
 with_part left_out ps = absent ps
 with_part (there v) ps = present v ps
 
 -- ---- records
 
--- The presence bit before a component that is there, if there is one.
+-- The presence bit before a component that is present, if it has one.
 abbrev pub with_presence_bit : Bool → List Record → List Record
 with_presence_bit true rs = rs
 with_presence_bit false rs = presence_bit true ∷ rs
@@ -50,7 +50,7 @@ with_presence_bit false rs = presence_bit true ∷ rs
 abbrev pub noted : Presence → Schema → Value → List Record
 noted o s v = cond (is_at_default o s v) (is_default ∷ []) (cond (is_group_left_out s v) (is_empty ∷ []) [])
 
--- The records of one root component, by those of its value (X.691 19.2 and 19.6, X.696 16).
+-- The records of one root component, given those of its value (X.691 19.2 and 19.6, X.696 16).
 abbrev pub part_records : (Value → List Record) → Presence → Schema → Part → List Record
 part_records f o s left_out = cond (is_required o) (mismatch ∷ []) (presence_bit false ∷ [])
 part_records f o s (there v) = with_presence_bit (is_required o) (f v ++ noted o s v)
@@ -60,13 +60,13 @@ abbrev pub addition_records : (Value → List Record) → Presence → Schema �
 addition_records f o s left_out = cond (is_required o) (mismatch ∷ []) (addition false ∷ [])
 addition_records f o s (there v) = addition true ∷ (f v ++ (addition_ends ∷ noted o s v))
 
--- The records of members, and the end.
+-- The records of elements, and the end.
 abbrev pub member_records : (Value → List Record) → Values → List Record
 member_records f no_more = further false ∷ ends ∷ []
 member_records f (member v vs) = further true ∷ (f v ++ member_records f vs)
 
--- What follows the root components: the additions, where there is an extension marker, and the end. Additions without
--- an extension marker, which no lawful type has, are among the records, and no codec takes them.
+-- What follows the root components: the additions, if there is an extension marker, and the end. Additions without an
+-- extension marker, which no well-formed type has, are among the records, and no codec accepts them.
 abbrev pub behind_root : Bool → Components → List Record → List Record
 behind_root e adds rs = cond (e || not (are_no_components adds)) (additions_begin (component_count adds) ∷ rs) rs
 
@@ -94,7 +94,7 @@ unfoldable mutual
       true i ∷ chosen_records adds i v
   presents s v = mismatch ∷ []
 
-  -- The root components, and what follows them.
+  -- The records of the root components, and what follows them.
   pub root_records : Components → Parts → List Record → List Record
   root_records no_component end rest = rest
   root_records (component t o s cs) (present v ps) rest = part_records (λ w. presents s w) o s (there v)
@@ -103,7 +103,7 @@ unfoldable mutual
       ++ root_records cs ps rest
   root_records cs ps rest = mismatch ∷ []
 
-  -- The additions, and the end.
+  -- The records of the additions, and the end.
   pub added_records : Components → Parts → List Record
   added_records no_component end = ends ∷ []
   added_records (component t o s cs) (present v ps) = addition_records (λ w. presents s w) o s (there v)
@@ -112,27 +112,27 @@ unfoldable mutual
       ++ added_records cs ps
   added_records cs ps = mismatch ∷ []
 
-  -- The chosen alternative, and the end.
+  -- The records of the chosen alternative, and the end.
   pub chosen_records : Alternatives → ℕ → Value → List Record
   chosen_records (alternative t s others) zero v = presents s v ++ (ends ∷ [])
   chosen_records (alternative t s others) (suc i) v = chosen_records others i v
   chosen_records no_alternative i v = mismatch ∷ []
 
--- ---- which values are of a type
+-- ---- which values have the form of a type
 
--- Whether a component has what its presence asks for.
+-- Whether a component is as its presence requires.
 abbrev pub PartFits : (Value → Type 0) → Presence → Part → Type 0
 PartFits f o left_out = is_required o ≡ false
 PartFits f o (there v) = f v
 
--- Each member is of the type.
+-- Each element has the form of the type.
 abbrev pub AllFit : (Value → Type 0) → Values → Type 0
 AllFit f no_more = Unit {0}
 AllFit f (member v vs) = f v × AllFit f vs
 
 unfoldable mutual
-  -- The value has the form of the type, and nests no deeper than this is unfolded: what a program's value means, and
-  -- what may be read.
+  -- The value has the form of the type, and no more nested levels than the type is unfolded to: what a Rust value
+  -- represents, and what may be read.
   pub Fits : Schema → Value → Type 0
   Fits boolean (truth b) = Unit {0}
   Fits null nothing = Unit {0}
@@ -151,14 +151,14 @@ unfoldable mutual
   Fits (choice roots e adds) (chosen true i v) = ChosenFits adds i v
   Fits s v = ⊥
 
-  -- So are all parts.
+  -- All parts have the form of their types.
   pub PartsFit : Components → Parts → Type 0
   PartsFit no_component end = Unit {0}
   PartsFit (component t o s cs) (present v ps) = Fits s v × PartsFit cs ps
   PartsFit (component t o s cs) (absent ps) = (is_required o ≡ false) × PartsFit cs ps
   PartsFit cs ps = ⊥
 
-  -- So is the chosen alternative.
+  -- The chosen alternative has the form of its type.
   pub ChosenFits : Alternatives → ℕ → Value → Type 0
   ChosenFits (alternative t s others) zero v = Fits s v
   ChosenFits (alternative t s others) (suc i) v = ChosenFits others i v

@@ -1,57 +1,57 @@
--- What a codec is told in one call: what the type says there, and what the value is.
+-- What a codec is given in one call: what the type says at that point, and the value.
 use Rattle.std.specs.Prelude.{ℕ, ℤ, Bool, List}
 use Rattle.asn1_model.specs.Schema.{Tag, Range, Bounds, Counts, Size, Alphabet, StringKind}
 
--- One call. A scalar comes with what the type says there and with its value; a tag leaves no octet in any of the
--- rules but where it tells which alternative is chosen, so records have the tags of alternatives alone.
+-- One call. A scalar comes with what the type says at that point and with its value. In all rules a tag is encoded
+-- only where it indicates the chosen alternative, so records have only the tags of alternatives.
 pub data Record : Type 0 where
   -- BOOLEAN
   flag : Bool → Record
   -- NULL
   nil : Record
-  -- INTEGER: its constraint, the numbers that the program's type holds, and the number
+  -- INTEGER: its constraint, the numbers that the user-defined type holds, and the number
   whole : Bounds → Range → ℤ → Record
   -- ENUMERATED: the root items, whether there is an extension marker, the added items, and the item
   one_of : List ℤ → Bool → List ℤ → ℤ → Record
-  -- BIT STRING: its size, the lengths that the program's type holds, and the bits
+  -- BIT STRING: its size, the lengths that the user-defined type holds, and the bits
   bits : Size → Counts → List Bool → Record
-  -- OCTET STRING: the same, and the octets
+  -- OCTET STRING: its size, the lengths that the user-defined type holds, and the octets
   octets : Size → Counts → List ℕ → Record
-  -- a restricted character string: the same with its alphabet, and the characters or octets
+  -- a restricted character string: size and lengths, its alphabet, and the characters or octets
   characters : StringKind → Size → Alphabet → Counts → List ℕ → Record
   -- OBJECT IDENTIFIER
   identifier : List ℕ → Record
-  -- SEQUENCE OF begins: its size, the counts that the program's type holds, and the number of members
+  -- SEQUENCE OF begins: its size, the counts that the user-defined type holds, and the number of elements
   list_begins : Size → Counts → ℕ → Record
-  -- SET OF begins: the same
+  -- SET OF begins: as for SEQUENCE OF
   bag_begins : Size → Counts → ℕ → Record
-  -- whether a further member comes; before each of them, and behind the last
+  -- whether another element follows; before each of them, and after the last
   further : Bool → Record
-  -- SEQUENCE begins: whether it has an extension marker, and how many root components may be absent
+  -- SEQUENCE begins: whether it has an extension marker, and the number of root components that may be absent
   sequence_begins : Bool → ℕ → Record
-  -- SET begins: the same
+  -- SET begins: as for SEQUENCE
   set_begins : Bool → ℕ → Record
-  -- a group of additions begins: how many of its components may be absent
+  -- an extension addition group begins: the number of its components that may be absent
   group_begins : ℕ → Record
-  -- whether the next component is there, of those that may be absent
+  -- whether the next component that may be absent is present
   presence_bit : Bool → Record
-  -- the component that was written is equal to its default, or a group in which nothing is left: no writer takes it
+  -- the component that was written is equal to its default, or a group with nothing left in it: no encoder accepts it
   is_default : Record
   is_empty : Record
-  -- behind the root components of a type with an extension marker: how many additions it has
+  -- after the root components of a type with an extension marker: the number of its additions
   additions_begin : ℕ → Record
-  -- whether the next addition is there
+  -- whether the next addition is present
   addition : Bool → Record
   addition_ends : Record
   -- CHOICE: the tags of the root alternatives, whether there is an extension marker, the tags of the added ones,
-  -- whether the chosen one is added, and its place
+  -- whether the chosen one is added, and its index
   choice_begins : List Tag → Bool → List Tag → Bool → ℕ → Record
-  -- the end of a list, bag, sequence, set, group or choice
+  -- the end of a SEQUENCE OF, SET OF, SEQUENCE, SET, group or CHOICE
   ends : Record
-  -- the value is not of the type: no codec takes it
+  -- the value is not of the type: no codec accepts it
   mismatch : Record
 
--- What a decoder asks for: a record without what is to be found.
+-- What a decoder asks for: a record without the value to be found.
 pub data Question : Type 0 where
   asks_flag : Question
   asks_nil : Question
@@ -103,8 +103,8 @@ question (choice_begins roots e adds added i) = asks_choice roots e adds
 question ends = asks_end
 question mismatch = asks_mismatch
 
--- What a decoder is told by a record: all of it, but not how many members a list or bag has, which may be known at
--- its end alone.
+-- What a record gives a decoder: all of it, except for the number of elements of a SEQUENCE OF or SET OF, which may be
+-- known only at its end.
 abbrev pub told : Record → Record
 told (list_begins z h n) = list_begins z h 0
 told (bag_begins z h n) = bag_begins z h 0

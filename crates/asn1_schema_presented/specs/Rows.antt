@@ -23,7 +23,7 @@ unbounded n = call.whole (from_to None None false) any_number (pos n)
 abbrev pub added_null : Schema
 added_null = choice (or_tagged 0 boolean no_alternative) true (or_tagged 1 null no_alternative)
 
--- components: there, left out, required and missing, and at a default that is spelled out
+-- components: present, absent, required and missing, and encoded at a default
 abbrev pub ComponentRows : Type 0
 ComponentRows =
     (presents setting (roots (present yes (present (num 7) (present nothing end)))) ≡ call.sequence_begins false 1
@@ -41,7 +41,7 @@ ComponentRows =
     (roots (present yes (absent end))) ≡ call.set_begins false 1 ∷ call.flag true ∷ call.presence_bit false ∷ call.ends
     ∷ [])
 
--- lists, bags and choices
+-- SEQUENCE OF, SET OF and CHOICE
 abbrev pub MemberRows : Type 0
 MemberRows =
     (presents one_or_two (members (member yes (member no no_more))) ≡ call.list_begins (sizes 1 2) any_count 2
@@ -57,7 +57,7 @@ MemberRows =
     1 ∷ call.mismatch ∷ [])
     × (presents boolean (num 1) ≡ call.mismatch ∷ [])
 
--- additions and groups
+-- additions and groups of them
 abbrev pub AdditionRows : Type 0
 AdditionRows =
     (presents new_type (fields (present yes end) (present (num 7) end)) ≡ call.sequence_begins true 0 ∷ call.flag true

@@ -1,26 +1,25 @@
-//! What stands behind an extension marker, and groups of additions (X.680 25): the laws by which types and values
-//! of additions are put together.
+//! Extension additions and groups of them (X.680 25): laws by which their types and values are put together.
 
 ghost use Rattle.asn1_schema_presented.specs.AdditionLaws.{AdditionsAreTyped, AdditionsAreValued, GroupsAreTyped};
 ghost use Rattle.asn1_schema_presented.specs.AdditionLaws.{GroupsAreValued};
 
-/// Additions whose types may stand there make a table with an extension marker.
+/// Types that are allowed as extension additions form a table with an extension marker.
 pub fn additions_are_typed()
     ensures { AdditionsAreTyped }
 {}
 
-/// Values of additions are the values of that table.
+/// Values of additions are values of that table.
 pub fn additions_are_valued()
     ensures { AdditionsAreValued }
 {}
 
-/// The components of a lawful sequence without an extension marker, one or more, whose defaults are in normal form,
-/// make a group that may stand among additions.
+/// The components of a well-formed (`is_lawful`) SEQUENCE without an extension marker, at least one, whose defaults
+/// are in normal form, form a group that is allowed among additions.
 pub fn groups_are_typed()
     ensures { GroupsAreTyped }
 {}
 
-/// A value of such a sequence is one of the group, and is left out where none of its components is there.
+/// A value of such a SEQUENCE is a value of the group, which is absent if all its components are.
 pub fn groups_are_valued()
     ensures { GroupsAreValued }
 {}

@@ -1,6 +1,6 @@
-//! What a codec is told of a value, one record a call, how many levels nest in these records, and what stands behind an
-//! extension marker (X.680 25): definitions over the model, rows that they are computed to give, and laws. Each
-//! function does nothing: its contract is a law, or rows.
+//! The records by which codecs are given a value, one per call, their nested levels, and extension additions (X.680
+//! 25): definitions over the model, worked examples (rows), and laws. The functions do nothing: their contracts are
+//! the laws and the rows.
 #![tactic(auto)]
 
 pub mod addition_laws;

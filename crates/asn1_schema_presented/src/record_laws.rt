@@ -1,16 +1,16 @@
-//! The records of a value: rows of them, and the law that the records of one value of a type at most are next.
+//! The records of a value: rows, and the law that at most one value of a type has the records that come next.
 
 ghost use Rattle.asn1_schema_presented.specs.Chains.{OneRecord};
 ghost use Rattle.asn1_schema_presented.specs.Laws.{OneValue};
 ghost use Rattle.asn1_schema_presented.specs.Records.{Record};
 ghost use Rattle.asn1_schema_presented.specs.Rows.{AdditionRows, ComponentRows, MemberRows};
 
-/// The records of components that are there, left out, missing, or at a default (X.680 25 and 27).
+/// The records of components that are present, absent, missing, or at a default (X.680 25 and 27).
 pub fn component_rows()
     ensures { ComponentRows }
 {}
 
-/// The records of lists, bags and choices (X.680 26, 28 and 29).
+/// The records of SEQUENCE OF, SET OF and CHOICE (X.680 26, 28 and 29).
 pub fn member_rows()
     ensures { MemberRows }
 {}
@@ -20,18 +20,17 @@ pub fn addition_rows()
     ensures { AdditionRows }
 {}
 
-/// The states of a decoder, as far as they are known.
+/// The states of a decoder.
 pub trait States {
-    /// The state before a record, the record, and the state behind it.
+    /// The state before a record, the record, and the state after it.
     ghost step: { Self → Record → Self → Type 0 };
 
-    /// Of the records that answer a question one at most is next, as far as the decoder is told, and one state stands
-    /// behind it.
+    /// Of the records that answer a question, at most one comes next, as far as a decoder is given it, and one state
+    /// follows it.
     ghost one_record: { OneRecord step };
 }
 
-/// From one state of such a decoder the records of one value of a type at most are next, and one state stands behind
-/// them.
+/// From a state of such a decoder, the records of at most one value of a type come next, and one state follows them.
 pub fn one_value<S: States>()
     ensures { OneValue S.step }
 {}

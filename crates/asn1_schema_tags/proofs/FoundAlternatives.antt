@@ -1,4 +1,4 @@
--- The alternative of a tag, by its place among those of the root and then the added ones.
+-- The alternative of a tag, by its index in the concatenation of root and added tags.
 use Rattle.std.proofs.Common.{◌≡◌, ◌∙◌, refl, sym, ap, ℕ, ◌+◌, ◌-◌, ◌≤◌, ◌<◌, ◌++◌, Bool, true, false, Option, Some, None, option_map, length, arith}
 use Rattle.asn1_model.specs.Schema.{Tag as ModelTag}
 use Rattle.asn1_schema_variants.specs.declared.chosen.Chosen.{Chosen}
@@ -6,7 +6,7 @@ use Rattle.asn1_schema_tags.specs.Chosen.{ChoiceTags, alternative_at, alternativ
 use Rattle.asn1_schema_tags.specs.Trees.{place_of}
 use Rattle.asn1_schema_tags.proofs.PlaceLaws.{either, place_of_joined, place_within}
 
--- The alternatives at a place.
+-- The alternatives at an index.
 abbrev root_at : ℕ → Option Chosen
 root_at i = Some (record { added = false; place = i })
 
@@ -20,24 +20,24 @@ none_at true n None None h = refl
 none_at false n None None h = refl
 none_at e n None (Some j) h = cc h
 
--- What is found in front of the added ones is of the root.
+-- An index before the added ones is of the root.
 root_found : (e : Bool) (n k : ℕ) (o p : Option ℕ) → either o (option_map (λ j. n + j) p) ≡ Some k → k < n → alternative_at e o p ≡ root_at k
 root_found e n k (Some i) p h l = let is : i ≡ k = cc in ap root_at is
 root_found e n k None None h l = cc h
 root_found e n k None (Some j) h l = let is : n + j ≡ k = cc in absurd (omega (arith, is, l))
 
--- What is found behind the root is an added one, where there is an extension marker.
+-- An index after the root is an added one, if there is an extension marker.
 added_found : (n k : ℕ) (o p : Option ℕ) → ((i : ℕ) → o ≡ Some i → i < n) → either o (option_map (λ j. n + j) p) ≡ Some k → n ≤ k → alternative_at true o p ≡ added_at (k - n)
 added_found n k (Some i) p w h l = let is : i ≡ k = cc in let b : i < n = w i refl in absurd (omega (arith, is, b, l))
 added_found n k None None w h l = cc h
 added_found n k None (Some j) w h l = let is : n + j ≡ k = cc in let q : j ≡ k - n = omega (arith, is) in ap added_at q
 
--- Without an extension marker there is none behind the root.
+-- Without an extension marker there is none after the root.
 unmarked_found : (n k : ℕ) (o p : Option ℕ) → ((i : ℕ) → o ≡ Some i → i < n) → either o (option_map (λ j. n + j) p) ≡ Some k → n ≤ k → alternative_at false o p ≡ None
 unmarked_found n k (Some i) p w h l = let is : i ≡ k = cc in let b : i < n = w i refl in absurd (omega (arith, is, b, l))
 unmarked_found n k None p w h l = refl
 
--- The same of a tag, where there are so many tags of the root.
+-- The same for a tag, given the number of root tags.
 module _ (c : ChoiceTags) (t : ModelTag) where
   joined : (o : Option ℕ) → o ≡ place_of (c.roots ++ c.additions) t → either (place_of c.roots t) (option_map (λ k. length c.roots + k) (place_of c.additions t)) ≡ o
   joined o h = sym (h ∙ place_of_joined c.roots c.additions t)

@@ -1,4 +1,4 @@
--- Where a tag stands among the leaves of trees.
+-- The index of a tag among the leaves of trees.
 use Rattle.std.proofs.Common.{◌≡◌, ◌∙◌, refl, sym, ap, ℕ, zero, suc, ◌+◌, ◌-◌, ◌≤◌, ◌<◌, List, [], ◌∷◌, ◌++◌, Bool, true, false, not, cond, ◌&&◌, Option, Some, None, option_map, length, length-append, drop, get_or, slice_get, arith, eq-eqb, eqb-true, ◌==◌, ◌^◌, ltb, lt-ltb, IfSome, IsTrue, rules}
 use Rattle.std.specs.List.{position_from}
 use Rattle.std.proofs.lemmas.Option.{slice_get_within}
@@ -11,7 +11,7 @@ use Rattle.asn1_schema_tags.specs.declared.tags.Tag.{Tag}
 use Rattle.asn1_schema_tags.specs.declared.trees.TagTree.{TagTree}
 use Rattle.asn1_schema_tags.proofs.TreeLaws.{leaves_at}
 
--- the first of two answers that is there
+-- the first of two results that exists
 abbrev pub either : Option ℕ → Option ℕ → Option ℕ
 either (Some k) o = Some k
 either None o = o
@@ -36,14 +36,14 @@ position_from-shift p n m (x ∷ xs) =
 position_from_zero : (p : ModelTag → Bool) (n : ℕ) (xs : List ModelTag) → position_from p n xs ≡ option_map (λ k. n + k) (position_from p 0 xs)
 position_from_zero p n xs = let e : n ≡ n + 0 = omega arith in ap (λ k. position_from p k xs) e ∙ position_from-shift p n 0 xs
 
--- the place of a tag in two lists joined
+-- the index of a tag in two lists joined
 pub place_of_joined : (ts us : List ModelTag) (t : ModelTag) → place_of (ts ++ us) t ≡ either (place_of ts t) (option_map (λ k. length ts + k) (place_of us t))
 place_of_joined ts us t =
     let e : 0 + length ts ≡ length ts = omega arith in
     position_from-append (tag_same t) 0 ts us
     ∙ (ap (λ k. either (place_of ts t) (position_from (tag_same t) k us)) e ∙ ap (either (place_of ts t)) (position_from_zero (tag_same t) (length ts) us))
 
--- the step where the tag stands in the tree
+-- the step where the tag is in the tree
 pub place_found : (t : ModelTag) (b k : ℕ) (nodes : List TagTree) (i : ℕ) (d : TagTree) → i < length nodes → d ≡ get_or nodes i d → place_of (leaves d) t ≡ Some k
     → position_from (tag_same t) b (leaves_of (drop i nodes)) ≡ Some (b + k)
 place_found t b k nodes i d h is e =
@@ -61,7 +61,7 @@ place_passed t b nodes i d h is e =
     ∙ (position_from-append (tag_same t) b (leaves d) rest
     ∙ ap (λ o. either o (position_from (tag_same t) (b + length (leaves d)) rest)) (position_from_zero (tag_same t) b (leaves d) ∙ ap (option_map (λ j. b + j)) e))
 
--- the number of leaves from a place on
+-- the number of leaves from an index on
 pub length_step : (nodes : List TagTree) (i : ℕ) (d : TagTree) → i < length nodes → d ≡ get_or nodes i d
     → length (leaves_of (drop i nodes)) ≡ length (leaves d) + length (leaves_of (drop (i + 1) nodes))
 length_step nodes i d h is = ap length (leaves_at nodes i d h is) ∙ length-append (leaves d) (leaves_of (drop (i + 1) nodes))
@@ -84,7 +84,7 @@ length_le_of_none [] n e = omega arith
 length_le_of_none (x ∷ xs) zero e = cc
 length_le_of_none (x ∷ xs) (suc n) e = omega (arith, length_le_of_none xs n e)
 
--- the step where the leaf stands in the tree
+-- the step where the leaf is in the tree
 pub tag_found : (nodes : List TagTree) (i n : ℕ) (d : TagTree) (v : ModelTag) → i < length nodes → d ≡ get_or nodes i d → slice_get (leaves d) n ≡ Some v
     → slice_get (leaves_of (drop i nodes)) n ≡ Some v
 tag_found nodes i n d v h is e = ap (λ xs. slice_get xs n) (leaves_at nodes i d h is) ∙ slice_get-append-some (leaves d) (leaves_of (drop (i + 1) nodes)) n v e
@@ -94,7 +94,7 @@ pub tag_passed : (nodes : List TagTree) (i n : ℕ) (d : TagTree) → i < length
     → slice_get (leaves_of (drop i nodes)) n ≡ slice_get (leaves_of (drop (i + 1) nodes)) (n - length (leaves d))
 tag_passed nodes i n d h is e = ap (λ xs. slice_get xs n) (leaves_at nodes i d h is) ∙ slice_get-append-none (leaves d) (leaves_of (drop (i + 1) nodes)) n e
 
--- two truth values that are both true
+-- two booleans that are both true
 both_true : (a b : Bool) → (a && b) ≡ true → (a ≡ true) × (b ≡ true)
 both_true true b e = (refl, e)
 both_true false b e = cc
@@ -112,7 +112,7 @@ tag_same_itself : (t : ModelTag) → tag_same t t ≡ true
 tag_same_itself t =
     ap (λ b. b && (t.number == t.number)) (eq-eqb t.class t.class refl) ∙ eq-eqb t.number t.number refl
 
--- what is not the same is not the same the other way round
+-- `tag_same` is symmetric where it is false
 tag_same_flip : (t u : ModelTag) → tag_same t u ≡ false → tag_same u t ≡ false
 tag_same_flip t u e = go (tag_same u t) refl where
   go : (b : Bool) → tag_same u t ≡ b → tag_same u t ≡ false
@@ -122,7 +122,7 @@ tag_same_flip t u e = go (tag_same u t) refl where
       let e' : tag_same t t ≡ false = ap (tag_same t) (sym same) ∙ e in
       let e'' : true ≡ false = sym (tag_same_itself t) ∙ e' in cc
 
--- the number behind an option raised by one
+-- the number in an option raised by one
 raised_by : (n : ℕ) (o : Option ℕ) (k : ℕ) → option_map (λ j. n + j) o ≡ Some k → (j : ℕ) × (o ≡ Some j) × (n + j ≡ k)
 raised_by n None k e = cc
 raised_by n (Some j) k e = (j, refl, cc)
@@ -138,16 +138,16 @@ place_back_step x t xs k further false is h =
     let next : suc r.0 ≡ k = omega (arith, r.2) in
     ap (slice_get (x ∷ xs)) (sym next) ∙ further r.0 r.1
 
--- at the place of a tag stands that tag
+-- the tag is at its index
 pub place_back : (xs : List ModelTag) (t : ModelTag) (k : ℕ) → place_of xs t ≡ Some k → slice_get xs k ≡ Some t
 place_back [] t k e = cc
 place_back (x ∷ xs) t k e = place_back_step x t xs k (λ j h. place_back xs t j h) (tag_same t x) refl e
 
--- a place is one of the list
+-- an index is one of the list
 pub place_within : (xs : List ModelTag) (t : ModelTag) (k : ℕ) → place_of xs t ≡ Some k → k < length xs
 place_within xs t k e = slice_get_within xs k t (place_back xs t k e)
 
--- an element passes what each does
+-- an element passes a test that each element passes
 each_passes : (p : ModelTag → Bool) (xs : List ModelTag) (n : ℕ) (t : ModelTag) → list_all p xs ≡ true → slice_get xs n ≡ Some t → p t ≡ true
 each_passes p [] n t a e = cc
 each_passes p (x ∷ xs) zero t a e =
@@ -159,7 +159,7 @@ not_true : (b : Bool) → not b ≡ true → b ≡ false
 not_true true e = cc
 not_true false e = refl
 
--- where no tag occurs twice, the place of the tag at a place is that place
+-- if all tags are distinct, the index of the tag at an index is that index
 pub tag_back : (xs : List ModelTag) (n : ℕ) (t : ModelTag) → are_unique xs ≡ true → slice_get xs n ≡ Some t → place_of xs t ≡ Some n
 tag_back [] n t u e = cc
 tag_back (x ∷ xs) zero t u e =

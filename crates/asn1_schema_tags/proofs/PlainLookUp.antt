@@ -1,4 +1,4 @@
--- Look-up in a table of tags gives the place that a search of the tags themselves gives.
+-- Look-up in a table of tags gives the index that a search of the tags gives.
 use Rattle.std.proofs.Common.{◌≡◌, ◌∙◌, refl, sym, ap, ℕ, zero, suc, ◌+◌, List, [], ◌∷◌, Bool, true, false, cond, ◌&&◌, Option, Some, None, slice_get}
 use Rattle.std.proofs.lemmas.Bool.{eqb-true}
 use Rattle.std.specs.List.{position_from}
@@ -32,7 +32,7 @@ absent t n (x ∷ ts) k u e f = go (tag_same t x) refl k e f (absent t (n + 1) t
   go false c zero e f r = let is : x ≡ u = cc in sym (ap (tag_same t) is) ∙ c
   go false c (suc k) e f r = r k u e f
 
--- A tag that is found stands in the table with that place.
+-- A tag that is found is in the table with that index.
 listed : (ps : List TagPlace) (t : ModelTag) (n : ℕ) (ts : List ModelTag) (j : ℕ) → are_listed ps n ts ≡ true → position_from (tag_same t) n ts ≡ Some j
     → looked_up ps t ≡ Some j
 listed ps t n [] j e f = cc
@@ -48,7 +48,7 @@ listed ps t n (x ∷ ts) j e f = go (tag_same t x) refl f (listed ps t (n + 1) t
       ∙ (there (looked_up ps x) (left (is_place_there (looked_up ps x) n) (are_listed ps (n + 1) ts) e) ∙ f)
   go false c f r = r (right (is_place_there (looked_up ps x) n) (are_listed ps (n + 1) ts) e) f
 
--- A tag that is not found does not stand in the table.
+-- A tag that is not found is not in the table.
 unlisted : (ps : List TagPlace) (t : ModelTag) (ts : List ModelTag) → list_all (stands_at ts) ps ≡ true
     → position_from (tag_same t) 0 ts ≡ None → looked_up ps t ≡ None
 unlisted ps t ts e f = none_there ps t each where
@@ -59,7 +59,7 @@ unlisted ps t ts e f = none_there ps t each where
     go (Some u) h i =
         ap (tag_same t) (tag_is (tag_of r.tag) u i) ∙ absent t 0 ts r.place u f h
 
--- The look-up in a table is the search of the tags themselves.
+-- The look-up in a table gives the same as a search of the tags.
 pub same_as_search : (ps : List TagPlace) (t : ModelTag) (ts : List ModelTag) → is_table_of ps ts ≡ true → looked_up ps t ≡ place_of ts t
 same_as_search ps t ts e = go (place_of ts t) refl where
   stand : Bool

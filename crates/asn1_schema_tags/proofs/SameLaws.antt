@@ -14,7 +14,7 @@ use Rattle.asn1_schema_tags.specs.declared.trees.TagTree.TheFolds.{fold-roll-Tag
 pub plain_leaf : (t : Tag) → plain (Leaf t) ≡ own (tag_of t)
 plain_leaf t = ap plain (sym (rolls-Leaf t)) ∙ fold-roll-TagTree Plain plain_step _
 
--- trees in a row as plain data
+-- a sequence of trees as plain data
 abbrev pub row_of : List TagTree → Plains
 row_of trees = in_row (map plain trees)
 
@@ -43,12 +43,12 @@ unfolding is_same
 choice_leaf s t ns b e f = ap (λ x. same_tree x t) e ∙ (ap (same_tree (Choice ns)) f
     ∙ (ap (λ x. is_same x (plain (Leaf b))) (plain_choice ns) ∙ ap (is_same (one_of (row_of ns.now))) (plain_leaf b)))
 
--- ---- one step of the comparison of two rows
+-- ---- one step of the comparison of two sequences
 
 row_drop : (nodes : List TagTree) (i : ℕ) (d : TagTree) → i < length nodes → row_of (drop i nodes) ≡ further (plain (get_or nodes i d)) (row_of (drop (i + 1) nodes))
 row_drop nodes i d h = rw (add-one, drop-cons nodes i d) refl
 
--- the trees there, and those behind them
+-- the trees at this point, and those after them
 pub row_step : (nodes others : List TagTree) (i : ℕ) (d e : TagTree) → i < length nodes → i < length others → d ≡ get_or nodes i d → e ≡ get_or others i e
     → are_same (row_of (drop i nodes)) (row_of (drop i others)) ≡ (same_tree d e && are_same (row_of (drop (i + 1) nodes)) (row_of (drop (i + 1) others)))
 unfolding are_same
@@ -59,19 +59,19 @@ row_step nodes others i d e h k is at =
     ∙ (ap (are_same (further (plain (get_or nodes i d)) rest)) (row_drop others i e k)
     ∙ (ap (λ x. is_same (plain x) (plain (get_or others i e)) && are_same rest rest') (sym is) ∙ ap (λ x. is_same (plain d) (plain x) && are_same rest rest') (sym at)))
 
--- where the trees there are the same, it goes on behind them
+-- if these trees are equal, the comparison goes on after them
 pub row_next : (nodes others : List TagTree) (i : ℕ) (d e : TagTree) → i < length nodes → i < length others → d ≡ get_or nodes i d → e ≡ get_or others i e
     → same_tree d e ≡ true → are_same (row_of (drop (i + 1) nodes)) (row_of (drop (i + 1) others)) ≡ are_same (row_of (drop i nodes)) (row_of (drop i others))
 row_next nodes others i d e h k is at s =
     sym (row_step nodes others i d e h k is at ∙ ap (λ b. b && are_same (row_of (drop (i + 1) nodes)) (row_of (drop (i + 1) others))) s)
 
--- where they are not, the rows are not
+-- if they are not, the sequences are not
 pub row_not : (nodes others : List TagTree) (i : ℕ) (d e : TagTree) → i < length nodes → i < length others → d ≡ get_or nodes i d → e ≡ get_or others i e
     → same_tree d e ≡ false → false ≡ are_same (row_of (drop i nodes)) (row_of (drop i others))
 row_not nodes others i d e h k is at s =
     sym (row_step nodes others i d e h k is at ∙ ap (λ b. b && are_same (row_of (drop (i + 1) nodes)) (row_of (drop (i + 1) others))) s)
 
--- behind the last trees nothing differs
+-- after the last trees nothing differs
 pub row_end : (nodes others : List TagTree) → length nodes ≡ length others → true ≡ are_same (row_of (drop (length nodes) nodes)) (row_of (drop (length nodes) others))
 unfolding are_same
 row_end nodes others e = rw e (simp drop-length (rw (sym e) (simp drop-length refl)))
@@ -80,7 +80,7 @@ false_behind : (a b : Bool) → false ≡ b → false ≡ (a && b)
 false_behind true b e = e
 false_behind false b e = refl
 
--- rows of two lengths differ
+-- sequences of different lengths differ
 pub row_lengths : (nodes others : List TagTree) → ¬ (length nodes ≡ length others) → false ≡ are_same (row_of nodes) (row_of others)
 unfolding are_same
 row_lengths [] [] h = absurd (h refl)

@@ -9,7 +9,7 @@ use Rattle.asn1_schema_tags.specs.Places.{ascends, looked_up, stands_at, is_plac
 use Rattle.asn1_schema_tags.specs.declared.probes.TagPlace.{TagPlace}
 use Rattle.asn1_schema_tags.specs.declared.tags.Tag.{Tag}
 
--- A table ascends from an index on if that entry stands before the next, and the table ascends from the next one on.
+-- A table ascends from an index on if that entry is less than the next, and the table ascends from the next one on.
 ascends_from : (ps : List TagPlace) (i : ℕ) (d : TagPlace) → suc i < length ps
     → ascends (drop i ps) ≡ (tag_less (tag_of (get_or ps i d).tag) (tag_of (get_or ps (suc i) d).tag) && ascends (drop (suc i) ps))
 ascends_from [] i d h = absurd (omega arith)
@@ -31,7 +31,7 @@ ascends_last (p ∷ []) zero h = refl
 ascends_last (p ∷ q ∷ ps) zero h = absurd (omega arith)
 ascends_last (p ∷ ps) (suc i) h = ascends_last ps i (omega (arith, h))
 
--- Tags are listed from one on if this is, and the others behind it are.
+-- Tags are listed from one on if it is listed, and the others after it are.
 listed_from : (ps : List TagPlace) (n : ℕ) (ts : List Tag) (i : ℕ) (d : Tag) → i < length ts
     → are_listed ps n (map tag_of (drop i ts)) ≡ (is_place_there (looked_up ps (tag_of (get_or ts i d))) n && are_listed ps (n + 1) (map tag_of (drop (suc i) ts)))
 listed_from ps n [] i d h = absurd (omega arith)
@@ -49,7 +49,7 @@ and_assoc : (a b c : Bool) → (a && (b && c)) ≡ ((a && b) && c)
 and_assoc true b c = refl
 and_assoc false b c = refl
 
--- Tags in a row are listed if the first ones are and then the others.
+-- Consecutive tags are listed if the first ones are, and then the others.
 pub listed_in_turn : (ps : List TagPlace) (n : ℕ) (ts us : List ModelTag) → are_listed ps n (ts ++ us) ≡ (are_listed ps n ts && are_listed ps (n + length ts) us)
 listed_in_turn ps n [] us = let e : n ≡ n + 0 = omega arith in ap (λ k. are_listed ps k us) e
 listed_in_turn ps n (t ∷ ts) us =
@@ -57,8 +57,7 @@ listed_in_turn ps n (t ∷ ts) us =
     ap (λ b. is_place_there (looked_up ps t) n && b) (listed_in_turn ps (n + 1) ts us ∙ ap (λ k. are_listed ps (n + 1) ts && are_listed ps k us) e)
     ∙ and_assoc (is_place_there (looked_up ps t) n) (are_listed ps (n + 1) ts) (are_listed ps (n + length (t ∷ ts)) us)
 
--- A table that ascends, and whose tags stand at their places, is one of the tags of the root and then the added ones if
--- both are listed.
+-- A table that ascends, and whose tags are at their indices, is the one of root and added tags if both are listed.
 pub table_parts : (ps : List TagPlace) (ts us : List Tag) {a b : Bool} → a ≡ ascends ps → a ≡ true
     → b ≡ list_all (stands_at (map tag_of ts ++ map tag_of us)) ps → b ≡ true
     → is_table_of ps (map tag_of ts ++ map tag_of us) ≡ (are_listed ps 0 (map tag_of ts) && are_listed ps (length ts) (map tag_of us))

@@ -1,4 +1,4 @@
--- The equations of the leaves of a tree, and of what is asked of them.
+-- The equations of the leaves of a tree, and of functions on them.
 use Rattle.std.proofs.Common.{◌≡◌, ◌∙◌, refl, sym, ap, List, [], ◌∷◌, ◌++◌, map, flat_map, Bool, true, false, not, cond, ◌&&◌, ◌||◌, ℕ, ◌+◌, ◌<◌, length, drop, drop-cons, get_or, add-one, arith, take, ◌-◌, length-drop}
 use Rattle.std.specs.List.{list_any}
 use Rattle.std.proofs.Math.Seq.{drop-length}
@@ -23,7 +23,7 @@ flat_map_map (t ∷ ts) = ap (λ rest. leaves t ++ rest) (flat_map_map ts)
 pub leaves_leaf : (t : Tag) → leaves (Leaf t) ≡ tag_of t ∷ []
 leaves_leaf t = ap leaves (sym (rolls-Leaf t)) ∙ fold-roll-TagTree (List ModelTag) leaves_step _
 
--- a choice has the leaves of all its trees
+-- a CHOICE has the leaves of all its trees
 pub leaves_choice : (nodes : _) → leaves (Choice nodes) ≡ leaves_of nodes.now
 leaves_choice nodes = ap leaves (sym (rolls-Choice nodes)) ∙ (fold-roll-TagTree (List ModelTag) leaves_step _ ∙ flat_map_map nodes.now)
 
@@ -31,7 +31,7 @@ leaves_choice nodes = ap leaves (sym (rolls-Choice nodes)) ∙ (fold-roll-TagTre
 pub own_tag_leaf : (t : Tag) → own_tag (Leaf t) ≡ t
 own_tag_leaf t = ap own_tag (sym (rolls-Leaf t)) ∙ fold-roll-TagTree Tag own_tag_step _
 
--- a choice has none
+-- a CHOICE has none
 pub own_tag_choice : (nodes : _) → own_tag (Choice nodes) ≡ no_own_tag
 own_tag_choice nodes = ap own_tag (sym (rolls-Choice nodes)) ∙ fold-roll-TagTree Tag own_tag_step _
 
@@ -57,14 +57,14 @@ list_all_not p [] = refl
 list_all_not p (x ∷ xs) = elim (p x) as (λ b. (not b && list_all (λ y. not (p y)) xs) ≡ not (b || list_any p xs))
     [ true ↦ refl | false ↦ list_all_not p xs ]
 
--- the truth values in the step of the next lemma
+-- the booleans in the step of the next lemma
 regroup : (a b c d e : Bool) → ((a && not b) && (c && (not d && e))) ≡ ((a && c) && (not (b || d) && e))
 regroup true true true d e = refl
 regroup true true false d e = refl
 regroup true false c d e = refl
 regroup false b c d e = refl
 
--- two lists joined repeat no tag exactly if neither does and they share none
+-- the tags of two lists joined are distinct exactly if those of each are and they share none
 pub are_unique-append : (xs ys : List ModelTag) → are_unique (xs ++ ys) ≡ (are_unique xs && (not (share_a_tag xs ys) && are_unique ys))
 are_unique-append [] ys = refl
 are_unique-append (x ∷ xs) ys =
@@ -80,11 +80,11 @@ is_among-append xs ys t = list_any-append (tag_same t) xs ys
 pub share_a_tag-append : (xs ys us : List ModelTag) → share_a_tag (xs ++ ys) us ≡ (share_a_tag xs us || share_a_tag ys us)
 share_a_tag-append xs ys us = list_any-append (is_among us) xs ys
 
--- the leaves of the trees from a place on: those of the tree there, and those of the further ones
+-- the leaves of the trees from an index on: those of the tree there, and those of the further ones
 pub leaves_of_drop : (nodes : List TagTree) (i : ℕ) (d : TagTree) → i < length nodes → leaves_of (drop i nodes) ≡ leaves (get_or nodes i d) ++ leaves_of (drop (i + 1) nodes)
 leaves_of_drop nodes i d h = rw (add-one, drop-cons nodes i d) refl
 
--- from the last place on there is no leaf
+-- from the last index on there is no leaf
 pub leaves_of_end : (nodes : List TagTree) → leaves_of (drop (length nodes) nodes) ≡ []
 leaves_of_end nodes = simp drop-length refl
 
@@ -103,11 +103,11 @@ pub are_unique_step : (nodes : List TagTree) (i : ℕ) (d : TagTree) → i < len
     ≡ (are_unique (leaves d) && (not (share_a_tag (leaves d) (leaves_of (drop (i + 1) nodes))) && are_unique (leaves_of (drop (i + 1) nodes))))
 are_unique_step nodes i d h is = ap are_unique (leaves_at nodes i d h is) ∙ are_unique-append (leaves d) (leaves_of (drop (i + 1) nodes))
 
--- a slice to the end is all that stands there
+-- a slice to the end is all the rest
 slice_to_end : (nodes : List TagTree) (k : ℕ) → take (length nodes - k) (drop k nodes) ≡ drop k nodes
 slice_to_end nodes k = take_all (length nodes - k) (drop k nodes) (omega (arith, length-drop k nodes))
 
--- the step where nothing is repeated
+-- the step where all tags are distinct
 pub are_unique_next : (nodes : List TagTree) (i : ℕ) (d : TagTree) → i < length nodes → d ≡ get_or nodes i d → are_unique (leaves d) ≡ true
     → share_a_tag (leaves d) (leaves_of (take (length nodes - (i + 1)) (drop (i + 1) nodes))) ≡ false
     → are_unique (leaves_of (drop (i + 1) nodes)) ≡ are_unique (leaves_of (drop i nodes))
@@ -116,7 +116,7 @@ are_unique_next nodes i d h is u s =
     let apart : share_a_tag (leaves d) rest ≡ false = ap (λ ns. share_a_tag (leaves d) (leaves_of ns)) (sym (slice_to_end nodes (i + 1))) ∙ s in
     sym (are_unique_step nodes i d h is ∙ (ap (λ b. b && (not (share_a_tag (leaves d) rest) && are_unique rest)) u ∙ ap (λ b. not b && are_unique rest) apart))
 
--- the step where a tree repeats a tag
+-- the step where a tree has a tag twice
 pub are_unique_not : (nodes : List TagTree) (i : ℕ) (d : TagTree) → i < length nodes → d ≡ get_or nodes i d → are_unique (leaves d) ≡ false
     → are_unique (leaves_of (drop i nodes)) ≡ false
 are_unique_not nodes i d h is u =

@@ -1,18 +1,18 @@
--- The tags of a choice, and the alternative of a tag.
+-- The tags of a CHOICE, and the alternative of a tag.
 use Rattle.std.specs.Prelude.{ℕ, Bool, true, false, List, Option, Some, None}
 use Rattle.asn1_model.specs.Schema.{Tag as ModelTag}
 use Rattle.asn1_schema_variants.specs.declared.chosen.Chosen.{Chosen}
 use Rattle.asn1_schema_tags.specs.Trees.{place_of}
 
--- What a codec is told of a choice: the tags of its root alternatives, whether there is an extension marker, and the
--- tags of its added alternatives.
+-- The description of a CHOICE for a codec: the tags of its root alternatives, whether there is an extension marker,
+-- and the tags of its added alternatives.
 pub record ChoiceTags : Type 0 where
   pub roots : List ModelTag
   pub extensible : Bool
   pub additions : List ModelTag
 
--- The alternative of a tag, by its place among those of the root and among the added ones, if it is there: one of the
--- root, else an added one behind an extension marker.
+-- The alternative of a tag, from its index among the root alternatives and among the added ones: a root alternative,
+-- or an added one if there is an extension marker.
 abbrev pub alternative_at : Bool → Option ℕ → Option ℕ → Option Chosen
 alternative_at e (Some i) o = Some (record { added = false; place = i })
 alternative_at true None (Some i) = Some (record { added = true; place = i })

@@ -1,4 +1,4 @@
--- Trees of tags as plain data, and when two are the same.
+-- Trees of tags as plain data, and when two are equal.
 use Rattle.std.specs.Prelude.{Bool, true, false, ◌&&◌, List, [], ◌∷◌}
 use Rattle.asn1_model.specs.Schema.{Tag as ModelTag}
 use Rattle.asn1_model.specs.Lawful.{tag_same}
@@ -8,22 +8,22 @@ use Rattle.asn1_schema_tags.specs.declared.trees.TagTree.TheOpen.{TagTree-F, Lea
 use Rattle.asn1_schema_tags.specs.declared.trees.TagTree.TheFolds.{fold-TagTree}
 
 mutual
-  -- A type's own tag, or the trees of the alternatives of an untagged choice (X.680 29).
+  -- The tag of a type, or the trees of the alternatives of an untagged CHOICE (X.680 29).
   pub data Plain : Type 0 where
     own : ModelTag → Plain
     one_of : Plains → Plain
 
-  -- Trees in a row.
+  -- A sequence of trees.
   pub data Plains : Type 0 where
     no_more : Plains
     further : Plain → Plains → Plains
 
--- A list of trees, as trees in a row.
+-- A list of trees as a sequence of trees.
 abbrev pub in_row : List Plain → Plains
 in_row [] = no_more
 in_row (t ∷ ts) = further t (in_row ts)
 
--- A tree as plain data, from those right below it.
+-- A tree as plain data, given that of its subtrees.
 abbrev pub plain_step : TagTree-F Plain → Plain
 plain_step (Leaf t) = own (tag_of t)
 plain_step (Choice below) = one_of (in_row below.now)
@@ -33,7 +33,7 @@ abbrev pub plain : TagTree → Plain
 plain = fold-TagTree Plain plain_step
 
 unfoldable mutual
-  -- Two trees have the same tags in the same places.
+  -- Whether two trees have the same tags at the same positions.
   pub is_same : Plain → Plain → Bool
   is_same (own t) (own u) = tag_same t u
   is_same (own t) (one_of ys) = false

@@ -6,7 +6,7 @@ use Rattle.asn1_model.specs.Lawful.{tag_same}
 use Rattle.asn1_schema_tags.specs.Plain.{Plain, own, one_of, Plains, no_more, further, plain, is_same, are_same}
 use Rattle.asn1_schema_tags.specs.Plain.{same_tree}
 
--- What tells true from false.
+-- A type that distinguishes true from false.
 pub truth : Bool → Type 0
 truth true = Unit {0}
 truth false = ⊥
@@ -16,12 +16,12 @@ pub differ : {A : Type 0} → false ≡ true → A
 unfolding truth
 differ e = absurd (subst truth (sym e) tt)
 
--- Two truth values that are both true.
+-- If a conjunction is true, so are both sides.
 both_true : (p q : Bool) → (p && q) ≡ true → (p ≡ true) × (q ≡ true)
 both_true true q e = (refl, e)
 both_true false q e = differ e
 
--- Tags that are the same are one tag.
+-- Tags for which `tag_same` is true are equal.
 pub tag_is : (t u : ModelTag) → tag_same t u ≡ true → t ≡ u
 tag_is t u e =
     let both = both_true (t.class == u.class) (t.number == u.number) e in
@@ -35,7 +35,7 @@ tag_itself t = ap (λ b. b && (t.number == t.number)) (eq-eqb t.class t.class re
 mutual
   unfolding is_same
 
-  -- Trees that are the same are one tree.
+  -- Trees for which `is_same` is true are equal.
   same_is : (x y : Plain) → is_same x y ≡ true → x ≡ y
   same_is (own t) (own u) e = ap own (tag_is t u e)
   same_is (own t) (one_of ys) e = differ e
@@ -62,11 +62,11 @@ mutual
   are_themselves no_more = refl
   are_themselves (further x xs) = ap (λ b. b && are_same xs xs) (same_itself x) ∙ are_themselves xs
 
--- A tree that is the same as another, the other is the same as.
+-- `is_same` is symmetric.
 same_back : (x y : Plain) → is_same x y ≡ true → is_same y x ≡ true
 same_back x y e = ap (λ z. is_same z x) (sym (same_is x y e)) ∙ same_itself x
 
--- The order does not matter.
+-- The order of the arguments of `is_same` does not matter.
 same_flips : (x y : Plain) → is_same x y ≡ is_same y x
 same_flips x y = go (is_same x y) (is_same y x) refl refl where
   go : (a b : Bool) → is_same x y ≡ a → is_same y x ≡ b → a ≡ b

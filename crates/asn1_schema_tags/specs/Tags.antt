@@ -1,4 +1,4 @@
--- What tags mean in the model.
+-- Tags as tags of the model.
 use Rattle.std.specs.Prelude.{ℕ}
 use Rattle.asn1_model.specs.Schema.{Tag as ModelTag}
 use Rattle.asn1_schema_tags.specs.declared.tags.Class.{Class}
@@ -12,6 +12,6 @@ class_number Application = 1
 class_number Context = 2
 class_number Private = 3
 
--- A tag, as the model has it (X.680 8).
+-- A tag as a tag of the model (X.680 8).
 abbrev pub tag_of : Tag → ModelTag
 tag_of t = record { class = class_number t.class; number = t.value }

@@ -1,4 +1,4 @@
--- How tags are printed, as they stand in X.680 31.2.
+-- How tags are printed, in the notation of X.680 31.2.
 use Rattle.std.specs.Prelude.{ℕ, List, ◌++◌, codes}
 use Rattle.std.specs.Fmt.{decimal}
 use Rattle.asn1_schema_tags.specs.declared.tags.Class.{Class}
@@ -12,7 +12,7 @@ class_text Application = codes "APPLICATION"
 class_text Context = codes "CONTEXT"
 class_text Private = codes "PRIVATE"
 
--- A class and a number in brackets; a context-specific tag has its number alone.
+-- A class and a number in brackets; a context-specific tag shows only its number.
 abbrev pub bracketed : Class → ℕ → List ℕ
 bracketed Context n = codes "[" ++ decimal n ++ codes "]"
 bracketed Universal n = codes "[" ++ class_text Universal ++ codes " " ++ decimal n ++ codes "]"

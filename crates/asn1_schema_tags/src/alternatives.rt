@@ -1,4 +1,4 @@
-//! The trees of tags of a choice's alternatives.
+//! The tag trees of the alternatives of a CHOICE.
 ghost use Rattle.std.specs.Prelude.{◌≡◌, []};
 ghost use Rattle.std.specs.Cow.{cow_slice_items};
 
@@ -7,7 +7,7 @@ use std::borrow::CowSlice;
 use std::convert::AsSlice;
 use std::ops::DerefSlice;
 
-/// The trees of tags of a choice's alternatives, in their order.
+/// The tag trees of the alternatives of a CHOICE, in order.
 #[derive(Debug, Drop)]
 pub struct Variants<'a> {
     /// The trees.
@@ -15,7 +15,7 @@ pub struct Variants<'a> {
 }
 
 impl<'a> Variants<'a> {
-    /// These trees.
+    /// The given trees.
     pub fn new(trees: Vec<TagTree<'a>>) -> Self
         ensures { cow_slice_items result.trees ≡ trees.entry.items }
     {
@@ -24,7 +24,7 @@ impl<'a> Variants<'a> {
         }
     }
 
-    /// No tree.
+    /// No trees.
     pub fn empty() -> Self
         ensures { cow_slice_items result.trees ≡ [] }
     {
@@ -33,7 +33,7 @@ impl<'a> Variants<'a> {
         }
     }
 
-    /// These trees, which live as long as the program.
+    /// The given static trees.
     pub fn from_static(trees: &'static [TagTree<'static>]) -> Self
         ensures { cow_slice_items result.trees ≡ trees.now }
     {
@@ -42,7 +42,7 @@ impl<'a> Variants<'a> {
         }
     }
 
-    /// These trees.
+    /// The given trees.
     pub fn from_slice(trees: &'a [TagTree<'a>]) -> Self
         ensures { cow_slice_items result.trees ≡ trees.now }
     {

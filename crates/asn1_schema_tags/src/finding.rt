@@ -1,4 +1,4 @@
-//! Look-up of a tag in an ascending table.
+//! Looks up a tag in an ascending table.
 ghost use Rattle.std.specs.Prelude.{◌≡◌, ◌≤◌, ◌+◌, ◌++◌, length, map, option_map, slice_get, true};
 ghost use Rattle.asn1_model.specs.Numbers.{width};
 ghost use Rattle.asn1_schema_tags.specs.Places.{ascends, looked_up, is_table_of, stands_at};
@@ -10,8 +10,8 @@ ghost use Rattle.asn1_schema_tags.specs.Trees.{place_of};
 use crate::{Tag, TagPlace, TagProbe};
 use std::cmp::Ordering;
 
-/// The place that stands beside a tag in an ascending table, if it is there. So many tags are compared at most as the
-/// number of tags has binary digits.
+/// The index that an ascending table gives for a tag, if it lists the tag. Compares at most as many tags as the length
+/// of the table has binary digits.
 pub fn find_place(probe: &mut TagProbe<'_>, tag: Tag) -> Option<usize>
     requires ascending { ascends probe.old.places ≡ true }
     requires fresh { probe.old.count ≡ 0 }
@@ -33,8 +33,8 @@ pub fn find_place(probe: &mut TagProbe<'_>, tag: Tag) -> Option<usize>
     None
 }
 
-/// Whether a table lists each of some tags, those of the root and then the added ones, with its place among all of
-/// them, and nothing else, ascending by tag.
+/// Whether a table is ascending by tag and lists exactly the root tags and the added tags, each with its index in the
+/// concatenation of both.
 pub fn is_place_table(places: &[TagPlace], variants: &[Tag], extended: &[Tag]) -> bool
     ensures { result ≡ is_table_of places.now (map tag_of variants.now ++ map tag_of extended.now) }
 {
@@ -47,7 +47,7 @@ pub fn is_place_table(places: &[TagPlace], variants: &[Tag], extended: &[Tag]) -
     are_listed(places, variants.len(), extended)
 }
 
-/// Whether each tag of a table stands before the next.
+/// Whether each tag of a table is less than the next.
 #[tactic(auto, using(crate::proofs::TableSteps::ascends_last))]
 fn ascend(places: &[TagPlace]) -> bool
     ensures { result ≡ ascends places.now }
@@ -60,7 +60,7 @@ fn ascend(places: &[TagPlace]) -> bool
     true
 }
 
-/// The tag at a place among those of the root and then the added ones.
+/// The tag at an index in the concatenation of root and added tags.
 fn tag_at(variants: &[Tag], extended: &[Tag], place: usize) -> Option<Tag>
     ensures { option_map tag_of result ≡ slice_get (map tag_of variants.now ++ map tag_of extended.now) place }
 {
@@ -70,7 +70,7 @@ fn tag_at(variants: &[Tag], extended: &[Tag], place: usize) -> Option<Tag>
     extended.get(place - variants.len()).copied()
 }
 
-/// Whether each tag of a table stands at its place among those of the root and then the added ones.
+/// Whether each tag of a table is at its index in the concatenation of root and added tags.
 fn stand_there(places: &[TagPlace], variants: &[Tag], extended: &[Tag]) -> bool
     ensures { result ≡ list_all (stands_at (map tag_of variants.now ++ map tag_of extended.now)) places.now }
 {
@@ -83,7 +83,7 @@ fn stand_there(places: &[TagPlace], variants: &[Tag], extended: &[Tag]) -> bool
     true
 }
 
-/// Whether an ascending table has the place of each of some tags, the first of which stands at this one.
+/// Whether an ascending table lists each of the tags with its index; that of the first tag is `first`.
 #[tactic(auto, using(crate::proofs::TableSteps::listed_at))]
 fn are_listed(places: &[TagPlace], first: usize, tags: &[Tag]) -> bool
     requires { ascends places.now ≡ true }
@@ -97,7 +97,7 @@ fn are_listed(places: &[TagPlace], first: usize, tags: &[Tag]) -> bool
     true
 }
 
-/// Whether a place is there, and is so far behind the first one.
+/// Whether there is an index, and it is `first` + `index`.
 fn has_place(place: Option<usize>, first: usize, index: usize) -> bool
     ensures { result ≡ is_place_there place (first + index) }
 {

@@ -1,7 +1,7 @@
 //! The names of types.
 ghost use Rattle.std.specs.Prelude.{◌≡◌, IsSome, is_some, Some, if◌then◌else◌};
 
-/// The name of a type, where it has one.
+/// The name of a type, if it has one.
 #[derive(Clone, Copy, Debug, PartialEq, Eq)]
 pub struct Identifier(pub Option<&'static str>);
 
@@ -81,7 +81,7 @@ impl Identifier {
         "UNRESTRICTED_CHARACTER_STRING",
     ));
 
-    /// This name, or the other one if there is none.
+    /// This name, or `other` if there is none.
     pub fn or(self, other: Self) -> Self
         ensures { result ≡ (if is_some self.0 then self else other) }
     {
@@ -91,7 +91,7 @@ impl Identifier {
         }
     }
 
-    /// The name. The caller sees to it that there is one.
+    /// The name; there has to be one.
     pub fn unwrap(self) -> &'static str
         requires { IsSome self.0 }
         ensures { self.0 ≡ Some result }

@@ -1,4 +1,4 @@
-//! Tables of tags and their places, of which a look-up learns by comparisons alone.
+//! Tables of tags and indices, which a look-up reads only through counted comparisons.
 ghost use Rattle.std.specs.Prelude.{◌≡◌, ◌+◌, ◌<◌, ◌^◌, ℕ, IsTrue, ◌↔◌, Some, length, slice_get};
 ghost use Rattle.std.specs.declared.cmp.Ordering.TheVariants.{Less, Equal, Greater};
 ghost use Rattle.asn1_model.specs.Lawful.{tag_less};
@@ -8,17 +8,17 @@ use crate::Tag;
 use std::cmp::Ordering;
 use std::marker::Model;
 
-/// A tag of a choice's alternative, and the place of that alternative: among those of the root, or behind all of these
+/// The tag of an alternative of a CHOICE, and its index: among the root alternatives, or, counted after all of these,
 /// among the added ones.
 #[derive(Clone, Copy, Debug, PartialEq, Eq)]
 pub struct TagPlace {
     /// The tag of the alternative.
     pub tag: Tag,
-    /// Its place, from 0 on.
+    /// Its index, from 0.
     pub place: usize,
 }
 
-/// A table of tags that tells of its tags by comparisons alone, and counts these.
+/// A table of tags that is read only through comparisons, and counts them.
 #[derive(Drop)]
 pub struct TagProbe<'a> {
     places: &'a [TagPlace],
@@ -34,28 +34,28 @@ impl<'a> Model for TagProbe<'a> {
 }
 
 impl<'a> TagProbe<'a> {
-    /// A probe of a table, which has compared nothing yet.
+    /// A probe of a table, with no comparisons made.
     pub fn new(places: &'a [TagPlace]) -> Self
         ensures { result ≡ record { places = places.now; count = 0 } }
     {
         TagProbe { places, count: 0 }
     }
 
-    /// How many tags the table has.
+    /// The number of tags in the table.
     pub fn len(&self) -> usize
         ensures { result ≡ length self.now.places }
     {
         self.places.len()
     }
 
-    /// Whether the table has no tag.
+    /// Whether the table is empty.
     pub fn is_empty(&self) -> bool
         ensures { IsTrue result ↔ (length self.now.places ≡ 0) }
     {
         self.places.is_empty()
     }
 
-    /// The place that stands beside the tag at an index of the table.
+    /// The index of the alternative whose tag is at `index` in the table.
     pub fn place_at(&self, index: usize) -> usize
         requires { index < length self.now.places }
         ensures { (p : _) → slice_get self.now.places index ≡ Some p → result ≡ p.place }
@@ -64,7 +64,7 @@ impl<'a> TagProbe<'a> {
         places[index].place
     }
 
-    /// How the tag at an index of the table compares with a tag (X.680 8.6).
+    /// Compares the tag at `index` in the table with `tag` (X.680 8.6).
     pub fn compare(&mut self, index: usize, tag: Tag) -> Ordering
         requires range { index < length self.old.places }
         requires room { self.old.count < 2 ^ 63 }
@@ -80,7 +80,7 @@ impl<'a> TagProbe<'a> {
         self.places[index].tag.const_cmp(&tag)
     }
 
-    /// How many tags were compared so far.
+    /// The number of comparisons so far.
     pub fn count(&self) -> u64
         ensures { result ≡ self.now.count }
     {

@@ -1,4 +1,4 @@
-//! What a codec is told of a choice.
+//! The description of a CHOICE for a codec.
 ghost use Rattle.std.specs.Prelude.{◌≡◌, ◌++◌, map, true, false, IfSome, IfNone};
 ghost use Rattle.asn1_schema_tags.specs.Chosen.{alternative_of};
 ghost use Rattle.asn1_schema_tags.specs.Places.{is_table_of};
@@ -9,8 +9,8 @@ use crate::{Tag, TagPlace, TagProbe, find_place, is_place_table};
 use asn1_schema_variants::Chosen;
 use std::marker::Model;
 
-/// What a codec is told of a choice: the tags of its root alternatives, whether there is an extension marker, the
-/// tags of its added alternatives, and the table by which the alternative of a tag is looked up.
+/// The description of a CHOICE for a codec: the tags of its root alternatives, whether there is an extension marker,
+/// the tags of its added alternatives, and the table that finds the alternative of a tag.
 #[derive(Debug, Drop)]
 pub struct TagTables<'a> {
     roots: &'a [Tag],
@@ -37,7 +37,7 @@ impl<'a> Model for TagTables<'a> {
 }
 
 impl<'a> TagTables<'a> {
-    /// These tags, and the table of their places, those of the root before the added ones.
+    /// A description with these tags and their table, which lists the root tags before the added ones.
     pub fn new(
         roots: &'a [Tag],
         extensible: bool,
@@ -59,7 +59,7 @@ impl<'a> TagTables<'a> {
         }
     }
 
-    /// The same, or `None` where this is not the table of their places.
+    /// As `new`, or `None` if `places` is not the table of these tags.
     pub fn checked(
         roots: &'a [Tag],
         extensible: bool,
@@ -101,14 +101,14 @@ impl<'a> TagTables<'a> {
         self.additions
     }
 
-    /// The place of a tag among those of the root and then the added ones.
+    /// The index of a tag in the concatenation of root and added tags.
     pub fn find(&self, tag: Tag) -> Option<usize>
         ensures { result ≡ place_of (self.now.roots ++ self.now.additions) (tag_of tag) }
     {
         find_place(&mut TagProbe::new(self.places), tag)
     }
 
-    /// The alternative of a tag: one of the root, else an added one behind an extension marker.
+    /// The alternative of a tag: a root alternative, or an added one if there is an extension marker.
     pub fn alternative(&self, tag: Tag) -> Option<Chosen>
         ensures { result ≡ alternative_of self.now (tag_of tag) }
     {

@@ -15,14 +15,14 @@ pub enum Class {
     Universal,
     /// Types of one application.
     Application,
-    /// Types told apart by where they stand.
+    /// Types distinguished only within their context.
     Context,
     /// Types of one enterprise.
     Private,
 }
 
 impl Class {
-    /// The class that this number stands for, 0 to 3 in the order of the classes.
+    /// The class with this number, 0 to 3 in the order of the classes.
     pub fn from_u8(value: u8) -> Self
         requires { value ≤ 3 }
         ensures { class_number result ≡ value }
@@ -35,7 +35,7 @@ impl Class {
         }
     }
 
-    /// Whether this is the class of the types that X.680 itself defines.
+    /// Whether this is the universal class.
     pub fn is_universal(&self) -> bool
         ensures { IsTrue result ↔ (class_number self.now ≡ 0) }
     {
@@ -56,8 +56,8 @@ impl fmt::Display for Class {
     }
 }
 
-/// A tag: its class, and its number in that class (X.680 clause 8). Tags are ordered by class first, and
-/// then by number (X.680 8.6).
+/// A tag: its class, and its number in that class (X.680 clause 8). Tags are ordered by class and then by number
+/// (X.680 8.6).
 #[derive(Clone, Copy, Debug, PartialEq, Eq, PartialOrd, Ord, Hash)]
 pub struct Tag {
     /// The class.
@@ -236,7 +236,7 @@ impl Tag {
         class: Class::Universal,
         value: 34,
     };
-    /// What stands where a type has no tag of its own: an untagged choice.
+    /// Takes the place of a tag for an untagged CHOICE, which has none of its own.
     pub const CHOICE: Tag = Tag {
         class: Class::Universal,
         value: 0,
@@ -282,14 +282,14 @@ impl Tag {
         }
     }
 
-    /// Whether this is what stands where a type has no tag of its own: an untagged choice.
+    /// Whether this is `Tag::CHOICE`, which takes the place of a tag for an untagged CHOICE.
     pub fn is_choice(&self) -> bool
         ensures { IsTrue result ↔ (self.now ≡ Self.CHOICE) }
     {
         self.const_eq(&Tag::CHOICE)
     }
 
-    /// How the tags compare: by class first, and then by number (X.680 8.6).
+    /// Compares the tags by class and then by number (X.680 8.6).
     pub fn const_cmp(&self, other: &Tag) -> Ordering
         ensures less { (result ≡ Less) ↔ IsTrue (tag_less (tag_of self.now) (tag_of other.now)) }
         ensures equal { (result ≡ Equal) ↔ (self.now ≡ other.now) }
@@ -306,7 +306,7 @@ impl Tag {
         self == *rhs
     }
 
-    /// Whether this tag stands before the other.
+    /// Whether this tag is less than the other.
     pub fn const_less_than(self, rhs: Self) -> bool
         ensures { result ≡ tag_less (tag_of self) (tag_of rhs) }
     {

@@ -1,4 +1,4 @@
-//! Trees of tags: a type's own tag, or those of the alternatives of an untagged choice.
+//! Trees of tags: a type's tag, or the trees of the alternatives of an untagged CHOICE.
 #![tactic(auto, using(crate::proofs::TreeLaws::leaves_and_tags))]
 
 ghost use Rattle.std.specs.Prelude.{◌≡◌, ◌+◌, ◌^◌, ◌<◌, IsTrue, IfSome, Some, [], ◌∷◌, length, option_map, slice_get};
@@ -13,13 +13,13 @@ ghost use Rattle.std.specs.Cmp.{partial_equiv_from_equiv};
 use crate::{Class, Tag};
 use std::fmt;
 
-/// The tags with which a value of a type may begin: its own, or for an untagged choice (X.680 29) those of
-/// its alternatives.
+/// The tags with which a value of a type may begin: its own, or those of its alternatives if it is an untagged CHOICE
+/// (X.680 29).
 #[derive(Clone, Copy)]
 pub enum TagTree<'a> {
-    /// A type's own tag.
+    /// The tag of a type.
     Leaf(Tag),
-    /// The alternatives of an untagged choice.
+    /// The alternatives of an untagged CHOICE.
     Choice(&'a [TagTree<'a>]),
 }
 
@@ -39,8 +39,7 @@ impl<'a> TagTree<'a> {
         TagTree::Choice(&[])
     }
 
-    /// The tag of a type with this tree: that of the leaf, or `Tag::CHOICE` where the tree is that of an untagged
-    /// choice.
+    /// The tag of a type with this tree: that of the leaf, or `Tag::CHOICE` for an untagged CHOICE.
     pub fn own_tag(&self) -> Tag
         ensures { result ≡ own_tag self.now }
     {
@@ -50,7 +49,7 @@ impl<'a> TagTree<'a> {
         }
     }
 
-    /// The smallest tag of the leaves, or the greatest private tag if there is no leaf (X.680 8.6).
+    /// The smallest tag of the leaves, or the greatest private tag if there are no leaves (X.680 8.6).
     pub fn smallest_tag(&self) -> Tag
         ensures { tag_of result ≡ smallest greatest_tag (leaves self.now) }
     {
@@ -60,7 +59,7 @@ impl<'a> TagTree<'a> {
         })
     }
 
-    // The smallest tag of the leaves and of one more.
+    // The smallest of the leaves' tags and one more tag.
     fn smaller_than(&self, most: Tag) -> Tag
         ensures { tag_of result ≡ smallest (tag_of most) (leaves self.now) }
     {
@@ -82,7 +81,7 @@ impl<'a> TagTree<'a> {
         }
     }
 
-    /// Whether no tag occurs twice among the leaves.
+    /// Whether all leaves have distinct tags.
     pub fn is_unique(&self) -> bool
         ensures { result ≡ are_unique (leaves self.now) }
     {
@@ -99,7 +98,7 @@ impl<'a> TagTree<'a> {
         }
     }
 
-    /// Whether a tag is among the leaves of some trees.
+    /// Whether a tag is among the leaves of the trees.
     pub fn tag_contains(needle: &Tag, nodes: &[TagTree<'a>]) -> bool
         ensures { result ≡ is_among (leaves_of nodes.now) (tag_of needle.now) }
     {
@@ -128,7 +127,7 @@ impl<'a> TagTree<'a> {
         }
     }
 
-    // Whether some leaf has the tag of a leaf of other trees.
+    // Whether some leaf has the tag of a leaf of the other trees.
     fn shares_a_tag(&self, others: &[TagTree<'a>]) -> bool
         ensures { result ≡ share_a_tag (leaves self.now) (leaves_of others.now) }
     {
@@ -145,7 +144,7 @@ impl<'a> TagTree<'a> {
         }
     }
 
-    /// How many leaves there are, or `None` if that number does not fit.
+    /// The number of leaves, or `None` if it does not fit.
     pub fn leaf_count(&self) -> Option<usize>
         ensures counted { result ≡ counted (length (leaves self.now)) }
         ensures fits { IfSome result (λ n. n ≡ length (leaves self.now)) }
@@ -162,8 +161,8 @@ impl<'a> TagTree<'a> {
         }
     }
 
-    /// The place of the first leaf with this tag, counted from 0, or `None` if no leaf has it. The caller
-    /// sees to it that the number of leaves fits, as [`TagTree::leaf_count`] tells.
+    /// The index of the first leaf with this tag, counted from 0, or `None` if no leaf has it. The number of leaves
+    /// has to fit (see [`TagTree::leaf_count`]).
     pub fn leaf_position(&self, tag: &Tag) -> Option<usize>
         requires { length (leaves self.now) < 2 ^ 64 }
         ensures place { result ≡ place_of (leaves self.now) (tag_of tag.now) }
@@ -172,7 +171,7 @@ impl<'a> TagTree<'a> {
         self.place(tag)
     }
 
-    // The place of the first leaf with a tag.
+    // The index of the first leaf with a tag.
     fn place(&self, tag: &Tag) -> Option<usize>
         requires { length (leaves self.now) < 2 ^ 64 }
         ensures { result ≡ place_of (leaves self.now) (tag_of tag.now) }
@@ -192,17 +191,17 @@ impl<'a> TagTree<'a> {
         }
     }
 
-    /// The tag of the leaf at a place, counted from 0, or `None` if there are no so many leaves.
+    /// The tag of the leaf at an index, counted from 0, or `None` if there are not that many leaves.
     pub fn leaf_at(&self, position: usize) -> Option<Tag>
         ensures tag { option_map tag_of result ≡ slice_get (leaves self.now) position }
-        // in a unique tree the place of that tag is the one that was asked for
+        // in a tree with distinct tags, `position` is the index of that tag
         ensures back { IsTrue (are_unique (leaves self.now))
             → IfSome result (λ t. place_of (leaves self.now) (tag_of t) ≡ Some position) }
     {
         self.tag_at(position)
     }
 
-    // Whether another tree has the same tags in the same places.
+    // Whether another tree has the same tags at the same positions.
     fn is_same_as(&self, other: &TagTree<'_>) -> bool
         ensures { result ≡ same_tree self.now other.now }
     {
@@ -224,7 +223,7 @@ impl<'a> TagTree<'a> {
         }
     }
 
-    // The tag of the leaf at a place.
+    // The tag of the leaf at an index.
     fn tag_at(&self, position: usize) -> Option<Tag>
         ensures { option_map tag_of result ≡ slice_get (leaves self.now) position }
     {

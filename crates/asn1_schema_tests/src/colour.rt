@@ -1,4 +1,4 @@
-//! ENUMERATED {red(0), blue(2), ..., green(1)}, which no type of the program stands under.
+//! ENUMERATED {red(0), blue(2), ..., green(1)}, which belongs to no user-defined type.
 ghost use Rattle.std.specs.Prelude.{◌∷◌, [], refl, pos, true, false, codes};
 ghost use Rattle.asn1_schema_variants.proofs.Distinct.{one_number_of};
 
@@ -11,7 +11,7 @@ pub enum Colour {
     Red,
     /// Blue.
     Blue,
-    /// Green, which came later.
+    /// Green, an extension addition.
     Green,
 }
 

@@ -1,4 +1,4 @@
-//! What the tests have in common: values to the encoder that keeps records, and back from these.
+//! Helpers of the tests: they write values to the encoder that keeps records, and read them back.
 use asn1_schema::records::{Item, Limits, RecordDecoder, RecordEncoder, Sizes};
 use asn1_schema::{
     Chosen, CodecKind, Constraints, Decode, DecodeError, Decoder, Encode, EncodeError, Encoder,
@@ -6,7 +6,7 @@ use asn1_schema::{
 use asn1_values_integers::Integer;
 use std::alloc::Global;
 
-/// What a record is to be.
+/// What a record has to be.
 #[derive(Clone, Copy)]
 pub enum Wanted {
     Flag(bool),
@@ -69,7 +69,7 @@ fn is_value(item: &Item, wanted: &Wanted) -> bool {
     }
 }
 
-/// Whether a record of what holds values together is the wanted one.
+/// Whether a record that begins, divides or ends a value is the wanted one.
 fn is_frame(item: &Item, wanted: &Wanted) -> bool {
     match (item, wanted) {
         (Item::ListBegins(sizes, found), Wanted::List(low, high, count)) => {
@@ -105,7 +105,7 @@ pub fn are_records(items: &[Item], wanted: &[Wanted]) -> bool {
     items.len() == wanted.len()
 }
 
-/// The one record of a value under these constraints or by its type; none where there are several.
+/// The records of a value under these constraints or by its type, if it is encoded.
 fn records_of<T: Encode>(
     alloc: Global,
     value: &T,
@@ -123,7 +123,7 @@ fn records_of<T: Encode>(
     }
 }
 
-/// Whether a value has these records under these constraints or by its type, in octet rules and in packed ones.
+/// Whether a value has these records under these constraints or by its type, in COER and in UPER.
 pub fn is_written_under<T: Encode>(
     alloc: Global,
     value: &T,
@@ -144,7 +144,7 @@ pub fn is_written<T: Encode>(alloc: Global, value: &T, wanted: &[Wanted]) -> boo
     is_written_under(alloc, value, None, wanted)
 }
 
-/// Whether a record is this number between these bounds.
+/// Whether a record is this number with these bounds.
 fn is_integer(item: &Item, low: Option<i128>, high: Option<i128>, number: &Integer) -> bool {
     match item {
         Item::Integer(limits, found) => are_limits(limits, low, high) && found == number,
@@ -152,7 +152,7 @@ fn is_integer(item: &Item, low: Option<i128>, high: Option<i128>, number: &Integ
     }
 }
 
-/// Whether the one record of a value is this number between these bounds.
+/// Whether a value has one record, which is this number with these bounds.
 pub fn is_number<T: Encode>(
     alloc: Global,
     value: &T,
@@ -173,22 +173,22 @@ pub fn encoder(alloc: Global) -> RecordEncoder {
     RecordEncoder::new(alloc, CodecKind::Coer)
 }
 
-/// A decoder of what an encoder has kept.
+/// A decoder of the records that an encoder has kept.
 pub fn decoder(encoder: RecordEncoder) -> RecordDecoder {
     RecordDecoder::new(encoder.into_items(), CodecKind::Coer)
 }
 
-/// Writes a value to an encoder, through its bound.
+/// Writes a value to an encoder, through the trait bound.
 pub fn write<T: Encode, E: Encoder>(encoder: &mut E, value: &T) -> Result<(), EncodeError> {
     value.encode(encoder)
 }
 
-/// What a decoder finds, through its bound.
+/// Reads a value from a decoder, through the trait bound.
 pub fn found<T: Decode, D: Decoder>(alloc: Global, decoder: &mut D) -> Result<T, DecodeError> {
     T::decode(alloc, decoder)
 }
 
-/// A value, read back from the records of another.
+/// A value read back from the records of another.
 pub fn read_back<A: Encode, B: Decode>(alloc: Global, value: &A) -> Result<B, DecodeError> {
     let mut encoder = encoder(alloc);
     match write(&mut encoder, value) {
@@ -198,7 +198,7 @@ pub fn read_back<A: Encode, B: Decode>(alloc: Global, value: &A) -> Result<B, De
     }
 }
 
-/// Whether the records of a value are read as this.
+/// Whether the records of a value are read as `wanted`.
 pub fn is_read_back_as<A: Encode, B: Decode + PartialEq>(
     alloc: Global,
     value: &A,
@@ -219,7 +219,7 @@ pub fn is_kept<T: Encode + Decode + PartialEq>(
     is_written(alloc, value, wanted) && is_read_back_as::<T, T>(alloc, value, value)
 }
 
-/// Whether the records of a value are not read as one of another type, for this reason.
+/// Whether reading the records of a value as another type fails with this error.
 pub fn is_refused<A: Encode, B: Decode>(alloc: Global, value: &A, wanted: DecodeError) -> bool {
     match read_back::<A, B>(alloc, value) {
         Ok(_) => false,

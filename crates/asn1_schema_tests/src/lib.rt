@@ -1,6 +1,6 @@
-//! Tests of the schema by the names of its face: values as records and back, and each implementation that is generic,
-//! called once at a concrete type through its bound; with a type whose components have tags of their own, and a
-//! constraint of a component's own.
+//! Tests of the schema by the names that `asn1_schema` exports: values as records and back, and each generic
+//! implementation, called once at a concrete type through its trait bound; with a type whose components have their own
+//! tags, and a constraint of a component.
 #![tactic(auto)]
 
 #[cfg(test)]

@@ -1,5 +1,5 @@
-//! The calls by the names of types, each once: strings of each type, any value, values with a tag around their own, and
-//! components that may be absent or have a default.
+//! The calls named after types, each once: strings of each type, open values, values with explicit tags, and
+//! components that are optional or have a default.
 
 use crate::common::{Wanted, decoder, encoder, is_kept};
 use asn1_schema::records::{Item, Limits, RecordDecoder};
@@ -16,12 +16,12 @@ use asn1_values_strings::{
 };
 use std::alloc::Global;
 
-/// A type of strings with calls of its name.
+/// A type of strings that has calls of its name.
 trait Named: Encode + Decode + StaticPermittedAlphabet + PartialEq {
     /// Writes the string to an encoder by the name of its type.
     fn write<E: EncodeNamed>(&self, encoder: &mut E) -> Result<(), EncodeError>;
 
-    /// The string that a decoder finds by the name of its type.
+    /// Reads the string from a decoder by the name of its type.
     fn read<D: DecodeNamed>(alloc: Global, decoder: &mut D) -> Result<Self, DecodeError>;
 }
 
@@ -125,7 +125,7 @@ fn string_of<S: StaticPermittedAlphabet>(
     Ok(string)
 }
 
-/// Whether a decoder finds this string by the name of its type.
+/// Whether a decoder returns this string by the name of its type.
 fn is_found<S: Named>(alloc: Global, decoder: &mut RecordDecoder, string: &S) -> bool {
     match S::read(alloc, decoder) {
         Ok(read) => read == *string,
@@ -133,14 +133,14 @@ fn is_found<S: Named>(alloc: Global, decoder: &mut RecordDecoder, string: &S) ->
     }
 }
 
-/// Whether a string is read by the name of its type as it is written by it.
+/// Whether a string is read back by the name of its type.
 fn is_read_by_name<S: Named>(alloc: Global, string: &S) -> bool {
     let mut kept = encoder(alloc);
     let is_written = string.write(&mut kept).is_ok();
     is_found(alloc, &mut decoder(kept), string) && is_written
 }
 
-/// Whether the string of these characters is written and read by the name of its type.
+/// Whether the string of these characters is written and read back by the name of its type.
 fn is_string<S: Named>(alloc: Global, characters: &[u32]) -> Result<bool, PermittedAlphabetError> {
     let string: S = string_of(alloc, characters)?;
     Ok(is_read_by_name(alloc, &string))
@@ -152,7 +152,7 @@ fn are_characters(alloc: Global) -> Result<bool, PermittedAlphabetError> {
     Ok(is_kept(alloc, &string, &[Wanted::Characters(&[0x20AC, 0x41])]))
 }
 
-/// Whether strings of each type are written and read by their names.
+/// Whether strings of each type are written and read back by their names.
 fn are_strings(alloc: Global) -> Result<bool, PermittedAlphabetError> {
     Ok(
         is_string::<NumericString>(alloc, &[0x31, 0x20, 0x32])?
@@ -167,13 +167,13 @@ fn are_strings(alloc: Global) -> Result<bool, PermittedAlphabetError> {
     )
 }
 
-/// Writes any value to an encoder, and a number with this tag around its own.
+/// Writes an open value to an encoder, and a number with this explicit tag.
 fn write_any<E: EncodeNamed>(encoder: &mut E, any: &Any, tag: Tag) -> Result<(), EncodeError> {
     encoder.encode_any(Tag::OCTET_STRING, any, Identifier::OCTET_STRING)?;
     encoder.encode_explicit_prefix(tag, &7_u8, Identifier::INTEGER)
 }
 
-/// Whether a decoder finds this value of any type, and the number with this tag around its own.
+/// Whether a decoder returns this open value, and the number with this explicit tag.
 fn is_any<D: DecodeNamed>(
     alloc: Global,
     decoder: &mut D,
@@ -185,7 +185,7 @@ fn is_any<D: DecodeNamed>(
     Ok(is_same && number == 7)
 }
 
-/// Whether these are read as they are written.
+/// Whether these are read back as they were written.
 fn is_read_as_written(alloc: Global, any: &Any) -> Result<bool, DecodeError> {
     let tag = Tag::new_context(0);
     let mut kept = encoder(alloc);
@@ -195,13 +195,13 @@ fn is_read_as_written(alloc: Global, any: &Any) -> Result<bool, DecodeError> {
     is_any(alloc, &mut decoder(kept), any, tag)
 }
 
-/// Whether some octets are read as they are written.
+/// Whether some octets are read back as they were written.
 fn is_any_kept(alloc: Global) -> Result<bool, DecodeError> {
     let any = Any::new(Vec::from_array(alloc, [5, 0])?);
     is_read_as_written(alloc, &any)
 }
 
-/// Writes components that may be absent to an encoder: 1, 2, none and 4.
+/// Writes optional components to an encoder: 1, 2, none and 4.
 fn write_optional<E: EncodeSequence>(encoder: &mut E, tag: Tag) -> Result<(), EncodeError> {
     encoder.encode_some_with_tag(tag, &1_u8)?;
     encoder.encode_some_with_tag_and_constraints(tag, &2_u8, &Constraints::NONE)?;
@@ -209,8 +209,8 @@ fn write_optional<E: EncodeSequence>(encoder: &mut E, tag: Tag) -> Result<(), En
     encoder.encode_some(&4_u8)
 }
 
-/// The components that a decoder finds: with a tag, with a tag and constraints, with constraints, and with a tag around
-/// its own.
+/// The components that a decoder returns: with a tag, with a tag and constraints, with constraints, and with an
+/// explicit tag.
 fn optional<D: DecodeSequence>(
     alloc: Global,
     decoder: &mut D,
@@ -225,7 +225,7 @@ fn optional<D: DecodeSequence>(
     ])
 }
 
-/// Whether these are read as they are written.
+/// Whether these components are read back as they were written.
 fn are_optional_kept(alloc: Global) -> bool {
     let tag = Tag::new_context(1);
     let mut kept = encoder(alloc);
@@ -247,7 +247,7 @@ fn write_defaults<E: EncodeSequence>(
     encoder.encode_default_with_tag_and_constraints::<Zero, Integer>(tag, second, &under)
 }
 
-/// Whether a decoder finds these numbers in such components.
+/// Whether a decoder returns these numbers in such components.
 fn are_defaults<D: DecodeSequence>(
     alloc: Global,
     decoder: &mut D,
@@ -264,7 +264,7 @@ fn are_defaults<D: DecodeSequence>(
     Ok(is_first && is_second && third == *second)
 }
 
-/// Whether two numbers are read from such components as they are written.
+/// Whether two numbers are read back from such components.
 fn are_defaults_kept(alloc: Global, first: &Integer, second: &Integer) -> bool {
     let tag = Tag::new_context(1);
     let mut kept = encoder(alloc);
@@ -274,7 +274,7 @@ fn are_defaults_kept(alloc: Global, first: &Integer, second: &Integer) -> bool {
     are_defaults(alloc, &mut decoder(kept), tag, (first, second)) == Ok(true)
 }
 
-/// Puts the items of a default that is spelled out, with or without a note behind it.
+/// Appends the items of a default that is encoded, followed by a note of that or not.
 fn push_spelled_out(items: &mut Vec<Item>, is_noted: bool) -> Result<(), DecodeError> {
     let limits = Limits {
         low: None,
@@ -289,24 +289,24 @@ fn push_spelled_out(items: &mut Vec<Item>, is_noted: bool) -> Result<(), DecodeE
     Ok(())
 }
 
-/// What a decoder finds in a component with the default 0.
+/// Reads a component with the default 0 from a decoder.
 fn with_default<D: DecodeSequence>(alloc: Global, decoder: &mut D) -> Result<Integer, DecodeError> {
     decoder.decode_default::<Zero, Integer>(alloc)
 }
 
-/// What is read of a default that is spelled out, with or without a note behind it.
+/// What is read of a default that is encoded, followed by a note of that or not.
 fn spelled_out(alloc: Global, is_noted: bool) -> Result<Integer, DecodeError> {
     let mut items = Vec::new(alloc);
     push_spelled_out(&mut items, is_noted)?;
     with_default(alloc, &mut RecordDecoder::new(items, CodecKind::Uper))
 }
 
-/// Whether 0 and 5 are read so.
+/// Whether 0 and 5 are read back from components with a default.
 fn are_zero_and_five_kept(alloc: Global) -> bool {
     are_defaults_kept(alloc, &Integer::zero(), &Integer::from(5_i64))
 }
 
-/// Whether a default that is spelled out is read with a note behind it, and ends early without.
+/// Whether a default that is encoded is read with the note after it, and is incomplete without it.
 fn is_noted(alloc: Global) -> bool {
     spelled_out(alloc, true) == Ok(Integer::zero())
         && spelled_out(alloc, false) == Err(DecodeError::Incomplete)

@@ -1,4 +1,4 @@
-//! Records of enumerations, sets, groups, additions and choices, as they are kept and read back.
+//! Records of ENUMERATED, SET, groups, additions and CHOICE, as they are kept and read back.
 use crate::colour::Colour;
 use crate::common::{Wanted, are_records, decoder, encoder};
 use asn1_schema::records::{Item, RecordDecoder, RecordEncoder};
@@ -8,7 +8,7 @@ use asn1_schema::{
 };
 use std::alloc::{AllocError, Global};
 
-/// Writes SET {.., OPTIONAL, ..., [[..]], .., ..} with nothing in its group to an encoder.
+/// Writes SET {.., OPTIONAL, ..., [[..]], .., ..} with an empty group to an encoder.
 fn write_group<E: Encoder>(encoder: &mut E) -> Result<(), EncodeError> {
     encoder.begin_set(Tag::SET, true, 1)?;
     encoder.begin_additions(3)?;
@@ -19,7 +19,7 @@ fn write_group<E: Encoder>(encoder: &mut E) -> Result<(), EncodeError> {
     encoder.end()
 }
 
-/// The records of that set, whose group ends with nothing in it.
+/// The records of that SET, whose group is empty.
 const SET: [Wanted; 7] = [
     Wanted::Set(true, 1),
     Wanted::Additions(3),
@@ -30,7 +30,7 @@ const SET: [Wanted; 7] = [
     Wanted::Ends,
 ];
 
-/// How many levels are left within the group of such a set, which is there, and behind the set.
+/// The levels left inside the group of such a SET, which is present, and after the SET.
 fn levels_of_group<D: Decoder>(decoder: &mut D) -> Result<(usize, usize), DecodeError> {
     decoder.begin_set(Tag::SET, true, 1)?;
     decoder.begin_additions(3)?;
@@ -45,7 +45,7 @@ fn levels_of_group<D: Decoder>(decoder: &mut D) -> Result<(usize, usize), Decode
     Ok((within, decoder.levels_left()))
 }
 
-/// Whether that set is kept, and read back.
+/// Whether that SET is kept, and read back.
 fn is_group_kept(alloc: Global) -> bool {
     let mut encoder = RecordEncoder::new(alloc, CodecKind::Oer);
     if write_group(&mut encoder) != Ok(()) {
@@ -56,7 +56,7 @@ fn is_group_kept(alloc: Global) -> bool {
         && levels_of_group(&mut RecordDecoder::new(items, CodecKind::Oer)) == Ok((126, 128))
 }
 
-/// Writes the beginning of a set to an encoder, up to the end of an addition, whose group has not ended.
+/// Writes the beginning of a SET to an encoder, up to the end of an addition, whose group has not ended.
 fn write_open_group<E: Encoder>(encoder: &mut E) -> Result<(), EncodeError> {
     encoder.begin_set(Tag::SET, true, 1)?;
     encoder.begin_additions(3)?;
@@ -80,8 +80,8 @@ fn is_open_group_kept(alloc: Global) -> bool {
     write_open_group(&mut encoder) == Ok(()) && are_records(&encoder.into_items(), &OPEN)
 }
 
-/// Begins a choice of these root alternatives, with an extension marker, and these additions, of which this alternative
-/// is chosen.
+/// Begins a CHOICE of these root alternatives, with an extension marker, and these additions; this alternative is
+/// chosen.
 fn write_choice<E: Encoder>(
     encoder: &mut E,
     roots: &[Tag],
@@ -91,7 +91,7 @@ fn write_choice<E: Encoder>(
     encoder.begin_choice(Tag::EOC, roots, true, additions, chosen)
 }
 
-/// Whether the first added alternative of a choice is kept.
+/// Whether the first added alternative of a CHOICE is kept.
 fn is_addition_kept(alloc: Global) -> bool {
     let mut encoder = RecordEncoder::new(alloc, CodecKind::Oer);
     let chosen = Chosen::addition(0);
@@ -113,8 +113,8 @@ fn is_addition_kept(alloc: Global) -> bool {
         )
 }
 
-/// An alternative that is written, the root alternatives, extension marker, additions and places of a choice that is
-/// read, and what is found.
+/// The alternative written; the root alternatives, extension marker, additions and indices of the CHOICE that is read;
+/// and the result.
 type Row = (
     Chosen,
     &'static [Tag],
@@ -144,7 +144,8 @@ const SECOND: Chosen = Chosen {
     place: 1,
 };
 
-/// The alternative is found; one that a choice has not is refused; and a choice without an extension marker is another.
+/// The alternative is found; one that the CHOICE lacks is an error; and a CHOICE without an extension marker is
+/// another type.
 const CHOICES: [Row; 3] = [
     (
         SECOND,
@@ -178,7 +179,7 @@ const CHOICES: [Row; 3] = [
     ),
 ];
 
-/// The alternative that a decoder finds in a choice of a row.
+/// The alternative that a decoder returns for the CHOICE of a row.
 fn chosen_of<D: Decoder>(decoder: &mut D, row: &Row) -> Result<Chosen, DecodeError> {
     let (_, roots, is_extensible, additions, places, _) = row;
     let Some(tables) = TagTables::checked(roots, *is_extensible, additions, places) else {
@@ -187,7 +188,7 @@ fn chosen_of<D: Decoder>(decoder: &mut D, row: &Row) -> Result<Chosen, DecodeErr
     decoder.begin_choice(Tag::EOC, &tables)
 }
 
-/// Whether what is found in a choice is as its row says.
+/// Whether the result for a CHOICE is as its row says.
 fn is_found(alloc: Global, row: &Row) -> bool {
     let (chosen, .., wanted) = row;
     let mut kept = encoder(alloc);
@@ -211,12 +212,12 @@ fn write_colour<E: Encoder>(encoder: &mut E, colour: Colour) -> Result<(), Encod
     encoder.encode_enumerated(Tag::ENUMERATED, &colour, Identifier::EMPTY)
 }
 
-/// The colour that a decoder finds.
+/// Reads a colour from a decoder.
 fn colour_of<D: Decoder>(decoder: &mut D) -> Result<Colour, DecodeError> {
     decoder.decode_enumerated(Tag::ENUMERATED)
 }
 
-/// Whether an item is kept by its number, and read back.
+/// Whether an item is kept as its number, and read back.
 fn is_colour_kept(alloc: Global, colour: Colour, number: isize) -> bool {
     let mut encoder = RecordEncoder::new(alloc, CodecKind::Uper);
     if write_colour(&mut encoder, colour) != Ok(()) {
@@ -227,14 +228,15 @@ fn is_colour_kept(alloc: Global, colour: Colour, number: isize) -> bool {
         && colour_of(&mut RecordDecoder::new(items, CodecKind::Uper)) == Ok(colour)
 }
 
-/// One item of an enumeration, with an extension marker or without, and of this number.
+/// An item of an enumeration with or without an extension marker, with this number.
 fn items_of(alloc: Global, is_extensible: bool, number: isize) -> Result<Vec<Item>, AllocError> {
     let mut items = Vec::new(alloc);
     items.push(Item::OneOf(is_extensible, number))?;
     Ok(items)
 }
 
-/// Whether an item with an extension marker or without, and of this number, is no colour for this reason.
+/// Whether reading an item, with or without an extension marker and with this number, as a colour fails with this
+/// error.
 fn is_no_colour(alloc: Global, is_extensible: bool, number: isize, wanted: DecodeError) -> bool {
     match items_of(alloc, is_extensible, number) {
         Ok(items) => colour_of(&mut RecordDecoder::new(items, CodecKind::Uper)) == Err(wanted),

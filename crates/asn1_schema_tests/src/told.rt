@@ -1,4 +1,4 @@
-//! Which tag each type has, how it is called, and whether it is a CHOICE.
+//! The tag and the name of each type, and whether it is a CHOICE.
 use crate::up_to_ten::UpToTen;
 use asn1_schema::{
     Any, AsnType, Constrained, Explicit, Implicit, InstanceOf, SetOf, Tag, TagTree, tag,
@@ -22,7 +22,7 @@ use std::alloc::Global;
 use std::borrow::{Cow, CowSlice, CowStr};
 use std::marker::PhantomData;
 
-/// Whether a type has this tag and this name, and is a CHOICE if that is said, and then alone has tags of alternatives.
+/// Whether a type has this tag and this name, is a CHOICE as given, and has tags of alternatives exactly if it is one.
 fn is_told<T: AsnType>(tag: Tag, name: &'static str, is_choice: bool) -> bool {
     let has_alternatives = match T::tag_tree() {
         TagTree::Leaf(_) => false,
@@ -34,17 +34,17 @@ fn is_told<T: AsnType>(tag: Tag, name: &'static str, is_choice: bool) -> bool {
         && has_alternatives == is_choice
 }
 
-/// Whether a type that is no CHOICE is told so.
+/// Whether a type that is not a CHOICE has this tag and this name.
 fn is_plain<T: AsnType>(tag: Tag, name: &'static str) -> bool {
     is_told::<T>(tag, name, false)
 }
 
-/// Whether a CHOICE is told so.
+/// Whether a CHOICE has this name.
 fn is_choice<T: AsnType>(name: &'static str) -> bool {
     is_told::<T>(Tag::CHOICE, name, true)
 }
 
-/// Whether a type of whole numbers is told so.
+/// Whether an integer type has the tag and the name of INTEGER.
 fn is_integer<T: AsnType>() -> bool {
     is_plain::<T>(Tag::INTEGER, "INTEGER")
 }

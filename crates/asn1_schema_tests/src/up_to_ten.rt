@@ -1,4 +1,4 @@
-//! INTEGER (0..10), held in a `u8`.
+//! INTEGER (0..10), stored in a `u8`.
 ghost use Rattle.std.specs.Prelude.{refl, pos};
 ghost use Rattle.asn1_schema_constraints.specs.Terms.{from_to};
 ghost use Rattle.asn1_schema_presented.proofs.TypesByKind.{integer_type};

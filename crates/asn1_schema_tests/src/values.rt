@@ -1,4 +1,4 @@
-//! Values of each type, to the encoder that keeps records, and back from these.
+//! Values of each type, written to the encoder that keeps records, and read back.
 use crate::common::{
     Wanted, decoder, encoder, found, is_kept, is_number, is_read_back_as, is_refused, is_written,
     is_written_under, read_back, write,
@@ -21,7 +21,7 @@ use std::alloc::{AllocError, Global};
 use std::borrow::{Cow, CowSlice, CowStr};
 use std::marker::PhantomData;
 
-/// Whether numbers of a type are written between the bounds of the type, and read back.
+/// Whether numbers of a type are written with the bounds of the type, and read back.
 fn are_numbers<T: Encode + Decode + PartialEq + Copy + Into<Integer>>(
     alloc: Global,
     low: i128,
@@ -39,7 +39,7 @@ fn are_numbers<T: Encode + Decode + PartialEq + Copy + Into<Integer>>(
     true
 }
 
-/// Whether numbers of the native types that no vector is of are written and read back.
+/// Whether numbers of the native types that no vector covers are written and read back.
 fn are_native_numbers(alloc: Global) -> bool {
     let most: u128 = 0x7FFF_FFFF_FFFF_FFFF_FFFF_FFFF_FFFF_FFFF;
     let (low, high): (i128, i128) = (-9_223_372_036_854_775_808, 9_223_372_036_854_775_807);
@@ -80,14 +80,14 @@ fn is_small(alloc: Global, value: &Small) -> bool {
         )
 }
 
-/// Whether a number under constraints of its own is written, and read back.
+/// Whether a number under its own constraints is written, and read back.
 fn is_up_to_ten(alloc: Global) -> bool {
     let mut value = Constrained::<UpToTen, u8>::new(7);
     *value = 8;
     is_written(alloc, &value, &[Wanted::Integer(Some(0), Some(10), 8)])
 }
 
-/// Whether markers and numbers of any size are written and read back, and no value as one of another type.
+/// Whether markers and numbers of any size are written and read back, and a value is not read as another type.
 fn are_plain(alloc: Global) -> bool {
     let marker: PhantomData<u8> = PhantomData;
     is_kept(alloc, &marker, &[Wanted::Null])
@@ -115,7 +115,7 @@ fn numbers_and_markers(rt: HostRuntime) {
     assert!(rt; is_up_to_ten(alloc) && are_plain(alloc));
 }
 
-/// The records of a list of 3 and 5, as many as there are or exactly two.
+/// The records of a list of 3 and 5, of any size or of exactly two elements.
 const LISTED: [Wanted; 7] = [
     Wanted::List(0, None, 2),
     Wanted::Further(true),
@@ -138,27 +138,27 @@ const PAIRED: [Wanted; 7] = [
 
 const SEVEN: [Wanted; 1] = [Wanted::Integer(Some(0), Some(255), 7)];
 
-/// Whether a list of 3 and 5 is written and read back, held and lent.
+/// Whether a list of 3 and 5 is written and read back, owned and borrowed.
 fn is_list(alloc: Global, list: &Vec<u8>, lent: &CowSlice<u8, Global>) -> bool {
     is_kept(alloc, list, &LISTED)
         && is_written(alloc, lent, &LISTED)
         && is_read_back_as(alloc, list, lent)
 }
 
-/// Whether lists that are held and lent are written and read back.
+/// Whether lists that are owned and borrowed are written and read back.
 fn are_lists(alloc: Global) -> Result<bool, AllocError> {
     let list = Vec::from_array(alloc, [3, 5])?;
     Ok(is_list(alloc, &list, &CowSlice::Borrowed(&[3, 5])))
 }
 
-/// Whether an array is written as itself and as a list, and read back as none of another size.
+/// Whether an array is written as itself and as a list, and not read back as one of another size.
 fn is_array(alloc: Global, numbers: [u8; 2]) -> bool {
     is_kept(alloc, &numbers, &PAIRED)
         && is_written(alloc, &numbers.as_slice(), &LISTED)
         && is_refused::<[u8; 2], [u8; 3]>(alloc, &numbers, DecodeError::SizeConstraintNotSatisfied)
 }
 
-/// Whether a number is read back as one that is held.
+/// Whether a number is read back as an owned one.
 fn is_read_as_held(alloc: Global, number: u8) -> bool {
     match read_back::<u8, Cow<u8>>(alloc, &number) {
         Ok(Cow::Owned(read)) => read == number,
@@ -166,7 +166,7 @@ fn is_read_as_held(alloc: Global, number: u8) -> bool {
     }
 }
 
-/// Whether 7 is written as it is held, also where it is lent.
+/// Whether 7 is written as an owned number, and as a borrowed one.
 fn is_seven_lent(alloc: Global, seven: &u8) -> bool {
     is_written(alloc, &seven, &SEVEN)
         && is_written(alloc, &Cow::Borrowed(seven), &SEVEN)
@@ -177,25 +177,25 @@ fn is_seven_lent(alloc: Global, seven: &u8) -> bool {
 /// The record of a text.
 const TEXT: [Wanted; 1] = [Wanted::Text("é")];
 
-/// Whether a text that is held is written.
+/// Whether an owned text is written.
 fn is_held_text(alloc: Global) -> Result<bool, AllocError> {
     let held = String::from_str(alloc, "é")?;
     Ok(is_written(alloc, &held, &TEXT))
 }
 
-/// Whether texts that are lent are written.
+/// Whether borrowed texts are written.
 fn are_lent_texts(alloc: Global) -> bool {
     is_written(alloc, &"é", &TEXT)
         && is_written::<CowStr<Global>>(alloc, &CowStr::Borrowed("é"), &TEXT)
 }
 
-/// Whether a text is read back as one that is owned.
+/// Whether a text is read back as an owned one.
 fn is_owned_text(alloc: Global) -> Result<bool, DecodeError> {
     let owned: String = read_back(alloc, &"é")?;
     Ok(owned.as_str() == "é")
 }
 
-/// Whether a text is read back as one that may be lent.
+/// Whether a text is read back as one that may be borrowed.
 fn is_text(alloc: Global) -> Result<bool, DecodeError> {
     let lent: CowStr<Global> = read_back(alloc, &"é")?;
     Ok(lent.as_str() == "é")
@@ -211,7 +211,7 @@ type Tagged = Implicit<tag::Context<1>, u8>;
 
 type Around = Explicit<tag::Private<2>, u8>;
 
-/// Whether 7 under a tag, and with a tag around it, is written and read as it is without.
+/// Whether 7 under an implicit tag, and with an explicit tag, is written and read as without.
 fn are_tagged(alloc: Global, tagged: &Tagged, explicit: &Around) -> bool {
     is_kept(alloc, tagged, &SEVEN)
         && is_kept(alloc, explicit, &SEVEN)
@@ -221,18 +221,18 @@ fn are_tagged(alloc: Global, tagged: &Tagged, explicit: &Around) -> bool {
         && <Around as AsnType>::TAG == Tag::new_private(2)
 }
 
-/// Whether 7 is written and read so.
+/// Whether 7 is written and read in these ways.
 fn is_seven_tagged(alloc: Global) -> bool {
     are_tagged(alloc, &Implicit::new(7), &Explicit::new(7))
 }
 
-/// Whether a number in a box is read as it is without.
+/// Whether a number in a box is read as without the box.
 fn is_boxed(alloc: Global) -> Result<bool, AllocError> {
     let boxed = Box::new(alloc, 7_u8)?;
     Ok(is_read_back_as(alloc, &7_u8, &boxed))
 }
 
-/// The records of a sequence of 3 and 5.
+/// The records of a SEQUENCE of 3 and 5.
 const SEQUENCE: [Wanted; 4] = [
     Wanted::Sequence(false, 0),
     Wanted::Integer(Some(0), Some(255), 3),
@@ -249,7 +249,7 @@ fn lists_texts_and_values_around_others(rt: HostRuntime) {
     assert!(rt; is_kept(alloc, &Pair { a: 3, b: 5 }, &SEQUENCE));
 }
 
-/// Whether strings of so many octets and bits are written and read back.
+/// Whether strings of these numbers of octets and bits are written and read back.
 fn are_strings(alloc: Global) -> bool {
     let four = FixedBitString::<4>::new([0xAF, 0, 0, 0]);
     let three = FixedOctetString::new([1, 2, 3]);
@@ -259,7 +259,7 @@ fn are_strings(alloc: Global) -> bool {
         && is_kept(alloc, &three, &[Wanted::Octets(&[1, 2, 3])])
 }
 
-/// Whether an identifier whose arcs are lent is read back.
+/// Whether an identifier whose arcs are borrowed is read back.
 fn is_lent_identifier(alloc: Global) -> bool {
     let identifier = ObjectIdentifier::new_unchecked(CowSlice::Borrowed(&[1, 2, 3321]));
     is_kept(alloc, &identifier, &[Wanted::Identifier(&[1, 2, 3321])])
@@ -270,13 +270,13 @@ fn is_lent_identifier(alloc: Global) -> bool {
         )
 }
 
-/// Whether an identifier whose arcs are held is read back.
+/// Whether an identifier whose arcs are owned is read back.
 fn is_held_identifier(alloc: Global) -> Result<bool, AllocError> {
     let identifier = ObjectIdentifier::from_oid(alloc, &Oid::new_unchecked(&[1, 2, 840]))?;
     Ok(is_kept(alloc, &identifier, &[Wanted::Identifier(&[1, 2, 840])]))
 }
 
-/// Whether a value of any type is read back.
+/// Whether an open value is read back.
 fn is_any(alloc: Global) -> Result<bool, AllocError> {
     let any = Any::new(Vec::from_array(alloc, [2, 1, 0])?);
     Ok(is_read_back_as::<Any, Any>(alloc, &any, &any))
@@ -291,7 +291,7 @@ fn is_instance(alloc: Global) -> bool {
     is_read_back_as::<InstanceOf<u8>, InstanceOf<u8>>(alloc, &instance, &instance)
 }
 
-/// Whether a string of characters outside another type's alphabet is not read as one of that type.
+/// Whether a string of characters outside another type's alphabet is not read as that type.
 fn are_characters_refused(alloc: Global) -> bool {
     match BmpString::from_text(alloc, "€") {
         Ok(string) => is_refused::<BmpString, VisibleString>(
@@ -311,7 +311,7 @@ fn strings_and_open_values(rt: HostRuntime) {
     assert!(rt; is_any(alloc) == Ok(true) && is_instance(alloc));
 }
 
-/// What a decoder finds as a number of one octet under no constraints, and then by its type.
+/// Reads a number of one octet from a decoder under no constraints, and then by its type.
 fn unconstrained<D: Decoder>(
     alloc: Global,
     decoder: &mut D,
@@ -320,7 +320,7 @@ fn unconstrained<D: Decoder>(
     (first, found(alloc, decoder))
 }
 
-/// Whether a number that the type does not hold is refused, and nothing is read behind it.
+/// Whether a number that the type does not hold is an error, and nothing is read after it.
 fn is_too_large(alloc: Global) -> bool {
     let mut kept = encoder(alloc);
     write(&mut kept, &Integer::from(300_i64)) == Ok(())
@@ -349,7 +349,7 @@ fn write_chain<E: Encoder>(alloc: Global, encoder: &mut E) -> Result<(), EncodeE
     write(encoder, &chain)
 }
 
-/// Whether a chain begins with this number.
+/// Whether the first number of a chain is this one.
 fn begins_with(chain: &Chain, number: i64) -> bool {
     chain.value == Integer::from(number)
 }
@@ -364,13 +364,13 @@ fn is_of_two(chain: &Chain) -> bool {
     }
 }
 
-/// Whether a decoder finds a chain of 1 and 2.
+/// Whether a decoder returns a chain of 1 and 2.
 fn is_chain<D: Decoder>(alloc: Global, decoder: &mut D) -> Result<bool, DecodeError> {
     let chain: Chain = found(alloc, decoder)?;
     Ok(is_of_two(&chain))
 }
 
-/// Whether a chain of 1 and 2 is read back within so many levels.
+/// Whether a chain of 1 and 2 is read back within this number of levels.
 fn is_read_within(alloc: Global, levels: usize) -> Result<bool, DecodeError> {
     let mut kept = encoder(alloc);
     match write_chain(alloc, &mut kept) {

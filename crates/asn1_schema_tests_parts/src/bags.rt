@@ -1,4 +1,4 @@
-//! Bags: that each call can succeed, which bags are the same; and orders of octets.
+//! SET OF values: that each call can succeed, which ones are equal; and orders of octets.
 ghost use Rattle.std.specs.Prelude.{◌≡◌, IfOk};
 
 use crate::common::is_shown;
@@ -7,7 +7,7 @@ use asn1_schema_order::Encodings;
 use std::alloc::{AllocError, Global};
 use std::hash::{BuildHasher, BuildHasherDefault, DefaultHasher};
 
-/// The bag of these members.
+/// A SET OF these elements.
 fn bag_of(alloc: Global, members: &[u8]) -> Result<SetOf<u8>, AllocError>
     ensures { IfOk result (λ s. s.items.items ≡ members.now) }
 {
@@ -15,12 +15,12 @@ fn bag_of(alloc: Global, members: &[u8]) -> Result<SetOf<u8>, AllocError>
     Ok(SetOf::from_vec(items))
 }
 
-/// Whether a bag has these members, in this order.
+/// Whether a SET OF has these elements, in this order.
 fn has(bag: &SetOf<u8>, members: &[u8]) -> bool {
     bag.len() == members.len() && bag.as_slice() == members
 }
 
-/// Whether a bag is empty, and two equal members are inserted side by side.
+/// Whether a SET OF is empty, and two equal elements are then inserted next to each other.
 fn grows(bag: &mut SetOf<u8>) -> Result<bool, AllocError> {
     let is_new = bag.is_empty() && has(bag, &[]);
     bag.insert(7)?;
@@ -28,13 +28,13 @@ fn grows(bag: &mut SetOf<u8>) -> Result<bool, AllocError> {
     Ok(is_new && !bag.is_empty() && has(bag, &[7, 7]))
 }
 
-/// Whether a new bag, and one with room, grows so.
+/// Whether a new SET OF, and one with room, grows in this way.
 fn new_ones_grow(alloc: Global) -> Result<bool, AllocError> {
     let is_new = grows(&mut SetOf::new(alloc))?;
     Ok(grows(&mut SetOf::with_capacity(alloc, 4)?)? && is_new)
 }
 
-/// Whether one of two equal members is removed from a bag of 5, 8 and 5.
+/// Whether one of two equal elements is removed from a SET OF 5, 8 and 5.
 fn is_one_removed(alloc: Global) -> Result<bool, AllocError> {
     let rest = bag_of(alloc, &[5, 8])?;
     let mut bag = bag_of(alloc, &[5, 8, 5])?;
@@ -42,14 +42,14 @@ fn is_one_removed(alloc: Global) -> Result<bool, AllocError> {
     Ok(bag == rest && removed == Some(5))
 }
 
-/// Whether none is removed from a bag of 5 and 8 that is no member.
+/// Whether nothing is removed from a SET OF 5 and 8 for a value that is not in it.
 fn is_none_removed(alloc: Global) -> Result<bool, AllocError> {
     let mut bag = bag_of(alloc, &[5, 8])?;
     let removed = bag.remove(&6);
     Ok(has(&bag, &[5, 8]) && removed == None)
 }
 
-/// Whether a bag of 3 and 1 contains its members alone, and lends them one after another.
+/// Whether a SET OF 3 and 1 contains only its elements, and iterates over them.
 fn lends(bag: &SetOf<u8>) -> bool {
     let mut members = bag.iter();
     let are_visited = members.next() == Some(&3)
@@ -58,26 +58,26 @@ fn lends(bag: &SetOf<u8>) -> bool {
     bag.contains(&3) && bag.contains(&1) && !bag.contains(&2) && are_visited
 }
 
-/// Whether a bag of 3 and 1 lends its members in a vector.
+/// Whether a SET OF 3 and 1 returns references to its elements in a vector.
 fn lends_all(alloc: Global, bag: &SetOf<u8>) -> Result<bool, AllocError> {
     let lent = bag.to_vec(alloc)?;
     Ok(lent.as_slice() == [&3, &1].as_slice())
 }
 
-/// Whether a copy of a bag of 3 and 1 has the same members, and gives them up, and the bag keeps its own.
+/// Whether a clone of a SET OF 3 and 1 has the same elements and is consumed into them, and the original is unchanged.
 fn is_copied(bag: &SetOf<u8>) -> Result<bool, AllocError> {
     let copy = bag.clone()?;
     let is_same = has(&copy, &[3, 1]) && has(bag, &[3, 1]);
     Ok(copy.into_vec().as_slice() == [3, 1].as_slice() && is_same)
 }
 
-/// Whether bags are hashed alike.
+/// Whether two SET OF values have the same hash.
 fn are_hashed_alike(one: &SetOf<u8>, other: &SetOf<u8>) -> bool {
     let hashing = BuildHasherDefault::<DefaultHasher>::new();
     hashing.hash_one(one) == hashing.hash_one(other)
 }
 
-/// Whether bags of these members are equal, are found the same by their order, and are hashed alike.
+/// Whether SET OF values of these elements are equal, compare as equal, and have the same hash.
 fn compared(alloc: Global, one: &[u8], other: &[u8]) -> Result<[bool; 3], AllocError> {
     let one = bag_of(alloc, one)?;
     let other = bag_of(alloc, other)?;
@@ -85,20 +85,20 @@ fn compared(alloc: Global, one: &[u8], other: &[u8]) -> Result<[bool; 3], AllocE
     Ok([one == other, is_same, are_hashed_alike(&one, &other)])
 }
 
-/// Whether bags are the same in any order, and not with other counts, by which they are also told apart.
+/// Whether SET OF values are equal in any order, and differ with other counts, also by their order.
 fn are_compared(alloc: Global) -> Result<bool, AllocError> {
     let reordered = compared(alloc, &[7, 3, 1, 2], &[7, 2, 3, 1])?;
     let recounted = compared(alloc, &[1, 1, 2], &[1, 2, 2])?;
     Ok(reordered == [true; 3] && recounted == [false; 3])
 }
 
-/// Whether a bag of 3 and 1 is used in each way, and shown.
+/// Whether a SET OF 3 and 1 is used by each call, and printed.
 fn is_used(alloc: Global, bag: &SetOf<u8>) -> Result<bool, AllocError> {
     let is_shown = is_shown(alloc, bag, "SetOf { items: [3, 1] }");
     Ok(lends(bag) && is_shown && lends_all(alloc, bag)? && is_copied(bag)?)
 }
 
-/// Whether a bag is used so.
+/// Whether a SET OF is used in these ways.
 fn are_used(alloc: Global) -> Result<bool, AllocError> {
     let bag = bag_of(alloc, &[3, 1])?;
     is_used(alloc, &bag)
@@ -112,7 +112,7 @@ fn bags(rt: HostRuntime) {
     assert!(rt; are_used(alloc) == Ok(true) && are_compared(alloc) == Ok(true));
 }
 
-/// Encodings of which some begin as others do.
+/// Encodings, some of which are prefixes of others.
 const ENCODINGS: [&'static [u8]; 8] = [
     &[0x02, 0x01, 0x00],
     &[0x01, 0x00],
@@ -124,7 +124,7 @@ const ENCODINGS: [&'static [u8]; 8] = [
     &[],
 ];
 
-/// Whether the encodings stand in this order, by the places at which they were added: shorter ones first.
+/// Whether the encodings are in this order, given by the indices at which they were added: shorter ones first.
 fn stand_so(alloc: Global, places: &[usize]) -> Result<bool, AllocError> {
     let mut all = Encodings::new(alloc);
     for encoding in &ENCODINGS {

@@ -1,14 +1,15 @@
-//! What the tests have in common.
+//! Helpers of the tests.
 use std::alloc::{AllocError, Global};
 use std::fmt::{Debug, Display};
 use std::process::Abort;
 
-/// Ends the test, and shows what is wrong, unless nothing is: proved here once, and not again with each call.
+/// Ends the test with `wrong` in its message, if there is one. A function, so that this is proved once and not at each
+/// call.
 pub fn assert_none<T: Debug>(rt: &impl Abort, wrong: &Option<T>) {
     assert!(rt; wrong.is_none(), "{wrong:?}");
 }
 
-/// Whether this is shown of a value with what it is made of.
+/// Whether a value is printed as this text by `Debug`.
 pub fn is_shown<T: Debug>(alloc: Global, value: &T, text: &str) -> bool {
     match format!(in alloc; "{value:?}") {
         Ok(shown) => shown.as_str() == text,
@@ -16,7 +17,7 @@ pub fn is_shown<T: Debug>(alloc: Global, value: &T, text: &str) -> bool {
     }
 }
 
-/// Whether a value tells this.
+/// Whether a value is printed as this text by `Display`.
 pub fn is_told<T: Display>(alloc: Global, value: &T, text: &str) -> bool {
     match format!(in alloc; "{value}") {
         Ok(told) => told.as_str() == text,

@@ -1,4 +1,4 @@
-//! Bounds and constraints: rows, what is shown, and each call once.
+//! Bounds and constraints: rows, how they are printed, and each call once.
 use crate::common::{assert_none, is_told};
 use asn1_schema::{
     Bounded, Constraint, ConstraintDiscriminant, Constraints, Effective, Extensible, NativeBounds,
@@ -7,7 +7,7 @@ use asn1_schema::{
 use asn1_values_integers::Integer;
 use std::alloc::Global;
 
-/// Bounds of numbers, whether these have a sign, and in how many octets they are told, if that is fixed.
+/// Bounds of numbers, whether these are signed, and their fixed number of octets, if there is one.
 fn widths() -> [(Bounded<i128>, bool, Option<u8>); 7] {
     [
         (Bounded::const_new(-5, 5), true, Some(1)),
@@ -20,7 +20,7 @@ fn widths() -> [(Bounded<i128>, bool, Option<u8>); 7] {
     ]
 }
 
-/// The bounds that are not told so, if there are such.
+/// The bounds that are not as their row says, if there are any.
 fn wrong_width() -> Option<Bounded<i128>> {
     for (bounds, has_sign, octets) in widths() {
         if bounds.range_in_bytes() != (has_sign, octets) {
@@ -30,12 +30,12 @@ fn wrong_width() -> Option<Bounded<i128>> {
     None
 }
 
-/// The bounds of these ends.
+/// The bounds with these ends.
 fn range(start: Option<i128>, end: Option<i128>) -> Bounded<i128> {
     Bounded::Range { start, end }
 }
 
-/// Whether bounds are made of their ends.
+/// Whether bounds are made from their ends.
 fn are_made() -> bool {
     Bounded::const_new(-5, 5) == range(Some(-5), Some(5))
         && Bounded::start_from(0) == range(Some(0), None)
@@ -43,7 +43,7 @@ fn are_made() -> bool {
         && Bounded::<i128>::single_value(-129) == Bounded::Single(-129)
 }
 
-/// Whether numbers from -5 to 5 are within their bounds, and bounds are met.
+/// Whether numbers from -5 to 5 are within their bounds, and bounds are intersected.
 fn are_numbers_within(bounds: Bounded<i128>) -> bool {
     bounds.in_bound(&5u8)
         && !bounds.contains(&6)
@@ -80,7 +80,7 @@ fn are_octets_within(bounds: Bounded<u8>) -> bool {
         && Bounded::<u8>::up_to(7).effective_value(7) == Effective::Plain(7)
 }
 
-/// Whether the numbers within bounds are counted where their type holds the count.
+/// Whether the numbers within bounds are counted if their type holds the count.
 fn are_counted() -> bool {
     Bounded::<u8>::const_new(0, 255).range() == None
         && Bounded::<i8>::const_new(-128, 127).range() == None
@@ -94,7 +94,7 @@ fn are_counted() -> bool {
         && Bounded::<isize>::up_to(-5).minimum() == 0
 }
 
-/// Whether bounds are shown.
+/// Whether bounds are printed.
 fn are_shown(alloc: Global) -> bool {
     is_told(alloc, &Bounded::<i128>::const_new(-5, 5), "-5..5")
         && is_told(alloc, &Bounded::<usize>::start_from(3), "3..")
@@ -116,7 +116,7 @@ fn from_to(start: i128, end: i128) -> Value {
     Value::new(Bounded::const_new(start, end))
 }
 
-/// Whether two constraints of a kind are met, and forms of numbers are told.
+/// Whether two constraints of a kind are intersected, and the forms of numbers are right.
 fn are_met() -> bool {
     let small = from_to(-5, 5);
     let large = from_to(256, 1234567);
@@ -129,7 +129,7 @@ fn are_met() -> bool {
         && large.contains(&256)
 }
 
-/// Whether sizes are fixed, or ranges, and changed.
+/// Whether sizes are fixed or ranges, and are changed.
 fn are_sizes() -> bool {
     let mut size = Size::fixed(5);
     let was_fixed = size.is_fixed() && !size.is_range();
@@ -141,7 +141,7 @@ fn are_sizes() -> bool {
         && size == Size::new(Bounded::const_new(1, 3))
 }
 
-/// Whether a list of constraints has those of each kind.
+/// Whether a list of constraints has a constraint of each kind.
 fn are_listed(all: Constraints<'_>) -> bool {
     matches!(all.value(), Some(value) if value.constraint == from_to(5, 10))
         && matches!(all.size(), Some(size) if size.constraint == Size::fixed(2))
@@ -164,7 +164,7 @@ fn lists_are_made() -> bool {
         && Constraints::new(&[Constraint::Extensible]).extensible()
 }
 
-/// Whether constraints are of their kinds.
+/// Whether constraints have their kinds.
 fn are_of_kinds(value: Constraint<'_>, size: Constraint<'_>, alphabet: Constraint<'_>) -> bool {
     value.kind() == ConstraintDiscriminant::Value
         && value.kind() != size.kind()
@@ -181,7 +181,7 @@ fn are_of_kinds(value: Constraint<'_>, size: Constraint<'_>, alphabet: Constrain
         && !size.is_extensible()
 }
 
-/// Whether they are so.
+/// Whether they have these kinds.
 fn kinds_are_told() -> bool {
     let letters = [97, 98];
     let value = Constraint::from(from_to(0, 10));
@@ -190,7 +190,7 @@ fn kinds_are_told() -> bool {
     are_of_kinds(value, size, alphabet)
 }
 
-/// Whether an extension marker of either of two constraints stands, with what stands behind it.
+/// Whether an extension marker of either of two constraints is kept, with what follows it.
 fn a_marker_stands() -> bool {
     let further = [Value::new(Bounded::single_value(20))];
     let open = Extensible::new_extensible(from_to(0, 10), &further);
@@ -210,7 +210,7 @@ fn constraints(rt: HostRuntime) {
     assert!(rt; kinds_are_told() && a_marker_stands());
 }
 
-/// Whether bounds of native numbers are those of whole numbers.
+/// Whether bounds of native numbers become bounds of integers.
 fn are_native_bounds() -> bool {
     let wanted = from_to(5, 10);
     Value::from(Bounded::<u8>::const_new(5, 10)) == wanted
@@ -233,7 +233,7 @@ fn is_made<E: Drop>(answer: Result<Value, E>, wanted: Bounded<i128>) -> bool {
     matches!(answer, Ok(value) if value.value == wanted)
 }
 
-/// Whether bounds of counts and wide numbers are those of whole numbers, or refused.
+/// Whether bounds of counts and of wide numbers become bounds of integers, or an error.
 fn are_wide_bounds() -> bool {
     is_made(
         Value::try_from(Bounded::<usize>::up_to(usize::MAX)),

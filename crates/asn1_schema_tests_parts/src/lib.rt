@@ -1,5 +1,5 @@
-//! Tests of the schema's parts by the names of its face, without records: rows, what is shown, and each call once, of
-//! tags, tables, constraints, bags, and equality by meaning.
+//! Tests of the parts of the schema by the names that `asn1_schema` exports, without records: rows, printing, and each
+//! call once, of tags, tables, constraints, SET OF values, and equality by meaning.
 #![tactic(auto)]
 
 #[cfg(test)]

@@ -1,4 +1,4 @@
-//! Equality by meaning, through its bound; and values under tags, of any type, and those that validate their
+//! Equality by meaning, through its trait bound; and values under tags, open values, and values that validate their
 //! components.
 ghost use Rattle.std.specs.Prelude.{◌≡◌, ◌%◌, None, IfOk, IfErr, OnErr, codes};
 
@@ -53,7 +53,7 @@ fn are_ends_compared() -> bool {
     }
 }
 
-/// Whether nothing, markers, arrays, and lent values and lists are compared.
+/// Whether NULL, markers, arrays, and borrowed values and lists are compared.
 fn are_lent_compared() -> bool {
     let marker: PhantomData<bool> = PhantomData;
     let some: &[u8] = &[1, 2];
@@ -66,7 +66,7 @@ fn are_lent_compared() -> bool {
         && means(&some, &&more[..2], &more)
 }
 
-/// Whether values under a tag, and with a tag around them, are compared.
+/// Whether values under an implicit tag, and with an explicit tag, are compared.
 fn are_tagged_compared() -> bool {
     let implicit = Implicit::<Context<0>, u8>::new(3);
     let explicit = Explicit::<Context<0>, bool>::new(true);
@@ -74,7 +74,7 @@ fn are_tagged_compared() -> bool {
         && means(&explicit, &explicit, &Explicit::new(false))
 }
 
-/// Whether a list that is lent is compared with one that is held.
+/// Whether a borrowed list is compared with an owned one.
 fn are_mixed_lists_compared(alloc: Global) -> Result<bool, AllocError> {
     let octets: [u8; 2] = [1, 2];
     let held: CowSlice<'_, u8, Global> = CowSlice::Owned(vec![in alloc; 1_u8, 2]?);
@@ -85,38 +85,38 @@ fn are_mixed_lists_compared(alloc: Global) -> Result<bool, AllocError> {
     ))
 }
 
-/// Whether a text that is lent is compared with one that is held.
+/// Whether a borrowed text is compared with an owned one.
 fn are_mixed_texts_compared(alloc: Global) -> Result<bool, AllocError> {
     let held: CowStr<'_, Global> = CowStr::Owned(String::from_str(alloc, "abc")?);
     Ok(means(&CowStr::Borrowed("abc"), &held, &CowStr::Borrowed("ab")))
 }
 
-/// Whether lent values are compared with held ones.
+/// Whether borrowed values are compared with owned ones.
 fn are_mixed_compared(alloc: Global) -> Result<bool, AllocError> {
     let are_numbers = means(&Cow::Borrowed(&7_u8), &Cow::Owned(7), &Cow::Owned(8));
     Ok(are_numbers && are_mixed_lists_compared(alloc)? && are_mixed_texts_compared(alloc)?)
 }
 
-/// These octets as a value of any type.
+/// These octets as an open value.
 fn any_of(alloc: Global, octets: &[u8]) -> Result<Any, AllocError> {
     let octets: SequenceOf<u8> = Vec::from_slice(alloc, octets)?;
     Ok(Any::new(octets))
 }
 
-/// Whether octets of any type are 2 and 1, and compared with a copy and with others.
+/// Whether an open value has the octets 2 and 1, and is compared with a copy and with others.
 fn is_any_compared(any: &Any, other: &Any) -> Result<bool, AllocError> {
     let copy = any.clone()?;
     Ok(any.as_bytes() == [2, 1].as_slice() && copy == *any && means(any, &copy, other))
 }
 
-/// Whether octets of any type are compared.
+/// Whether open values are compared.
 fn are_any_compared(alloc: Global) -> Result<bool, AllocError> {
     let any = any_of(alloc, &[2, 1])?;
     let other = any_of(alloc, &[1])?;
     is_any_compared(&any, &other)
 }
 
-/// Whether the octets that are taken out of any value are those that it was made of.
+/// Whether the octets taken out of an open value are those that it was made from.
 fn is_any_handed_over(alloc: Global) -> Result<bool, AllocError> {
     let again = Any::from(any_of(alloc, &[2, 1])?.into_bytes());
     Ok(again.into_bytes().as_slice() == [2, 1].as_slice())
@@ -131,7 +131,7 @@ fn equality_by_meaning(rt: HostRuntime) {
     assert!(rt; is_any_handed_over(alloc) == Ok(true));
 }
 
-/// Whether values stand under another tag, and are changed there.
+/// Whether values are under another tag, and are changed there.
 fn are_under_tags() -> Result<bool, AllocError> {
     let mut one = Implicit::<tag::Context<1>, u8>::new(5);
     let was = *one;
@@ -151,7 +151,7 @@ fn are_under_tags() -> Result<bool, AllocError> {
     )
 }
 
-/// Whether a copy of an open value is the same, and not as nothing.
+/// Whether a copy of an open value is equal to it, and not to NULL.
 fn is_copied(open: &Open) -> Result<bool, AllocError> {
     let copy = open.clone()?;
     Ok(copy == *open && copy != Open::Null)

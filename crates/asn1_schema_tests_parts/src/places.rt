@@ -1,7 +1,7 @@
 //! Look-up of a tag in an ascending table: rows.
 use asn1_schema::{Chosen, Tag, TagPlace, TagProbe, TagTables, find_place, is_place_table};
 
-/// Whether a table is one of some tags, and tells this place of one that is sought, with at most so many comparisons.
+/// Whether a table is the one of some tags, and gives this index for a tag, with at most this number of comparisons.
 fn is_found(
     places: &[TagPlace],
     tags: &[Tag],
@@ -17,7 +17,7 @@ fn is_found(
     found == wanted && probe.count() <= most && probe.len() == tags.len()
 }
 
-/// The tag of a number, at a place.
+/// A tag with a number, and an index.
 fn at(number: u32, place: usize) -> TagPlace {
     TagPlace {
         tag: Tag::new_context(number),
@@ -39,7 +39,7 @@ fn are_three_found() -> bool {
         && is_found(&[], &[], 2, None, 0)
 }
 
-/// Whether tags that stand in no order are found at their places, those of the root before the added ones.
+/// Whether unordered tags are found at their indices, those of the root before the added ones.
 fn are_added_found() -> bool {
     let places = [at(1, 1), at(4, 2), at(7, 0)];
     is_place_table(
@@ -65,7 +65,7 @@ fn are_many_found() -> bool {
     is_found(&places, &tags, 398, Some(199), 8) && is_found(&places, &tags, 3, None, 8)
 }
 
-/// Whether a table with two entries exchanged, one without an entry, and one with a wrong place, are told as such.
+/// Whether a table with two entries exchanged, one without an entry, and one with a wrong index, are rejected.
 fn are_refused() -> bool {
     let tags = [Tag::new_context(0), Tag::new_context(1)];
     !is_place_table(&[at(1, 1), at(0, 0)], &tags, &[])
@@ -73,7 +73,7 @@ fn are_refused() -> bool {
         && !is_place_table(&[at(0, 1), at(1, 0)], &tags, &[])
 }
 
-/// The alternative of a tag of CHOICE {[7], [1], ..., [4]}, with its extension marker or without.
+/// The alternative of a tag of CHOICE {[7], [1], ..., [4]}, with or without its extension marker.
 fn alternative(extensible: bool, number: u32) -> Option<Chosen> {
     let roots = [Tag::new_context(7), Tag::new_context(1)];
     let additions = [Tag::new_context(4)];
@@ -82,7 +82,7 @@ fn alternative(extensible: bool, number: u32) -> Option<Chosen> {
     tables.alternative(Tag::new_context(number))
 }
 
-/// Whether alternatives of the root and, behind an extension marker, added ones are told by their tags.
+/// Whether alternatives of the root and, after an extension marker, added ones are found by their tags.
 fn are_alternatives_told() -> bool {
     alternative(true, 7) == Some(Chosen::root(0))
         && alternative(true, 1) == Some(Chosen::root(1))

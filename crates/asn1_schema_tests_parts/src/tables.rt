@@ -20,7 +20,7 @@ const C: Tag = Tag {
     value: 9,
 };
 
-/// Whether a table is in canonical order, which is that of the smallest tags.
+/// Whether a table is in canonical order, that of the smallest tags.
 fn are_ordered() -> bool {
     let first = Field::new_optional(0, A, TagTree::Leaf(A), "a");
     let second = Field::new_optional(1, B, TagTree::Leaf(B), "b");
@@ -31,8 +31,7 @@ fn are_ordered() -> bool {
         && Fields::from_static(&[]).is_canonical()
 }
 
-/// Whether four fields, of which the second may be absent and the fourth has a default, are counted, found and
-/// compared.
+/// Whether four fields, the second optional and the fourth with a default, are counted, found and compared.
 fn are_found(fields: &[Field<'_>; 4]) -> bool {
     let table = Fields::from_static(fields);
     let mut optional = table.optional_and_default_fields();
@@ -54,7 +53,7 @@ fn are_found(fields: &[Field<'_>; 4]) -> bool {
         && FieldPresence::Default.is_optional_or_default()
 }
 
-/// Whether three fields, of which the last two may be absent, are counted.
+/// Whether three fields, the last two optional, are counted.
 fn are_counted(fields: &[Field<'_>; 3]) -> bool {
     let table = Fields::from_static(fields);
     table.len() == 3
@@ -82,7 +81,7 @@ fn tables_of_fields(rt: HostRuntime) {
     assert!(rt; are_ordered() && are_of_types());
 }
 
-/// Whether errors are told apart, and made where memory is refused.
+/// Whether errors are distinguished, and made from an `AllocError`.
 fn are_told_apart() -> bool {
     DecodeError::Incomplete != DecodeError::SurplusOctets
         && EncodeError::TooLongValue != EncodeError::AlreadyFailed

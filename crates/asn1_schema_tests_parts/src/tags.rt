@@ -1,11 +1,11 @@
-//! Tags, the names of types, and trees of tags: rows, what is shown, and each call once.
+//! Tags, the names of types, and trees of tags: rows, printing, and each call once.
 use crate::common::{assert_none, is_told};
 use asn1_schema::{AsnType, Class, Identifier, Tag, TagTree, Variants, tag};
 use std::alloc::{AllocError, Global};
 use std::cmp::Ordering;
 use std::ops::DerefSlice;
 
-/// Universal tags, each with that of the marker of its name, and with its number.
+/// Universal tags, each with the tag of the marker of its name, and with its number.
 macro_rules! universal_tags {
     ($($name:ident $number:literal)*) => {
         [$((Tag::$name, tag::$name::TAG, $number)),*]
@@ -43,7 +43,7 @@ const NAMED: [(Identifier, &'static str); 35] = named_types![
     UNRESTRICTED_CHARACTER_STRING "UNRESTRICTED_CHARACTER_STRING"
 ];
 
-/// The number of the universal tag that is not of its name, if there is one.
+/// The number of the universal tag that is not the one of its name, if there is one.
 fn wrong_universal() -> Option<u32> {
     for (named, told, number) in universal() {
         let found = Tag::new(Class::Universal, number);
@@ -54,7 +54,7 @@ fn wrong_universal() -> Option<u32> {
     None
 }
 
-/// The name that is not that of its type, if there is one.
+/// The name that is not the one of its type, if there is one.
 fn wrong_name() -> Option<&'static str> {
     for (found, name) in &NAMED {
         if *found != Identifier(Some(*name)) {
@@ -77,7 +77,7 @@ fn ordered() -> [(Tag, Tag, Ordering); 6] {
     ]
 }
 
-/// Whether two tags are ordered so, in each way to compare them.
+/// Whether two tags are ordered in this way, by each comparison.
 fn are_ordered(one: Tag, other: Tag, wanted: Ordering) -> bool {
     one.const_cmp(&other) == wanted
         && one.cmp(&other) == wanted
@@ -86,7 +86,7 @@ fn are_ordered(one: Tag, other: Tag, wanted: Ordering) -> bool {
         && (one == other) == (wanted == Ordering::Equal)
 }
 
-/// The first of two tags that are not ordered so, if there are such.
+/// The first of two tags that are not ordered as their row says, if there are any.
 fn wrong_order() -> Option<Tag> {
     for (one, other, wanted) in ordered() {
         if !are_ordered(one, other, wanted) {
@@ -96,7 +96,7 @@ fn wrong_order() -> Option<Tag> {
     None
 }
 
-/// Whether tags are shown.
+/// Whether tags are printed.
 fn are_shown(alloc: Global) -> bool {
     is_told(alloc, &Tag::new_application(9), "[APPLICATION 9]")
         && is_told(alloc, &Tag::new_context(5), "[5]")
@@ -104,12 +104,12 @@ fn are_shown(alloc: Global) -> bool {
         && is_told(alloc, &Tag::new_private(3), "[PRIVATE 3]")
 }
 
-/// Whether a tag is of this class and this number.
+/// Whether a tag has this class and this number.
 fn is_made(found: Tag, class: Class, value: u32) -> bool {
     found == Tag { class, value }
 }
 
-/// Whether tags are made of their class and their number.
+/// Whether tags are made from their class and their number.
 fn are_made() -> bool {
     is_made(Tag::new_application(9), Class::Application, 9)
         && is_made(Tag::new_context(444), Class::Context, 444)
@@ -124,7 +124,7 @@ fn are_made() -> bool {
         && !Class::from_u8(3).is_universal()
 }
 
-/// Whether names stand in for missing ones.
+/// Whether names replace missing ones.
 fn stand_in() -> bool {
     Identifier::EMPTY.or(Identifier::BOOL) == Identifier::BOOL
         && Identifier::SET.or(Identifier::BOOL) == Identifier::SET
@@ -169,7 +169,7 @@ const OUTER: [TagTree<'static>; 3] = [
     TagTree::Choice(&[]),
 ];
 
-/// Tags that repeat side by side, and apart.
+/// Tags that repeat next to each other, and apart.
 const REPEATED: [TagTree<'static>; 7] = [
     TagTree::Leaf(Tag::BIT_STRING),
     TagTree::Leaf(tag_of!(Application 0)),
@@ -186,7 +186,7 @@ const APART: [TagTree<'static>; 3] = [
     TagTree::Leaf(tag_of!(Context 0)),
 ];
 
-/// Tags, and their places among the leaves.
+/// Tags, and their indices among the leaves.
 const PLACES: [(Tag, Option<usize>); 4] = [
     (FIRST, Some(0)),
     (THIRD, Some(1)),
@@ -211,7 +211,7 @@ fn are_found(tree: &TagTree<'_>) -> bool {
     count == 3 && tree.leaf_at(3) == None
 }
 
-/// Whether a tree of alternatives has its leaves, and one that repeats tags is not unique.
+/// Whether a tree of alternatives has its leaves, and one with repeated tags is not unique.
 fn is_tree() -> bool {
     let tree = TagTree::Choice(&OUTER);
     are_found(&tree)
@@ -224,7 +224,7 @@ fn is_tree() -> bool {
         && !TagTree::Choice(&APART).is_unique()
 }
 
-/// Whether trees are compared by their leaves, in their order.
+/// Whether trees are compared by their leaves, in order.
 fn are_compared() -> bool {
     let inner = [TagTree::Leaf(THIRD), TagTree::Leaf(Tag::NULL)];
     let same = [TagTree::Leaf(THIRD), TagTree::Leaf(Tag::NULL)];
@@ -235,7 +235,7 @@ fn are_compared() -> bool {
     tree == equal && tree != other
 }
 
-/// Whether a leaf is no choice of that leaf.
+/// Whether a leaf is different from a CHOICE of that leaf.
 fn is_no_choice() -> bool {
     let leaves = [TagTree::Leaf(Tag::NULL)];
     let choice = TagTree::Choice(&leaves);
@@ -243,7 +243,7 @@ fn is_no_choice() -> bool {
     leaf != choice
 }
 
-/// Whether alternatives are lists of trees, lent, held or none.
+/// Whether alternatives are lists of trees, borrowed, owned or empty.
 fn are_lists(alloc: Global) -> Result<bool, AllocError> {
     let mut kept = Vec::new(alloc);
     kept.push(TagTree::Leaf(Tag::SET))?;

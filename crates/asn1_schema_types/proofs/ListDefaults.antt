@@ -9,7 +9,7 @@ use Rattle.asn1_model.specs.Lawful.{member_count, is_of}
 use Rattle.asn1_schema_presented.specs.Tables.{scope, list_type, IsValue}
 use Rattle.asn1_schema_presented.specs.Typed.{IsDefault}
 
--- Each member may stand as a default of the type.
+-- Each element is allowed as a default of the type.
 abbrev pub AreDefaultMembers : (ℕ → Schema) → Values → Type 0
 AreDefaultMembers s no_more = Unit {0}
 AreDefaultMembers s (member v vs) = IsDefault s v × AreDefaultMembers s vs
@@ -22,7 +22,7 @@ all_spelled : (s : ℕ → Schema) (vs : Values) → AreDefaultMembers s vs → 
 all_spelled s no_more k n = refl
 all_spelled s (member v vs) k n = rw (k.0.spelled n, all_spelled s vs k.1 n) refl
 
--- A list of as many members as the type holds may stand as a default if each of them may.
+-- A list with a number of elements that the type holds is allowed as a default if each element is.
 pub list_default : (z : Size) (h : Counts) (s : ℕ → Schema) (vs : Values) → IsValue (list_type z h s) (members vs) → is_count_within h (member_count vs) ≡ true → AreDefaultMembers s vs → IsDefault (list_type z h s) (members vs)
 unfolding list_type scope is_of is_normal
 list_default z h s vs v e k = record {

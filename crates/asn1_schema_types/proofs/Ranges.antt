@@ -1,4 +1,4 @@
--- Constraints and a range of a type's own, as they are put together.
+-- How constraints and a range that the type fixes are combined.
 use Rattle.std.proofs.Common.{◌≡◌, ◌∙◌, refl, ap, ℤ, true, false, Option, Some, None}
 use Rattle.asn1_model.specs.Schema.{Range}
 use Rattle.asn1_model.specs.Numbers.{is_at_most}
@@ -13,7 +13,7 @@ use Rattle.asn1_schema_constraints.specs.declared.extensions.Extensible.{Extensi
 use Rattle.asn1_schema_constraints.specs.declared.lists.Constraints.{Constraints}
 use Rattle.asn1_schema_types.specs.Constrained.{met_range, within_range, to_root, root_between, met_root}
 
--- the ends of what two bounds admit together
+-- the ends of what two bounds both admit
 ends : (b : Bounded ℤ) (low high : ℤ) → range_of (meet is_at_most b (Between (Some low) (Some high))) ≡ met_range (range_of b) low high
 ends b low high =
     let start = later is_at_most (lower b) (Some low) in

@@ -1,4 +1,4 @@
--- Defaults that are sequences.
+-- Defaults that are SEQUENCE values.
 use Rattle.std.proofs.Common.{◌≡◌, ℕ, zero, suc, true, false, List, refl}
 use Rattle.asn1_model.specs.Value.{Value, fields, Parts, end}
 use Rattle.asn1_model.specs.Schema.{Tag, Presence, Schema, sequence}
@@ -11,13 +11,13 @@ use Rattle.asn1_schema_presented.specs.Tables.{Fields, no_field, field, Table, c
 use Rattle.asn1_schema_presented.specs.Typed.{IsDefault, AreValues}
 use Rattle.asn1_schema_presented.proofs.Values.{value_sequence}
 
--- A component in a default: what is there may stand as a default itself, and is neither at a default of its own nor a group in which nothing
--- is left; what is left out may be absent.
+-- A component in a default: one that is present is allowed as a default itself, and is neither at its own default nor
+-- a group with nothing left in it; one that is left out may be absent.
 abbrev pub IsDefaultPart : Presence → (ℕ → Schema) → Part → Type 0
 IsDefaultPart o s left_out = is_required o ≡ false
 IsDefaultPart o s (there v) = IsDefault s v × ((n : ℕ) → is_at_default o (s n) v ≡ false) × ((n : ℕ) → is_group_left_out (s n) v ≡ false)
 
--- So are all components.
+-- The same for all components.
 pub record AreDefaultParts (cs : Fields) (ps : Parts) : Type 0 where
   pub typed : (n : ℕ) → are_of (components_at n cs) ps ≡ true
   pub spelled : (n : ℕ) → are_normal (components_at n cs) ps ≡ true
@@ -31,7 +31,7 @@ unfolding components_at are_of are_normal
 more_default_parts ts o s left_out k rest = record { typed = λ n. rw (k, rest.typed n) refl; spelled = λ n. rest.spelled n }
 more_default_parts ts o s (there v) k rest = record { typed = λ n. rw (k.0.typed n, rest.typed n) refl; spelled = λ n. rw (k.1 n, k.2 n, k.0.spelled n, rest.spelled n) refl }
 
--- A sequence may stand as a default if its components may.
+-- A SEQUENCE is allowed as a default if its components are.
 pub sequence_default : (t : Table) {ps qs : Parts} → AreValues t ps qs → AreDefaultParts t.root ps → AreDefaultParts t.additions qs → IsDefault (sequence_type t) (fields ps qs)
 unfolding sequence_type scope is_of is_normal
 sequence_default t {ps} {qs} v r a = record {

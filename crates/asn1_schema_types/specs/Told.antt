@@ -1,4 +1,4 @@
--- What a codec is told of a value under constraints of the program, and what a decoder is asked for.
+-- The records of a value under constraints of a Rust value, and the questions of a decoder.
 use Rattle.std.specs.Prelude.{ℕ, ℤ, Bool, List}
 use Rattle.asn1_model.specs.Schema.{Range, StringKind, Schema}
 use Rattle.asn1_model.specs.Schema.{any_count}
@@ -11,21 +11,21 @@ use Rattle.asn1_schema_presented.specs.Records.{Question, asks_whole, asks_bits,
 use Rattle.asn1_schema_presented.specs.Records.{asks_list, asks_bag}
 use Rattle.asn1_schema_presented.specs.Tables.{list_type}
 
--- A number, in a type of the program that holds these numbers (X.680 19).
+-- A number, in a user-defined type that holds these numbers (X.680 19).
 abbrev pub whole_under : Constraints → Range → ℤ → Record
 whole_under c held v = whole (bounds_of c.value) (held_of c.value held) v
 
 abbrev pub asks_whole_under : Constraints → Range → Question
 asks_whole_under c held = asks_whole (bounds_of c.value) (held_of c.value held)
 
--- Bits, in a type that holds so many (X.680 22).
+-- Bits, in a user-defined type that holds these counts (X.680 22).
 abbrev pub bits_under : Constraints → Bounded ℕ → List Bool → Record
 bits_under c held v = bits (sizes_of c.size) (counts_of held) v
 
 abbrev pub asks_bits_under : Constraints → Bounded ℕ → Question
 asks_bits_under c held = asks_bits (sizes_of c.size) (counts_of held)
 
--- Octets, in a type that holds so many (X.680 23).
+-- Octets, in a user-defined type that holds these counts (X.680 23).
 abbrev pub octets_under : Constraints → Bounded ℕ → List ℕ → Record
 octets_under c held v = octets (sizes_of c.size) (counts_of held) v
 
@@ -39,7 +39,7 @@ characters_under k c v = characters k (sizes_of c.size) (alphabet_of c.permitted
 abbrev pub asks_characters_under : StringKind → Constraints → Question
 asks_characters_under k c = asks_characters k (sizes_of c.size) (alphabet_of c.permitted_alphabet) any_count
 
--- The beginning of so many members, in a type that holds so many (X.680 26 and 28).
+-- The beginning of a list with a number of elements, in a user-defined type that holds these counts (X.680 26 and 28).
 abbrev pub list_begins_under : Constraints → Bounded ℕ → ℕ → Record
 list_begins_under c held n = list_begins (sizes_of c.size) (members_of held) n
 
@@ -52,6 +52,7 @@ bag_begins_under c held n = bag_begins (sizes_of c.size) (members_of held) n
 abbrev pub asks_bag_under : Constraints → Bounded ℕ → Question
 asks_bag_under c held = asks_bag (sizes_of c.size) (members_of held)
 
--- SEQUENCE OF a type under constraints of the program, in a type that holds so many members (X.680 26).
+-- SEQUENCE OF a type under constraints of a Rust value, in a user-defined type that holds these counts of elements
+-- (X.680 26).
 abbrev pub list_under : Constraints → Bounded ℕ → (ℕ → Schema) → ℕ → Schema
 list_under c held s = list_type (sizes_of c.size) (members_of held) s

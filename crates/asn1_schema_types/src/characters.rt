@@ -1,4 +1,4 @@
-//! The restricted character strings whose characters are octets (X.680 41).
+//! The restricted character strings with one octet per character (X.680 41).
 ghost use Rattle.std.specs.Prelude.{refl, [], ◌∷◌, None};
 ghost use Rattle.asn1_model.specs.Value.{text};
 ghost use Rattle.asn1_schema_constraints.specs.Terms.{no_constraint, character_string_under};

@@ -1,4 +1,4 @@
-//! The components of a sequence, one inside another, so that a type writes them in one call.
+//! The components of a SEQUENCE, nested one in another, so that a type encodes them in one call.
 ghost use Rattle.std.specs.Prelude.{refl};
 ghost use Rattle.asn1_model.specs.Value.{Parts, end, same};
 ghost use Rattle.asn1_model.specs.Schema.{required, optional, by_default};
@@ -14,7 +14,7 @@ use crate::Described;
 use crate::defaults::DefaultOf;
 use std::marker::PhantomData;
 
-/// Components of a sequence: what they are in ASN.1, and what they mean.
+/// Components of a SEQUENCE: their ASN.1 types, and the values they represent.
 pub trait ComponentsOf {
     /// The table of the components.
     ghost table: { Table };
@@ -25,21 +25,21 @@ pub trait ComponentsOf {
     /// The additions.
     ghost added: { Self → Parts };
 
-    /// The types of the components are lawful, if each default may stand there.
+    /// The types of the components are well-formed, if each default is allowed for its component.
     ghost typed: { AreDefaults table → AreTypes table };
 
     /// The parts are of these types.
     ghost valued: { AreDefaults table → (x : Self) → AreValues table (root x) (added x) };
 
-    /// Does nothing: what stands in front of it is data and no law (see `Described::described`).
+    /// Does nothing: the items before it are data, those after it are laws (see `Described::described`).
     fn described(&self) {}
 }
 
-/// The end of a sequence without an extension marker.
+/// The end of a SEQUENCE without an extension marker.
 #[derive(Drop)]
 pub struct End;
 
-/// A component that is always there, and those behind it.
+/// A mandatory component, and the components after it.
 #[derive(Drop)]
 pub struct Required<'a, T, R>(pub &'a T, pub R);
 
@@ -67,7 +67,7 @@ impl<'a, T: Described, R: ComponentsOf> ComponentsOf for Required<'a, T, R> {
     ghost valued = { λ d x. more_values T.tags (part_required T.typed (T.valued x.0.now)) (R.valued d x.1) };
 }
 
-/// A component that may be absent, and those behind it.
+/// An OPTIONAL component, and the components after it.
 #[derive(Drop)]
 pub struct Optional<'a, T, R>(pub &'a Option<T>, pub R);
 
@@ -83,7 +83,7 @@ impl<'a, T: Described, R: ComponentsOf> ComponentsOf for Optional<'a, T, R> {
     ghost valued = { λ d x. more_values T.tags (part_optional T.meaning x.0.now T.typed T.valued) (R.valued d x.1) };
 }
 
-/// A component that is always there, and those behind it, as they are read.
+/// A mandatory component, and the components after it, as they are decoded.
 #[derive(Drop)]
 pub struct RequiredComponent<T, R>(pub T, pub R);
 
@@ -99,7 +99,7 @@ impl<T: Described, R: ComponentsOf> ComponentsOf for RequiredComponent<T, R> {
     ghost valued = { λ d x. more_values T.tags (part_required T.typed (T.valued x.0)) (R.valued d x.1) };
 }
 
-/// A component that may be absent, and those behind it, as they are read.
+/// An OPTIONAL component, and the components after it, as they are decoded.
 #[derive(Drop)]
 pub struct OptionalComponent<T, R>(pub Option<T>, pub R);
 
@@ -115,7 +115,7 @@ impl<T: Described, R: ComponentsOf> ComponentsOf for OptionalComponent<T, R> {
     ghost valued = { λ d x. more_values T.tags (part_optional T.meaning x.0 T.typed T.valued) (R.valued d x.1) };
 }
 
-/// A component with a default, of which the marker says which one, and those behind it.
+/// A component with the DEFAULT that the marker type names, and the components after it.
 #[derive(Drop)]
 pub struct Defaulted<'a, V, T, R>(pub &'a T, pub PhantomData<V>, pub R);
 
@@ -132,7 +132,7 @@ impl<'a, V: DefaultOf<T>, T: Described, R: ComponentsOf> ComponentsOf for Defaul
         (T.valued x.0.now) d.0.is_value refl) (R.valued d.1 x.2) };
 }
 
-/// A component with a default, of which the marker says which one, and those behind it, as they are read.
+/// A component with the DEFAULT that the marker type names, and the components after it, as they are decoded.
 #[derive(Drop)]
 pub struct DefaultedComponent<V, T, R>(pub T, pub PhantomData<V>, pub R);
 

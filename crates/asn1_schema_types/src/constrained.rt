@@ -1,4 +1,4 @@
-//! INTEGER within a range of the type's own (X.680 19 and 51.4).
+//! INTEGER within a range that the type fixes (X.680 19 and 51.4).
 ghost use Rattle.std.specs.Prelude.{◌≡◌, refl, [], ◌∷◌, negsuc};
 ghost use Rattle.asn1_schema_constraints.specs.Terms.{meant, from_to};
 ghost use Rattle.asn1_schema_types.specs.Constrained.{to_root, root_between, met_root, within_range};
@@ -12,7 +12,7 @@ use asn1_schema_constraints::{Bounded, Constraints, Extensible, Value};
 use asn1_schema_tags::{Identifier, Tag, TagTree};
 use asn1_values_integers::{Ends, RangedInteger};
 
-// The constraint to what the root of a value constraint, where there is one, and the range from `start` to `end` admit.
+// The constraint to what the root of a value constraint, if there is one, and the range from `start` to `end` admit.
 fn limited(constraints: &Constraints, start: i64, end: i64) -> Constraints<'static>
     ensures { result ≡ to_root (met_root constraints.now.value (root_between start end)) }
 {
@@ -27,8 +27,8 @@ fn limited(constraints: &Constraints, start: i64, end: i64) -> Constraints<'stat
     }
 }
 
-/// Constraints, and then the range from `start` to `end`: what both admit. The extension marker of an earlier
-/// constraint is no extension marker of a later one (X.680 50.8), so there is none.
+/// Constraints followed by the range from `start` to `end`: what both admit. The result has no extension marker, as
+/// that of an earlier constraint does not carry over to a later one (X.680 50.8).
 #[tactic(auto, using(crate::proofs::Ranges::range_meant))]
 pub fn within_range(constraints: &Constraints, start: i64, end: i64) -> Constraints<'static>
     ensures { meant result ≡ within_range start end (meant constraints.now) }
@@ -36,14 +36,14 @@ pub fn within_range(constraints: &Constraints, start: i64, end: i64) -> Constrai
     limited(constraints, start, end)
 }
 
-/// The numbers from -1 to -1, of which an octet without a sign holds none.
+/// The range from -1 to -1, none of which an unsigned octet holds.
 pub fn no_number() -> Constraints<'static>
     ensures { meant result ≡ from_to (negsuc 0) (negsuc 0) }
 {
     between(-1, -1)
 }
 
-/// Further constraints do not widen the range. A range whose ends are the wrong way round has no number.
+/// Further constraints do not widen the range. A range whose start is above its end is empty.
 impl<R: Ends> Described for RangedInteger<R> {
     ghost tags = { record { class = 0; number = 2 } ∷ [] };
 

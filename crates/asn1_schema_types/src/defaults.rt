@@ -1,4 +1,4 @@
-//! Defaults of components (X.680 25).
+//! DEFAULT values of components (X.680 25).
 ghost use Rattle.std.specs.Prelude.{◌≡◌, IfOk};
 ghost use Rattle.asn1_model.specs.Value.{Value, same};
 ghost use Rattle.asn1_schema_presented.specs.Typed.{IsDefault};
@@ -6,19 +6,19 @@ ghost use Rattle.asn1_schema_presented.specs.Typed.{IsDefault};
 use crate::Described;
 use std::alloc::{AllocError, Global};
 
-/// The default of a component of this type: a marker type of the program's implements it.
+/// The DEFAULT of a component of this type; implemented by a user-defined marker type.
 pub trait DefaultOf<T: Described> {
     /// The default.
     ghost value: { Value };
 
-    /// The value of the program that means the default. The error is want of memory.
+    /// A value of the Rust type that represents the default. The only error is that memory runs out.
     fn default_value(alloc: Global) -> Result<T, AllocError>
         ensures { IfOk result (λ x. T.meaning x ≡ value) };
 
-    /// Whether a component means what the default is.
+    /// Whether a component represents the same value as the default.
     fn is_default(component: &T) -> bool
         ensures { result ≡ same (T.meaning component.now) value };
 
-    /// It may stand as a default of the type.
+    /// It is allowed as a default of the type.
     ghost lawful: { IsDefault T.schema value };
 }

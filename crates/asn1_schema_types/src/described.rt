@@ -1,4 +1,4 @@
-//! Types of the program, and what they are in ASN.1.
+//! User-defined types as ASN.1 types.
 ghost use Rattle.std.specs.Prelude.{◌≡◌, ℕ, List, true};
 ghost use Rattle.asn1_model.specs.Value.{Value};
 ghost use Rattle.asn1_model.specs.Schema.{Schema, Tag as ModelTag};
@@ -9,15 +9,15 @@ ghost use Rattle.asn1_schema_presented.specs.Tables.{IsType, IsValue};
 use asn1_schema_constraints::Constraints;
 use asn1_schema_tags::{Identifier, Tag, TagTree};
 
-/// What a type of the program is in ASN.1, and what its values mean.
+/// Which ASN.1 type a Rust type is, and which values its values represent.
 pub trait Described {
     /// The tags with which an encoding may begin.
     ghost tags: { List ModelTag };
 
-    /// What the constraints mean that the type has of its own.
+    /// The meaning of the constraints that belong to the type.
     ghost own: { Meant };
 
-    /// The type under constraints, unfolded to this many nested levels.
+    /// The type under constraints, unfolded to a given number of nested levels.
     ghost under: { Meant → ℕ → Schema };
 
     /// The type itself.
@@ -26,29 +26,29 @@ pub trait Described {
     /// It is the type under its own constraints.
     ghost is_own: { (n : ℕ) → schema n ≡ under own n };
 
-    /// The value that a value of the program means.
+    /// The ASN.1 value that a value of this type represents.
     ghost meaning: { Self → Value };
 
-    /// The type is a lawful one.
+    /// The type is well-formed (`is_lawful`).
     ghost typed: { IsType tags schema };
 
     /// Each value is one of the type.
     ghost valued: { (x : Self) → IsValue schema (meaning x) };
 
-    /// Each value is one of the type, whatever constraints it has: what they admit is asked when a value is written.
+    /// Each value is one of the type under any constraints: whether these admit it is checked when it is encoded.
     ghost valued_under: { (c : Meant) (x : Self) → IsValue (under c) (meaning x) };
 
-    /// Does nothing. What stands in front of a trait's last function is data, which clauses may name; what stands
-    /// behind it is a law, which they may not.
+    /// Does nothing. In a trait, the items before the last function are data, which clauses may name; those after it
+    /// are laws, which clauses may not name.
     fn described(&self) {}
 }
 
-/// A type of ASN.1: its tags, its name, and its constraints.
+/// An ASN.1 type: its tags, its name, and its constraints.
 pub trait AsnType: Described {
-    /// Its tag; `Tag::CHOICE` where it has none of its own.
+    /// Its tag; `Tag::CHOICE` for an untagged CHOICE.
     const TAG: Tag;
 
-    /// Its name, where it has one.
+    /// Its name, if it has one.
     const IDENTIFIER: Identifier = Identifier::EMPTY;
 
     /// Whether it is a CHOICE (X.680 29).
@@ -58,12 +58,12 @@ pub trait AsnType: Described {
     fn tag_tree() -> TagTree<'static>
         ensures { leaves result ≡ Self.tags };
 
-    /// The constraints that it has of its own.
+    /// The constraints that belong to the type.
     fn constraints() -> Constraints<'static>
         ensures { meant result ≡ Self.own };
 
-    /// Whether a value stands here. A value of a type always does: what may be absent is an `Option`, which is a
-    /// component and no type.
+    /// Whether a value is present: always true, as an optional component is an `Option`, which is not a type of its
+    /// own here.
     final fn is_present(&self) -> bool
     where
         Self: Sized,

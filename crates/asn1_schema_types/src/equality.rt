@@ -1,4 +1,4 @@
-//! Equality of a type of the program, and equality of what its values mean.
+//! Equality of Rust values, and equality of the values they represent.
 ghost use Rattle.std.specs.Prelude.{◌≡◌, refl};
 ghost use Rattle.std.specs.Cow.{cow_value, cow_slice_items, cow_str_bytes};
 ghost use Rattle.asn1_model.specs.Value.{same};
@@ -17,11 +17,11 @@ use std::alloc::Global;
 use std::borrow::{Cow, CowSlice, CowStr};
 use std::marker::PhantomData;
 
-/// A type of the program whose equality is that of what its values mean.
+/// A type whose `PartialEq` is equality of the ASN.1 values represented.
 pub trait EqualByMeaning: Described + PartialEq {
     ghost agrees: { (x y : Self) → Self.PartialEq.eq x y ≡ same (Self.Described.meaning x) (Self.Described.meaning y) };
 
-    /// Whether two values mean the same.
+    /// Whether two values represent the same value.
     final fn means_same(&self, other: &Self) -> bool
     where
         Self: Sized,

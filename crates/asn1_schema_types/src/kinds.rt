@@ -1,4 +1,4 @@
-//! The kinds of restricted character strings whose characters are octets (X.680 41).
+//! The kinds of restricted character strings with one octet per character (X.680 41).
 ghost use Rattle.std.specs.Prelude.{◌≡◌, ℕ, refl};
 ghost use Rattle.asn1_schema_tags.specs.Tags.{tag_of};
 ghost use Rattle.asn1_schema_tags.specs.declared.tags.Class.{Class};
@@ -9,7 +9,7 @@ use asn1_values_strings::{
     CharacterKind, General, Graphic, Ia5, Numeric, Printable, Teletex, Visible,
 };
 
-/// A kind of character string whose characters are octets, with its tag and its name (X.680 41).
+/// A kind of character string with one octet per character, with its tag and its name (X.680 41).
 pub trait TaggedKind: CharacterKind {
     /// The tag of its strings.
     const TAG: Tag;
@@ -23,7 +23,7 @@ pub trait TaggedKind: CharacterKind {
     /// The number of the tag, which is of the universal class.
     ghost number: { ℕ };
 
-    /// Does nothing: what stands in front of it is data, and what stands behind it a law (see `Described::described`).
+    /// Does nothing: the items before it are data, those after it are laws (see `Described::described`).
     fn tagged(&self) {}
 
     /// The tag has this number.

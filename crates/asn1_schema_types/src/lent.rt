@@ -1,4 +1,4 @@
-//! Values that are lent, or lent until they have to be owned.
+//! Borrowed values, and values borrowed until they have to be owned.
 ghost use Rattle.std.specs.Prelude.{◌≡◌, refl, [], ◌∷◌, None};
 ghost use Rattle.std.specs.Cow.{cow_value, cow_slice_items, cow_str_bytes};
 ghost use Rattle.asn1_model.specs.Value.{members, text, bit_list, arcs};

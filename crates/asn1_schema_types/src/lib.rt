@@ -1,5 +1,5 @@
-//! Types of the program: what each is in ASN.1, and what its values mean. The kinds of character strings with their
-//! tags and names (X.680 41), and the components of sequences with their defaults (X.680 25).
+//! Rust types as ASN.1 types: which type each is, and which values its values represent. The kinds of character
+//! strings with their tags and names (X.680 41), and the components of SEQUENCE types with their defaults (X.680 25).
 #![tactic(auto)]
 
 pub mod bmp;

@@ -1,4 +1,4 @@
-//! Markers of types.
+//! Marker types.
 ghost use Rattle.std.specs.Prelude.{refl, [], ◌∷◌};
 ghost use Rattle.asn1_model.specs.Value.{nothing};
 ghost use Rattle.asn1_model.specs.Schema.{null};

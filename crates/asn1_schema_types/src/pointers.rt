@@ -1,4 +1,4 @@
-//! Values behind pointers.
+//! Values held by pointers.
 use crate::described::{AsnType, Described};
 use asn1_schema_constraints::Constraints;
 use asn1_schema_tags::{Identifier, Tag, TagTree};

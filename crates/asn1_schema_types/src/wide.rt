@@ -1,5 +1,5 @@
-//! INTEGER (X.680 19) in the native types of 128 bits and of the width of an address, each with its own range. A
-//! `u128` has a least number and no greatest one: bounds have 128 bits and a sign.
+//! INTEGER (X.680 19) in the native types of 128 bits and of the pointer width, each with its own range. A `u128` has
+//! a lower bound and no upper bound: bounds are signed 128-bit numbers.
 ghost use Rattle.std.specs.Prelude.{refl, [], ◌∷◌, Some, None, false, pos, negsuc, ◌^◌, ◌-◌};
 ghost use Rattle.asn1_model.specs.Value.{number};
 ghost use Rattle.asn1_schema_constraints.specs.Terms.{from_to, bounded_by, integer_under};

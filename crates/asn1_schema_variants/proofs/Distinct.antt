@@ -1,4 +1,4 @@
--- Items that differ in what each has.
+-- Items that are distinct in some property.
 use Rattle.std.proofs.Common.{◌≡◌, ◌∙◌, refl, sym, ap, ℕ, zero, suc, ℤ, Bool, true, false, not, List, [], ◌∷◌, map, slice_get, Some}
 use Rattle.asn1_model.specs.Value.{same_number}
 use Rattle.std.specs.List.{list_all}
@@ -11,7 +11,7 @@ module _ {A X : Type 0} (f : A → X) (same : X → X → Bool) (self : (x : X) 
   each_at p (x ∷ xs) zero y a e = let s : x ≡ y = cc in ap (λ z. p (f z)) (sym s) ∙ (both_true (p (f x)) (list_all p (map f xs)) a).0
   each_at p (x ∷ xs) (suc i) y a e = each_at p xs i y (both_true (p (f x)) (list_all p (map f xs)) a).1 e
 
-  -- the first is none of those behind it
+  -- the first is none of those after it
   none_behind : (x y : A) (xs : List A) (i : ℕ) → list_all (λ z. not (same (f x) z)) (map f xs) ≡ true → slice_get xs i ≡ Some y → f x ≡ f y → ⊥
   none_behind x y xs i a e h =
       let n : not (same (f x) (f y)) ≡ true = each_at (λ z. not (same (f x) z)) xs i y a e in
@@ -32,11 +32,11 @@ module _ {A X : Type 0} (f : A → X) (same : X → X → Bool) (self : (x : X) 
   pub one_by : (xs : List A) → ((x : A) → (i : ℕ) × (slice_get xs i ≡ Some x)) → are_distinct same (map f xs) ≡ true → (x y : A) → f x ≡ f y → x ≡ y
   one_by xs k d x y h = same_place xs (k x).0 (k y).0 x y d (k x).1 (k y).1 h
 
--- two items with one number are the same item, where all items are listed and no number repeats
+-- two items with the same number are the same item, if all items are listed and all numbers are distinct
 pub one_number_of : {A : Type 0} (f : A → ℤ) (xs : List A) → ((x : A) → (i : ℕ) × (slice_get xs i ≡ Some x)) → are_distinct same_number (map f xs) ≡ true → (x y : A) → f x ≡ f y → x ≡ y
 one_number_of f = one_by f same_number same_number_self
 
--- an element of distinct ones has one place
+-- an element of distinct ones has one index
 module _ {X : Type 0} (same : X → X → Bool) (self : (x : X) → same x x ≡ true) where
   each_in : (p : X → Bool) (xs : List X) (i : ℕ) (y : X) → list_all p xs ≡ true → slice_get xs i ≡ Some y → p y ≡ true
   each_in p [] i y a e = cc

@@ -30,7 +30,7 @@ unnamed_at f w [] i x u e h = cc
 unnamed_at f w (y ∷ ys) zero x u e h = let s : y ≡ x = cc in u.0 (ap f s ∙ h)
 unnamed_at f w (y ∷ ys) (suc i) x u e h = unnamed_at f w ys i x u.1 e h
 
--- ---- items of which no two have one number
+-- ---- items with distinct numbers
 module _ {A : Type 0} (number : A → ℤ) (one : (x y : A) → number x ≡ number y → x ≡ y) where
   this_one : (o : Option A) (x : A) → option_map number o ≡ Some (number x) → o ≡ Some x
   this_one None x e = cc
@@ -43,12 +43,12 @@ module _ {A : Type 0} (number : A → ℤ) (one : (x y : A) → number x ≡ num
   none_named name w roots e others false i x p xs m u k h = unnamed_at name w xs i x u (item_at xs roots x i m p) h
   none_named name w roots e others true i x p xs m u k h = let d = k p.1 in unnamed_at name w d.0 i x d.2 (item_at d.0 others x i d.1 p.2) h
 
--- where no two have one name, what is found by the name of one is that one
+-- if all names are distinct, the item found by the name of an item is that item
 pub name_again : {A : Type 0} (name : A → List ℕ) → ((x y : A) → name x ≡ name y → x ≡ y) → (w : List ℕ) (o : Option A) → MatchOption o ((y : A) → name y ≡ w → ⊥) (λ y. name y ≡ w) → (x : A) → name x ≡ w → o ≡ Some x
 name_again name one w None k x h = absurd (k x h)
 name_again name one w (Some y) k x h = ap (λ (z : _). Some z) (one y x (k ∙ sym h))
 
--- what is said where there is no value
+-- the statement where there is no value
 pub none_so : {A P : Type 0} (Q : A → Type 0) (o : Option A) → o ≡ None → P → MatchOption o P Q
 none_so {P = P} Q o e p = subst (λ x. MatchOption x P Q) (sym e) p
 
@@ -66,19 +66,19 @@ behind : {A : Type 0} (xs ys : List A) (i : ℕ) (x : A) → slice_get ys i ≡ 
 behind [] ys i x e = (i, e)
 behind (z ∷ zs) ys i x e = let r = behind zs ys i x e in (suc r.0, r.1)
 
--- the number of an item has a place among all numbers
+-- the number of an item has an index among all numbers
 placed : (roots : List ℤ) (e : Bool) (others : List ℤ) (v : ℤ) (b : Bool) (i : ℕ) → are_distinct same_number (roots ++ others) ≡ true → IsPlaced roots e others v b i → (k : ℕ) × (item_place v (roots ++ others) ≡ Some k)
 placed roots e others v false i d p = (i, place_at v (roots ++ others) i d (in_front roots others i v (place_back v roots i p)))
 placed roots e others v true i d p = let r = behind roots others i v (place_back v others i p.2) in (r.0, place_at v (roots ++ others) r.0 d r.1)
 
--- its name stands there
+-- its name is at that index
 name_at : (numbers : List ℤ) (names : List (List ℕ)) (v : ℤ) (i : ℕ) → length names ≡ length numbers → item_place v numbers ≡ Some i → slice_get names i ≡ Some (item_name numbers names v)
 name_at numbers names v i e p =
     let s : i < length numbers = slice_get_within numbers i v (place_back v numbers i p) in
     let g : slice_get names i ≡ Some (get_or names i []) = slice_get-get_or names i [] (omega (arith, e, s)) in
     rw (p, item_name) g
 
--- so two items with one name are the same item
+-- so two items with the same name are the same item
 pub one_named : {A : Type 0} (number : A → ℤ) → ((x y : A) → number x ≡ number y → x ≡ y) → (roots : List ℤ) (e : Bool) (others : List ℤ) (names : List (List ℕ)) → are_distinct same_number (roots ++ others) ≡ true → (length names ≡ length (roots ++ others)) × (are_distinct bytes_eq names ≡ true) → ((x : A) → (b : Bool) × (i : ℕ) × IsPlaced roots e others (number x) b i) → (x y : A) → item_name (roots ++ others) names (number x) ≡ item_name (roots ++ others) names (number y) → x ≡ y
 one_named number one roots e others names d n listed x y h =
     let a = listed x in

@@ -1,4 +1,4 @@
--- The places of items.
+-- The indices of items.
 use Rattle.std.proofs.Common.{◌≡◌, ◌∙◌, refl, sym, ap, ℕ, zero, suc, ◌+◌, ◌<◌, ◌≤◌, ℤ, pos, negsuc, Bool, true, false, cond, not, ◌&&◌, List, [], ◌∷◌, ◌++◌, length, map, drop, get_or, slice_get, Option, Some, None, option_map, arith, eqb-true, eq-eqb, Bor, MatchOption, IfSome}
 use Rattle.std.specs.Option.{option_copied}
 use Rattle.std.specs.List.{HoldsAt}
@@ -29,7 +29,7 @@ not_true : (b : Bool) → not b ≡ true → b ≡ false
 not_true true e = cc
 not_true false e = refl
 
--- what is distinct in two lists joined is so in each
+-- elements distinct in two lists joined are distinct in each
 pub distinct_before : (xs ys : List ℤ) → are_distinct same_number (xs ++ ys) ≡ true → are_distinct same_number xs ≡ true
 distinct_before [] ys e = refl
 distinct_before (x ∷ xs) ys e =
@@ -58,7 +58,7 @@ other x v e = go (same_number v x) refl where
   go false h = h
   go true h = let s : v ≡ x = same_number_is v x h in let z : true ≡ false = sym (same_number_self x) ∙ ap (λ y. same_number x y) (sym s) ∙ e in cc
 
--- a number at a place of distinct ones has that place
+-- a number at an index of distinct ones has that index
 pub place_at : (v : ℤ) (xs : List ℤ) (i : ℕ) → are_distinct same_number xs ≡ true → slice_get xs i ≡ Some v → item_place v xs ≡ Some i
 place_at v [] i d e = cc
 place_at v (x ∷ xs) zero d e = let s : x ≡ v = cc in rw (s, same_number_self v) refl
@@ -66,14 +66,14 @@ place_at v (x ∷ xs) (suc i) d e =
     let h = both_true (list_all (λ y. not (same_number x y)) xs) (are_distinct same_number xs) d in
     rw (other x v (not_true (same_number x v) (each_at (λ y. not (same_number x y)) xs i v h.0 e)), place_at v xs i h.1 e) refl
 
--- and it stands nowhere before
+-- and it does not occur before
 pub not_before : (v : ℤ) (xs ys : List ℤ) (i : ℕ) → are_distinct same_number (xs ++ ys) ≡ true → slice_get ys i ≡ Some v → item_place v xs ≡ None
 not_before v [] ys i d e = refl
 not_before v (x ∷ xs) ys i d e =
     let h = both_true (list_all (λ y. not (same_number x y)) (xs ++ ys)) (are_distinct same_number (xs ++ ys)) d in
     rw (other x v (not_true (same_number x v) (each_at (λ y. not (same_number x y)) ys i v (each_behind (λ y. not (same_number x y)) xs ys h.0) e)), not_before v xs ys i h.1 e) refl
 
--- at the place of a number stands that number
+-- the number is at its index
 raised : (o : Option ℕ) (i : ℕ) → option_map suc o ≡ Some i → (j : ℕ) × (o ≡ Some j) × (suc j ≡ i)
 raised None i h = cc
 raised (Some j) i h = (j, refl, cc)
@@ -86,7 +86,7 @@ pub place_back : (v : ℤ) (xs : List ℤ) (i : ℕ) → item_place v xs ≡ Som
 place_back v [] i e = cc
 place_back v (x ∷ xs) i e = back_step v x xs i (λ j h. place_back v xs j h) (same_number v x) refl e
 
--- ---- what an item's place tells
+-- ---- what an item's index implies
 pub missed : (o : Option ℕ) (m n : ℤ) (xs ys : List ℤ) → o ≡ None → o ≡ item_place m xs → m ≡ n → xs ≡ ys → item_place n ys ≡ None
 missed o m n xs ys a b c d = rw (sym c, sym d) (sym b ∙ a)
 
@@ -125,7 +125,7 @@ module _ {A : Type 0} (f : A → ℤ) (xs : List A) where
   in_others roots e others i None h d k = λ t. past others i h.1 k
   in_others roots e others i (Some x) h d k = (not_before (f x) roots others i d (there others i x h.1 k), h.0, place_at (f x) others i (distinct_behind roots others d) (there others i x h.1 k))
 
--- where no two have one number, what is found by the number of one is that one
+-- if all numbers are distinct, the item found by the number of an item is that item
 pub number_again : {A : Type 0} (f : A → ℤ) → ((x y : A) → f x ≡ f y → x ≡ y) → (v : ℤ) (o : Option A) → MatchOption o ⊥ (λ y. f y ≡ v) → (x : A) → f x ≡ v → o ≡ Some x
 number_again f one v None k x h = absurd k
 number_again f one v (Some y) k x h = ap (λ (z : _). Some z) (one y x (k ∙ sym h))

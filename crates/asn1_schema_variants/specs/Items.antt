@@ -2,17 +2,17 @@
 use Rattle.std.specs.Prelude.{◌≡◌, ℕ, ℤ, Bool, true, false, List, [], ◌∷◌, Some, None, get_or}
 use Rattle.asn1_model.specs.Normal.{item_place}
 
--- Where the number of an item stands: among the root items, or, if it is an added one, among those behind the extension
--- marker and not in the root (X.680 20.4 to 20.6).
+-- Where the number of an item is: at an index among the root items, or, if the item is an added one, among those after
+-- the extension marker and not in the root (X.680 20.4 to 20.6).
 abbrev pub IsPlaced : List ℤ → Bool → List ℤ → ℤ → Bool → ℕ → Type 0
 IsPlaced roots e others v false i = item_place v roots ≡ Some i
 IsPlaced roots e others v true i = (item_place v roots ≡ None) × (e ≡ true) × (item_place v others ≡ Some i)
 
--- The number stands in no table that the type has.
+-- The number is in no table of the type.
 abbrev pub IsNone : List ℤ → Bool → List ℤ → ℤ → Type 0
 IsNone roots e others v = (item_place v roots ≡ None) × (e ≡ true → item_place v others ≡ None)
 
--- The name of the item of a number (X.680 20.1): the names stand in the order of the numbers.
+-- The name of the item with a number (X.680 20.1): the names are in the order of the numbers.
 abbrev pub item_name : List ℤ → List (List ℕ) → ℤ → List ℕ
 item_name numbers names v = elim (item_place v numbers) [ None ↦ [] | Some i ↦ get_or names i [] ]
 

@@ -1,18 +1,18 @@
 //! Which alternative of a choice is chosen.
 ghost use Rattle.std.specs.Prelude.{◌≡◌, true, false};
 
-/// The chosen alternative of a CHOICE (X.680 29): whether it stands behind the extension marker, and its place
-/// among the root alternatives in the ascending order of their tags, or among the added ones in their order.
+/// The chosen alternative of a CHOICE (X.680 29): whether it is an extension addition, and its choice index. The index
+/// is among the root alternatives in ascending order of their tags, or among the added ones in their order.
 #[derive(Clone, Copy, Debug, PartialEq, Eq)]
 pub struct Chosen {
-    /// Whether it is an added alternative.
+    /// Whether it is an extension addition.
     pub added: bool,
-    /// Its place among those of the root, or among the added ones, from 0 on.
+    /// Its index among the root alternatives, or among the added ones, from 0.
     pub place: usize,
 }
 
 impl Chosen {
-    /// The alternative of the root at a place.
+    /// The root alternative with this choice index.
     pub fn root(place: usize) -> Self
         ensures { result ≡ record { added = false; place = place } }
     {
@@ -22,7 +22,7 @@ impl Chosen {
         }
     }
 
-    /// The added alternative at a place.
+    /// The added alternative with this index.
     pub fn addition(place: usize) -> Self
         ensures { result ≡ record { added = true; place = place } }
     {

@@ -1,4 +1,4 @@
-//! Enumerations.
+//! ENUMERATED types.
 ghost use Rattle.std.specs.Prelude.{◌≡◌, ℕ, ℤ, Bool, true, false, cond, List};
 ghost use Rattle.std.specs.Prelude.{◌++◌, length, map, min, ◌+◌, ◌≤◌, Some, MatchOption};
 ghost use Rattle.std.specs.Str.{bytes_eq};
@@ -23,17 +23,17 @@ pub trait Enumerated: Copy {
     /// The number of an item.
     ghost number: { Self → ℤ };
 
-    /// The names of the items, in octets of UTF-8: those of the root items, and behind them those of the added ones, in
-    /// the order of their numbers.
+    /// The names of the items in UTF-8: those of the root items, then those of the added ones, in the order of their
+    /// numbers.
     ghost names: { List (List ℕ) };
 
-    /// The root items, in the ascending order of their numbers.
+    /// The root items, in ascending order of their numbers.
     fn variants<'a>() -> &'a [Self]
     where
         Self: 'a,
         ensures { map number result.now ≡ roots };
 
-    /// The added items, in the ascending order of their numbers, or `None` where there is no extension marker.
+    /// The added items, in ascending order of their numbers, or `None` if there is no extension marker.
     fn extended_variants<'a>() -> Option<&'a [Self]>
     where
         Self: 'a,
@@ -54,13 +54,13 @@ pub trait Enumerated: Copy {
     /// Each number has a name, and no name occurs twice (X.680 20.1).
     ghost named: { (length names ≡ length (roots ++ additions)) × (are_distinct bytes_eq names ≡ true) };
 
-    /// No two items have one number.
+    /// No two items have the same number.
     ghost one_number: { (x y : Self) → number x ≡ number y → x ≡ y };
 
     /// Each value is an item of the type.
     ghost listed: { (x : Self) → (added : Bool) × (i : ℕ) × IsPlaced roots extensible additions (number x) added i };
 
-    /// How many root items there are.
+    /// The number of root items.
     final fn variance() -> usize
     where
         Self: Sized,
@@ -69,7 +69,7 @@ pub trait Enumerated: Copy {
         Self::variants().len()
     }
 
-    /// How many added items there are.
+    /// The number of added items.
     final fn extended_variance() -> usize
     where
         Self: Sized,
@@ -81,7 +81,7 @@ pub trait Enumerated: Copy {
         }
     }
 
-    /// How many items there are, those of the root and the added ones, and `usize::MAX` where there are more than that.
+    /// The number of all items, root and added; `usize::MAX` if it does not fit.
     final fn complete_variance() -> usize
     where
         Self: Sized,
@@ -90,8 +90,8 @@ pub trait Enumerated: Copy {
         Self::variance().saturating_add(Self::extended_variance())
     }
 
-    /// Where the item stands: in the root or behind the extension marker, and its place there, in the ascending
-    /// order of the numbers (X.691 14.1 and 14.2).
+    /// Whether the item is an extension addition, and its enumeration index in the root or among the additions, in
+    /// ascending order of the numbers (X.691 14.1 and 14.2).
     final fn item_place(&self) -> Chosen
     where
         Self: Sized,
@@ -109,7 +109,7 @@ pub trait Enumerated: Copy {
         unreachable!()
     }
 
-    /// Whether the item stands behind the extension marker.
+    /// Whether the item is an extension addition.
     final fn is_extended_variant(&self) -> bool
     where
         Self: Sized,
@@ -118,7 +118,7 @@ pub trait Enumerated: Copy {
         self.item_place().added
     }
 
-    /// The place of the item among those of its table, from 0 on.
+    /// The enumeration index of the item: in the root, or among the additions, from 0.
     final fn enumeration_index(&self) -> usize
     where
         Self: Sized,
@@ -127,7 +127,7 @@ pub trait Enumerated: Copy {
         self.item_place().place
     }
 
-    /// The root item at a place, if there is one.
+    /// The root item with this enumeration index, if there is one.
     final fn from_enumeration_index(index: usize) -> Option<Self>
     where
         Self: Sized,
@@ -137,7 +137,7 @@ pub trait Enumerated: Copy {
         Self::variants().get(index).copied()
     }
 
-    /// The added item at a place, if there is one.
+    /// The added item with this index, if there is one.
     final fn from_extended_enumeration_index(index: usize) -> Option<Self>
     where
         Self: Sized,
@@ -147,7 +147,7 @@ pub trait Enumerated: Copy {
         Self::extended_variants()?.get(index).copied()
     }
 
-    /// The item of a number, if there is one. So an item's number gives that item back.
+    /// The item with this number, if there is one; it is the only one.
     final fn from_discriminant(wanted: isize) -> Option<Self>
     where
         Self: Sized,
@@ -162,7 +162,7 @@ pub trait Enumerated: Copy {
         items.get(place).copied()
     }
 
-    /// The item of a name, if there is one. So an item's name gives that item back.
+    /// The item with this name, if there is one; it is the only one.
     final fn from_identifier(wanted: &str) -> Option<Self>
     where
         Self: Sized,
@@ -178,7 +178,7 @@ pub trait Enumerated: Copy {
     }
 }
 
-/// The place of the first item of a number.
+/// The index of the first item with a number.
 fn place_of<T: Enumerated>(items: &[T], number: isize) -> Option<usize>
     ensures { result ≡ item_place number (map T.number items.now) }
 {
@@ -190,7 +190,7 @@ fn place_of<T: Enumerated>(items: &[T], number: isize) -> Option<usize>
     None
 }
 
-/// The first of some items that has a name.
+/// The first item with a name.
 fn named<T: Enumerated>(items: &[T], wanted: &str) -> Option<T>
     ensures { MatchOption result
         (IsUnnamed (λ x. item_name (T.roots ++ T.additions) T.names (T.number x)) wanted.now items.now)

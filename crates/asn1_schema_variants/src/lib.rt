@@ -1,4 +1,4 @@
-//! Which alternative of a choice is chosen, and the items of enumerations.
+//! The chosen alternatives of CHOICE types, and the items of ENUMERATED types.
 #![tactic(auto)]
 
 pub mod chosen;

@@ -31,11 +31,11 @@ fewest-le (c ∷ cs) a h =
     let n = how_many-singles (c ∷ cs) in
     width-le (how_many (singles (c ∷ cs)) - 1) 32 (omega arith)
 
--- the code of a character that stands there
+-- the code of a character of the alphabet
 pub code_of-get_or : (cs : List ℕ) (w i : ℕ) → Ascends cs → i < length cs → code_of (coded cs w) (get_or cs i 0) ≡ Some (cond (ltb (largest (singles cs)) (2 ^ w)) (get_or cs i 0) i)
 code_of-get_or cs w i a h = rw (place_of-get_or cs i a h) refl
 
--- one that stands nowhere has none
+-- other characters have none
 pub code_of-none : (cs : List ℕ) (w x : ℕ) → ((i : ℕ) → i < length cs → get_or cs i 0 ≢ x) → code_of (coded cs w) x ≡ None
 code_of-none cs w x h = rw (place_of-none cs x h) refl
 
@@ -44,7 +44,7 @@ pub code-lt : (cs : List ℕ) (w i : ℕ) (t : Bool) → Ascends cs → length c
 code-lt cs w i true a e t h = let l = le-largest cs i a h in let m = ltb-true _ _ t in omega arith
 code-lt cs w i false a e t h = omega arith
 
--- a character with that code stands at a place, and the code is made of both
+-- a character with that code has an index, and the code is computed from both
 pub record HasCode (cs : List ℕ) (w x k : ℕ) : Type 0 where
   pub place : ℕ
   pub stands : StandsAt cs x place
@@ -57,7 +57,7 @@ has_code cs w x k e = at (place_of x (singles cs)) refl e
     at None p q = cc
     at (Some i) p q = record { place = i; stands = stands_at cs x i p; is = cc }
 
--- no two characters have one code
+-- no two characters have the same code
 pub same_code : (cs : List ℕ) (w x y k : ℕ) → code_of (coded cs w) x ≡ Some k → code_of (coded cs w) y ≡ Some k → x ≡ y
 same_code cs w x y k e f = go (ltb (largest (singles cs)) (2 ^ w)) (has_code cs w x k e).is (has_code cs w y k f).is
   where
@@ -71,7 +71,7 @@ narrow cs w x k a e h =
     let q : cond (ltb (largest (singles cs)) (2 ^ w)) (get_or cs p.place 0) p.place ≡ k = rw p.stands.is p.is in
     subst (λ n. n < 2 ^ w) q (code-lt cs w p.place (ltb (largest (singles cs)) (2 ^ w)) a e refl p.stands.within)
 
--- a place is at most the character that stands there
+-- an index is at most the character at that index
 pub place_of-le : (cs : List ℕ) (x i : ℕ) → Ascends cs → place_of x (singles cs) ≡ Some i → i ≤ x
 place_of-le cs x i a h =
     let s = stands_at cs x i h in
@@ -79,11 +79,11 @@ place_of-le cs x i a h =
     let e = s.is in
     omega arith
 
--- where codes are places, the character at a place has it as its code
+-- where codes are indices, the character at an index has it as its code
 pub code_of-place : (cs : List ℕ) (w i : ℕ) → Ascends cs → ltb (largest (singles cs)) (2 ^ w) ≡ false → i < length cs → code_of (coded cs w) (get_or cs i 0) ≡ Some i
 code_of-place cs w i a t h = rw (place_of-get_or cs i a h, t) refl
 
--- and there is no code past the last place
+-- and there is no code past the last index
 pub code_of-past : (cs : List ℕ) (w x i : ℕ) → ltb (largest (singles cs)) (2 ^ w) ≡ false → length cs ≤ i → code_of (coded cs w) x ≢ Some i
 code_of-past cs w x i t h e =
     let p = has_code cs w x i e in
@@ -91,7 +91,7 @@ code_of-past cs w x i t h e =
     let l = p.stands.within in
     omega arith
 
--- by number: the comparison that is made in 64 bits
+-- codes that are values: the comparison that is made in 64 bits
 pub is_by_number : (cs : List ℕ) (n w : ℕ) → w ≤ 32 → n ≡ largest (singles cs) → ltb n (1 * 2 ^ w % 2 ^ 64) ≡ ltb (largest (singles cs)) (2 ^ w)
 is_by_number cs n w h e = rw (one_shl w 64 (omega arith), e) refl
 
@@ -106,7 +106,7 @@ largest-last (c ∷ cs) i h = let e : i ≡ length cs = omega arith in rw (e, la
 le_or_lt : (i k : ℕ) → (i ≤ k) ⊎ (k < i)
 le_or_lt i k = grind arith
 
--- what a binary search found is the place
+-- what a binary search finds is the index
 pub found_place : (cs : List ℕ) (x : ℕ) (r : Result ℕ ℕ) → Ascends cs → MatchResult r (λ i. (i < length cs) × (get_or cs i 0 ≡ x)) (λ i. (i ≤ length cs) × ((k : ℕ) → k < i → get_or cs k 0 < x) × ((k : ℕ) → i ≤ k → k < length cs → x < get_or cs k 0)) → result_ok r ≡ place_of x (singles cs)
 found_place cs x (Ok i) a h = rw (← h.1, place_of-get_or cs i a h.0) refl
 found_place cs x (Err i) a h = rw (place_of-none cs x (λ k l e. nowhere k l e (le_or_lt i k))) refl

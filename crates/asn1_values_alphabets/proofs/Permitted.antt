@@ -22,7 +22,7 @@ list_all-push p (x ∷ cs) c h k = by_test (p x) h (λ i. list_all-push p cs c i
     by_test true i r = r i
     by_test false i r = cc
 
--- none is refused where all are permitted, and the other way round
+-- no character is rejected exactly if all are permitted
 pub list_all-find : (p : ℕ → Bool) (cs : List ℕ) → find (λ c. not (p c)) cs ≡ None → list_all p cs ≡ true
 list_all-find p [] h = refl
 list_all-find p (x ∷ cs) h = by_test (p x) h (λ i. list_all-find p cs i)
@@ -39,7 +39,7 @@ find-list_all p (x ∷ cs) h = by_test (p x) h (λ i. find-list_all p cs i)
     by_test true i r = r i
     by_test false i r = cc
 
--- the first refused behind permitted characters
+-- the first rejected character after permitted ones
 pub find-append : (p : ℕ → Bool) (cs ds : List ℕ) → list_all p cs ≡ true → find (λ c. not (p c)) (cs ++ ds) ≡ find (λ c. not (p c)) ds
 find-append p [] ds h = refl
 find-append p (x ∷ cs) ds h = by_test (p x) h (λ i. find-append p cs ds i)
@@ -48,7 +48,7 @@ find-append p (x ∷ cs) ds h = by_test (p x) h (λ i. find-append p cs ds i)
     by_test true i r = r i
     by_test false i r = cc
 
--- the refusal of a character is that of all where it is the first refused
+-- the error for a character is that for all if it is the first rejected one
 pub refused_by_first : (k : StringKind) (refused : ℕ → InvalidRestrictedString) (c : ℕ) (cs all : List ℕ) (e : PermittedAlphabetError) → first_refused k (c ∷ cs) ≡ first_refused k all → permits_all k all ≡ true → IsRefusalOf k refused (c ∷ []) e → IsRefusalOf k refused all e
 refused_by_first k refused c cs all Other h p r = r
 refused_by_first k refused c cs all InvalidData h p r = r
@@ -61,15 +61,15 @@ refused_by_first k refused c cs all (OutsideAlphabet o) h p r = rw (← h) (by_t
     by_test true i = cc
     by_test false i = i
 
--- a permitted character is passed over
+-- a permitted character is skipped
 pub first_refused-permitted : (k : StringKind) (c : ℕ) (cs : List ℕ) → permits k c ≡ true → first_refused k (c ∷ cs) ≡ first_refused k cs
 first_refused-permitted k c cs h = rw h refl
 
--- the turn of a character
+-- the next character
 pub turn_of_text : (k : StringKind) (all : List ℕ) (n c : ℕ) → n < length all → c ≡ get_or all n c → first_refused k (drop n all) ≡ first_refused k (c ∷ drop (n + 1) all)
 turn_of_text k all n c h e = at_drop_more (first_refused k) all n c h ∙ ap (λ x. first_refused k (x ∷ drop (n + 1) all)) (sym e)
 
--- permitted characters below 128 are a text in ASCII
+-- permitted characters below 128 are an ASCII text
 pub IsAscii-permitted : (p : ℕ → Bool) (cs : List ℕ) → ((c : ℕ) → p c ≡ true → c < 128) → list_all p cs ≡ true → IsAscii cs
 IsAscii-permitted p cs a h = IsAscii-from_all cs (below p cs a h)
   where
@@ -81,12 +81,12 @@ IsAscii-permitted p cs a h = IsAscii-from_all cs (below p cs a h)
         by_test true e i r = All-cons (λ b. b < 128) x cs (a x e) (r i)
         by_test false e i r = cc
 
--- a result whose error cannot be
+-- a result whose error is impossible
 pub ok_unless : {T E : Type 0} (r : Result T E) (P : T → Type 0) (Q : E → Type 0) → MatchResult r P Q → ((e : E) → Q e → ⊥) → IsOk r
 ok_unless (Ok x) P Q h never = refl
 ok_unless (Err e) P Q h never = absurd (never e h)
 
--- what is refused for a character is refused
+-- an error for a character is an error for all
 pub refused_outside : (k : StringKind) (refused : ℕ → InvalidRestrictedString) (cs : List ℕ) (e : PermittedAlphabetError) → IsOutside k refused cs e → IsRefusalOf k refused cs e
 refused_outside k refused cs Other r = r
 refused_outside k refused cs InvalidData r = r

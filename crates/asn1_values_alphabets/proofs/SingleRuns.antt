@@ -1,4 +1,4 @@
--- Places among runs of one character.
+-- Indices among runs of one character.
 use Rattle.std.proofs.Common.{◌≡◌, ◌≢◌, ℕ, zero, suc, ◌+◌, ◌-◌, ◌<◌, ◌≤◌, Bool, true, false, cond, List, [], ◌∷◌, length, get_or, Option, Some, None, option_map, ◌⊎◌, inl, inr, refl, sym, subst, arith, ap}
 use Rattle.std.proofs.lemmas.Bool.Decides.{nat_tests}
 use Rattle.std.specs.List.Sorted.{IsStrictlyIncreasing}
@@ -29,7 +29,7 @@ pub how_many-singles : (cs : List ℕ) → how_many (singles cs) ≡ length cs
 how_many-singles [] = refl
 how_many-singles (c ∷ cs) = omega (arith, how_many-singles cs)
 
--- each number is at least its place
+-- each number is at least its index
 pub place-le : (cs : List ℕ) (i : ℕ) → Ascends cs → i < length cs → i ≤ get_or cs i 0
 place-le cs zero a h = omega arith
 place-le cs (suc i) a h =
@@ -49,7 +49,7 @@ le-largest (c ∷ cs) i a h = rw largest-singles (up_to (le-lt_or_eq i (length c
     up_to (inl l) = let b = a.below i (length cs) l (omega arith) in omega (arith, b)
     up_to (inr e) = rw e (omega arith)
 
--- a character that stands there has that place
+-- a character of the list has its index
 pub place_of-get_or : (cs : List ℕ) (i : ℕ) → Ascends cs → i < length cs → place_of (get_or cs i 0) (singles cs) ≡ Some i
 place_of-get_or [] i a h = absurd (omega arith)
 place_of-get_or (c ∷ cs) zero a h = rw in_own_run (ap (λ n. Some n) (omega arith))
@@ -59,7 +59,7 @@ place_of-get_or (c ∷ cs) (suc i) a h =
     let r : place_of (get_or cs i 0) (singles cs) ≡ Some i = place_of-get_or cs i (tail c cs a) (omega arith) in
     rw (other, r) (ap (λ n. Some n) (omega arith))
 
--- one that stands nowhere has none
+-- other characters have none
 pub place_of-none : (cs : List ℕ) (x : ℕ) → ((i : ℕ) → i < length cs → get_or cs i 0 ≢ x) → place_of x (singles cs) ≡ None
 place_of-none [] x h = refl
 place_of-none (c ∷ cs) x h =
@@ -67,7 +67,7 @@ place_of-none (c ∷ cs) x h =
     let r : place_of x (singles cs) ≡ None = place_of-none cs x (λ i k. h (suc i) (omega arith)) in
     rw (other, r) refl
 
--- a place is one where the character stands
+-- an index is one where the character is
 pub record StandsAt (cs : List ℕ) (x i : ℕ) : Type 0 where
   pub within : i < length cs
   pub is : get_or cs i 0 ≡ x

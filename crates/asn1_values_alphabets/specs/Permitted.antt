@@ -1,4 +1,4 @@
--- Which characters a string may hold, and why one is refused (X.680 41).
+-- Which characters a string may hold, and the error for others (X.680 41).
 use Rattle.std.specs.Prelude.{◌≡◌, ℕ, Bool, true, not, List, find, Option, Some, option_map}
 use Rattle.asn1_model.specs.Schema.{StringKind}
 use Rattle.asn1_model.specs.Strings.{characters_of, is_among}
@@ -19,12 +19,12 @@ permits_all k cs = list_all (permits k) cs
 abbrev pub first_refused : StringKind → List ℕ → Option ℕ
 first_refused k cs = find (λ c. not (permits k c)) cs
 
--- characters are refused by the first one that is not permitted
+-- the error names the first character that is not permitted
 abbrev pub IsOutside : StringKind → (ℕ → InvalidRestrictedString) → List ℕ → PermittedAlphabetError → Type 0
 IsOutside k refused cs (refusal.InvalidRestrictedString e) = option_map refused (first_refused k cs) ≡ Some e
 IsOutside k refused cs e = ⊥
 
--- or, where all are permitted, for want of memory
+-- or, if all are permitted, memory ran out
 abbrev pub IsRefusalOf : StringKind → (ℕ → InvalidRestrictedString) → List ℕ → PermittedAlphabetError → Type 0
 IsRefusalOf k refused cs (refusal.InvalidRestrictedString e) = option_map refused (first_refused k cs) ≡ Some e
 IsRefusalOf k refused cs (refusal.Memory m) = permits_all k cs ≡ true

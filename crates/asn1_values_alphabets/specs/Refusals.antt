@@ -1,10 +1,10 @@
--- Why a call on an alphabet is refused.
+-- Why an alphabet cannot be made.
 use Rattle.std.specs.Prelude.{ℕ, List}
 use Rattle.std.specs.List.Sorted.{IsStrictlyIncreasing}
 use Rattle.asn1_values_alphabets.specs.declared.error.PermittedAlphabetError.{PermittedAlphabetError}
 use Rattle.asn1_values_alphabets.specs.declared.error.PermittedAlphabetError.TheVariants.{InvalidData, Memory}
 
--- a list is refused where it does not ascend, or where an ascending one finds no memory
+-- the list does not ascend, or it ascends and memory ran out
 abbrev pub IsRefusalOfList : List ℕ → PermittedAlphabetError → Type 0
 IsRefusalOfList cs InvalidData = ¬ IsStrictlyIncreasing cs
 IsRefusalOfList cs (Memory m) = IsStrictlyIncreasing cs

@@ -13,11 +13,11 @@ use crate::error::PermittedAlphabetError;
 use std::alloc::Global;
 use std::marker::Model;
 
-/// Permitted characters in ascending order, and the code of each (X.691 30.5).
+/// The permitted characters in ascending order, each with a code (X.691 30.5).
 ///
-/// A code takes the bits that hold the number of characters less one, none where there is no character, or
-/// the next power of two bits where the alphabet was made so. It is the character's own number where the
-/// largest one fits that width, else the character's place.
+/// The width of a code is the fewest bits that hold the number of characters less one, or none if there are no
+/// characters; it can be raised to a power of two. The code is the character's value if the largest value fits that
+/// width, else the character's index.
 #[derive(Debug, Drop)]
 pub struct CharacterAlphabet {
     characters: Vec<u32>,
@@ -36,13 +36,13 @@ impl Model for CharacterAlphabet {
 }
 
 impl CharacterAlphabet {
-    /// An alphabet of characters that ascend strictly; an empty list does.
+    /// An alphabet of strictly ascending characters; the list may be empty.
     ///
-    /// Where `raised` is true a code takes 1, 2, 4, 8, 16 or 32 bits, or none (X.691 30.5.2).
+    /// If `raised` is true, a code takes 1, 2, 4, 8, 16 or 32 bits, or none (X.691 30.5.2).
     ///
     /// # Errors
     ///
-    /// `InvalidData` where the characters do not ascend strictly, and `Memory` for want of memory.
+    /// `InvalidData` if the characters do not ascend strictly, and `Memory` if memory runs out.
     pub fn new(
         alloc: Global,
         characters: &[u32],
@@ -67,7 +67,7 @@ impl CharacterAlphabet {
         })
     }
 
-    /// The bits that a code takes, from 0 to 32.
+    /// The width of a code in bits, from 0 to 32.
     pub fn width(&self) -> u32
         ensures bits { result ≡ self.now.code_bits }
         ensures narrow { result ≤ 32 }
@@ -79,7 +79,7 @@ impl CharacterAlphabet {
     ///
     /// # Errors
     ///
-    /// `CharacterNotFound` where the character is not permitted.
+    /// `CharacterNotFound` if the character is not permitted.
     pub fn encode(&self, character: u32) -> Result<u32, PermittedAlphabetError>
         ensures code { IfOk result (λ code. code_of self.now character ≡ Some code) }
         ensures narrow { IfOk result (λ code. code < 2 ^ self.now.code_bits) }
@@ -94,11 +94,11 @@ impl CharacterAlphabet {
         }
     }
 
-    /// The permitted character that has this code.
+    /// The permitted character of a code.
     ///
     /// # Errors
     ///
-    /// `IndexNotFound` where no permitted character has the code.
+    /// `IndexNotFound` if no permitted character has the code.
     pub fn decode(&self, code: u32) -> Result<u32, PermittedAlphabetError>
         ensures character { IfOk result (λ character. code_of self.now character ≡ Some code) }
         ensures alone { IfOk result (λ character. (other : ℕ) → code_of self.now other ≡ Some code → other
@@ -119,7 +119,7 @@ impl CharacterAlphabet {
     }
 }
 
-/// The place of a character among characters that ascend.
+/// The index of a character in ascending characters.
 fn place_among(characters: &[u32], character: u32) -> Option<usize>
     requires { IsStrictlyIncreasing characters.now }
     ensures { result ≡ place_of character (singles characters.now) }
@@ -127,7 +127,7 @@ fn place_among(characters: &[u32], character: u32) -> Option<usize>
     characters.binary_search(&character).ok()
 }
 
-/// So many bits, at most 32, raised to 1, 2, 4, 8, 16 or 32, none staying none.
+/// A width of at most 32 bits, raised to 1, 2, 4, 8, 16 or 32; 0 stays 0.
 fn raised_bits(bits: u32) -> u32
     requires { bits ≤ 32 }
     ensures raised { result ≡ raised_width bits }
@@ -143,7 +143,7 @@ fn raised_bits(bits: u32) -> u32
     }
 }
 
-/// The fewest bits that hold the number of these characters less one.
+/// The fewest bits that hold the number of the characters less one.
 fn fewest_bits(characters: &[u32]) -> u32
     requires { IsStrictlyIncreasing characters.now }
     ensures fewest { result ≡ code_width false characters.now }
@@ -152,7 +152,7 @@ fn fewest_bits(characters: &[u32]) -> u32
     bits_of(characters.len().saturating_sub(1) as u64)
 }
 
-/// The bits of a code among these characters.
+/// The width of a code in an alphabet of these characters.
 fn code_bits(characters: &[u32], raised: bool) -> u32
     requires { IsStrictlyIncreasing characters.now }
     ensures width { result ≡ code_width raised characters.now }
@@ -163,7 +163,7 @@ fn code_bits(characters: &[u32], raised: bool) -> u32
     if raised { raised_bits(fewest) } else { fewest }
 }
 
-/// Whether the last of these characters is below 2 to the width, as it is where there is none.
+/// Whether the last character is below 2^`width`, or there are no characters.
 fn is_below(characters: &[u32], width: u32) -> bool
     requires { width ≤ 32 }
     ensures { result ≡ nat_lt (largest (singles characters.now)) (2 ^ width) }
@@ -175,7 +175,7 @@ fn is_below(characters: &[u32], width: u32) -> bool
     u64::from(last) < 1 << width
 }
 
-/// Whether each number is below the next.
+/// Whether each number is less than the next.
 fn is_ascending(characters: &[u32]) -> bool
     ensures { IsTrue result ↔ IsStrictlyIncreasing characters.now }
 {
@@ -187,7 +187,7 @@ fn is_ascending(characters: &[u32]) -> bool
     true
 }
 
-/// The bits that hold a number, none for 0.
+/// The number of binary digits of a number; zero has none.
 fn bits_of(number: u64) -> u32
     ensures { result ≡ bit_width number }
 {

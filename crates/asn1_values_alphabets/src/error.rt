@@ -1,4 +1,4 @@
-//! Why characters, codes and lists of characters are refused.
+//! Errors about characters, codes and lists of characters.
 ghost use Rattle.std.specs.Prelude.{◌≡◌};
 
 use std::alloc::AllocError;
@@ -8,7 +8,7 @@ use thiserror::Error;
 #[derive(Clone, Copy, Debug, PartialEq, Eq, Hash, Error)]
 #[error("character {character} is not permitted in a BMPString")]
 pub struct InvalidBmpString {
-    /// The first character that is not permitted, by its number.
+    /// The value of the first character that is not permitted.
     pub character: u32,
 }
 
@@ -24,7 +24,7 @@ impl From<u32> for InvalidBmpString {
 #[derive(Clone, Copy, Debug, PartialEq, Eq, Hash, Error)]
 #[error("character {character} is not permitted in a GeneralString")]
 pub struct InvalidGeneralString {
-    /// The first character that is not permitted, by its number.
+    /// The value of the first character that is not permitted.
     pub character: u32,
 }
 
@@ -40,7 +40,7 @@ impl From<u32> for InvalidGeneralString {
 #[derive(Clone, Copy, Debug, PartialEq, Eq, Hash, Error)]
 #[error("character {character} is not permitted in a GraphicString")]
 pub struct InvalidGraphicString {
-    /// The first character that is not permitted, by its number.
+    /// The value of the first character that is not permitted.
     pub character: u32,
 }
 
@@ -56,7 +56,7 @@ impl From<u32> for InvalidGraphicString {
 #[derive(Clone, Copy, Debug, PartialEq, Eq, Hash, Error)]
 #[error("character {character} is not permitted in an IA5String")]
 pub struct InvalidIA5String {
-    /// The first character that is not permitted, by its number.
+    /// The value of the first character that is not permitted.
     pub character: u32,
 }
 
@@ -72,7 +72,7 @@ impl From<u32> for InvalidIA5String {
 #[derive(Clone, Copy, Debug, PartialEq, Eq, Hash, Error)]
 #[error("character {character} is not permitted in a TeletexString")]
 pub struct InvalidTeletexString {
-    /// The first character that is not permitted, by its number.
+    /// The value of the first character that is not permitted.
     pub character: u32,
 }
 
@@ -88,7 +88,7 @@ impl From<u32> for InvalidTeletexString {
 #[derive(Clone, Copy, Debug, PartialEq, Eq, Hash, Error)]
 #[error("character {character} is not permitted in a VisibleString")]
 pub struct InvalidVisibleString {
-    /// The first character that is not permitted, by its number.
+    /// The value of the first character that is not permitted.
     pub character: u32,
 }
 
@@ -104,7 +104,7 @@ impl From<u32> for InvalidVisibleString {
 #[derive(Clone, Copy, Debug, PartialEq, Eq, Hash, Error)]
 #[error("character {character} is not permitted in a NumericString")]
 pub struct InvalidNumericString {
-    /// The first character that is not permitted, by its number.
+    /// The value of the first character that is not permitted.
     pub character: u32,
 }
 
@@ -120,7 +120,7 @@ impl From<u32> for InvalidNumericString {
 #[derive(Clone, Copy, Debug, PartialEq, Eq, Hash, Error)]
 #[error("character {character} is not permitted in a PrintableString")]
 pub struct InvalidPrintableString {
-    /// The first character that is not permitted, by its number.
+    /// The value of the first character that is not permitted.
     pub character: u32,
 }
 
@@ -132,7 +132,7 @@ impl From<u32> for InvalidPrintableString {
     }
 }
 
-/// A character outside the alphabet of a string's type (X.680 41).
+/// A character outside the permitted alphabet of a string's type (X.680 41).
 #[derive(Clone, Copy, Debug, PartialEq, Eq, Hash, Error)]
 pub enum InvalidRestrictedString {
     /// In a BMPString.
@@ -161,13 +161,13 @@ pub enum InvalidRestrictedString {
     InvalidVisibleString(#[from] InvalidVisibleString),
 }
 
-/// Why characters or codes were refused.
+/// Why characters or codes are not accepted.
 #[derive(Debug, Drop, Error)]
 pub enum PermittedAlphabetError {
-    /// A cause that has no case of its own.
+    /// Any other cause.
     #[error("the characters are not permitted")]
     Other,
-    /// A list of characters that does not ascend strictly, or octets that are no whole characters.
+    /// A list of characters that does not ascend strictly, or octets that are not whole characters.
     #[error("the characters are not well formed")]
     InvalidData,
     /// A code that no permitted character has.
@@ -179,13 +179,13 @@ pub enum PermittedAlphabetError {
     /// A character that is not permitted.
     #[error("character {character} is not permitted")]
     CharacterNotFound {
-        /// The character's number.
+        /// The character's value.
         character: u32,
     },
-    /// A character outside the alphabet of the string's type.
+    /// A character outside the permitted alphabet of the string's type.
     #[error(transparent)]
     InvalidRestrictedString(#[from] InvalidRestrictedString),
-    /// Memory was not found.
+    /// An allocation failed.
     #[error(transparent)]
     Memory(#[from(alloc)] AllocError),
 }

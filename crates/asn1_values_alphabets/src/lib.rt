@@ -1,5 +1,5 @@
-//! Permitted alphabets of character strings, what a type of strings with an alphabet of its own is, and the
-//! errors of strings outside their alphabets.
+//! Permitted alphabets of character strings, the trait of string types with a permitted alphabet, and the errors for
+//! characters outside it.
 #![tactic(auto)]
 
 mod alphabet;

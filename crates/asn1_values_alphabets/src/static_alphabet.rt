@@ -1,4 +1,4 @@
-//! Types of strings with an alphabet of their own, and how such a string is made of a text.
+//! String types with a permitted alphabet, and how such a string is made from a `str`.
 ghost use Rattle.std.specs.Prelude.{◌≡◌, ◌<◌, ℕ, List, [], ◌∷◌, ◌++◌, length, slice_index, IsTrue, IfOk, IfErr, OnOk};
 ghost use Rattle.std.specs.Prelude.{IfSome, OnErr};
 ghost use Rattle.std.specs.Str.{chars};
@@ -10,7 +10,7 @@ ghost use Rattle.asn1_values_alphabets.specs.declared.error.InvalidRestrictedStr
 use crate::error::{InvalidRestrictedString, PermittedAlphabetError};
 use std::alloc::{AllocError, Global};
 
-/// A type of strings with an alphabet of its own (X.680 41).
+/// A character string type with a permitted alphabet (X.680 41).
 pub trait StaticPermittedAlphabet: Drop {
     ghost kind: { StringKind };
 
@@ -18,11 +18,11 @@ pub trait StaticPermittedAlphabet: Drop {
 
     ghost characters: { Self → List ℕ };
 
-    /// The string of no characters. It takes no memory.
+    /// The empty string. Allocates nothing.
     fn empty(alloc: Global) -> Self
         ensures { characters result ≡ [] };
 
-    /// The string of no characters, with room for so many.
+    /// The empty string, with room for `count` characters.
     fn with_capacity(alloc: Global, count: usize) -> Result<Self, AllocError>
         ensures { IfOk result (λ s. characters s ≡ []) };
 
@@ -30,54 +30,54 @@ pub trait StaticPermittedAlphabet: Drop {
     fn contains_char(character: u32) -> bool
         ensures { result ≡ permits kind character };
 
-    /// The refusal of a character that a string of this type may not hold.
+    /// The error for a character that a string of this type may not hold.
     fn refuse(character: u32) -> InvalidRestrictedString
         ensures { result ≡ refused character };
 
-    /// Appends a character. Refused, the string is as it was.
+    /// Appends a character. After an error the string is unchanged.
     fn push_char(&mut self, character: u32) -> Result<(), PermittedAlphabetError>
         ensures pushed { OnOk result (characters self.new ≡ characters self.old ++ character ∷ []) }
         ensures permitted { OnOk result (IsTrue (permits kind character)) }
         ensures refused { IfErr result (IsRefusalOf kind refused (character ∷ [])) }
         ensures unchanged { OnErr result (self.new ≡ self.old) };
 
-    /// How many characters there are.
+    /// The number of characters.
     fn char_count(&self) -> usize
         ensures count { result ≡ length (characters self.now) }
         ensures permitted { IsTrue (permits_all kind (characters self.now)) };
 
-    /// The character at a place, counted from 0.
+    /// The character at index `place`, counted from 0.
     fn char_at(&self, place: usize) -> u32
         requires { place < length (characters self.now) }
         ensures { result ≡ slice_index (characters self.now) place };
 
-    /// The characters as octets, of a type that keeps each in one.
+    /// The characters as octets, if the type stores each character in one octet.
     fn char_octets(&self) -> Option<&[u8]>
         ensures { IfSome result (λ octets. octets.now ≡ characters self.now) };
 
-    /// The string whose characters are these octets. A type that keeps each character in one octet copies them in one
-    /// run. Memory is taken once, and none where a character is refused.
+    /// The string whose characters are these octets. A type that stores each character in one octet copies them at
+    /// once. Allocates once, and not at all if a character is not permitted.
     fn from_octets(alloc: Global, octets: &[u8]) -> Result<Self, PermittedAlphabetError>
         ensures characters { IfOk result (λ s. characters s ≡ octets.now) }
         ensures permitted { OnOk result (IsTrue (permits_all kind octets.now)) }
         ensures refused { IfErr result (IsRefusalOf kind refused octets.now) };
 
-    /// The string whose characters are these octets. A type that keeps each character in one octet does not copy them;
-    /// another takes memory where theirs comes from.
+    /// The string whose characters are these octets. A type that stores each character in one octet does not copy
+    /// them; another type allocates from the vector's allocator.
     fn from_octet_vec(octets: Vec<u8>) -> Result<Self, PermittedAlphabetError>
         ensures characters { IfOk result (λ s. characters s ≡ octets.items) }
         ensures permitted { OnOk result (IsTrue (permits_all kind octets.items)) }
         ensures refused { IfErr result (IsRefusalOf kind refused octets.items) };
 
-    // what the type may hold is what its kind may hold
+    // a string may hold exactly the characters that its kind permits
     ghost holds: { (cs : List ℕ) → may_hold kind cs ≡ permits_all kind cs };
 }
 
-/// The string of a text's characters. Memory is taken once, and none where a character is refused.
+/// The string of a text's characters. Allocates once, and not at all if a character is not permitted.
 ///
 /// # Errors
 ///
-/// The refusal of the first character that the type has not, or `Memory` for want of memory.
+/// The error for the first character that the type does not permit, or `Memory` if memory runs out.
 pub fn string_of_text<S: StaticPermittedAlphabet>(
     alloc: Global,
     text: &str,
@@ -96,7 +96,7 @@ pub fn string_of_text<S: StaticPermittedAlphabet>(
     Ok(string)
 }
 
-/// Refuses a text that a string of the type may not hold, by its first such character.
+/// The error for the first character of a text that a string of the type may not hold, if there is one.
 fn ensure_permitted_text<S: StaticPermittedAlphabet>(
     text: &str,
 ) -> Result<(), PermittedAlphabetError>

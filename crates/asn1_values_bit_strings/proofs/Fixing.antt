@@ -31,7 +31,7 @@ filled os rest all i h r e =
 pub filled_octets : (os : List ℕ) (n : ℕ) (bits : List Bool) → ((k : ℕ) → k < length os → get_or os k 0 < 256) → octet_bits os ≡ to_come n bits → os ≡ fixed_octets n bits
 filled_octets os n bits small e = sym (packed-octet_bits os small) ∙ ap packed e
 
--- the first bits of octets that hold just so many bits and zero bits behind them
+-- the first bits of octets that hold exactly these bits, followed by zero bits
 pub fixed_view : (os : List ℕ) (n : ℕ) (bits : List Bool) → octet_bits os ≡ to_come n bits → length bits ≡ n → take n (octet_bits os) ≡ bits
 fixed_view os n bits e l = ap (take n) e ∙ take_at bits (replicate (n * 8 - length bits) false) n l
 
@@ -48,7 +48,7 @@ zeros_first n =
     ap (take n) (zero_bits n ∙ ap (λ k. replicate k false) parts ∙ sym (replicate-append-replicate n (n * 7) false))
     ∙ take_at (replicate n false) (replicate (n * 7) false) n (length-replicate n false)
 
--- what octets that were zero are once the bits of a view are put into them
+-- octets that were zero, once the bits of a view are written into them
 pub fill_kept : (os : List ℕ) (n : ℕ) (bits all : List Bool) → os ≡ fixed_octets (length {A = ℕ} (replicate n 0)) bits → octet_bits os ≡ to_come (length {A = ℕ} (replicate n 0)) bits → bits ≡ take n all → n ≤ length all → os ≡ fixed_octets n (take n (octet_bits os))
 fill_kept os n bits all f e b h =
     let m : length {A = ℕ} (replicate n 0) ≡ n = length-replicate n 0 in

@@ -25,7 +25,7 @@ impl Model for BitString {
 impl BitString {
     ghost use Rattle.asn1_values_bits.specs.BitStr.{bits_of, offset_of};
 
-    /// No bits. It takes no memory, and what it holds later comes from `alloc`.
+    /// No bits. Allocates nothing; later bits are kept in memory from `alloc`.
     pub fn new(alloc: Global) -> Self
         ensures { result ≡ [] }
     {
@@ -37,7 +37,7 @@ impl BitString {
     ///
     /// # Errors
     ///
-    /// Want of memory.
+    /// Out of memory.
     pub fn from_slice(alloc: Global, octets: &[u8]) -> Result<Self, AllocError>
         ensures { IfOk result (λ string. string ≡ octet_bits octets.now) }
     {
@@ -46,11 +46,11 @@ impl BitString {
         Ok(BitString { buffer })
     }
 
-    /// The bits of a view. Memory is taken once.
+    /// The bits of a view. Allocates once.
     ///
     /// # Errors
     ///
-    /// Want of memory.
+    /// Out of memory.
     pub fn from_bitslice(alloc: Global, bits: BitStr<'_>) -> Result<Self, AllocError>
         ensures { IfOk result (λ string. string ≡ bits_of bits.entry) }
     {
@@ -65,7 +65,7 @@ impl BitString {
         Ok(BitString { buffer })
     }
 
-    /// The bits of a buffer, whose allocator is kept.
+    /// The bits of a buffer. Its allocator is kept.
     pub fn from_buffer(buffer: BitBuffer) -> Self
         ensures { result ≡ buffer }
     {
@@ -94,18 +94,18 @@ impl BitString {
         self.buffer.is_empty()
     }
 
-    /// The bit at a place, if there is one.
+    /// The bit at position `index`, if there is one.
     pub fn get(&self, index: usize) -> Option<bool>
         ensures { result ≡ slice_get self.now index }
     {
         self.buffer.as_bitslice().get(index)
     }
 
-    /// Adds one bit.
+    /// Appends one bit.
     ///
     /// # Errors
     ///
-    /// Want of memory; nothing is changed then.
+    /// Out of memory; nothing is changed then.
     pub fn push(&mut self, bit: bool) -> Result<(), AllocError>
         ensures ok { OnOk result (self.new ≡ self.old ++ bit ∷ []) }
         ensures err { OnErr result (self.new ≡ self.old) }
@@ -122,7 +122,7 @@ impl BitString {
         self.buffer.as_bitslice()
     }
 
-    /// The bits in octets, the first bit highest, and zero bits behind the last one.
+    /// The bits in octets, the first bit as the most significant, padded with zero bits.
     pub fn as_bytes(&self) -> &[u8]
         ensures octets { result.now ≡ packed (padded self.now) }
         ensures bits { octet_bits result.now ≡ padded self.now }
@@ -131,7 +131,7 @@ impl BitString {
     }
 }
 
-/// A copy in the memory that the string's own comes from.
+/// Clones into memory of the same allocator.
 impl Clone for BitString {
     ghost is_clone = { λ string copy. copy ≡ string };
 
@@ -142,7 +142,7 @@ impl Clone for BitString {
     }
 }
 
-/// No bits, in the place of `Default`, which has no allocator.
+/// No bits. Takes the place of `Default`, which has no allocator.
 impl MadeWith<Global> for BitString {
     ghost is_made_with = { λ string. string ≡ [] };
 

@@ -1,4 +1,4 @@
-//! Bit strings of one length.
+//! Bit strings of a fixed length.
 ghost use Rattle.std.specs.Prelude.{◌≡◌, ◌*◌, ◌+◌, ◌-◌, ◌≤◌, ◌++◌, [], length, take, replicate, false, IsTrue, ◌↔◌};
 ghost use Rattle.std.specs.Prelude.{IsSome, IfSome, slice_get};
 ghost use Rattle.asn1_model.specs.Numbers.{octet_bits};
@@ -8,7 +8,7 @@ ghost use Rattle.asn1_values_bit_strings.specs.Fixed.{fixed_octets};
 use asn1_values_bits::BitStr;
 use std::marker::Model;
 
-/// A value of the ASN.1 type BIT STRING of exactly `N` bits (X.680, clause 22). It takes no memory beyond itself.
+/// A value of the ASN.1 type BIT STRING of exactly `N` bits (X.680, clause 22), stored inline.
 #[derive(Clone, Copy)]
 pub struct FixedBitString<const N: usize> {
     octets: [u8; N],
@@ -43,7 +43,7 @@ impl<const N: usize> FixedBitString<N> {
         FixedBitString { octets: cleared }
     }
 
-    /// The first `N` bits of octets, of which there have to be `N`.
+    /// The first `N` bits of the octets, if there are exactly `N` octets.
     pub fn from_slice(octets: &[u8]) -> Option<Self>
         ensures some { IsSome result ↔ (length octets.now ≡ N) }
         ensures bits { IfSome result (λ string. string ≡ take N (octet_bits octets.now)) }
@@ -56,7 +56,7 @@ impl<const N: usize> FixedBitString<N> {
         Some(FixedBitString { octets: cleared })
     }
 
-    /// The bits of a view, of which there have to be `N`.
+    /// The bits of a view, if there are exactly `N`.
     pub fn from_bitslice(bits: BitStr<'_>) -> Option<Self>
         ensures some { IsSome result ↔ (length (bits_of bits.entry) ≡ N) }
         ensures bits { IfSome result (λ string. string ≡ bits_of bits.entry) }
@@ -84,7 +84,7 @@ impl<const N: usize> FixedBitString<N> {
         self.as_bitslice().is_empty()
     }
 
-    /// The bit at a place, if there is one.
+    /// The bit at position `index`, if there is one.
     pub fn get(&self, index: usize) -> Option<bool>
         ensures { result ≡ slice_get self.now index }
     {
@@ -101,7 +101,7 @@ impl<const N: usize> FixedBitString<N> {
     }
 }
 
-// Puts the bits into the octets, and zero bits behind them.
+// Writes the bits into the octets and fills the rest with zero bits.
 fn fill(octets: &mut [u8], bits: BitStr<'_>)
     requires { length (bits_of bits) ≤ length octets.old * 8 }
     ensures octets { octets.new ≡ fixed_octets (length octets.old) (bits_of bits.entry) }

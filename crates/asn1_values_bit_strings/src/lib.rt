@@ -1,4 +1,4 @@
-//! Bit strings: lists of bits that own their memory, and those of one length.
+//! Bit strings: `BitString` of any length, on the heap, and `FixedBitString` of a fixed length.
 #![tactic(auto)]
 
 mod bit_string;

@@ -1,4 +1,4 @@
-//! The traits of `std`, which go by the bits.
+//! The traits of `std`, which compare and hash the bits.
 ghost use Rattle.std.specs.Prelude.{◌≡◌, refl, Some, replicate, take, false};
 ghost use mathlib.Core.Bool.{beq};
 ghost use Rattle.std.specs.Ordering.{bool_cmp};

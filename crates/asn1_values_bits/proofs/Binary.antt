@@ -92,7 +92,7 @@ pub binary_ones : (k w : ℕ) → w ≤ k → binary w (2 ^ k - 1) ≡ replicate
 binary_ones k zero h = refl
 binary_ones k (suc w) h = ap (λ x. (x == 1) ∷ binary w (2 ^ k - 1)) (bit_at_ones k w (omega arith)) ∙ ap (λ l. true ∷ l) (binary_ones k w (omega arith))
 
--- so many equal bits from a number of equal digits
+-- equal bits from a number of equal digits
 pub binary_same : (w n : ℕ) (b : Bool) → w ≤ 128 → (b ≡ true → n ≡ 2 ^ 128 - 1) → (b ≡ false → n ≡ 0) → binary w n ≡ replicate w b
 binary_same w n true h p q = ap (binary w) (p refl) ∙ binary_ones 128 w h
 binary_same w n false h p q = ap (binary w) (q refl) ∙ binary_zero w

@@ -12,7 +12,7 @@ get_or-binary zero n i d h = absurd (omega arith)
 get_or-binary (suc w) n zero d h = ap (λ k. n / 2 ^ k % 2 == 1) (omega arith)
 get_or-binary (suc w) n (suc i) d h = get_or-binary w n i d (omega arith) ∙ ap (λ k. n / 2 ^ k % 2 == 1) (omega arith)
 
--- a number whose bit at a place is told, and whose others are those of n
+-- a number with a given bit at one position and the bits of n elsewhere
 changed_at : (w n m p : ℕ) (b : Bool) → p < w → (bit_at m p == 1) ≡ b → ((i : ℕ) → i < w → i ≢ p → bit_at m i ≡ bit_at n i) → (k : ℕ) (d : Bool) → k < w → get_or (binary w m) k d ≡ get_or (set (binary w n) (w - 1 - p) b) k d
 changed_at w n m p b h same other k d hk =
     get_or-binary w m k d hk ∙ (elim (cases_eq k (w - 1 - p)) [

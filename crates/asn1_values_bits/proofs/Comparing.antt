@@ -1,4 +1,4 @@
--- Lists of bits compared, and the numbers that they stand for.
+-- Lists of bits compared, and the numbers that they encode.
 use Rattle.std.proofs.Common.{◌≡◌, ℕ, zero, suc, ◌+◌, ◌*◌, ◌/◌, ◌%◌, ◌^◌, ◌<◌, ◌≤◌, ◌==◌, Bool, true, false, List, [], ◌∷◌, ◌++◌, length, take, drop, refl, ap, sym, ◌∙◌, arith, inl, inr}
 use Rattle.std.specs.Ordering.{ordering_then, ordering_reverse, bool_cmp}
 use Rattle.std.specs.declared.cmp.Ordering.{Ordering}
@@ -12,7 +12,7 @@ use Rattle.asn1_model.specs.Numbers.{binary}
 use Rattle.asn1_values_bits.specs.BitOrder.{bits_total}
 use Rattle.asn1_values_bits.proofs.Binary.{binary_low}
 
--- equal bits in front do not count
+-- equal leading bits are irrelevant
 pub same_front : (p s t : List Bool) → slice_cmp bool_cmp (p ++ s) (p ++ t) ≡ slice_cmp bool_cmp s t
 same_front [] s t = refl
 same_front (true ∷ p) s t = same_front p s t

@@ -1,4 +1,4 @@
--- Bits kept in octets, and further bits put behind them.
+-- Bits kept in octets, and further bits appended to them.
 use Rattle.std.proofs.Common.{◌≡◌, ℕ, ◌+◌, ◌-◌, ◌*◌, ◌/◌, ◌%◌, ◌^◌, ◌<◌, ◌≤◌, Bool, false, List, [], ◌∷◌, ◌++◌, length, replicate, take, drop, get_or, set, ap, sym, ◌∙◌, append_assoc, length-append, arith, bit_or, bit_and}
 use Rattle.std.proofs.lemmas.Nat.{shr_split, or_shifted, pow-add, shl-shr, shl_whole, shl_below, shr_below, one_shl, and_mask, mod_below, pow_pos}
 use Rattle.std.proofs.Math.Nat.{mul_assoc}
@@ -57,7 +57,7 @@ or_last_set os v k free x y n e f h b =
 pub with_high : (os os' : List ℕ) (v : List Bool) (free high : ℕ) → octet_bits os ≡ v ++ replicate free false → free ≡ 0 → os' ≡ os → octet_bits os' ≡ v ++ binary free high
 with_high os os' v free high b z e = ap octet_bits e ∙ b ∙ ap (λ k. v ++ replicate k false) z ∙ sym (ap (λ k. v ++ binary k high) z)
 
--- .. and their low end in an octet of its own
+-- .. and their low end in a new octet
 pub with_low : (os : List ℕ) (v : List Bool) (free count bits wide r : ℕ) → octet_bits os ≡ v ++ binary free (wide / 256) → wide ≡ bits * 2 ^ r → count + r ≡ free + 8 → octet_bits (os ++ (wide % 256) ∷ []) ≡ (v ++ binary count bits) ++ replicate r false
 with_low os v free count bits wide r b w n =
     octet_bits_push os (wide % 256) ∙ ap (λ l. l ++ binary 8 (wide % 256)) b ∙ append_assoc v (binary free (wide / 256)) (binary 8 (wide % 256))
@@ -91,7 +91,7 @@ cut_whole total len k os os' v e h n l t =
 cleared : (used free x : ℕ) → used + free ≡ 8 → binary 8 (x / 2 ^ free * 2 ^ free) ≡ binary used (x / 2 ^ free) ++ replicate free false
 cleared used free x n = ap (λ k. binary k (x / 2 ^ free * 2 ^ free)) (sym n) ∙ binary_shifted used free (x / 2 ^ free)
 
--- .. and the last of them cleared behind these bits
+-- .. and the last of them cleared after these bits
 pub cut_within : (total len k free x y : ℕ) (os os' : List ℕ) (v : List Bool) → take total (octet_bits os) ≡ v → len ≤ total → len + free ≡ (k + 1) * 8 → 0 < free → free < 8 → k < length os → os' ≡ take (k + 1) os → x ≡ get_or os' k x → y ≡ x / 2 ^ free * 2 ^ free → octet_bits (set os' k y) ≡ take len v ++ replicate free false
 cut_within total len k free x y os os' v e h n p q l t r c =
     let long : length os' ≡ k + 1 = ap length t ∙ length-take-le (k + 1) os (omega arith) in
@@ -112,7 +112,7 @@ cut_within total len k free x y os os' v e h n p q l t r c =
     ∙ sym (append_assoc (octet_bits (take k os')) (binary (8 - free) (x / 2 ^ free)) (replicate free false))
     ∙ ap (λ l. l ++ replicate free false) (sym first)
 
--- so many of the first bits, where further ones are still to come
+-- a number of the first bits, where further ones follow
 pub first_of : (before now more all : List Bool) (n left width : ℕ) → n ≡ length before → now ++ more ≡ before ++ all → length more ≡ left → length all ≡ width → left ≤ width → take n now ≡ before
 first_of before now more all n left width h e p q l =
     let long : n ≤ length now = omega (arith, ap length e, length-append now more, length-append before all) in

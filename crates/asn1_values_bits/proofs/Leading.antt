@@ -13,7 +13,7 @@ packed-next o r h =
     let value : number_from_digits_after 2 0 (map (λ b. cond b 1 0) (binary 8 o)) ≡ o = number_binary 8 o 0 ∙ (omega arith) in
     ap (λ x. x ∷ packed r) value
 
--- so many of the first bits, at most eight, as an octet
+-- a number of the first bits, at most eight, as an octet
 pub octet_leads : (bs : List Bool) (few v : ℕ) → 0 < length bs → few ≡ min (length bs) 8 → binary few v ≡ take few bs → v < 2 ^ few → packed (padded bs) ≡ v * 2 ^ (8 - few) ∷ packed (padded (drop few bs))
 octet_leads bs few v some f e h =
     let n : ℕ = (length bs + 7) / 8 - 1 in

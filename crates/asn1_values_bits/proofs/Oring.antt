@@ -97,7 +97,7 @@ few_placed q offset few v total h l t =
     ∙ ap (λ k. k ++ (F ++ (replicate past false ++ replicate rest false))) (replicate-append-replicate (q * 8) offset false)
     ∙ ap (λ k. replicate (q * 8 + offset) false ++ (F ++ k)) (replicate-append-replicate past rest false ∙ ap (λ k. replicate k false) end)
 
--- bits placed behind others
+-- bits placed after others
 pub placed_more : (p done total : ℕ) (t m : List Bool) → length t ≡ done → p + done + length m ≤ total → ored (placed p t total) (placed (p + done) m total) ≡ placed p (t ++ m) total
 placed_more p done total t m h l =
     let n1 : ℕ = total - (p + length t) in

@@ -87,7 +87,7 @@ put_on now before new all place few left value end h p l e m =
     ∙ ap (λ k. take place now ++ k) (sym (append_assoc b (binary (left - few) value) (drop end now)) ∙ ap (λ k. k ++ drop end now) digits)
     ∙ m
 
--- what stands up to the end of what was written
+-- the bits up to the end of what was written
 pub written_up_to : (old new m : List Bool) (at width : ℕ) → at + width ≤ length old → length m ≡ width → new ≡ take at old ++ (m ++ drop (at + width) old) → take (at + width) new ≡ take at old ++ m
 written_up_to old new m at width h n e =
     let front : length (take at old ++ m) ≡ at + width = length-append (take at old) m ∙ (omega (arith, length-take-le at old (omega arith))) in

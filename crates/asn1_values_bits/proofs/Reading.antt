@@ -30,7 +30,7 @@ bits_within os place q offset few x p l r h =
 pub take_two : (a b : ℕ) (l : List Bool) → take (a + b) l ≡ take a l ++ take b (drop a l)
 take_two a b l = sym (take-append-drop a (take (a + b) l)) ∙ ap (λ k. k ++ drop a (take (a + b) l)) (take-take a (a + b) l (omega arith)) ∙ ap (λ k. take a l ++ k) (drop-take a b l)
 
--- further digits behind those that were read
+-- further digits after those that were read
 pub joined_digits : (w few v p limit : ℕ) → v < 2 ^ w → w + few ≤ limit → few < limit → bit_or (v * 2 ^ few % 2 ^ limit) (bit_and p (1 * 2 ^ few % 2 ^ limit - 1)) ≡ v * 2 ^ few + p % 2 ^ few
 joined_digits w few v p limit h n m =
     let low : bit_and p (1 * 2 ^ few % 2 ^ limit - 1) ≡ p % 2 ^ few = ap (λ x. bit_and p (x - 1)) (one_shl few limit m) ∙ and_mask p few in

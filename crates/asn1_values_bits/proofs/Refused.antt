@@ -1,4 +1,4 @@
--- What is left where more was refused.
+-- What is left after a failed allocation.
 use Rattle.std.proofs.Common.{◌≡◌, ℕ, ◌++◌, Bool, List, length, length-append, take, arith, sym, ap, ◌∙◌, subst, OnErr}
 use Rattle.std.specs.Prelude.{Result, Ok, Err}
 use Rattle.std.proofs.lemmas.List.{take_at, take-take}
@@ -8,7 +8,7 @@ pub though_refused : {T E P : Type 0} (r : Result T E) → P → OnErr r P
 though_refused (Ok x) p = tt
 though_refused (Err e) p = p
 
--- what was added before the refusal is cut off again
+-- what was added before the failure is cut off again
 pub cut_off : {T E : Type 0} (added r : Result T E) (before mid new : List Bool) (n : ℕ) → r ≡ added → OnErr r (new ≡ take n mid) → OnErr added (take n mid ≡ before) → OnErr r (new ≡ before)
 cut_off (Ok x) r before mid new n e c m = subst (λ s. OnErr s (new ≡ before)) (sym e) tt
 cut_off (Err x) (Err y) before mid new n e c m = c ∙ m

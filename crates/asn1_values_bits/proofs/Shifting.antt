@@ -82,7 +82,7 @@ shifted_more os ts i o y h e b =
     ∙ ap (λ l. take (i * 8) (drop o B) ++ l) (b ∙ ap (take 8) next)
     ∙ sym (take_two (i * 8) 8 (drop o B)) ∙ ap (λ k. take k (drop o B)) (omega arith)
 
--- octets that stand whole at the front of some bits
+-- the whole octets at the start of some bits
 pub whole_front : (os : List ℕ) (first len s n : ℕ) → first ≡ s * 8 → n * 8 ≤ len → s + n ≤ length os → octet_bits (take n (drop s os)) ≡ take (n * 8) (take len (drop first (octet_bits os)))
 whole_front os first len s n e h l =
     octets_at os s n l ∙ ap (λ k. take (n * 8) (drop k (octet_bits os))) (sym e) ∙ sym (take-take (n * 8) len (drop first (octet_bits os)) h)

@@ -14,7 +14,7 @@ high_end count n h =
     ap (take count) (binary_low 128 (n * 2 ^ (128 - count)) ∙ ap (λ k. binary k (n * 2 ^ (128 - count))) (sym all) ∙ binary_shifted count (128 - count) n)
     ∙ take_at (binary count n) (replicate (128 - count) false) count (length-binary count n)
 
--- the digits behind the first ones
+-- the digits after the first ones
 shifted : (o w n : ℕ) → o + w ≤ 128 → take w (binary 128 (n * 2 ^ o % 2 ^ 128)) ≡ take w (drop o (binary 128 n))
 shifted o w n h =
     let r : ℕ = 128 - o in

@@ -16,7 +16,7 @@ length-bits_of s = omega (arith, length-take s.len (drop s.first (octet_bits s.o
 pub octets_at : (os : List ℕ) (start count : ℕ) → start + count ≤ length os → octet_bits (take count (drop start os)) ≡ take (count * 8) (drop (start * 8) (octet_bits os))
 octets_at os start count h = octet_bits-take count (drop start os) (omega (arith, length-drop start os)) ∙ ap (take (count * 8)) (octet_bits-drop start os (omega arith))
 
--- whole octets and the bits behind them
+-- whole octets and the bits after them
 pub whole_and_rest : (os : List ℕ) (first len start count : ℕ) → first + len ≤ length os * 8 → first ≡ start * 8 → count ≡ len / 8 → octet_bits (take count (drop start os)) ++ take (len % 8) (drop (first + count * 8) (octet_bits os)) ≡ take len (drop first (octet_bits os))
 whole_and_rest os first len start count h s n =
     let B : List Bool = octet_bits os in
@@ -32,7 +32,7 @@ held os first len start count h s n =
     ap (take len) (octets_at os start count (omega arith)) ∙ take-take len (count * 8) (drop (start * 8) (octet_bits os)) (omega arith)
     ∙ ap (λ k. take len (drop k (octet_bits os))) (sym s)
 
--- the bits that octets to come are made of: so many, and zero bits behind them
+-- the bits of the octets to come: a number of bits, padded with zero bits
 abbrev pub to_come : ℕ → List Bool → List Bool
 to_come octets rest = rest ++ replicate (octets * 8 - length rest) false
 

@@ -11,7 +11,7 @@ length-bytes : (k n : ℕ) → length (bytes_high_first k n) ≡ k
 length-bytes zero n = refl
 length-bytes (suc k) n = ap suc (length-bytes k n)
 
--- so many of the low digits of a number, shifted to the high end of some octets, and those of them that they need
+-- a number of the low digits, shifted to the high end of some octets, and the octets that they need
 pub whole_written : (all : ℕ) (os os' : List ℕ) (v : List Bool) (w n x y : ℕ) → octet_bits os ≡ v → w ≤ all * 8 → n * 8 ≡ w + missing w → y ≡ x * 2 ^ (all * 8 - w) % 2 ^ (all * 8) → os' ≡ os ++ take n (bytes_high_first all y) → octet_bits os' ≡ (v ++ binary w x) ++ replicate (missing w) false
 whole_written all os os' v w n x y b h m e f =
     let bs : List ℕ = bytes_high_first all y in

@@ -10,7 +10,7 @@ use Rattle.asn1_values_bits.proofs.Reading.{take_two, bits_within}
 use Rattle.asn1_values_bits.proofs.Views.{octets_at}
 use Rattle.asn1_values_bits.proofs.BitViewsWhole.{high_first}
 
--- the octet at a place
+-- the octet at an index
 abbrev pub at : List ℕ → ℕ → ℕ
 at os i = get_or os i 0
 
@@ -53,7 +53,7 @@ digits_inside a c b n =
     ap (λ l. take c (drop a l)) (binary_split a (c + b) n) ∙ ap (take c) (drop_at (binary a (n / 2 ^ (c + b))) (binary (c + b) n) a (length-binary a (n / 2 ^ (c + b))))
     ∙ ap (take c) (binary_split c b n) ∙ take_at (binary c (n / 2 ^ b)) (binary b n) c (length-binary c (n / 2 ^ b))
 
--- an octet behind eight
+-- an octet after eight
 pub nine_is : (f x : ℕ) → f < 2 ^ 64 → x < 2 ^ 8 → bit_or (f * 2 ^ 8 % 2 ^ 128) x ≡ f * 2 ^ 8 + x
 nine_is f x h l = ap (λ n. bit_or n x) (shl_whole f 64 8 128 h (omega arith)) ∙ or_shifted f 8 x l
 

@@ -1,4 +1,4 @@
--- The laws of the order of lists of bits.
+-- Laws of the order of lists of bits.
 use Rattle.std.specs.Prelude.{◌≡◌, Bool, true, false, List, ◌++◌, length, flat_map, Some, IsTrue, refl}
 use mathlib.Core.Bool.{beq}
 use Rattle.std.specs.Bool.{Decides}
@@ -31,7 +31,7 @@ bits_po = partial_order_from_agreeing_total (slice_cmp bool_cmp) bits_total (λ 
 pub bits_decides : (xs ys : List Bool) → Decides (pointwise beq xs ys) (xs ≡ ys)
 bits_decides = pointwise_decides booleans_Decides
 
--- what a hasher is fed: the number of bits, and their octets
+-- what a hasher is given: the number of bits, and their octets
 abbrev pub bits_fed : List Bool → fed.HashWrites
 bits_fed s = fed.usize (length s) ++ flat_map fed.u8 (packed (padded s))
 

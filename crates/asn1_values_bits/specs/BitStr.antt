@@ -7,6 +7,6 @@ use Rattle.asn1_values_bits.specs.declared.bit_str.BitStr.{BitStr}
 unfoldable pub bits_of : BitStr → List Bool
 bits_of s = take s.len (drop s.first (octet_bits s.octets.now))
 
--- at which bit of an octet it begins
+-- the bit of an octet at which the view begins
 unfoldable pub offset_of : BitStr → ℕ
 offset_of s = s.first % 8

@@ -1,4 +1,4 @@
-//! Bits added within room that was made before.
+//! Appends bits to a buffer within room reserved before.
 ghost use Rattle.std.specs.Prelude.{◌≡◌, ◌++◌, ◌+◌, ◌-◌, ◌≤◌, IfOk};
 ghost use Rattle.std.specs.Borrow.{sem, RestsIfErr};
 ghost use Rattle.asn1_model.specs.Numbers.{binary};
@@ -8,19 +8,19 @@ ghost use Rattle.asn1_values_bits.specs.contracts.bit_buffer.BitBuffer.{the_row}
 use crate::bit_buffer::BitBuffer;
 use std::alloc::AllocError;
 
-/// Adds bits to a buffer, within room that was made before, so that no further memory is taken. Room that is left
-/// when it goes is given back.
+/// Appends bits to a buffer within room reserved before, so that no further allocation is needed. Dropping it removes
+/// the room that is left.
 pub struct BitAppender<'a> {
     buffer: &'a mut BitBuffer,
     next: usize,
 }
 
 impl BitBuffer {
-    /// Makes room for so many bits, to be added by an appender.
+    /// Reserves room for `room` bits, which an appender fills.
     ///
     /// # Errors
     ///
-    /// Want of memory; nothing is changed then.
+    /// Out of memory; nothing is changed then.
     pub fn appender(&mut self, room: usize) -> Result<BitAppender<'_>, AllocError>
         ensures* refused { sem 𝓛 (RestsIfErr the_row self.entry lender_of result (λ last. last ≡ self.old)) }
         ensures same_reference { IfOk result (λ appender. lender_of appender ≡ self.entry.ghost_name) }
@@ -37,7 +37,7 @@ impl BitBuffer {
 }
 
 impl BitAppender<'_> {
-    /// Adds the low `width` bits of a number, the highest first.
+    /// Appends the low `width` bits of a number, the most significant first.
     pub fn push(&mut self, value: u128, width: u32)
         requires narrow { width ≤ 128 }
         requires room { width ≤ room_of self.old }

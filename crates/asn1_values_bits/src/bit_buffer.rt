@@ -1,4 +1,4 @@
-//! Bits that grow at their end, in whole octets of which the last is padded with zero bits.
+//! A growable list of bits, kept in whole octets; zero bits pad the last octet.
 ghost use Rattle.std.specs.Prelude.{◌≡◌, ℕ, ◌+◌, ◌-◌, ◌*◌, ◌/◌, ◌%◌, ◌^◌, ◌<◌, ◌≤◌, Bool, List, [], ◌∷◌, ◌++◌};
 ghost use Rattle.std.specs.Prelude.{length, set, take, drop, replicate, false, IsTrue, ◌↔◌, IfOk, OnOk, OnErr};
 ghost use Rattle.std.specs.Prelude.{vec_len, slice_set};
@@ -10,11 +10,11 @@ use std::alloc::{AllocError, Global};
 use std::default::MadeWith;
 use std::marker::Model;
 
-// One more than the largest number of 64 bits.
+// 2^64.
 const WORD: u128 = 0x1_0000_0000_0000_0000;
 
-/// A list of bits that grows at its end. Between two calls all of them stand in octets, the first bit highest, and
-/// the bits past the last one are zero.
+/// A growable list of bits. Between calls they are kept in octets, the first bit as the most significant, and the
+/// unused bits of the last octet are zero.
 #[derive(Drop)]
 pub struct BitBuffer {
     octets: Vec<u8>,
@@ -36,7 +36,7 @@ impl Model for BitBuffer {
 impl BitBuffer {
     ghost use Rattle.asn1_values_bits.specs.BitStr.{bits_of, offset_of};
 
-    /// No bits. It takes no memory, and what it holds later comes from `alloc`.
+    /// No bits. Allocates nothing; later bits are kept in memory from `alloc`.
     pub fn new(alloc: Global) -> Self
         ensures { result ≡ [] }
     {
@@ -60,7 +60,7 @@ impl BitBuffer {
         self.len == 0
     }
 
-    /// The bits in octets, the first bit highest, and zero bits behind the last one.
+    /// The bits in octets, the first bit as the most significant, padded with zero bits.
     pub fn as_bytes(&self) -> &[u8]
         ensures octets { result.now ≡ packed (padded self.now) }
         ensures bits { octet_bits result.now ≡ padded self.now }
@@ -69,7 +69,7 @@ impl BitBuffer {
         octets
     }
 
-    /// The octets themselves, as `as_bytes` shows them.
+    /// The octets of `as_bytes`, as a vector.
     pub fn into_vec(self) -> Vec<u8>
         ensures octets { result.items ≡ packed (padded self) }
         ensures bits { octet_bits result.items ≡ padded self }
@@ -78,7 +78,7 @@ impl BitBuffer {
         octets
     }
 
-    /// All bits of the octets, whose allocator is kept.
+    /// All bits of the octets. The vector's allocator is kept.
     pub fn from_vec(octets: Vec<u8>) -> Self
         requires { vec_len octets < 2 ^ 61 }
         ensures { result ≡ octet_bits octets.items }
@@ -87,7 +87,7 @@ impl BitBuffer {
         BitBuffer { octets, len }
     }
 
-    /// Takes all bits away. The memory is kept.
+    /// Removes all bits and keeps the memory.
     pub fn clear(&mut self)
         ensures { self.new ≡ [] }
     {
@@ -95,11 +95,11 @@ impl BitBuffer {
         self.len = 0;
     }
 
-    /// Makes room for so many octets behind those that are there.
+    /// Reserves room for `additional` more octets.
     ///
     /// # Errors
     ///
-    /// Want of memory; nothing is changed then.
+    /// Out of memory; nothing is changed then.
     pub fn reserve_bytes(&mut self, additional: usize) -> Result<(), AllocError>
         ensures { self.new ≡ self.old }
     {
@@ -107,7 +107,7 @@ impl BitBuffer {
         Ok(())
     }
 
-    // Adds up to eight bits: the low ones of a number, the highest first.
+    // Appends up to eight bits: the low bits of a number, the most significant first.
     #[inline(always)]
     fn push_few(&mut self, bits: u16, count: u32) -> Result<(), AllocError>
         requires few { count ≤ 8 }
@@ -131,7 +131,7 @@ impl BitBuffer {
         Ok(())
     }
 
-    /// Keeps the first `len` bits alone, or all where there are fewer. No memory is taken.
+    /// Keeps only the first `len` bits, or all if there are fewer. Allocates nothing.
     pub fn truncate(&mut self, len: usize)
         ensures { self.new ≡ take len self.old }
     {
@@ -150,11 +150,11 @@ impl BitBuffer {
         self.len = len;
     }
 
-    /// Adds one bit.
+    /// Appends one bit.
     ///
     /// # Errors
     ///
-    /// Want of memory; nothing is changed then.
+    /// Out of memory; nothing is changed then.
     #[inline(always)]
     pub fn push(&mut self, bit: bool) -> Result<(), AllocError>
         ensures ok { OnOk result (self.new ≡ self.old ++ bit ∷ []) }
@@ -164,11 +164,11 @@ impl BitBuffer {
         Ok(())
     }
 
-    /// Adds the low `width` bits of a number, the highest first.
+    /// Appends the low `width` bits of a number, the most significant first.
     ///
     /// # Errors
     ///
-    /// Want of memory; nothing is changed then.
+    /// Out of memory; nothing is changed then.
     #[inline(always)]
     pub fn push_bits(&mut self, value: u128, width: u32) -> Result<(), AllocError>
         requires { width ≤ 128 }
@@ -181,7 +181,7 @@ impl BitBuffer {
         self.push_many(value, width)
     }
 
-    // Adds the low `width` bits of a number, up to 64.
+    // Appends the low `width` bits of a number, up to 64.
     #[inline(always)]
     fn push_word(&mut self, value: u64, width: u32) -> Result<(), AllocError>
         requires { width ≤ 64 }
@@ -194,7 +194,7 @@ impl BitBuffer {
         self.push_across(value, width)
     }
 
-    // Adds the low `width` bits of a number: those that fill the last octet, and the others in octets of their own.
+    // Appends the low `width` bits of a number: first those that fill the last octet, then the others in new octets.
     fn push_across(&mut self, value: u64, width: u32) -> Result<(), AllocError>
         requires some { 8 < width }
         requires narrow { width ≤ 64 }
@@ -217,7 +217,7 @@ impl BitBuffer {
         Ok(())
     }
 
-    // Adds the low `width` bits of a number: first those that fill the last octet.
+    // Appends the low `width` bits of a number: first those that fill the last octet.
     fn push_many(&mut self, value: u128, width: u32) -> Result<(), AllocError>
         requires { width ≤ 128 }
         ensures ok { OnOk result (self.new ≡ self.old ++ binary width value) }
@@ -232,7 +232,7 @@ impl BitBuffer {
         self.cut_if_refused(before, pushed)
     }
 
-    // Answers `added`, and keeps the first `len` bits alone where that is a refusal.
+    // Returns `added`, and if that is an error, keeps only the first `len` bits.
     fn cut_if_refused(
         &mut self,
         len: usize,
@@ -248,7 +248,7 @@ impl BitBuffer {
         added
     }
 
-    // Fills the last octet with the first of the low `width` bits of a number, and answers how many are left.
+    // Fills the last octet with the first of the low `width` bits of a number, and returns how many are left.
     fn fill_octet(&mut self, value: u128, width: u32) -> Result<u32, AllocError>
         requires { width ≤ 128 }
         ensures fewer { IfOk result (λ left. left ≤ width) }
@@ -265,7 +265,7 @@ impl BitBuffer {
         Ok(width - few)
     }
 
-    // Adds the low `width` bits of a number behind whole octets.
+    // Appends the low `width` bits of a number after whole octets.
     fn push_whole(&mut self, value: u128, width: u32) -> Result<(), AllocError>
         requires narrow { width ≤ 128 }
         requires some { 0 < width }
@@ -283,11 +283,11 @@ impl BitBuffer {
         Ok(())
     }
 
-    /// Adds the bits of all the octets.
+    /// Appends all bits of the octets.
     ///
     /// # Errors
     ///
-    /// Want of memory; nothing is changed then.
+    /// Out of memory; nothing is changed then.
     pub fn extend_from_bytes(&mut self, bytes: &[u8]) -> Result<(), AllocError>
         ensures ok { OnOk result (self.new ≡ self.old ++ octet_bits bytes.now) }
         ensures err { OnErr result (self.new ≡ self.old) }
@@ -303,7 +303,7 @@ impl BitBuffer {
         Ok(())
     }
 
-    // Adds octets behind whole octets.
+    // Appends octets after whole octets.
     fn push_octets(&mut self, octets: &[u8]) -> Result<(), AllocError>
         requires { length self.old % 8 ≡ 0 }
         ensures ok { OnOk result (self.new ≡ self.old ++ octet_bits octets.now) }
@@ -320,7 +320,7 @@ impl BitBuffer {
         Ok(())
     }
 
-    // Adds the bits of a view: as one number where they are few, else those that fill the last octet first.
+    // Appends the bits of a view: as one number if there are few, else those that fill the last octet first.
     fn extend_shifted(&mut self, bits: BitStr<'_>) -> Result<(), AllocError>
         ensures ok { OnOk result (self.new ≡ self.old ++ bits_of bits.entry) }
         ensures err { OnErr result (self.new ≡ self.old) }
@@ -336,7 +336,7 @@ impl BitBuffer {
         self.cut_if_refused(before, extended)
     }
 
-    // Adds the bits of a view behind whole octets. Where memory is refused, some of them may be there.
+    // Appends the bits of a view after whole octets. After an error, some of them may have been appended.
     fn extend_whole(&mut self, bits: BitStr<'_>) -> Result<(), AllocError>
         requires { 0 < length (bits_of bits) → length self.old % 8 ≡ 0 }
         ensures ok { OnOk result (self.new ≡ self.old ++ bits_of bits.entry) }
@@ -353,7 +353,7 @@ impl BitBuffer {
         Ok(())
     }
 
-    // Adds the bits of a view, at most 128, as one number.
+    // Appends the bits of a view, at most 128, as one number.
     #[inline(always)]
     fn push_view(&mut self, bits: BitStr<'_>) -> Result<(), AllocError>
         requires { length (bits_of bits) ≤ 128 }
@@ -364,7 +364,7 @@ impl BitBuffer {
         self.push_bits(bits.first_number(width), width)
     }
 
-    // Adds the first octets of a view behind whole octets.
+    // Appends the first `count` octets of a view after whole octets.
     fn push_shifted(&mut self, bits: BitStr<'_>, count: usize) -> Result<(), AllocError>
         requires whole { length self.old % 8 ≡ 0 }
         requires within { count * 8 ≤ length (bits_of bits) }
@@ -390,11 +390,11 @@ impl BitBuffer {
         BitStr::front_of(self.octets.as_slice(), self.len)
     }
 
-    /// Adds the bits of a view.
+    /// Appends the bits of a view.
     ///
     /// # Errors
     ///
-    /// Want of memory; nothing is changed then.
+    /// Out of memory; nothing is changed then.
     pub fn extend_from_bitslice(&mut self, bits: BitStr<'_>) -> Result<(), AllocError>
         ensures ok { OnOk result (self.new ≡ self.old ++ bits_of bits.entry) }
         ensures err { OnErr result (self.new ≡ self.old) }
@@ -412,11 +412,11 @@ impl BitBuffer {
         self.cut_if_refused(before, extended)
     }
 
-    /// Adds the bits of another buffer.
+    /// Appends the bits of another buffer.
     ///
     /// # Errors
     ///
-    /// Want of memory; nothing is changed then.
+    /// Out of memory; nothing is changed then.
     pub fn extend_from_buffer(&mut self, other: &BitBuffer) -> Result<(), AllocError>
         ensures ok { OnOk result (self.new ≡ self.old ++ other.now) }
         ensures err { OnErr result (self.new ≡ self.old) }
@@ -425,7 +425,7 @@ impl BitBuffer {
         Ok(())
     }
 
-    /// Changes the bit at a place.
+    /// Sets the bit at position `index`.
     pub fn set(&mut self, index: usize, bit: bool)
         requires { index < length self.old }
         ensures { self.new ≡ slice_set self.old index bit }
@@ -434,7 +434,7 @@ impl BitBuffer {
         self.octets[index / 8] = with_bit(octet, (index % 8) as u32, bit);
     }
 
-    // Writes the low `width` bits of a number over bits that are there.
+    // Overwrites bits with the low `width` bits of a number.
     pub(crate) fn put_bits(&mut self, at: usize, value: u128, width: u32)
         requires narrow { width ≤ 128 }
         requires within { at + width ≤ length self.old }
@@ -451,7 +451,7 @@ impl BitBuffer {
         self.put_word(at + high as usize, (value % WORD) as u64, 64);
     }
 
-    // Writes the low `width` bits of a number, up to 64, over bits that are there.
+    // Overwrites bits with the low `width` bits of a number, up to 64.
     fn put_word(&mut self, at: usize, value: u64, width: u32)
         requires narrow { width ≤ 64 }
         requires within { at + width ≤ length self.old }
@@ -469,7 +469,7 @@ impl BitBuffer {
         }
     }
 
-    // Writes up to eight bits over bits of one octet.
+    // Overwrites up to eight bits of one octet.
     fn put_few(&mut self, place: usize, bits: u16, count: u32)
         requires octet { place % 8 + count ≤ 8 }
         requires within { place + count ≤ length self.old }
@@ -484,11 +484,11 @@ impl BitBuffer {
         self.octets[place / 8] = ((high << count | bits) << past | low) as u8;
     }
 
-    /// Keeps the first `len` bits, or adds copies of a bit up to `len` bits.
+    /// Truncates to the first `len` bits, or extends to `len` bits with copies of `bit`.
     ///
     /// # Errors
     ///
-    /// Want of memory; nothing is changed then.
+    /// Out of memory; nothing is changed then.
     pub fn resize(&mut self, len: usize, bit: bool) -> Result<(), AllocError>
         ensures ok { OnOk result (self.new ≡ take len self.old ++ replicate (len - length self.old) bit) }
         ensures err { OnErr result (self.new ≡ self.old) }
@@ -510,7 +510,7 @@ impl BitBuffer {
     }
 }
 
-/// A copy in the memory that the buffer's own comes from.
+/// Clones into memory of the same allocator.
 impl Clone for BitBuffer {
     ghost is_clone = { λ buffer copy. copy ≡ buffer };
 
@@ -521,7 +521,7 @@ impl Clone for BitBuffer {
     }
 }
 
-/// No bits, in the place of `Default`, which has no allocator.
+/// No bits. Takes the place of `Default`, which has no allocator.
 impl MadeWith<Global> for BitBuffer {
     ghost is_made_with = { λ buffer. buffer ≡ [] };
 
@@ -530,7 +530,7 @@ impl MadeWith<Global> for BitBuffer {
     }
 }
 
-/// How many bits the last octet has left behind so many: the bits that are missing to whole octets.
+/// How many bits of the last octet are unused after `len` bits: the padding up to whole octets.
 #[inline(always)]
 pub fn free_bits(len: usize) -> u32
     ensures { result ≡ missing len }
@@ -538,7 +538,7 @@ pub fn free_bits(len: usize) -> u32
     ((8 - len % 8) % 8) as u32
 }
 
-// An octet with one of its bits changed, of which the highest is the first.
+// An octet with one bit changed; index 0 is the most significant bit.
 fn with_bit(octet: u8, index: u32, bit: bool) -> u8
     requires { index < 8 }
     ensures { binary 8 result ≡ slice_set (binary 8 octet) index bit }

@@ -1,4 +1,4 @@
-//! Bits that are read from their front.
+//! A reader of bits, from the first to the last.
 ghost use Rattle.std.specs.Prelude.{◌≡◌, ◌+◌, ◌*◌, ◌%◌, ◌^◌, ◌<◌, ◌≤◌, [], ◌∷◌, length, take, drop, IsTrue, ◌↔◌};
 ghost use Rattle.std.specs.Prelude.{IsSome, IfSome, IfOk, IfErr, IsOk, OnErr, IsOkAnd};
 ghost use Rattle.std.specs.Cow.{cow_slice_items, IsBorrowedSlice};
@@ -12,8 +12,8 @@ use std::alloc::{AllocError, Global};
 use std::borrow::CowSlice;
 use std::marker::Model;
 
-/// Bits that are still to be read, in octets that stand elsewhere. The first of them, up to 128, stand in a window as
-/// one number as well, from which they are answered.
+/// Unread bits in borrowed octets. The first of them, up to 128, are also held as one number (the window), from which
+/// they are read.
 #[derive(Drop)]
 pub struct BitReader<'a> {
     rest: BitStr<'a>,
@@ -76,11 +76,11 @@ impl<'a> BitReader<'a> {
         self.rest.is_empty()
     }
 
-    /// Takes the first bits off. Where there are fewer, it answers how many are missing, and stays as it is.
+    /// Takes off the first `count` bits.
     ///
     /// # Errors
     ///
-    /// How many bits are missing, where there are fewer than `count`; the reader is then as it was.
+    /// How many bits are missing, if there are fewer than `count`; the reader is then unchanged.
     #[inline(always)]
     pub fn split(&mut self, count: usize) -> Result<BitReader<'a>, usize>
         ensures ok { IsOk result ↔ (count ≤ length self.old.bits) }
@@ -101,7 +101,7 @@ impl<'a> BitReader<'a> {
         Ok(BitReader { rest, window })
     }
 
-    // Takes the first bits off: off the window, or a new one is filled where it has no more.
+    // Takes off the first `count` bits: from the window, or by filling a new one if it has no more.
     #[inline(always)]
     fn pass(&mut self, count: usize)
         requires { count ≤ length self.old.bits }
@@ -126,7 +126,7 @@ impl<'a> BitReader<'a> {
         self.window.first_bits(1) == 1
     }
 
-    /// The number whose binary digits are the first bits, at most 64.
+    /// The number whose binary digits are the first `width` bits, at most 64.
     #[inline(always)]
     pub fn first_bits(&self, width: u32) -> u64
         requires narrow { width ≤ 64 }
@@ -140,7 +140,7 @@ impl<'a> BitReader<'a> {
         self.rest.first_bits(width)
     }
 
-    /// The number whose binary digits are the first bits, at most 128.
+    /// The number whose binary digits are the first `width` bits, at most 128.
     #[inline(always)]
     pub fn first_u128(&self, width: u32) -> u128
         requires narrow { width ≤ 128 }
@@ -154,7 +154,7 @@ impl<'a> BitReader<'a> {
         self.rest.first_number(width)
     }
 
-    /// The octets that hold the unread bits, where these begin at an octet and end at one.
+    /// The octets that hold the unread bits, if these begin and end at octet boundaries.
     pub fn aligned_octets(&self) -> Option<&'a [u8]>
         ensures aligned { IsSome result ↔ ((self.now.offset ≡ 0) × (length self.now.bits % 8 ≡ 0)) }
         ensures octets { IfSome result (λ octets. octet_bits octets.now ≡ self.now.bits) }
@@ -162,12 +162,12 @@ impl<'a> BitReader<'a> {
         self.rest.aligned_octets()
     }
 
-    /// The unread bits in octets, with zero bits behind the last one. Where the bits begin at an octet and end at
-    /// one, the octets are lent and no memory is taken.
+    /// The unread bits in octets, padded with zero bits. If the bits begin and end at octet boundaries, the octets are
+    /// borrowed and nothing is allocated.
     ///
     /// # Errors
     ///
-    /// Want of memory, and not where the octets are lent.
+    /// Out of memory; never if the octets are borrowed.
     pub fn octets(&self, alloc: Global) -> Result<CowSlice<'a, u8>, AllocError>
         ensures octets { IfOk result (λ octets. octet_bits (cow_slice_items octets) ≡ padded self.now.bits) }
         ensures lent { self.now.offset ≡ 0 → length self.now.bits % 8 ≡ 0 → IsOkAnd result IsBorrowedSlice }

@@ -3,7 +3,7 @@ ghost use Rattle.std.specs.Prelude.{◌≡◌, ◌+◌, ◌*◌, ◌%◌, ◌^�
 
 use crate::bits::{octets_from, read_bits, read_wide, shift_octets};
 
-/// Some of the bits that stand in octets, from any bit on.
+/// A slice of the bits of octets, starting at any bit.
 #[derive(Clone, Copy)]
 pub struct BitStr<'a> {
     octets: &'a [u8],
@@ -78,7 +78,7 @@ impl<'a> BitStr<'a> {
         self.len == 0
     }
 
-    /// The bit at a place, if there is one.
+    /// The bit at position `index`, if there is one.
     pub fn get(&self, index: usize) -> Option<bool>
         ensures { result ≡ slice_get (bits_of self.now) index }
     {
@@ -90,7 +90,7 @@ impl<'a> BitStr<'a> {
         Some(octet >> (7 - place % 8) & 1 == 1)
     }
 
-    /// The first bits and those behind them.
+    /// The first `count` bits, and the bits after them.
     pub fn split_at(&self, count: usize) -> (BitStr<'a>, BitStr<'a>)
         requires { count ≤ length (bits_of self.now) }
         ensures front { bits_of result.0 ≡ take count (bits_of self.now) }
@@ -122,7 +122,7 @@ impl<'a> BitStr<'a> {
         read_wide(self.octets, self.first, count)
     }
 
-    // The same number, at most 64 bits.
+    // As `first_number`, for at most 64 bits.
     #[inline(always)]
     pub(crate) fn first_bits(&self, count: u32) -> u64
         requires narrow { count ≤ 64 }
@@ -133,8 +133,8 @@ impl<'a> BitStr<'a> {
         read_bits(self.octets, self.first, count)
     }
 
-    // Some of the first bits, and how many: at most 128, up to the end of an octet. They are the highest binary digits
-    // of the number, which has 128.
+    // Some of the first bits and their count: at most 128, up to the end of an octet. They are the most significant
+    // digits of a 128-bit number.
     #[inline(always)]
     pub(crate) fn first_octets(&self) -> (u128, u32)
         ensures narrow { result.1 ≤ 128 }
@@ -153,7 +153,7 @@ impl<'a> BitStr<'a> {
         (number << offset, width)
     }
 
-    // The first eight bits as an octet, with zero bits behind them where there are fewer, and the bits behind them.
+    // The first eight bits as an octet, padded with zero bits if there are fewer, and the bits after them.
     pub(crate) fn split_octet(&self) -> (u8, BitStr<'a>)
         requires { 0 < length (bits_of self.now) }
         ensures octets { packed (padded (bits_of self.now)) ≡ result.0 ∷ packed (padded (bits_of result.1)) }
@@ -164,7 +164,7 @@ impl<'a> BitStr<'a> {
         (octet, self.split_at(few).1)
     }
 
-    /// The octets that hold the bits, where they begin at an octet and end at one.
+    /// The octets that hold the bits, if these begin and end at octet boundaries.
     pub fn aligned_octets(&self) -> Option<&'a [u8]>
         ensures aligned { IsSome result ↔ ((offset_of self.now ≡ 0) × (length (bits_of self.now) % 8 ≡ 0)) }
         ensures octets { IfSome result (λ octets. octet_bits octets.now ≡ bits_of self.now) }
@@ -177,7 +177,8 @@ impl<'a> BitStr<'a> {
         Some(&self.octets[start..end])
     }
 
-    /// The octets that hold the bits, where they begin at an octet. In the last one others may stand behind them.
+    /// The octets that hold the bits, if these begin at an octet boundary. The last octet may hold other bits after
+    /// them.
     pub fn holding_octets(&self) -> Option<&'a [u8]>
         ensures bits { IfSome result (λ octets. take (length (bits_of self.now)) (octet_bits octets.now)
             ≡ bits_of self.now) }
@@ -194,7 +195,7 @@ impl<'a> BitStr<'a> {
         Some(&self.octets[start..start + count])
     }
 
-    /// Copies the first bits into octets, as many as these have.
+    /// Copies the first bits into the octets, until these are full.
     pub fn copy_to(&self, octets: &mut [u8])
         requires { length octets.old * 8 ≤ length (bits_of self.now) }
         ensures { octet_bits octets.new ≡ take (length octets.old * 8) (bits_of self.now) }
@@ -209,8 +210,8 @@ impl<'a> BitStr<'a> {
         }
     }
 
-    /// The octets that stand whole at the front, and the bits behind them. Where the bits do not begin at an octet
-    /// there are none.
+    /// The whole octets at the start, and the bits after them. If the bits do not begin at an octet boundary, there
+    /// are no such octets.
     pub fn whole_octets(&self) -> (&'a [u8], BitStr<'a>)
         ensures { octet_bits result.0.now ++ bits_of result.1 ≡ bits_of self.now }
     {

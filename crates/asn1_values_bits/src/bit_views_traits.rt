@@ -1,4 +1,4 @@
-//! The traits of `std` for views of bits, which go by the bits.
+//! The traits of `std` for views of bits, which compare and hash the bits.
 ghost use Rattle.std.specs.Prelude.{◌≡◌, [], refl, Some, fold, flat_map};
 ghost use mathlib.Core.Bool.{beq};
 ghost use Rattle.std.specs.Ordering.{bool_cmp, on};

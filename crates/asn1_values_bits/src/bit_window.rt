@@ -1,9 +1,9 @@
-//! The first bits of a view, in one number.
+//! The first bits of a view as one number.
 ghost use Rattle.std.specs.Prelude.{◌≡◌, ◌+◌, ◌^◌, ◌<◌, ◌≤◌, length, take, drop, min};
 
 use crate::BitStr;
 
-/// Up to 128 bits in one number, the first bit highest. What stands behind them in the number does not count.
+/// Up to 128 bits in one number, from the most significant. The digits after them are ignored.
 #[derive(Clone, Copy)]
 pub(crate) struct BitWindow {
     number: u128,
@@ -16,7 +16,7 @@ impl BitWindow {
     ghost use Rattle.asn1_values_bits.specs.BitStr.{bits_of, offset_of};
     ghost use Rattle.asn1_values_bits.specs.BitWindow.{shown};
 
-    /// The first bits of a view, up to the end of an octet. It is empty where the view is.
+    /// The first bits of a view, up to the end of an octet. It is empty if the view is.
     #[inline(never)]
     pub(crate) fn new(bits: BitStr<'_>) -> Self
         ensures front { shown result ≡ take result.width (bits_of bits.entry) }
@@ -37,7 +37,7 @@ impl BitWindow {
         self.width
     }
 
-    /// The number whose binary digits are the first bits, at most 64.
+    /// The number whose binary digits are the first `width` bits, at most 64.
     #[inline(always)]
     pub(crate) fn first_bits(&self, width: u32) -> u64
         requires narrow { width ≤ 64 }
@@ -52,7 +52,7 @@ impl BitWindow {
         high >> (64 - width)
     }
 
-    /// The number whose binary digits are the first bits.
+    /// The number whose binary digits are the first `width` bits.
     #[inline(always)]
     pub(crate) fn first_u128(&self, width: u32) -> u128
         requires within { width ≤ self.now.width }
@@ -65,7 +65,7 @@ impl BitWindow {
         self.number >> (128 - width)
     }
 
-    /// The first `count` bits, or all where there are fewer.
+    /// The first `count` bits, or all if there are fewer.
     #[inline(always)]
     pub(crate) fn front(&self, count: usize) -> Self
         ensures front { shown result ≡ take result.width (shown self.now) }
@@ -78,7 +78,7 @@ impl BitWindow {
         }
     }
 
-    /// Takes the first `count` bits off.
+    /// Takes off the first `count` bits.
     #[inline(always)]
     pub(crate) fn pass(&mut self, count: u32)
         requires { count < self.old.width }

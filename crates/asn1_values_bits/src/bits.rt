@@ -1,10 +1,10 @@
-//! Numbers in the bits of octets.
+//! Numbers read from the bits of octets.
 ghost use Rattle.std.specs.Prelude.{◌≡◌, ◌+◌, ◌-◌, ◌*◌, ◌/◌, ◌^◌, ◌<◌, ◌≤◌, ◌++◌, length, take, drop, IsTrue, ◌↔◌};
 ghost use Rattle.std.specs.Prelude.{pos, Any};
 ghost use Rattle.asn1_model.specs.Numbers.{binary, octet_bits};
 ghost use Rattle.asn1_values_bits.specs.Octets.{ored, placed};
 
-/// The number whose binary digits are `count` bits of the octets from bit `position` on.
+/// The number whose binary digits are the `count` bits of the octets from bit `position` on.
 #[inline(always)]
 pub fn read_bits(octets: &[u8], position: usize, count: u32) -> u64
     requires narrow { count ≤ 64 }
@@ -19,7 +19,7 @@ pub fn read_bits(octets: &[u8], position: usize, count: u32) -> u64
     read_of_eight(octets, position, count)
 }
 
-// The same as `read_bits`: seldom, where the bits may need more than eight octets, or fewer stand there.
+// As `read_bits`, for the rare case that the bits need more than eight octets, or fewer are left.
 fn read_apart(octets: &[u8], position: usize, count: u32) -> u64
     requires narrow { count ≤ 64 }
     requires within { position + count ≤ length octets.now * 8 }
@@ -36,7 +36,7 @@ fn read_apart(octets: &[u8], position: usize, count: u32) -> u64
     read_of_few(octets, position, count)
 }
 
-// The number of eight octets, the first one highest.
+// The number of eight octets, the most significant first.
 #[inline(always)]
 fn eight_octets(octets: &[u8], start: usize) -> u64
     requires { start + 8 ≤ length octets.now }
@@ -54,7 +54,7 @@ fn eight_octets(octets: &[u8], start: usize) -> u64
     ])
 }
 
-// The number of sixteen octets, the first one highest.
+// The number of sixteen octets, the most significant first.
 #[inline(always)]
 fn sixteen_octets(octets: &[u8], start: usize) -> u128
     requires { start + 16 ≤ length octets.now }
@@ -65,7 +65,7 @@ fn sixteen_octets(octets: &[u8], start: usize) -> u128
     (high as u128) << 64 | low as u128
 }
 
-// The number of at most eight octets, the first one highest.
+// The number of at most eight octets, the most significant first.
 fn few_octets(octets: &[u8]) -> u64
     requires { length octets.now ≤ 8 }
     ensures { binary (length octets.now * 8) result ≡ octet_bits octets.now }
@@ -77,8 +77,8 @@ fn few_octets(octets: &[u8]) -> u64
     value
 }
 
-// The octets from `start` on, sixteen of them, or eight, or all where there are fewer, and how many bits they have.
-// They are the highest binary digits of the number, which has 128.
+// Sixteen octets from `start` on, or eight, or all if there are fewer, and their count of bits. They are the most
+// significant digits of a 128-bit number.
 #[inline(always)]
 pub(crate) fn octets_from(octets: &[u8], start: usize) -> (u128, u32)
     requires { start < length octets.now }
@@ -101,7 +101,7 @@ pub(crate) fn octets_from(octets: &[u8], start: usize) -> (u128, u32)
     ((value as u128) << (128 - width), width)
 }
 
-// The same as `read_bits`, where the bits stand in eight octets.
+// As `read_bits`, if eight octets hold the bits.
 #[inline(always)]
 fn read_of_eight(octets: &[u8], position: usize, count: u32) -> u64
     requires some { 0 < count }
@@ -115,7 +115,7 @@ fn read_of_eight(octets: &[u8], position: usize, count: u32) -> u64
     eight >> (64 - offset - count) & ((1 << count) - 1)
 }
 
-// The same as `read_bits`, where nine octets stand from the first bit's octet on.
+// As `read_bits`, if there are nine octets from the first bit's octet on.
 fn read_of_nine(octets: &[u8], position: usize, count: u32) -> u64
     requires some { 0 < count }
     requires narrow { count ≤ 64 }
@@ -131,8 +131,8 @@ fn read_of_nine(octets: &[u8], position: usize, count: u32) -> u64
     first >> (64 - count)
 }
 
-// The same as `read_bits`, where at most eight octets stand from the first bit's octet on. Those that hold the bits are
-// read as one number.
+// As `read_bits`, if there are at most eight octets from the first bit's octet on. Those that hold the bits are read
+// as one number.
 fn read_of_few(octets: &[u8], position: usize, count: u32) -> u64
     requires some { 0 < count }
     requires narrow { count ≤ 64 }
@@ -148,7 +148,7 @@ fn read_of_few(octets: &[u8], position: usize, count: u32) -> u64
     all >> (used * 8 - offset - count) & (u64::MAX >> (64 - count))
 }
 
-/// The number whose binary digits are `count` bits of the octets from bit `position` on.
+/// The number whose binary digits are the `count` bits of the octets from bit `position` on.
 #[inline(always)]
 pub fn read_wide(octets: &[u8], position: usize, count: u32) -> u128
     requires wide { count ≤ 128 }
@@ -165,8 +165,8 @@ pub fn read_wide(octets: &[u8], position: usize, count: u32) -> u128
     (high as u128) << 64 | low as u128
 }
 
-// Copies the octets that begin at a bit within the first octet of the source, of which one more stands there. The
-// compiler makes sixteen turns of this loop at a time.
+// Copies the octets that begin at bit `offset` of the source, which has one octet more than the target. The compiler
+// handles sixteen octets at a time in this loop.
 pub(crate) fn shift_octets(target: &mut [u8], source: &[u8], offset: u32)
     requires one_more { length source.now ≡ length target.old + 1 }
     requires some { 0 < offset }
@@ -178,7 +178,8 @@ pub(crate) fn shift_octets(target: &mut [u8], source: &[u8], offset: u32)
     }
 }
 
-/// ORs the first `count` bits of the source into the target, from its bit `position` on. The target's other bits stay.
+/// ORs the first `count` bits of the source into the target, from bit `position` of the target on. Its other bits are
+/// unchanged.
 pub fn or_bits(target: &mut [u8], position: usize, source: &[u8], count: usize)
     requires target_room { position + count ≤ length target.old * 8 }
     requires source_room { count ≤ length source.now * 8 }
@@ -197,7 +198,7 @@ pub fn or_bits(target: &mut [u8], position: usize, source: &[u8], count: usize)
     }
 }
 
-/// One less than two to a number of bits: the largest number that they hold.
+/// 2^`bit_length` - 1: the largest number of that many bits.
 pub fn range_from_len(bit_length: u32) -> i128
     requires { bit_length ≤ 126 }
     ensures { result ≡ pos (2 ^ bit_length - 1) }
@@ -205,8 +206,8 @@ pub fn range_from_len(bit_length: u32) -> i128
     ((1u128 << bit_length) - 1) as i128
 }
 
-/// Whether codes of `width` bits have to be places in the set: its largest character is at least two to the width. Of
-/// no character it is false (X.691, 30.5.4).
+/// Whether characters have to be encoded by their index in the set, as `width` bits do not hold the largest character:
+/// it is at least 2^`width`. False if the set is empty (X.691, 30.5.4).
 pub fn should_be_indexed(width: u32, character_set: &[u32]) -> bool
     requires { width ≤ 31 }
     ensures { IsTrue result ↔ Any (λ character. 2 ^ width ≤ character) character_set.now }

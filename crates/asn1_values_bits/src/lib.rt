@@ -1,5 +1,5 @@
-//! Bits in octets: views of them, a buffer that grows at its end, a reader that takes them from the front, and the
-//! numbers that they make. All of these are lists of truth values.
+//! Bits in octets: views, a growable buffer, a reader, and the numbers that bits encode. Contracts see all of these as
+//! lists of booleans.
 #![tactic(auto)]
 
 mod bit_appender;

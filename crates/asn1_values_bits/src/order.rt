@@ -1,4 +1,5 @@
-//! Lists of bits in their order: that of the first bit in which they differ, and a beginning before the whole.
+//! Lexicographic order of lists of bits: the first bit in which they differ decides, and a prefix is less than the
+//! whole.
 ghost use Rattle.std.specs.Prelude.{◌≡◌};
 ghost use Rattle.std.specs.Ordering.{bool_cmp};
 ghost use Rattle.std.specs.Cmp.Lexicographic.{slice_cmp};

@@ -1,4 +1,4 @@
--- Fields that are written one behind the other.
+-- Fields written one after the other.
 use Rattle.std.proofs.Common.{◌≡◌, ℕ, suc, ◌+◌, Bool, List, [], ◌∷◌, ◌++◌, Option, Some, None, IsSome, drop, take, ◌*◌, ◌≤◌, length, refl, ap, sym, ◌∙◌, append_assoc, append-nil, arith, subst, rules, true, false, option_map}
 use Rattle.asn1_model.specs.Numbers.{binary}
 use Rattle.asn1_values_alphabets.specs.Codes.{CodedCharacters, code_of}
@@ -10,7 +10,7 @@ use Rattle.asn1_values_bits.proofs.Reading.{take_two}
 use Rattle.asn1_values_fields.specs.Read.{HasCode}
 use Rattle.asn1_values_fields.specs.Written.{both, codes_of, appended, bits_of_field, bits_of_fields, IsFirstUnwritten, IsUnwritable}
 
--- a part in front, and then the rest
+-- a first part, and then the rest
 pub appended_both : (before w : List Bool) (o : Option (List Bool)) → appended before (both (Some w) o) ≡ appended (before ++ w) o
 appended_both before w None = refl
 appended_both before w (Some r) = ap Some (sym (append_assoc before w r))
@@ -43,7 +43,7 @@ field_next f fs before after e = go (bits_of_field f) e
     go None h = cc
     go (Some w) h = let g : before ++ w ≡ after = cc in appended_both before w (bits_of_fields fs) ∙ ap (λ (l : List Bool). appended l (bits_of_fields fs)) g
 
--- the first field that is not written, found at one that stands at a place
+-- the first field that is not written, found at an index
 abbrev pub Stuck : List FieldBits → ℕ → Type 0
 Stuck fs i = (n : ℕ) (k : FieldFaultKind) → IsFirstUnwritten (drop i fs) n k → IsFirstUnwritten fs (i + n) k
 
@@ -61,7 +61,7 @@ unwritten_later fs i f rest e s b n k w =
     let m : i + suc n ≡ i + 1 + n = omega arith in
     subst P m (s (suc n) k (subst Q (sym e) (b, w)))
 
--- bits in front stay in front where what they stand in does
+-- leading bits stay the leading bits of a longer list
 pub kept_on : (a b c : List Bool) → take (length a) b ≡ a → take (length b) c ≡ b → take (length a) c ≡ a
 kept_on a b c e f =
     let l : length a ≤ length b = omega (arith, length-take (length a) b, ap length e) in

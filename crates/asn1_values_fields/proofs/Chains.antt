@@ -1,4 +1,4 @@
--- Fields that are read one behind the other.
+-- Fields read one after the other.
 use Rattle.std.proofs.Common.{◌≡◌, ℕ, zero, suc, ◌+◌, ◌≤◌, Bool, List, [], ◌∷◌, ◌++◌, length, take, drop, refl, ap, sym, ◌∙◌, append_assoc, append-nil, arith, subst}
 use Rattle.asn1_values_fields.specs.declared.fault.FieldFaultKind.{FieldFaultKind}
 use Rattle.asn1_values_fields.specs.declared.fault.FieldFaultKind.TheVariants.{Memory}
@@ -7,7 +7,7 @@ use Rattle.asn1_values_fields.specs.declared.field_shape.FieldShape.TheVariants 
 use Rattle.asn1_values_fields.specs.declared.field_shape.FieldValue.{FieldValue}
 use Rattle.asn1_values_fields.specs.Read.{width_of, IsValueOf, IsUnreadable, AreValuesOf, IsFirstUnread}
 
--- memory can be wanted at any shape
+-- memory can run out at any shape
 pub memory_wanted : (s : FieldShape) (bits : List Bool) → IsUnreadable s bits Memory
 memory_wanted (shape.Bits n) bits = tt
 memory_wanted (shape.Number n) bits = tt
@@ -15,7 +15,7 @@ memory_wanted (shape.Octets n) bits = tt
 memory_wanted (shape.Whole n) bits = tt
 memory_wanted (shape.Characters a n) bits = tt
 
--- what is first wrong from a place on, with the bits that are left there
+-- the first error from an index on, with the bits that are left there
 abbrev pub Stuck : List FieldShape → List Bool → ℕ → List Bool → Type 0
 Stuck ss all i bits = (n : ℕ) (k : FieldFaultKind) → IsFirstUnread (drop i ss) bits n k → IsFirstUnread ss all (i + n) k
 

@@ -30,7 +30,7 @@ some_of e = cc
 
 -- ---- what is joined
 
--- two parts that are there, and what they are joined to
+-- two parts that exist, and their concatenation
 record Parts (o p : Option (List Bool)) (w : List Bool) : Type 0 where
   front : List Bool
   rest : List Bool
@@ -83,7 +83,7 @@ same_whole z y h e =
 
 -- ---- characters
 
--- the code of a character that is there
+-- the code of a character of the alphabet
 code_there : (a : CodedCharacters) (c : ℕ) (front : List Bool) → option_map (λ code. binary a.code_bits code) (code_of a c) ≡ Some front → (k : ℕ) × (code_of a c ≡ Some k) × (front ≡ binary a.code_bits k)
 code_there a c front e = go (code_of a c) refl e
   where
@@ -114,7 +114,7 @@ same_codes a (c ∷ cs) (d ∷ ds) w s n e f h =
     let rest : ds ≡ cs = same_codes a cs ds p.rest s n p.is_rest (q.is_rest ∙ ap Some (same_back q.front q.rest p.front p.rest long all)) (omega arith) in
     ap (λ x. x ∷ ds) first ∙ ap (λ l. c ∷ l) rest
 
--- no code of a character that was written is unknown
+-- each code of a character that was written is known
 unknown_code : (a : CodedCharacters) (cs : List ℕ) (w more : List Bool) → IsStrictlyIncreasing a.characters → length a.characters ≤ 2 ^ a.code_bits → codes_of a cs ≡ Some w → (place : ℕ) → place < length cs → IsUnknownCode a (take a.code_bits (drop (place * a.code_bits) (w ++ more))) → ⊥
 unknown_code a [] w more s n e place h u = absurd (omega arith)
 unknown_code a (c ∷ cs) w more s n e zero h u =

@@ -1,4 +1,4 @@
--- Octets that are read of bits, and the whole numbers whose fewest octets they are.
+-- Octets read from bits, and the integers of which they are the shortest encoding.
 use Rattle.std.proofs.Common.{◌≡◌, ℕ, ℤ, zero, suc, ◌+◌, ◌*◌, ◌<◌, ◌≤◌, pos, negsuc, Bool, true, false, not, IsTrue, List, [], ◌∷◌, length, take, replicate, get_or, refl, ap, sym, ◌∙◌, arith, Fits, w8}
 use Rattle.std.proofs.lemmas.List.{length-append, length-replicate, length-take-le}
 use Rattle.asn1_model.specs.Numbers.{octet_bits, packed, missing, complement, signed_octets}
@@ -13,7 +13,7 @@ use Rattle.asn1_values_fields.specs.Read.{AreNotFewest}
 none_missing : (n : ℕ) → missing (n * 8) ≡ 0
 none_missing n = omega arith
 
--- as many octets as bits by eights
+-- as many octets as groups of eight bits
 pub octets_taken : (count : ℕ) (bits front : List Bool) (os items : List ℕ) → front ≡ take (count * 8) bits → count * 8 ≤ length bits → octet_bits os ≡ padded front → items ≡ os → length items ≡ count
 octets_taken count bits front os items f h e i =
     let l : length front ≡ count * 8 = ap length f ∙ length-take-le (count * 8) bits h in
@@ -30,7 +30,7 @@ small_at (o ∷ os) h (suc k) l = small_at os h.1 k (omega arith)
 pub same_octets : (xs ys : List ℕ) → AreOctets xs → AreOctets ys → octet_bits xs ≡ octet_bits ys → xs ≡ ys
 same_octets xs ys h k e = sym (packed-octet_bits xs (small_at xs h)) ∙ ap packed e ∙ packed-octet_bits ys (small_at ys k)
 
--- octets whose first nine bits are alike are the fewest of no number
+-- octets whose first nine bits are all equal are not the shortest encoding of any number
 pub not_fewest : (os : List ℕ) → ((i : ℕ) → Fits w8 (get_or os i 0)) → is_padded os ≡ true → AreNotFewest (length os) (octet_bits os)
 not_fewest os h p z k b =
     let x : os ≡ complement (length os) z = same_octets os (complement (length os) z) (octets-all os h) (octets-complement (length os) z) b in

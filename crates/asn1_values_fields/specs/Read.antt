@@ -11,7 +11,7 @@ use Rattle.asn1_values_fields.specs.declared.field_shape.FieldShape.TheVariants 
 use Rattle.asn1_values_fields.specs.declared.field_shape.FieldValue.{FieldValue}
 use Rattle.asn1_values_fields.specs.declared.field_shape.FieldValue.TheVariants as value
 
--- how many bits a field of a shape takes
+-- the number of bits that a field of a shape takes
 abbrev pub width_of : FieldShape → ℕ
 width_of (shape.Bits count) = count
 width_of (shape.Number width) = width
@@ -30,30 +30,30 @@ IsValueOf (shape.Characters alphabet count) (value.Characters cs) w = (length cs
     × (codes_of alphabet.now cs.items ≡ Some w)
 IsValueOf s v w = ⊥
 
--- no whole number has these bits as its fewest octets, of which there are so many (X.690 8.3.2)
+-- no integer has these bits as its shortest encoding, of the given number of octets (X.690 8.3.2)
 abbrev pub AreNotFewest : ℕ → List Bool → Type 0
 AreNotFewest count w = (z : ℤ) → signed_octets z ≡ count → w ≡ octet_bits (complement count z) → ⊥
 
--- bits are a character's code
+-- bits are the code of a character
 pub record HasCode (alphabet : CodedCharacters) (character : ℕ) (bits : List Bool) : Type 0 where
   pub code : ℕ
   pub is_code : code_of alphabet character ≡ Some code
   pub digits : bits ≡ binary alphabet.code_bits code
 
--- bits are the code of no character
+-- bits are not the code of any character
 pub record IsUnknownCode (alphabet : CodedCharacters) (bits : List Bool) : Type 0 where
   pub code : ℕ
   pub fits : code < 2 ^ alphabet.code_bits
   pub digits : bits ≡ binary alphabet.code_bits code
   pub unknown : (c : ℕ) → code_of alphabet c ≡ Some code → ⊥
 
--- among so many codes one is that of no character
+-- among a given number of codes, one is not the code of any character
 pub record HasUnknownCode (alphabet : CodedCharacters) (count : ℕ) (bits : List Bool) : Type 0 where
   pub place : ℕ
   pub within : place < count
   pub there : IsUnknownCode alphabet (take alphabet.code_bits (drop (place * alphabet.code_bits) bits))
 
--- why so many characters cannot be read
+-- why a given number of characters cannot be read
 abbrev pub AreUnreadable : CodedCharacters → ℕ → List Bool → FieldFaultKind → Type 0
 AreUnreadable alphabet count bits NoCharacter = (count * alphabet.code_bits ≤ length bits)
     × HasUnknownCode alphabet count bits
@@ -61,7 +61,7 @@ AreUnreadable alphabet count bits Short = length bits < count * alphabet.code_bi
 AreUnreadable alphabet count bits Memory = Unit {0}
 AreUnreadable alphabet count bits k = ⊥
 
--- what is wrong where a field of a shape is to be read
+-- why a field of a shape cannot be read
 abbrev pub IsUnreadable : FieldShape → List Bool → FieldFaultKind → Type 0
 IsUnreadable (shape.Number width) bits DoesNotFit = 128 < width
 IsUnreadable (shape.Number width) bits Short = (width ≤ 128) × (length bits < width)
@@ -72,14 +72,14 @@ IsUnreadable s bits Short = length bits < width_of s
 IsUnreadable s bits Memory = Unit {0}
 IsUnreadable s bits k = ⊥
 
--- values of shapes, one behind the other at the front of bits, and the bits behind them
+-- values of shapes, one after the other at the start of the bits, and the bits after them
 abbrev pub AreValuesOf : List FieldShape → List FieldValue → List Bool → List Bool → Type 0
 AreValuesOf [] [] bits rest = bits ≡ rest
 AreValuesOf (s ∷ ss) (v ∷ vs) bits rest = (width_of s ≤ length bits) × IsValueOf s v (take (width_of s) bits)
     × AreValuesOf ss vs (drop (width_of s) bits) rest
 AreValuesOf ss vs bits rest = ⊥
 
--- the first shape that cannot be read, behind shapes that can
+-- the first shape that cannot be read, after shapes that can
 abbrev pub IsFirstUnread : List FieldShape → List Bool → ℕ → FieldFaultKind → Type 0
 IsFirstUnread [] bits i k = ⊥
 IsFirstUnread (s ∷ ss) bits zero k = IsUnreadable s bits k

@@ -1,4 +1,4 @@
--- Fields that were written, and the values that are read of them.
+-- Written fields, and the values read from them.
 use Rattle.std.specs.Prelude.{◌≡◌, ℕ, ◌^◌, ◌<◌, ◌≤◌, List, [], ◌∷◌, length}
 use Rattle.std.specs.List.{AllByRecursion}
 use Rattle.std.specs.List.Sorted.{IsStrictlyIncreasing}
@@ -19,7 +19,7 @@ shape_of (Octets os) = shape.Octets (length os.now)
 shape_of (Whole z) = shape.Whole (signed_octets z.now)
 shape_of (Characters a cs) = shape.Characters a (length cs.now)
 
--- whether a value is what a field has
+-- whether a value is that of a field
 abbrev pub IsSame : FieldBits → FieldValue → Type 0
 IsSame (Bits b) (value.Bits bits) = bits ≡ bits_of b
 IsSame (Number n width) (value.Number m digits) = (m ≡ n) × (digits ≡ width)
@@ -28,13 +28,14 @@ IsSame (Whole z) (value.Whole y) = y ≡ z.now
 IsSame (Characters a cs) (value.Characters characters) = characters.items ≡ cs.now
 IsSame f v = ⊥
 
--- whether values are what fields have, one by one
+-- whether values are those of fields, one by one
 abbrev pub AreSame : List FieldBits → List FieldValue → Type 0
 AreSame [] [] = Unit {0}
 AreSame (f ∷ fs) (v ∷ vs) = IsSame f v × AreSame fs vs
 AreSame fs vs = ⊥
 
--- what the types say of a field: octets are below 256, and the characters of an alphabet ascend and have a code each
+-- what the Rust types guarantee for a field: octets are below 256, and the characters of an alphabet ascend and each
+-- have a code
 abbrev pub IsField : FieldBits → Type 0
 IsField (Bits b) = Unit {0}
 IsField (Number n width) = Unit {0}
@@ -45,7 +46,7 @@ IsField (Characters a cs) = IsStrictlyIncreasing a.now.characters × (length a.n
 abbrev pub AreFields : List FieldBits → Type 0
 AreFields fs = AllByRecursion IsField fs
 
--- what the types say of a value: octets are below 256
+-- what the Rust types guarantee for a value: octets are below 256
 abbrev pub IsValue : FieldValue → Type 0
 IsValue (value.Bits bits) = Unit {0}
 IsValue (value.Number n width) = Unit {0}

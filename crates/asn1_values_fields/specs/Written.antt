@@ -9,7 +9,7 @@ use Rattle.asn1_values_fields.specs.declared.field_bits.FieldBits.TheVariants.{B
 use Rattle.asn1_values_fields.specs.declared.fault.FieldFaultKind.{FieldFaultKind}
 use Rattle.asn1_values_fields.specs.declared.fault.FieldFaultKind.TheVariants.{DoesNotFit, Memory}
 
--- two lists one behind the other, if both are there
+-- the concatenation of two lists, if both exist
 abbrev pub both : Option (List Bool) → Option (List Bool) → Option (List Bool)
 both (Some front) (Some rest) = Some (front ++ rest)
 both (Some front) None = None
@@ -20,11 +20,11 @@ abbrev pub codes_of : CodedCharacters → List ℕ → Option (List Bool)
 codes_of a [] = Some []
 codes_of a (c ∷ cs) = both (option_map (λ code. binary a.code_bits code) (code_of a c)) (codes_of a cs)
 
--- so many binary digits of a number, if it has no more, at most 128
+-- a number in a given count of binary digits, at most 128, if it fits
 abbrev pub digits_of : ℕ → ℕ → Option (List Bool)
 digits_of value width = cond (leb width 128 && ltb value (2 ^ width)) (Some (binary width value)) None
 
--- the bits of a field, if they are as many as it says
+-- the bits of a field, if they are as many as it declares
 abbrev pub bits_of_field : FieldBits → Option (List Bool)
 bits_of_field (Bits b) = Some (bits_of b)
 bits_of_field (Number value width) = digits_of value width
@@ -32,22 +32,22 @@ bits_of_field (Octets os) = Some (octet_bits os.now)
 bits_of_field (Whole z) = Some (octet_bits (complement (signed_octets z.now) z.now))
 bits_of_field (Characters a cs) = codes_of a.now cs.now
 
--- the joined bits of fields, if all fit
+-- the concatenated bits of fields, if all fit
 abbrev pub bits_of_fields : List FieldBits → Option (List Bool)
 bits_of_fields [] = Some []
 bits_of_fields (f ∷ fs) = both (bits_of_field f) (bits_of_fields fs)
 
--- bits, and behind them others, if they are there
+-- bits followed by others, if these exist
 abbrev pub appended : List Bool → Option (List Bool) → Option (List Bool)
 appended before o = option_map (λ bs. before ++ bs) o
 
--- why a field is not written: it does not fit, or no memory was found
+-- why a field is not written: it does not fit, or memory ran out
 abbrev pub IsUnwritable : Option (List Bool) → FieldFaultKind → Type 0
 IsUnwritable o DoesNotFit = o ≡ None
 IsUnwritable o Memory = Unit {0}
 IsUnwritable o k = ⊥
 
--- the first field that is not written, behind fields that fit
+-- the first field that is not written, after fields that fit
 abbrev pub IsFirstUnwritten : List FieldBits → ℕ → FieldFaultKind → Type 0
 IsFirstUnwritten [] i k = ⊥
 IsFirstUnwritten (f ∷ fs) zero k = IsUnwritable (bits_of_field f) k

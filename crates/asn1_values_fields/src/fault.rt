@@ -4,28 +4,28 @@ use thiserror::Error;
 /// Why a field is wrong.
 #[derive(Debug, Clone, Copy, PartialEq, Eq, Hash, Error)]
 pub enum FieldFaultKind {
-    /// A number is not below 2 to its width, a width is over 128, or a character is outside its alphabet.
+    /// A number is 2^width or more, a width is over 128, or a character is outside its alphabet.
     #[error("the value does not fit")]
     DoesNotFit,
-    /// There are fewer bits than the field takes.
+    /// Fewer bits are left than the field takes.
     #[error("too few bits are left")]
     Short,
-    /// Octets are not the fewest octets of a whole number.
+    /// Octets are not the shortest encoding of an integer.
     #[error("the octets are not the fewest of a number")]
     NotShortest,
-    /// A code is that of no character.
+    /// No character has the code.
     #[error("a code is that of no character")]
     NoCharacter,
-    /// No memory was left.
+    /// An allocation failed.
     #[error("out of memory")]
     Memory,
 }
 
-/// The first wrong field of a list, counted from 0.
+/// The index of the first wrong field of a list, and why it is wrong.
 #[derive(Debug, Clone, Copy, PartialEq, Eq, Hash, Error)]
 #[error("field {field}: {kind}")]
 pub struct FieldFault {
-    /// The place of the field in the list.
+    /// The index of the field in the list, counted from 0.
     pub field: usize,
     /// Why it is wrong.
     pub kind: FieldFaultKind,

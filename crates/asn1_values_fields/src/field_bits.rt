@@ -1,4 +1,4 @@
-//! Fields that are written.
+//! Writes lists of fields as bits.
 ghost use Rattle.std.specs.Prelude.{◌≡◌, ◌↔◌, ◌++◌, ◌∷◌, ◌≤◌, ◌<◌, ◌^◌, ◌⊎◌, [], IsTrue, is_some, option_map, Some};
 ghost use Rattle.std.specs.Prelude.{None, Ok, Err, OnOk, OnErr, IfErr, take, length};
 ghost use Rattle.asn1_model.specs.Numbers.{octet_bits};
@@ -10,19 +10,19 @@ use asn1_values_alphabets::CharacterAlphabet;
 use asn1_values_bits::{BitBuffer, BitStr};
 use asn1_values_integers::Integer;
 
-/// A field that is to be written.
+/// A field to be written.
 #[derive(Clone, Copy, Debug)]
 pub enum FieldBits<'a> {
     /// Bits as they are.
     Bits(BitStr<'a>),
-    /// So many binary digits of a number, the highest first.
+    /// A number in `width` binary digits, the most significant first.
     Number {
         value: u128,
         width: u32,
     },
     /// Octets, each of eight bits.
     Octets(&'a [u8]),
-    /// The fewest octets of two's complement of a whole number (X.690 8.3).
+    /// The fewest octets of an integer in two's complement (X.690 8.3).
     Whole(&'a Integer),
     /// The codes of characters in their alphabet (X.691 30.5).
     Characters {
@@ -31,7 +31,7 @@ pub enum FieldBits<'a> {
     },
 }
 
-/// Appends the codes of characters. Refused, the buffer holds a part of them behind its old bits.
+/// Appends the codes of characters. After an error some of them may have been appended.
 fn push_characters(
     buffer: &mut BitBuffer,
     alphabet: &CharacterAlphabet,
@@ -53,7 +53,7 @@ fn push_characters(
     Ok(())
 }
 
-/// Appends the digits of a number.
+/// Appends the binary digits of a number.
 fn push_number(buffer: &mut BitBuffer, value: u128, width: u32) -> Result<(), FieldFaultKind>
     ensures ok { OnOk result (appended buffer.old (digits_of value width) ≡ Some buffer.new) }
     ensures kept { take (length buffer.old) buffer.new ≡ buffer.old }
@@ -71,7 +71,7 @@ fn push_number(buffer: &mut BitBuffer, value: u128, width: u32) -> Result<(), Fi
 impl<'a> FieldBits<'a> {
     ghost use Rattle.asn1_values_fields.specs.Written.{bits_of_field, IsUnwritable, appended};
 
-    /// Appends the field. Refused, the buffer holds a part of it behind its old bits.
+    /// Appends the field. After an error a part of it may have been appended.
     fn push_to(&self, buffer: &mut BitBuffer) -> Result<(), FieldFaultKind>
         ensures ok { OnOk result (appended buffer.old (bits_of_field self.now) ≡ Some buffer.new) }
         ensures kept { take (length buffer.old) buffer.new ≡ buffer.old }
@@ -96,7 +96,7 @@ impl<'a> FieldBits<'a> {
     }
 }
 
-/// Appends the fields. Refused, the buffer holds a part of them behind its old bits.
+/// Appends the fields. After an error a part of them may have been appended.
 fn push_all(buffer: &mut BitBuffer, fields: &[FieldBits<'_>]) -> Result<(), FieldFault>
     ensures ok { OnOk result (appended buffer.old (bits_of_fields fields.now) ≡ Some buffer.new) }
     ensures kept { take (length buffer.old) buffer.new ≡ buffer.old }
@@ -111,13 +111,12 @@ fn push_all(buffer: &mut BitBuffer, fields: &[FieldBits<'_>]) -> Result<(), Fiel
     Ok(())
 }
 
-/// Appends the joined bits of the fields: a field's bits stand directly behind those of the one before,
-/// whatever alignment they meet. Refused, it answers the first field that is not written, and the buffer
-/// is as it was: DoesNotFit, or Memory for a field behind fields that fit.
+/// Appends the bits of the fields, each directly after the one before, at any alignment.
 ///
 /// # Errors
 ///
-/// The place and the fault of the first field that is not written; the buffer is then as it was.
+/// The index of the first field that is not written: `DoesNotFit`, or `Memory` after fields that fit; the buffer is
+/// then unchanged.
 pub fn write_fields(buffer: &mut BitBuffer, fields: &[FieldBits<'_>]) -> Result<(), FieldFault>
     ensures ok { OnOk result (appended buffer.old (bits_of_fields fields.now) ≡ Some buffer.new) }
     ensures err { OnErr result (buffer.new ≡ buffer.old) }

@@ -1,20 +1,20 @@
-//! Fields that are read.
+//! The shapes of fields to be read, and the fields read.
 use asn1_values_alphabets::CharacterAlphabet;
 use asn1_values_bit_strings::BitString;
 use asn1_values_integers::Integer;
 
-/// What a field that is to be read looks like.
+/// What kind of field is to be read.
 #[derive(Clone, Copy, Debug)]
 pub enum FieldShape<'a> {
-    /// So many bits.
+    /// This number of bits.
     Bits(usize),
-    /// A number of so many binary digits, at most 128, the highest first.
+    /// A number of this many binary digits, at most 128, the most significant first.
     Number(u32),
-    /// So many octets.
+    /// This number of octets.
     Octets(usize),
-    /// A whole number whose fewest octets of two's complement are so many (X.690 8.3).
+    /// An integer whose shortest encoding in two's complement has this number of octets (X.690 8.3).
     Whole(usize),
-    /// So many characters, by their codes in an alphabet (X.691 30.5).
+    /// `count` characters, by their codes in an alphabet (X.691 30.5).
     Characters {
         alphabet: &'a CharacterAlphabet,
         count: usize,
@@ -26,11 +26,11 @@ pub enum FieldShape<'a> {
 pub enum FieldValue {
     /// Bits as they are.
     Bits(BitString),
-    /// A number of so many binary digits.
+    /// A number of `width` binary digits.
     Number { value: u128, width: u32 },
     /// Octets.
     Octets(Vec<u8>),
-    /// A whole number.
+    /// An integer.
     Whole(Integer),
     /// Characters.
     Characters(Vec<u32>),

@@ -1,4 +1,4 @@
-//! Lists of fields as bits, and bits as lists of fields, at any alignment.
+//! Writes lists of fields as bits and reads bits as lists of fields, at any alignment.
 #![tactic(auto)]
 
 pub mod fault;

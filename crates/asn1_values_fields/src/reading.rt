@@ -1,4 +1,4 @@
-//! Bits as fields.
+//! Reads bits as lists of fields.
 ghost use Rattle.std.specs.Prelude.{◌≡◌, ℕ, ◌*◌, ◌≤◌, ◌<◌, ◌^◌, ◌⊎◌, take, drop, length, Some, IfOk, IfErr, OnErr};
 ghost use Rattle.std.specs.Prelude.{IsTrue, false, ◌↔◌};
 ghost use Rattle.std.specs.Cow.{cow_slice_items};
@@ -18,7 +18,7 @@ use asn1_values_natives::octets::has_padding;
 use std::alloc::Global;
 use std::borrow::CowSlice;
 
-/// Takes so many bits off. Where there are fewer the reader is as it was.
+/// Takes off `count` bits. If there are fewer, the reader is unchanged.
 fn take_bits<'a>(reader: &mut BitReader<'a>, count: usize) -> Result<BitReader<'a>, FieldFaultKind>
     ensures front { IfOk result (λ front. front.bits ≡ take count reader.old.bits) }
     ensures rest { IfOk result (λ _. reader.new.bits ≡ drop count reader.old.bits) }
@@ -31,7 +31,7 @@ fn take_bits<'a>(reader: &mut BitReader<'a>, count: usize) -> Result<BitReader<'
     }
 }
 
-/// The number that so many bits are.
+/// Reads a number of `width` binary digits.
 fn read_number(reader: &mut BitReader<'_>, width: u32) -> Result<u128, FieldFaultKind>
     ensures number { IfOk result (λ n. (width ≤ 128) × (n < 2 ^ width)
         × (take width reader.old.bits ≡ binary width n)) }
@@ -46,7 +46,7 @@ fn read_number(reader: &mut BitReader<'_>, width: u32) -> Result<u128, FieldFaul
     Ok(front.first_u128(width))
 }
 
-/// So many bits.
+/// Reads `count` bits.
 fn read_bits(
     alloc: Global,
     reader: &mut BitReader<'_>,
@@ -64,7 +64,7 @@ fn read_bits(
     }
 }
 
-/// So many octets: lent where they begin at an octet, else shifted into a vector of their own.
+/// Takes off `count` octets: borrowed if they begin at an octet boundary, else copied into a vector.
 fn take_octets<'a>(
     alloc: Global,
     reader: &mut BitReader<'a>,
@@ -87,7 +87,7 @@ fn take_octets<'a>(
     }
 }
 
-/// So many octets.
+/// Reads `count` octets.
 fn read_octets(
     alloc: Global,
     reader: &mut BitReader<'_>,
@@ -110,8 +110,8 @@ fn read_octets(
     }
 }
 
-/// Whether octets are the fewest of a whole number: there are some, and the first nine bits are not alike (X.690
-/// 8.3.2).
+/// Whether octets are the shortest encoding of an integer: there is one, and the first nine bits are not all equal
+/// (X.690 8.3.2).
 fn are_fewest(octets: &[u8]) -> bool
     ensures bare { IsTrue result → is_padded octets.now ≡ false }
     ensures count { IsTrue result → signed_octets (signed_number octets.now) ≡ length octets.now }
@@ -124,7 +124,7 @@ fn are_fewest(octets: &[u8]) -> bool
     !has_padding(octets)
 }
 
-/// The whole number whose fewest octets these are.
+/// The integer of which the octets are the shortest encoding.
 fn shortest_number(alloc: Global, octets: CowSlice<'_, u8>) -> Result<Integer, FieldFaultKind>
     ensures number { IfOk result (λ z. (signed_octets z ≡ length (cow_slice_items octets.entry))
         × (cow_slice_items octets.entry ≡ complement (length (cow_slice_items octets.entry)) z)) }
@@ -145,7 +145,7 @@ fn shortest_number(alloc: Global, octets: CowSlice<'_, u8>) -> Result<Integer, F
     }
 }
 
-/// The whole number whose fewest octets come next.
+/// Reads an integer in its shortest encoding.
 fn read_whole(
     alloc: Global,
     reader: &mut BitReader<'_>,
@@ -162,14 +162,14 @@ fn read_whole(
     Ok(number)
 }
 
-/// Whether so many units of so many bits are at most these.
+/// Whether `count` units of `width` bits each are at most `bits` bits.
 fn is_enough(bits: usize, count: usize, width: usize) -> bool
     ensures { IsTrue result ↔ (count * width ≤ bits) }
 {
     width == 0 || count <= bits / width
 }
 
-/// The character whose code comes next.
+/// Reads the code of a character.
 fn read_character(
     reader: &mut BitReader<'_>,
     alphabet: &CharacterAlphabet,
@@ -201,7 +201,7 @@ fn small_code(code: u64, width: u32) -> u32
     code as u32
 }
 
-/// So many characters.
+/// Reads `count` characters.
 fn read_characters(
     alloc: Global,
     reader: &mut BitReader<'_>,
@@ -229,7 +229,7 @@ fn read_characters(
     Ok(characters)
 }
 
-/// The field of a shape that comes next.
+/// Reads a field of a shape.
 fn read_field(
     alloc: Global,
     reader: &mut BitReader<'_>,
@@ -267,7 +267,7 @@ fn read_field(
     }
 }
 
-/// The fields of the shapes. Refused, the reader has taken a part of them off.
+/// Reads the fields of the shapes. After an error a part of them may have been taken off.
 fn read_all(
     alloc: Global,
     reader: &mut BitReader<'_>,
@@ -295,13 +295,12 @@ fn read_all(
     Ok(values)
 }
 
-/// Takes the fields of the shapes off the front of the unread bits, at any bit. It takes exactly what
-/// begins with their joined bits, a whole number in its fewest octets, and leaves the rest. Else it
-/// answers the first field that is wrong, and the reader is as it was.
+/// Takes the fields of the shapes off the start of the unread bits, at any bit. Succeeds exactly if the bits begin
+/// with the bits of such fields, each integer in its fewest octets, and leaves the rest.
 ///
 /// # Errors
 ///
-/// The place and the fault of the first field that is not read; the reader is then as it was.
+/// The index of the first wrong field, and why it is wrong; the reader is then unchanged.
 pub fn read_fields<'a>(
     alloc: Global,
     reader: &mut BitReader<'a>,

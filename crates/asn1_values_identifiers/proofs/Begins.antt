@@ -1,4 +1,4 @@
--- Octets that begin with others.
+-- Octets that begin with other octets.
 use Rattle.std.proofs.Common.{◌≡◌, ℕ, List, [], ◌++◌, ap, sym, ◌∙◌, append_assoc}
 use Rattle.std.proofs.lemmas.List.{append-nil}
 use Rattle.asn1_model.specs.Versions.{Begins}

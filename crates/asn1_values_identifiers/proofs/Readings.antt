@@ -71,7 +71,7 @@ unless_padded limit o os t = elim t [ true ↦ Err Padded | false ↦ behind lim
 different : (a b : ℕ) → ¬ (a ≡ b) → (a == b) ≡ false
 different a b h = grind arith
 
--- a subidentifier may begin with any octet but 0x80
+-- a subidentifier may begin with any octet except 0x80
 pub begins : (limit o : ℕ) (os : List ℕ) → ¬ (o ≡ 128) → subidentifiers limit None (o ∷ os) ≡ subidentifiers limit (Some 0) (o ∷ os)
 begins limit o os h = ap (unless_padded limit o os) (different o 128 h)
 
@@ -159,7 +159,7 @@ joined_group n o p h =
     let r : (n * 128 + o) % 128 ≡ o = omega arith in
     sym (groups_more (n * 128 + o) (omega arith) ∙ ap (λ m. leading m ++ ((n * 128 + o) % 128) ∷ []) q ∙ ap (λ m. leading n ++ m ∷ []) r)
 
--- the octets so far and one more with its top bit set are those of the larger number
+-- the octets so far and one more with bit 8 set are those of the larger number
 begun_more : (begun : Option ℕ) (o : ℕ) (os : List ℕ) → IsBegun begun → is_padding begun o ≡ false → 128 ≤ o → o < 256 → begun_octets begun ++ (o ∷ os) ≡ leading (begun_number begun * 128 + (o - 128)) ++ os
 begun_more None o os b p h k =
     let d : ¬ (o ≡ 128) = λ q. differ o 128 p q in
@@ -198,7 +198,7 @@ after_octet limit begun o os t u =
           elim u [ true ↦ ended limit (begun_number begun * 128 + o) (subidentifiers (2 ^ 32) None os) | false ↦ subidentifiers limit (Some (begun_number begun * 128 + (o - 128))) os ]
     ]
 
--- octets, and numbers that are read of them, are those that writing gives
+-- the numbers read from octets, when written, give these octets
 pub wrote : (limit : ℕ) (begun : Option ℕ) (os : List ℕ) → IsBegun begun → list_all is_octet os ≡ true → Wrote begun os (subidentifiers limit begun os)
 wrote limit None [] b h = refl
 wrote limit (Some n) [] b h = tt

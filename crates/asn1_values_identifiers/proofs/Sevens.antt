@@ -28,7 +28,7 @@ places_enough (suc most) (suc more) n h k = go (n == 0) refl (places_enough most
     go true e r = refl
     go false e r = let pos : 0 < n = not_zero n e in ap suc (r (omega arith) (omega arith))
 
--- a number above 0 has one place more than its quotient
+-- a number above 0 has one digit more than its quotient
 pub places_more : (n : ℕ) → 0 < n → places 128 n ≡ suc (places 128 (n / 128))
 unfolding places_up_to
 places_more zero h = absurd (omega arith)
@@ -87,11 +87,11 @@ groups_more n h =
     ∙ ap with_top_bits (digits_last (places 128 (n / 128)) n)
     ∙ with_top_bits_last (digits 128 (places 128 (n / 128)) (n / 128)) (n % 128)
 
--- the same, as they are pushed
+-- a larger number as it is pushed
 pub leading_many : (n : ℕ) → 128 ≤ n → leading n ≡ leading (n / 128) ++ (128 + n % 128) ∷ []
 leading_many n h = let e : n % 128 + 128 ≡ 128 + n % 128 = omega arith in leading_more n (omega arith) ∙ ap (λ m. leading (n / 128) ++ m ∷ []) e
 
--- old octets, then those in front, then the last
+-- old octets, then the leading ones, then the last
 pub leading_pushed : (old front new : List ℕ) (n : ℕ) → 128 ≤ n → front ≡ old ++ leading (n / 128) → new ≡ front ++ (128 + n % 128) ∷ [] → new ≡ old ++ leading n
 leading_pushed old front new n h e f =
     f ∙ ap (λ (l : List ℕ). l ++ (128 + n % 128) ∷ []) e ∙ append_assoc old (leading (n / 128)) ((128 + n % 128) ∷ []) ∙ ap (λ (l : List ℕ). old ++ l) (sym (leading_many n h))

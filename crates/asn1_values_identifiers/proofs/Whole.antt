@@ -150,7 +150,7 @@ second_small n h = go (ltb n 80) refl
     go true e = let lt : n < 80 = below n 80 e in omega arith
     go false e = let f = first_large n (not_below n 80 e) in omega arith
 
--- what the arcs that are read say of the octets
+-- what the arcs that are read imply for the octets
 pub record IsWritten (os xs : List ℕ) : Type 0 where
   pub octets : identifier_octets xs ≡ os
   pub identifier : is_identifier xs ≡ true

@@ -1,11 +1,11 @@
-//! Why an identifier has no octets, or octets are no identifier.
+//! Why an identifier cannot be encoded, or octets cannot be decoded.
 ghost use Rattle.std.specs.Prelude.{◌≡◌};
 ghost use Rattle.asn1_values_identifiers.specs.declared.fault.IdentifierError.TheVariants.{Memory};
 
 use std::alloc::{AllocError, AllocFailed};
 use thiserror::Error;
 
-/// Why an identifier has no contents octets, or why octets are no identifier's contents (X.690 8.19).
+/// Why an identifier has no contents octets, or octets are not the contents octets of an identifier (X.690 8.19).
 #[derive(Debug, Clone, Copy, PartialEq, Eq, Hash, Error)]
 pub enum IdentifierError {
     /// There is no second arc, or a subidentifier has no last octet.
@@ -17,7 +17,7 @@ pub enum IdentifierError {
     /// An arc does not fit 32 bits.
     #[error("an arc is too large")]
     ArcTooLarge,
-    /// No memory was left.
+    /// An allocation failed.
     #[error("out of memory")]
     Memory,
 }

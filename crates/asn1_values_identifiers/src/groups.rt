@@ -1,5 +1,5 @@
-//! Numbers in groups of seven bits, of which all but the last have the top bit set: subidentifiers (X.690 8.19.2),
-//! and the numbers of tags (X.696 8.7.2.3).
+//! Numbers in groups of seven bits, where bit 8 is set in all but the last octet: subidentifiers (X.690 8.19.2), and
+//! tag numbers (X.696 8.7.2.3).
 ghost use Rattle.std.specs.Prelude.{◌≡◌, ◌*◌, ◌^◌, ◌<◌, ◌≤◌, ◌++◌, length, OnOk, OnErr};
 ghost use Rattle.asn1_model.specs.Numbers.{binary, octet_bits};
 ghost use Rattle.asn1_model.specs.Strings.{groups_of_seven};
@@ -8,7 +8,7 @@ ghost use Rattle.asn1_values_identifiers.specs.Groups.{leading};
 
 use std::alloc::AllocError;
 
-/// Appends the groups of a number above 0 with the top bit set on all of them.
+/// Appends the groups of a number above 0, with bit 8 set in all of them.
 fn push_leading(octets: &mut Vec<u8>, number: u64) -> Result<(), AllocError>
     requires { 0 < number }
     ensures text { OnOk result (octets.new.items ≡ octets.old.items ++ leading number) }
@@ -27,7 +27,7 @@ fn push_leading(octets: &mut Vec<u8>, number: u64) -> Result<(), AllocError>
 ///
 /// # Errors
 ///
-/// If the allocator refuses.
+/// Out of memory.
 pub fn push_groups(octets: &mut Vec<u8>, number: u64) -> Result<(), AllocError>
     ensures text { OnOk result (octets.new.items ≡ octets.old.items ++ groups_of_seven number) }
     ensures kept { OnErr result (Begins octets.old.items octets.new.items) }
@@ -41,7 +41,7 @@ pub fn push_groups(octets: &mut Vec<u8>, number: u64) -> Result<(), AllocError>
     Ok(())
 }
 
-/// How many groups of seven bits a number below 2^35 takes (X.690 8.19.2).
+/// The number of groups of seven bits that a number below 2^35 takes (X.690 8.19.2).
 #[inline(always)]
 pub(crate) fn group_count(number: u64) -> usize
     requires { number < 2 ^ 35 }
@@ -61,7 +61,7 @@ pub(crate) fn group_count(number: u64) -> usize
     }
 }
 
-/// The groups of a number above 0 as octets of one number, with the top bit set on all of them.
+/// The groups of a number above 0 as the octets of one number, with bit 8 set in all of them.
 fn leading_number(number: u64) -> u64
     requires some { 0 < number }
     requires few { number < 2 ^ 28 }
@@ -75,8 +75,7 @@ fn leading_number(number: u64) -> u64
     leading_number(number / 128) * 256 + 128 + number % 128
 }
 
-/// The groups of a number below 2^35 as bits of one number, and how many bits they are: those of what `push_groups`
-/// appends.
+/// What `push_groups` appends for a number below 2^35, as one number, and the count of its bits.
 #[inline(always)]
 pub fn group_number(number: u64) -> (u64, u32)
     requires { number < 2 ^ 35 }

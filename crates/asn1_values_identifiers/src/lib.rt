@@ -1,7 +1,7 @@
-//! Object identifiers (X.680 clause 32, X.660), and the octets that hold them (X.690 8.19).
+//! Object identifiers (X.680 clause 32, X.660), and their contents octets (X.690 8.19).
 //!
-//! [`Oid`] borrows its arcs and [`ObjectIdentifier`] keeps them; both hold valid arcs alone, and a
-//! contract sees either as the list of its arcs.
+//! [`Oid`] borrows its arcs and [`ObjectIdentifier`] owns them; both hold only valid arcs, and contracts see either as
+//! the list of its arcs.
 #![tactic(auto)]
 
 pub mod fault;

@@ -1,4 +1,4 @@
-//! An object identifier that keeps its arcs.
+//! An object identifier that owns its arcs.
 ghost use Rattle.std.specs.Prelude.{◌≡◌, ◌↔◌, nat_eq, refl, Some, IsTrue, IsSome, IfSome, IfOk};
 ghost use Rattle.std.specs.Cow.{cow_slice_items};
 ghost use Rattle.std.specs.Ordering.{nat_cmp};
@@ -22,8 +22,8 @@ use std::hash::{Hash, Hasher};
 use std::marker::Model;
 use std::ops::DerefSlice;
 
-/// An object identifier (X.680 clause 32) that owns its arcs, or borrows them for as long as the program
-/// lives. The first arc is at most 2, and below 2 the second is at most 39 (X.660 A.2).
+/// An object identifier (X.680 clause 32) that owns its arcs, or borrows static ones. The first arc is at most 2; if
+/// it is below 2, the second is at most 39 (X.660 A.2).
 #[derive(Debug, Drop)]
 pub struct ObjectIdentifier {
     arcs: CowSlice<'static, u32>,
@@ -42,8 +42,8 @@ impl Model for ObjectIdentifier {
 }
 
 impl ObjectIdentifier {
-    /// The identifier of these arcs, if they are valid: there is one, the first is at most 2, and below
-    /// 2 the second is at most 39.
+    /// The identifier of these arcs, if they are valid: there is at least one, the first is at most 2, and if it is
+    /// below 2, the second is at most 39.
     pub fn new(arcs: CowSlice<'static, u32>) -> Option<ObjectIdentifier>
         ensures valid { IsSome result ↔ IsTrue (is_valid (cow_slice_items arcs.entry)) }
         ensures value { IfSome result (λ o. o ≡ cow_slice_items arcs.entry) }
@@ -55,7 +55,7 @@ impl ObjectIdentifier {
         }
     }
 
-    /// The identifier of these arcs.
+    /// The identifier of these arcs, which have to be valid.
     pub fn new_unchecked(arcs: CowSlice<'static, u32>) -> ObjectIdentifier
         requires { IsTrue (is_valid (cow_slice_items arcs)) }
         ensures { result ≡ cow_slice_items arcs.entry }
@@ -67,7 +67,7 @@ impl ObjectIdentifier {
     ///
     /// # Errors
     ///
-    /// Want of memory.
+    /// Out of memory.
     pub fn from_oid(alloc: Global, oid: &Oid<'_>) -> Result<ObjectIdentifier, AllocError>
         ensures { IfOk result (λ o. o ≡ oid.now) }
     {
@@ -174,7 +174,7 @@ impl Hash for ObjectIdentifier {
     }
 }
 
-/// The arcs in decimal, with dots between them.
+/// The arcs in decimal, separated by dots.
 impl fmt::Display for ObjectIdentifier {
     ghost output = { λ arcs. Some (dotted_text arcs) };
 

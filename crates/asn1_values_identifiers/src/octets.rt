@@ -11,13 +11,13 @@ use crate::{IdentifierError, ObjectIdentifier, Oid};
 use std::alloc::{AllocError, Global};
 use std::borrow::CowSlice;
 
-/// Each subidentifier but the first is below this.
+/// All subidentifiers except the first are below this.
 const LIMIT: u64 = 1 << 32;
 
-/// The first subidentifier is below this: 40 times 2 and an arc.
+/// The first subidentifier is below this: 40 * 2 + an arc.
 const FIRST_LIMIT: u64 = LIMIT + 80;
 
-/// The subidentifier that octets begin with, and the octets behind it (X.690 8.19.2). Padding is not looked for.
+/// The first subidentifier of the octets, and the octets after it (X.690 8.19.2). Padding is not checked.
 #[inline(always)]
 fn unpadded_subidentifier(octets: &[u8], limit: u64) -> Result<(u64, &[u8]), IdentifierError>
     requires { (128 ≤ limit) × (limit ≤ 2 ^ 32 + 80) }
@@ -41,7 +41,7 @@ fn unpadded_subidentifier(octets: &[u8], limit: u64) -> Result<(u64, &[u8]), Ide
     Err(IdentifierError::Truncated)
 }
 
-/// The first subidentifier, and the octets behind it (X.690 8.19.2).
+/// The first subidentifier, and the octets after it (X.690 8.19.2).
 #[inline(always)]
 fn first_subidentifier(octets: &[u8], limit: u64) -> Result<(u64, &[u8]), IdentifierError>
     requires some { 0 < length octets.now }
@@ -58,7 +58,7 @@ fn first_subidentifier(octets: &[u8], limit: u64) -> Result<(u64, &[u8]), Identi
     unpadded_subidentifier(octets, limit)
 }
 
-/// The first subidentifier of valid arcs, and the further arcs.
+/// The first subidentifier of valid arcs, and the other arcs.
 #[inline(always)]
 fn split_arcs(arcs: &[u32]) -> Option<(u64, &[u32])>
     requires { IsTrue (is_valid arcs.now) }
@@ -75,8 +75,8 @@ fn split_arcs(arcs: &[u32]) -> Option<(u64, &[u32])>
     Some((first, &arcs[2..]))
 }
 
-/// The subidentifier that the first two arcs of an identifier share (X.690 8.19.4), and the further arcs, each of which
-/// is one; none of an identifier of one arc.
+/// The subidentifier of the first two arcs (X.690 8.19.4), and the other arcs, each of which is one subidentifier;
+/// none if there is only one arc.
 #[inline(always)]
 pub fn subidentifiers_of<'a>(identifier: &Oid<'a>) -> Option<(u64, &'a [u32])>
     ensures octets { IfSome result (λ p. identifier_octets identifier.now ≡ contents p.0 p.1.now) }
@@ -88,7 +88,7 @@ pub fn subidentifiers_of<'a>(identifier: &Oid<'a>) -> Option<(u64, &'a [u32])>
     split_arcs(identifier.as_slice())
 }
 
-/// How many contents octets subidentifiers make: a first one, and one for each further arc.
+/// The number of contents octets of subidentifiers: a first one, and one for each other arc.
 #[inline]
 pub fn content_count(first: u64, others: &[u32]) -> usize
     requires { first < 2 ^ 35 }
@@ -112,11 +112,11 @@ fn push_arcs(octets: &mut Vec<u8>, arcs: &[u32]) -> Result<(), AllocError>
     Ok(())
 }
 
-/// Appends the contents octets that subidentifiers make (X.690 8.19): a first one, and one for each further arc.
+/// Appends the contents octets of subidentifiers (X.690 8.19): a first one, and one for each other arc.
 ///
 /// # Errors
 ///
-/// If the allocator refuses.
+/// Out of memory.
 pub fn push_contents(octets: &mut Vec<u8>, first: u64, others: &[u32]) -> Result<(), AllocError>
     ensures text { OnOk result (octets.new.items ≡ octets.old.items ++ contents first others.now) }
     ensures kept { OnErr result (Begins octets.old.items octets.new.items) }
@@ -126,7 +126,7 @@ pub fn push_contents(octets: &mut Vec<u8>, first: u64, others: &[u32]) -> Result
     Ok(())
 }
 
-/// Appends the arcs that octets hold, of which none is left over.
+/// Appends the arcs of the octets. The last octet has to end a subidentifier.
 fn read_arcs(arcs: &mut Vec<u32>, octets: &[u8]) -> Result<(), IdentifierError>
     ensures read { OnOk result (joined arcs.old.items (subidentifiers (2 ^ 32) None octets.now) ≡ Ok arcs.new.items) }
     ensures wrong { IfErr result (λ e. (e ≡ IdentifierError.Memory)
@@ -141,7 +141,7 @@ fn read_arcs(arcs: &mut Vec<u32>, octets: &[u8]) -> Result<(), IdentifierError>
     Ok(())
 }
 
-/// How many octets are below 128, as the last of each subidentifier is (X.690 8.19.2).
+/// The number of octets below 128, which are the last ones of the subidentifiers (X.690 8.19.2).
 fn last_octet_count(octets: &[u8]) -> usize
     ensures { result ≤ length octets.now }
 {
@@ -154,7 +154,7 @@ fn last_octet_count(octets: &[u8]) -> usize
     count
 }
 
-/// The arcs whose contents octets these are: one more than there are subidentifiers, so that memory is taken once.
+/// The arcs of contents octets: one more than there are subidentifiers. Allocates once.
 fn arcs_from_octets(alloc: Global, octets: &[u8]) -> Result<Vec<u32>, IdentifierError>
     ensures read { IfOk result (λ v. arcs_of octets.now ≡ Ok v.items) }
     ensures wrong { IfErr result (λ e. (e ≡ IdentifierError.Memory) ⊎ (arcs_of octets.now ≡ Err e)) }
@@ -171,12 +171,11 @@ fn arcs_from_octets(alloc: Global, octets: &[u8]) -> Result<Vec<u32>, Identifier
     Ok(arcs)
 }
 
-/// The contents octets of an identifier (X.690 8.19), for which memory is taken once. An identifier of one arc has
-/// none: Truncated.
+/// The contents octets of an identifier (X.690 8.19). Allocates once. An identifier of one arc has none.
 ///
 /// # Errors
 ///
-/// `Truncated` for an identifier of one arc, and `Memory` for want of memory.
+/// `Truncated` if the identifier has only one arc, and `Memory` if memory runs out.
 pub fn oid_octets(alloc: Global, identifier: &Oid<'_>) -> Result<Vec<u8>, IdentifierError>
     ensures octets { IfOk result (λ v. v.items ≡ identifier_octets identifier.now) }
     ensures reads_back { IfOk result (λ v. arcs_of v.items ≡ Ok identifier.now) }
@@ -193,13 +192,12 @@ pub fn oid_octets(alloc: Global, identifier: &Oid<'_>) -> Result<Vec<u8>, Identi
     Ok(octets)
 }
 
-/// The identifier whose contents octets these are (X.690 8.19), or the fault of the first subidentifier
-/// that is wrong: Padded if it begins with 0x80, else Truncated if it has no last octet, else ArcTooLarge
-/// if an arc does not fit 32 bits. No octets at all are Truncated.
+/// The identifier of contents octets (X.690 8.19).
 ///
 /// # Errors
 ///
-/// `Padded`, `Truncated` or `ArcTooLarge` for the first subidentifier that is wrong, and `Memory` for want of memory.
+/// For the first wrong subidentifier: `Padded` if it begins with 0x80, else `Truncated` if it has no last octet, else
+/// `ArcTooLarge` if an arc does not fit 32 bits. `Truncated` for no octets, and `Memory` if memory runs out.
 pub fn oid_from_octets(alloc: Global, octets: &[u8]) -> Result<ObjectIdentifier, IdentifierError>
     ensures read { IfOk result (λ o. arcs_of octets.now ≡ Ok o) }
     ensures wrong { IfErr result (λ e. (e ≡ IdentifierError.Memory) ⊎ (arcs_of octets.now ≡ Err e)) }

@@ -18,8 +18,8 @@ use std::hash::{Hash, Hasher};
 use std::marker::Model;
 use std::ops::DerefSlice;
 
-/// An object identifier (X.680 clause 32) whose arcs stand elsewhere. The first arc is at most 2, and
-/// below 2 the second is at most 39 (X.660 A.2).
+/// An object identifier (X.680 clause 32) that borrows its arcs. The first arc is at most 2; if it is below 2, the
+/// second is at most 39 (X.660 A.2).
 #[derive(Debug, Drop)]
 pub struct Oid<'a> {
     arcs: &'a [u32],
@@ -36,7 +36,7 @@ impl<'a> Model for Oid<'a> {
     ghost invariant = { λ o. is_valid o.arcs.now ≡ true };
 }
 
-/// Whether arcs are an object identifier's (X.660 A.2).
+/// Whether arcs form a valid object identifier (X.660 A.2).
 pub fn are_valid(arcs: &[u32]) -> bool
     ensures { result ≡ is_valid arcs.now }
 {
@@ -48,8 +48,8 @@ pub fn are_valid(arcs: &[u32]) -> bool
 }
 
 impl<'a> Oid<'a> {
-    /// The identifier of these arcs, if they are valid: there is one, the first is at most 2, and below
-    /// 2 the second is at most 39.
+    /// The identifier of these arcs, if they are valid: there is at least one, the first is at most 2, and if it is
+    /// below 2, the second is at most 39.
     pub fn new(arcs: &'a [u32]) -> Option<Oid<'a>>
         ensures valid { IsSome result ↔ IsTrue (is_valid arcs.now) }
         ensures value { IfSome result (λ o. o ≡ arcs.now) }
@@ -61,7 +61,7 @@ impl<'a> Oid<'a> {
         }
     }
 
-    /// The identifier of these arcs.
+    /// The identifier of these arcs, which have to be valid.
     pub fn new_unchecked(arcs: &'a [u32]) -> Oid<'a>
         requires { IsTrue (is_valid arcs.now) }
         ensures { result ≡ arcs.now }
@@ -161,7 +161,7 @@ impl Hash for Oid<'_> {
     }
 }
 
-/// The arcs in decimal, with dots between them.
+/// The arcs in decimal, separated by dots.
 impl fmt::Display for Oid<'_> {
     ghost output = { λ arcs. Some (dotted_text arcs) };
 

@@ -35,7 +35,7 @@ some-octet (o ∷ os) least l h = omega arith
 pub kept-written : (os : List ℕ) (least : ℕ) → 1 ≤ least → AreFewest least os → os ≡ signed_octets_of (signed_number os)
 kept-written os least l h = written-kept os h.octets h.fewest (some-octet os least l h.large)
 
--- what is shown of kept octets
+-- the octets shown for kept octets
 pub kept-signed : (least : ℕ) (os shown : List ℕ) (z : ℤ) → 2 ^ 127 ≤ least → AreFewest least os → signed_number os ≡ z → shown ≡ os → shown ≡ signed_octets_of z
 kept-signed least os shown z l h v s = s ∙ kept-written os least (omega arith) h ∙ ap signed_octets_of v
 

@@ -50,7 +50,7 @@ slices (a ∷ ls) (b ∷ rs) h k e =
     (λ c. heads_less b a (256 ^ length rs) (unsigned_number rs) (unsigned_number ls) c y)
     (λ c. tails (slice_cmp nat_cmp ls rs) a b (256 ^ length rs) (unsigned_number ls) (unsigned_number rs) c (slices ls rs h.1 k.1 l)))
 
--- more octets stand for a larger number, without its sign
+-- more octets encode a number of greater magnitude
 longer : (ls rs : List ℕ) → AreOctets ls → AreOctets rs → is_padded rs ≡ false → 0 < length ls → length ls < length rs → plain (signed_number ls) < plain (signed_number rs)
 longer [] rs h k e n l = absurd (omega arith)
 longer (a ∷ ls) [] h k e n l = absurd (omega arith)

@@ -4,7 +4,7 @@ use Rattle.asn1_model.specs.Schema.{Range}
 use Rattle.asn1_model.specs.Numbers.{is_within}
 use Rattle.asn1_values_integers.specs.declared.constrained.RangedInteger.{RangedInteger}
 
--- the whole number that it is
+-- the integer that it is
 abbrev pub constrained_number : {E : _} {g : _} → RangedInteger E g → ℤ
 constrained_number c = c.number
 
@@ -12,7 +12,7 @@ constrained_number c = c.number
 abbrev pub between : ℤ → ℤ → Range
 between low high = record { low = Some low; high = Some high }
 
--- it is made of a number exactly if the number is within the range, and the number is handed back otherwise
+-- it is made exactly if the number is within the range, and else the number is returned
 pub record IsConstrained {E : _} {g : _} (low high z : ℤ) (r : Result (RangedInteger E g) ℤ) : Type 0 where
   pub value : IfOk r (λ c. constrained_number c ≡ z)
   pub original : IfErr r (λ x. x ≡ z)

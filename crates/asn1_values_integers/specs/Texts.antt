@@ -1,4 +1,4 @@
--- How a whole number is printed.
+-- How an integer is printed.
 use Rattle.std.specs.Prelude.{ℕ, ◌-◌, ◌/◌, ◌%◌, ◌^◌, ℤ, List, [], ◌∷◌, ◌++◌, false, if◌then◌else◌, codes}
 use Rattle.std.specs.List.{flat_map}
 use Rattle.std.specs.Fmt.{signed_decimal, digit_glyph}
@@ -10,11 +10,11 @@ use Rattle.asn1_values_natives.specs.Ranges.{whole_range}
 abbrev pub octet_text : ℕ → List ℕ
 octet_text o = digit_glyph false (o / 16) ∷ digit_glyph false (o % 16) ∷ []
 
--- in decimal where 128 bits hold the number, else by its fewest octets of two's complement
+-- in decimal if 128 bits hold the number, else by its fewest octets of two's complement
 abbrev pub number_text : ℤ → List ℕ
 number_text z = if is_within (whole_range (2 ^ 127 - 1)) z then signed_decimal z
     else (codes "0x" ++ flat_map octet_text (signed_octets_of z))
 
--- what is said of a number that a type doesn't hold
+-- the message for a number that a type does not hold
 abbrev pub refusal_text : ℤ → List ℕ
 refusal_text z = number_text z ++ codes " is outside the range of its type"

@@ -1,4 +1,4 @@
-//! Equality, order and hash of whole numbers.
+//! Equality, order and hash of integers.
 ghost use Rattle.std.specs.Prelude.{◌≡◌, Some, pos};
 ghost use Rattle.std.proofs.Common.{rules};
 ghost use Rattle.std.specs.Cmp.{partial_order_from_own_ties};
@@ -13,7 +13,7 @@ use asn1_values_natives::octets::has_sign;
 use std::cmp::Ordering;
 use std::hash::{Hash, Hasher};
 
-// The order of the numbers of two lists of fewest octets.
+// The order of two numbers, each in its fewest octets.
 fn compare_octets(left: &[u8], right: &[u8]) -> Ordering
     requires left { signed_octets_of (signed_number left.now) ≡ left.now }
     requires right { signed_octets_of (signed_number right.now) ≡ right.now }

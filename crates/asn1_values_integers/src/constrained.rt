@@ -1,4 +1,4 @@
-// Whole numbers within a range.
+// Integers within a range.
 ghost use Rattle.asn1_values_integers.specs.Constrained.{IsConstrained, constrained_number};
 ghost use Rattle.std.specs.Prelude.{◌≡◌, ◌^◌, ◌<◌};
 ghost use Rattle.asn1_values_natives.specs.Octets.{plain};
@@ -9,10 +9,10 @@ use std::alloc::AllocError;
 use std::marker::PhantomData;
 use std::ops::Deref;
 
-/// A whole number from `START` to `END` (X.680 51.4).
+/// An integer from `START` to `END` (X.680 51.4).
 pub type ConstrainedInteger<const START: i64, const END: i64> = RangedInteger<Between<START, END>>;
 
-/// A whole number from `R::START` to `R::END` (X.680 51.4), so that these are the right way round.
+/// An integer from `R::START` to `R::END` (X.680 51.4); `R::START` is at most `R::END`.
 #[derive(Drop)]
 #[derive_where(Debug, PartialEq, Eq, PartialOrd, Ord, Hash)]
 pub struct RangedInteger<R: Ends> {
@@ -35,7 +35,7 @@ impl<R: Ends> RangedInteger<R> {
     }
 }
 
-/// The same number, made without memory where 129 bits of two's complement hold it, as they do in a range.
+/// The same number. Cloning never allocates, as 129 bits of two's complement hold each number of the range.
 impl<R: Ends> Clone for RangedInteger<R> {
     ghost is_clone = { λ c copy. constrained_number copy ≡ constrained_number c };
 

@@ -16,7 +16,7 @@ use std::error::Error;
 use std::fmt;
 use std::marker::Model;
 
-/// The number that the wanted type does not hold.
+/// The number, which the target type does not hold.
 #[derive(Debug, Drop)]
 pub struct TryFromIntegerError {
     original: Integer,
@@ -31,7 +31,7 @@ impl Model for TryFromIntegerError {
 }
 
 impl TryFromIntegerError {
-    /// The refusal of a number.
+    /// The error for a number.
     pub fn new(value: i128) -> TryFromIntegerError
         ensures { result ≡ value }
     {
@@ -59,7 +59,7 @@ impl fmt::Display for TryFromIntegerError {
 
 impl Error for TryFromIntegerError {}
 
-/// Refusals of one number are equal.
+/// Errors are equal if their numbers are.
 impl PartialEq for TryFromIntegerError {
     ghost eq = { int_eq };
 
@@ -74,7 +74,7 @@ impl Eq for TryFromIntegerError {
     ghost laws = { Prim.search (comparing, rules) };
 }
 
-/// The refusal of the same number. Takes memory where a copy of the number does.
+/// Allocates only if a clone of the number does.
 impl Clone for TryFromIntegerError {
     ghost is_clone = { λ z copy. copy ≡ z };
 
@@ -104,11 +104,11 @@ impl Integer {
         T::from_wide(self.to_wide()?)
     }
 
-    /// The number as a value of a native type; itself, if the type does not hold it.
+    /// The number as a value of a native type, or the number back if the type does not hold it.
     ///
     /// # Errors
     ///
-    /// Where the type does not hold the number, which the error gives back.
+    /// If the type does not hold the number; the error returns it.
     pub fn into_native<T: NativeInteger>(self) -> Result<T, TryFromIntegerError>
         ensures value { IfOk result (λ x. T.number x ≡ self) }
         ensures original { IfErr result (λ e. e ≡ self) }

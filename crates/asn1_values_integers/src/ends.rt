@@ -1,10 +1,10 @@
-// The ends of a range of whole numbers, as types.
+// The bounds of a range of integers, as types.
 ghost use Rattle.std.specs.Prelude.{◌≡◌, ℤ, true};
 ghost use Rattle.asn1_model.specs.Numbers.{is_at_most};
 
 use std::marker::PhantomData;
 
-/// The ends of a range of whole numbers, as a type (X.680 51.4).
+/// The bounds of a range of integers, as a type (X.680 51.4).
 pub trait Ends {
     ghost START: { ℤ };
 
@@ -17,7 +17,7 @@ pub trait Ends {
     const END: i64;
 }
 
-/// The ends `START` and `END`.
+/// The bounds `START` and `END`.
 #[derive(Debug, Drop)]
 pub struct Between<const START: i64, const END: i64>;
 
@@ -31,7 +31,7 @@ impl<const START: i64, const END: i64> Ends for Between<START, END> {
     const END: i64 = END;
 }
 
-/// That ends are the right way round, so that there is a number between them.
+/// A proof that `START` is at most `END`, so that the range is not empty.
 #[derive(Drop)]
 pub(crate) struct Ordered<R: Ends> {
     pub(crate) ends: PhantomData<R>,

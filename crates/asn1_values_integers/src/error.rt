@@ -1,8 +1,8 @@
-//! The refusals of this crate.
+//! The errors of this crate.
 
 use thiserror::Error;
 
-/// Why octets are no number of the wanted type.
+/// Why octets do not encode a number of the target type.
 #[derive(Clone, Copy, Debug, PartialEq, Eq, Hash, Drop, Error)]
 pub enum IntegerError {
     /// A number has at least one octet (X.690 8.3.1).
@@ -11,7 +11,7 @@ pub enum IntegerError {
     /// The number is outside the range of its type.
     #[error("the number is outside the range of its type")]
     Overflow,
-    /// No memory was found for the octets.
+    /// An allocation failed.
     #[error("out of memory")]
     Memory,
 }

@@ -1,4 +1,4 @@
-//! Whole numbers of any size.
+//! Integers of any size.
 ghost use Rattle.std.specs.Prelude.{◌≡◌, ◌≤◌, ◌<◌, ◌^◌, ◌↔◌, ℤ, pos, length, nat_lt, is_some, IsErrOf, IfOk, IfSome};
 ghost use Rattle.std.specs.Prelude.{IsTrue, false, true, ◌-◌, ◌+ℤ◌, ◌-ℤ◌, ◌&&◌};
 ghost use Rattle.asn1_model.specs.Numbers.{is_within};
@@ -14,14 +14,14 @@ use asn1_values_natives::{IntegerBytes, Wide};
 use std::alloc::{AllocError, Global};
 use std::marker::Model;
 
-/// A whole number of any size (X.680 clause 19).
+/// An integer of any size (X.680 clause 19).
 #[derive(Debug, Drop)]
 pub struct Integer {
     kind: IntegerKind,
 }
 
-// A number that 128 bits hold, or the fewest octets of two's complement of another one:
-// seventeen in place, more in a vector.
+// A number that an `i128` holds, or the fewest octets of two's complement of another one: seventeen inline, more in a
+// vector.
 #[derive(Debug, Drop)]
 enum IntegerKind {
     Primitive(i128),
@@ -66,7 +66,7 @@ impl Integer {
         Integer::ONE
     }
 
-    /// The number that 128 bits of two's complement hold.
+    /// The number of an `i128`.
     pub fn from_i128(value: i128) -> Integer
         ensures { result ≡ value }
     {
@@ -75,7 +75,7 @@ impl Integer {
         }
     }
 
-    /// The number of the common ground of the native types.
+    /// The number of a `Wide`.
     pub fn from_wide(wide: Wide) -> Integer
         ensures { result ≡ signed_by wide.negative wide.magnitude }
     {
@@ -85,7 +85,7 @@ impl Integer {
         }
     }
 
-    // A number of seventeen octets, of which the first is the sign alone.
+    // A number of seventeen octets, the first of which holds only sign bits.
     fn short(negative: bool, magnitude: u128) -> Integer
         requires { 2 ^ 127 ≤ magnitude }
         ensures { result ≡ signed_by negative magnitude }
@@ -95,7 +95,7 @@ impl Integer {
         }
     }
 
-    // A number by its octets in a vector.
+    // A number as its octets in a vector.
     fn long(octets: Vec<u8>) -> Integer
         requires fewest { is_padded octets.items ≡ false }
         requires large { 2 ^ 128 ≤ plain (signed_number octets.items) }
@@ -106,13 +106,12 @@ impl Integer {
         }
     }
 
-    /// The number that octets of two's complement stand for (X.690 8.3). Octets that only repeat
-    /// the sign are taken and not kept. Refuses no octets, and takes memory for numbers outside
-    /// -2^128 to 2^128 - 1 alone.
+    /// The number that octets encode in two's complement (X.690 8.3). Redundant leading octets are accepted and
+    /// dropped. Allocates only for numbers outside -2^128 to 2^128 - 1.
     ///
     /// # Errors
     ///
-    /// `Empty` for no octets, and `Memory` for want of memory.
+    /// `Empty` for no octets, and `Memory` if memory runs out.
     pub fn from_signed_octets(alloc: Global, octets: &[u8]) -> Result<Integer, IntegerError>
         ensures value { IfOk result (λ n. n ≡ signed_number octets.now) }
         ensures empty { IsErrOf result IntegerError.Empty ↔ (length octets.now ≡ 0) }
@@ -132,8 +131,8 @@ impl Integer {
         }
     }
 
-    /// The number whose fewest octets of two's complement are given up (X.690 8.3.2): it is kept
-    /// in them, or in place where 129 bits of two's complement hold it. Takes no memory.
+    /// The number of which `octets` is the shortest encoding in two's complement (X.690 8.3.2). Keeps the vector, or
+    /// stores the number inline if 129 bits hold it. Allocates nothing.
     pub fn from_fewest_octets(octets: Vec<u8>) -> Integer
         requires { is_padded octets.items ≡ false }
         ensures { result ≡ signed_number octets.items }
@@ -144,12 +143,12 @@ impl Integer {
         }
     }
 
-    /// The number that octets without a sign stand for. Leading zeros are taken and not kept. Refuses no octets, and
-    /// takes memory for numbers from 2^128 on alone.
+    /// The number that unsigned octets encode. Leading zeros are accepted and dropped. Allocates only for numbers from
+    /// 2^128 on.
     ///
     /// # Errors
     ///
-    /// `Empty` for no octets, and `Memory` for want of memory.
+    /// `Empty` for no octets, and `Memory` if memory runs out.
     pub fn from_unsigned_octets(alloc: Global, octets: &[u8]) -> Result<Integer, IntegerError>
         ensures value { IfOk result (λ n. n ≡ pos (unsigned_number octets.now)) }
         ensures empty { IsErrOf result IntegerError.Empty ↔ (length octets.now ≡ 0) }
@@ -168,7 +167,7 @@ impl Integer {
         }
     }
 
-    /// The number, if 128 bits of two's complement hold it.
+    /// The number, if an `i128` holds it.
     pub fn to_i128(&self) -> Option<i128>
         ensures value { IfSome result (λ z. z ≡ self.now) }
         ensures fits { is_some result ≡ is_within (whole_range (2 ^ 127 - 1)) self.now }
@@ -179,7 +178,7 @@ impl Integer {
         }
     }
 
-    /// The number in the common ground of the native types, if it is there.
+    /// The number as a `Wide`, if it is within its range.
     pub fn to_wide(&self) -> Option<Wide>
         ensures value { IfSome result (λ w. signed_by w.negative w.magnitude ≡ self.now) }
         ensures fits { is_some result ≡ nat_lt (plain self.now) (2 ^ 128) }
@@ -191,7 +190,7 @@ impl Integer {
         }
     }
 
-    /// The fewest octets of two's complement (X.690 8.3).
+    /// The fewest octets of the number in two's complement (X.690 8.3).
     pub fn to_signed_bytes_be(&self) -> IntegerBytes<'_>
         ensures { result ≡ signed_octets_of self.now }
     {
@@ -202,7 +201,7 @@ impl Integer {
         }
     }
 
-    /// The fewest octets with no sign, at least one; of a negative number those of two's complement.
+    /// The fewest octets of the number without a sign, at least one; for a negative number, those of two's complement.
     pub fn to_unsigned_bytes_be(&self) -> IntegerBytes<'_>
         ensures { result ≡ unsigned_octets_of self.now }
     {
@@ -213,7 +212,7 @@ impl Integer {
         }
     }
 
-    /// The sum, where 128 bits hold both numbers and the sum.
+    /// The sum, if both numbers and the sum fit in an `i128`.
     pub fn checked_add(&self, other: &Integer) -> Option<Integer>
         ensures value { IfSome result (λ n. n ≡ self.now +ℤ other.now) }
         ensures fits { is_some result ≡ (is_within (whole_range (2 ^ 127 - 1)) self.now
@@ -226,7 +225,7 @@ impl Integer {
         Some(Integer::from_i128(sum))
     }
 
-    /// The difference, where 128 bits hold both numbers and the difference.
+    /// The difference, if both numbers and the difference fit in an `i128`.
     pub fn checked_sub(&self, other: &Integer) -> Option<Integer>
         ensures value { IfSome result (λ n. n ≡ self.now -ℤ other.now) }
         ensures fits { is_some result ≡ (is_within (whole_range (2 ^ 127 - 1)) self.now
@@ -239,7 +238,7 @@ impl Integer {
         Some(Integer::from_i128(difference))
     }
 
-    // The lowest 128 bits of two's complement.
+    // The low 128 bits in two's complement.
     fn low_bits(&self) -> u128
         ensures { result ≡ remainder self.now (2 ^ 128) }
     {
@@ -250,7 +249,7 @@ impl Integer {
         }
     }
 
-    /// The sum, or the number of 128 bits that differs from it by a multiple of 2^128.
+    /// The sum modulo 2^128, as an `i128`.
     pub fn wrapping_add(&self, other: &Integer) -> Integer
         ensures { result ≡ wrapped true (2 ^ 127 - 1) (self.now +ℤ other.now) }
     {
@@ -258,7 +257,7 @@ impl Integer {
         Integer::from_i128(sum.cast_signed())
     }
 
-    /// Whether the number is below zero.
+    /// Whether the number is negative.
     pub fn is_negative(&self) -> bool
         ensures { result ≡ is_below_zero self.now }
     {
@@ -270,7 +269,7 @@ impl Integer {
     }
 }
 
-/// The same number, in the memory that its own comes from. Takes memory for numbers outside -2^128 to 2^128 - 1 alone.
+/// Clones into memory of the same allocator. Allocates only for numbers outside -2^128 to 2^128 - 1.
 impl Clone for Integer {
     ghost is_clone = { λ z copy. copy ≡ z };
 
@@ -290,7 +289,7 @@ impl Clone for Integer {
     }
 }
 
-// The number that the last sixteen octets stand for.
+// The number that the last sixteen octets encode.
 fn last_sixteen(octets: &[u8]) -> u128
     requires many { 16 < length octets.now }
     ensures { result ≡ remainder (signed_number octets.now) (2 ^ 128) }
@@ -298,7 +297,7 @@ fn last_sixteen(octets: &[u8]) -> u128
     magnitude(false, &octets[octets.len() - 16..])
 }
 
-// Octets without a sign as octets of two's complement: behind a zero if they begin with a sign.
+// Unsigned octets as octets of two's complement: with a zero octet before them if bit 8 of the first is set.
 fn with_zero(alloc: Global, octets: &[u8]) -> Result<Vec<u8>, AllocError>
     ensures { IfOk result (λ v. v.items ≡ signed_from_plain octets.now) }
 {

@@ -1,4 +1,4 @@
-//! A trait of the types of whole numbers.
+//! A trait of the integer types.
 ghost use Rattle.std.specs.Prelude.{◌≡◌, ℕ, ◌<◌, ◌≤◌, ◌^◌, ◌↔◌, ℤ, pos, ◌+ℤ◌, Bool, false, true, length, IfOk};
 ghost use Rattle.std.specs.Prelude.{IfSome, is_some, IsErrOf, ◌/◌, ◌-◌, None, refl};
 ghost use Rattle.asn1_model.specs.Schema.{Range};
@@ -12,21 +12,21 @@ use crate::{Integer, IntegerError};
 use asn1_values_natives::{IntegerBytes, NativeInteger, Wide};
 use std::alloc::Global;
 
-/// A type of whole numbers: the native integer types and `Integer`.
+/// An integer type: a native one or `Integer`.
 pub trait IntegerType: Sized {
-    /// How many bits it has; `u32::MAX` where nothing limits them.
+    /// The number of its bits; `u32::MAX` if it is unlimited.
     const WIDTH: u32;
 
-    /// How many octets it has.
+    /// The number of its octets.
     const BYTE_WIDTH: usize;
 
     /// The number zero.
     const ZERO: Self;
 
-    /// The type of as many bits without a sign.
+    /// The unsigned type of the same number of bits.
     type UnsignedPair;
 
-    /// The type of as many bits with a sign.
+    /// The signed type of the same number of bits.
     type SignedPair;
 
     // The constants' values.
@@ -36,13 +36,13 @@ pub trait IntegerType: Sized {
 
     ghost ZERO: { Self };
 
-    // The whole number that a value is.
+    // The integer that a value is.
     ghost value: { Self → ℤ };
 
-    // The whole number that a value of the type without a sign is.
+    // The integer that a value of the unsigned type is.
     ghost unsigned_value: { Self.UnsignedPair → ℤ };
 
-    // Whether it holds numbers below zero.
+    // Whether it has negative numbers.
     ghost signed: { Bool };
 
     // The numbers that it holds.
@@ -51,8 +51,8 @@ pub trait IntegerType: Sized {
     // The greatest number of the range in which it adds.
     ghost greatest: { ℕ };
 
-    /// The number that octets stand for, with a sign if the type has one (X.690 8.3). Refuses no octets and numbers
-    /// that the type does not hold; only `Integer` takes memory.
+    /// The number that octets encode, in two's complement if the type is signed (X.690 8.3). An error if there are no
+    /// octets or the type does not hold the number; only `Integer` allocates.
     fn try_from_bytes(alloc: Global, input: &[u8]) -> Result<Self, IntegerError>
         ensures number { IfOk result (λ x. value x ≡ own_number signed input.now) }
         ensures empty { IsErrOf result IntegerError.Empty ↔ (length input.now ≡ 0) }
@@ -60,8 +60,8 @@ pub trait IntegerType: Sized {
             ↔ ((0 < length input.now) × (is_within held (own_number signed input.now) ≡ false)) }
         ensures memory { IsErrOf result IntegerError.Memory → 2 ^ 128 ≤ plain (own_number signed input.now) };
 
-    /// The number that octets of two's complement stand for (X.690 8.3.3). Octets that only repeat the sign are taken.
-    /// Refuses no octets and numbers that the type does not hold.
+    /// The number that octets encode in two's complement (X.690 8.3.3). Redundant leading octets are accepted. An
+    /// error if there are no octets or the type does not hold the number.
     fn try_from_signed_bytes(alloc: Global, input: &[u8]) -> Result<Self, IntegerError>
         ensures number { IfOk result (λ x. value x ≡ signed_number input.now) }
         ensures empty { IsErrOf result IntegerError.Empty ↔ (length input.now ≡ 0) }
@@ -69,8 +69,8 @@ pub trait IntegerType: Sized {
             ↔ ((0 < length input.now) × (is_within held (signed_number input.now) ≡ false)) }
         ensures memory { IsErrOf result IntegerError.Memory → 2 ^ 128 ≤ plain (signed_number input.now) };
 
-    /// The number that octets without a sign stand for. Leading zeros are taken. Refuses no octets and numbers that the
-    /// type does not hold.
+    /// The number that unsigned octets encode. Leading zeros are accepted. An error if there are no octets or the type
+    /// does not hold the number.
     fn try_from_unsigned_bytes(alloc: Global, input: &[u8]) -> Result<Self, IntegerError>
         ensures number { IfOk result (λ x. value x ≡ pos (unsigned_number input.now)) }
         ensures empty { IsErrOf result IntegerError.Empty ↔ (length input.now ≡ 0) }
@@ -78,26 +78,26 @@ pub trait IntegerType: Sized {
             ↔ ((0 < length input.now) × (is_within held (pos (unsigned_number input.now)) ≡ false)) }
         ensures memory { IsErrOf result IntegerError.Memory → 2 ^ 128 ≤ unsigned_number input.now };
 
-    /// The fewest octets of two's complement (X.690 8.3).
+    /// The fewest octets of the number in two's complement (X.690 8.3).
     fn to_signed_bytes_be(&self) -> IntegerBytes<'_>
         ensures octets { result ≡ signed_octets_of (value self.now) }
         ensures within { is_within held (value self.now) ≡ true };
 
-    /// The fewest octets without a sign, at least one; of a number below zero those of two's complement.
+    /// The fewest octets of the number without a sign, at least one; for a negative number, those of two's complement.
     fn to_unsigned_bytes_be(&self) -> IntegerBytes<'_>
         ensures octets { result ≡ unsigned_octets_of (value self.now) }
         ensures within { is_within held (value self.now) ≡ true };
 
-    /// The sum, or what differs from it by a multiple of two to the type's bits; an `Integer` adds in 128 bits.
+    /// The sum modulo 2 to the number of the type's bits; an `Integer` adds in 128 bits.
     fn wrapping_unsigned_add(self, other: Self::UnsignedPair) -> Self
         ensures { value result ≡ wrapped signed greatest (value self +ℤ unsigned_value other) };
 
-    /// Whether the number is below zero.
+    /// Whether the number is negative.
     fn is_negative(&self) -> bool
         ensures number { result ≡ is_below_zero (value self.now) }
         ensures within { is_within held (value self.now) ≡ true };
 
-    /// Whether the type holds numbers below zero.
+    /// Whether the type has negative numbers.
     fn is_signed(&self) -> bool
         ensures { result ≡ signed };
 
@@ -106,7 +106,7 @@ pub trait IntegerType: Sized {
         ensures number { result ≡ value self }
         ensures within { is_within held (value self) ≡ true };
 
-    /// The number, if 128 bits of two's complement hold it.
+    /// The number, if an `i128` holds it.
     fn to_i128(&self) -> Option<i128>
         ensures number { IfSome result (λ z. z ≡ value self.now) }
         ensures fits { is_some result ≡ is_within (whole_range (2 ^ 127 - 1)) (value self.now) }
@@ -117,16 +117,16 @@ pub trait IntegerType: Sized {
         ensures number { IfSome result (λ x. value x ≡ number) }
         ensures fits { is_some result ≡ is_within held number };
 
-    // Values of one number are one value.
+    // Values of equal numbers are equal.
     ghost injective: { (x y : Self) → value x ≡ value y → x ≡ y };
 
     // Zero is zero.
     ghost nothing: { value ZERO ≡ pos 0 };
 
-    // Its octets are those of its bits.
+    // The number of its octets follows from that of its bits.
     ghost octets: { BYTE_WIDTH ≡ WIDTH / 8 };
 
-    // It holds the numbers of its bits, and all numbers where nothing limits them.
+    // It holds the numbers of its bits, and all numbers if it is unlimited.
     ghost width: { held ≡ range_of_width signed WIDTH };
 }
 

@@ -1,4 +1,4 @@
-//! Conversions of lent numbers to the native integer types.
+//! Conversions of borrowed numbers to the native integer types.
 ghost use Rattle.std.specs.Prelude.{◌≡◌, ◌-◌, ◌^◌, is_ok, IfOk, IfErr};
 ghost use Rattle.asn1_model.specs.Numbers.{is_within};
 ghost use Rattle.asn1_values_integers.specs.Conversions.{IsLentNatural, IsLentWhole};
@@ -9,7 +9,7 @@ use crate::integer::Integer;
 use asn1_values_natives::NativeInteger;
 
 impl Integer {
-    // The number as a value of a native type; an overflow, if the type does not hold it.
+    // The number as a value of a native type; an overflow if the type does not hold it.
     fn lent_native<T: NativeInteger>(&self) -> Result<T, IntegerError>
         ensures value { IfOk result (λ x. T.number x ≡ self.now) }
         ensures overflow { IfErr result (λ e. e ≡ IntegerError.Overflow) }

@@ -1,5 +1,5 @@
-//! The values of the type INTEGER (X.680 19): `Integer`, a whole number of any size; `ConstrainedInteger`, one within
-//! a range of its own (X.680 51.4); and `IntegerType`, what `Integer` and the native integer types have in common.
+//! The values of the type INTEGER (X.680 19): `Integer`, of any size; `ConstrainedInteger`, within a range (X.680
+//! 51.4); and `IntegerType`, what `Integer` and the native integer types have in common.
 #![tactic(auto)]
 
 mod compare;

@@ -1,4 +1,4 @@
-//! How whole numbers are printed.
+//! How integers are printed.
 ghost use Rattle.std.specs.Prelude.{Some};
 ghost use Rattle.std.specs.List.{flat_map};
 ghost use Rattle.asn1_values_integers.specs.Texts.{number_text, octet_text};
@@ -6,7 +6,7 @@ ghost use Rattle.asn1_values_integers.specs.Texts.{number_text, octet_text};
 use crate::integer::Integer;
 use std::fmt;
 
-// An octet, shown by two hexadecimal digits.
+// An octet, printed as two hexadecimal digits.
 #[derive(Drop)]
 struct OctetDigits {
     octet: u8,
@@ -22,7 +22,7 @@ impl fmt::Display for OctetDigits {
     }
 }
 
-// Octets, each shown by two hexadecimal digits.
+// Octets, each printed as two hexadecimal digits.
 #[derive(Drop)]
 struct Hexadecimal<'a> {
     octets: &'a [u8],

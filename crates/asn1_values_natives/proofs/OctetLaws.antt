@@ -21,7 +21,7 @@ unsigned-lt (o ∷ os) h = rw (pow-suc 256 (length os)) (mul-add-lt o (256 ^ len
 pub pow_pos256 : (k : ℕ) → 0 < 256 ^ k
 pow_pos256 k = let h : 256 ^ 0 ≤ 256 ^ k = pow-le-pow_right (omega arith) {i = 0} {j = k} (omega arith) in omega arith
 
--- ---- octets turned over
+-- ---- complemented octets
 
 weighed : (d o p u v : ℕ) → d + o ≡ 255 → u + v + 1 ≡ p → (d * p + u) + (o * p + v) + 1 ≡ p * 256
 weighed d o p u v e h = let f : (d + o) * p ≡ 255 * p = ap (λ x. x * p) e in omega arith
@@ -140,7 +140,7 @@ digits-unsigned os h = let e : unsigned_number os ≡ 0 * 256 ^ length os + unsi
 pub unsigned-digits : (k n : ℕ) → n < 256 ^ k → unsigned_number (digits 256 k n) ≡ n
 unsigned-digits k n h = unsigned-digits_mod k n ∙ mod-eq_of_lt h
 
--- turning over the digits is taking from the greatest number
+-- complementing the digits is subtracting from the greatest number
 pub digits-turned : (k n : ℕ) → n < 256 ^ k → map (sign_free true) (digits 256 k n) ≡ digits 256 k (256 ^ k - 1 - n)
 digits-turned k n h =
     let ds : List ℕ = map (sign_free true) (digits 256 k n) in

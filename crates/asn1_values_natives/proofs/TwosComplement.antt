@@ -13,7 +13,7 @@ use Rattle.asn1_values_natives.proofs.Widths.{pow256, width-bits, octet_width-wi
 pub pow128 : (k : ℕ) → 128 * 256 ^ k ≡ 2 ^ (8 * k + 7)
 pow128 k = let e = pow-add 2 (8 * k) 7 in let f = pow256 k in omega arith
 
--- ---- what octets stand for, without the sign
+-- ---- the number of octets, without the sign
 
 pub plain-small : (o : ℕ) (os : List ℕ) → AreOctets (o ∷ os) → plain (signed_number (o ∷ os)) < 128 * 256 ^ length os
 plain-small o os h = at_cases (cases_lt o 128)
@@ -30,7 +30,7 @@ plain-small o os h = at_cases (cases_lt o 128)
         let q = rw l at m in
         rw (signed-high o os c h, l) (omega (arith, q))
 
--- no list of octets is shorter than the fewest of what it stands for
+-- no octets are shorter than the fewest octets of their number
 pub signed_octets-least : (o : ℕ) (os : List ℕ) → AreOctets (o ∷ os) → signed_octets (signed_number (o ∷ os)) ≤ length (o ∷ os)
 signed_octets-least o os h =
     let p = plain-small o os h in
@@ -48,7 +48,7 @@ bare_low a b h e = grind (arith, nat_tests)
 bare_high : (a b : ℕ) → 128 ≤ a → a < 256 → ((a == 0) && ltb b 128) || ((a == 255) && leb 128 b) ≡ false → (1 ≤ 255 - a) ⊎ (128 ≤ 255 - b)
 bare_high a b h l e = grind (arith, nat_tests)
 
--- a list without padding is the fewest
+-- octets without padding are the fewest
 pub plain-large : (a b : ℕ) (os : List ℕ) → AreOctets (a ∷ b ∷ os) → is_padded (a ∷ b ∷ os) ≡ false → 128 * 256 ^ length os ≤ plain (signed_number (a ∷ b ∷ os))
 plain-large a b os h e = at_cases (cases_lt a 128)
   where
@@ -97,11 +97,11 @@ signed-complement k (negsuc m) h =
     ∙ ap (λ l. negsuc (unsigned_number l)) (sign_free-twice (digits 256 (suc k) m) o)
     ∙ ap negsuc (unsigned-digits (suc k) m (within k m h))
 
--- the octets of so many as a number needs
+-- as many octets as a number needs
 pub plain-fits : (z : ℤ) (k : ℕ) → signed_octets z ≤ k + 1 → plain z < 128 * 256 ^ k
 plain-fits z k h = let e = pow128 k in let p = signed_octets-above z k in grind arith
 
--- octets as a sign and what follows
+-- octets as a sign and a magnitude
 pub signed-parts : (os : List ℕ) → AreOctets os → signed_number os ≡ signed_by (is_negative os) (unsigned_number (map (sign_free (is_negative os)) os))
 signed-parts [] h = refl
 signed-parts (o ∷ os) h = at_cases (cases_lt o 128)
@@ -123,7 +123,7 @@ pub octets-all : (os : List ℕ) → ((i : ℕ) → Fits w8 (get_or os i 0)) →
 octets-all [] h = tt
 octets-all (o ∷ os) h = ((h 0).fits, octets-all os (λ i. h (suc i)))
 
--- the number by octets that stand for what follows its sign
+-- the number by the octets of its magnitude
 pub signed-read : (os rest : List ℕ) (b : Bool) → ((i : ℕ) → Fits w8 (get_or os i 0)) → b ≡ is_negative os → unsigned_number (map (sign_free b) rest) ≡ unsigned_number (map (sign_free b) os) → signed_by b (unsigned_number (map (sign_free b) rest)) ≡ signed_number os
 signed-read os rest b h n e = ap (signed_by b) e ∙ ap (λ c. signed_by c (unsigned_number (map (sign_free c) os))) n ∙ sym (signed-parts os (octets-all os h))
 
@@ -133,7 +133,7 @@ plain-read os rest b h n e = sym (plain-signed_by b (unsigned_number (map (sign_
 pub under : (n : ℕ) → n < 2 ^ 128 → true ≡ nat_lt n (2 ^ 128)
 under n h = grind (arith, nat_tests)
 
--- a list that begins with more than the sign stands for a large number
+-- octets that begin with more than the sign encode a large number
 pub unsigned-large : (b : Bool) (os : List ℕ) (k : ℕ) → is_leading b os ≡ false → k < length os → 256 ^ k ≤ unsigned_number (map (sign_free b) os)
 unsigned-large b [] k e h = absurd (omega arith)
 unsigned-large b (o ∷ os) k e h =

@@ -1,4 +1,4 @@
-//! A number's octets, lent or in place.
+//! A number's octets, borrowed or inline.
 ghost use Rattle.std.specs.Prelude.{◌≡◌, ℕ, ◌-◌, ◌≤◌, List, length, drop, map};
 ghost use Rattle.asn1_model.specs.Numbers.{digits};
 ghost use Rattle.asn1_values_natives.specs.Octets.{signed_octets_of, unsigned_octets_of, signed_by, sign_free};
@@ -9,7 +9,7 @@ use std::convert::AsSlice;
 use std::marker::Model;
 use std::ops::DerefSlice;
 
-/// The octets of a number, the highest first: up to seventeen in place, or lent by the number.
+/// The octets of a number, the most significant first: up to seventeen inline, or borrowed from the number.
 #[derive(Drop)]
 pub struct IntegerBytes<'a> {
     form: Form<'a>,
@@ -34,7 +34,7 @@ impl<'a> Model for IntegerBytes<'a> {
 }
 
 impl<'a> IntegerBytes<'a> {
-    /// Octets that are lent.
+    /// Borrowed octets.
     pub fn lent(octets: &'a [u8]) -> IntegerBytes<'a>
         ensures { result ≡ octets.entry.now }
     {
@@ -43,7 +43,7 @@ impl<'a> IntegerBytes<'a> {
         }
     }
 
-    // The last octets of a number, each turned over if it is negative.
+    // The last `count` octets of a number, complemented if it is negative.
     fn last(negative: bool, number: u128, count: usize) -> IntegerBytes<'a>
         requires { count ≤ 17 }
         ensures { result ≡ map (sign_free negative) (digits 256 count number) }
@@ -73,7 +73,7 @@ impl<'a> IntegerBytes<'a> {
         self.as_slice().len()
     }
 
-    /// The fewest octets of two's complement (X.690 8.3).
+    /// The fewest octets of the number in two's complement (X.690 8.3).
     pub fn signed(wide: Wide) -> IntegerBytes<'a>
         ensures { result ≡ signed_octets_of (signed_by wide.negative wide.magnitude) }
     {
@@ -81,7 +81,7 @@ impl<'a> IntegerBytes<'a> {
         IntegerBytes::last(wide.negative, wide.magnitude, count)
     }
 
-    /// The fewest octets with no sign, at least one; of a negative number those of two's complement.
+    /// The fewest octets of the number without a sign, at least one; for a negative number, those of two's complement.
     pub fn unsigned(wide: Wide) -> IntegerBytes<'a>
         ensures { result ≡ unsigned_octets_of (signed_by wide.negative wide.magnitude) }
     {

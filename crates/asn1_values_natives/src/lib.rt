@@ -1,4 +1,4 @@
-//! The native integer types, and whole numbers of up to 129 bits as octets of two's complement.
+//! The native integer types, and integers of up to 129 bits in two's complement.
 #![tactic(auto)]
 
 mod bytes;

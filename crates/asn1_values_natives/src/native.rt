@@ -14,40 +14,40 @@ use std::fmt::{Debug, Display};
 
 /// A native integer type: `i8` to `i128`, `isize`, `u8` to `u128` and `usize`.
 pub trait NativeInteger: Copy + Debug + Default + Display + PartialOrd {
-    /// How many bits it has.
+    /// The number of its bits.
     const BITS: u32;
 
-    /// Whether it holds numbers below zero.
+    /// Whether it has negative numbers.
     const SIGNED: bool;
 
     /// The number zero.
     const ZERO: Self;
 
-    /// The type of as many bits without a sign.
+    /// The unsigned type of the same number of bits.
     type Unsigned;
 
-    /// The type of as many bits with a sign.
+    /// The signed type of the same number of bits.
     type Signed;
 
-    // How many bits it has.
+    // The number of its bits.
     ghost BITS: { ℕ };
 
-    // Whether it holds numbers below zero.
+    // Whether it has negative numbers.
     ghost SIGNED: { Bool };
 
     // The value of zero.
     ghost ZERO: { Self };
 
-    // The whole number that a value is.
+    // The integer that a value is.
     ghost number: { Self → ℤ };
 
-    // The whole number that a value without a sign is.
+    // The integer that a value of the unsigned type is.
     ghost unsigned_number: { Self.Unsigned → ℤ };
 
-    // The greatest number that it holds.
+    // Its greatest number.
     ghost greatest: { ℕ };
 
-    /// The number in the common ground of the native types.
+    /// The number as a `Wide`.
     fn to_wide(self) -> Wide
         ensures value { signed_by result.negative result.magnitude ≡ number self }
         ensures held { is_within (range_of SIGNED greatest) (number self) ≡ true };
@@ -57,32 +57,32 @@ pub trait NativeInteger: Copy + Debug + Default + Display + PartialOrd {
         ensures value { IfSome result (λ x. number x ≡ signed_by wide.negative wide.magnitude) }
         ensures fits { is_some result ≡ is_within (range_of SIGNED greatest) (signed_by wide.negative wide.magnitude) };
 
-    /// The sum, or the number of the type that differs from it by a multiple of two to its bits.
+    /// The sum modulo 2^`BITS`.
     fn wrapping_unsigned_add(self, other: Self::Unsigned) -> Self
         ensures { number result ≡ wrapped SIGNED greatest (number self +ℤ unsigned_number other) };
 
-    // Its numbers have at most 128 bits beside the sign.
+    // Its numbers have at most 128 bits, not counting the sign.
     ghost bounded: { greatest < 2 ^ 128 };
 
     // It has at most 128 bits.
     ghost short: { BITS ≤ 128 };
 
-    // Its greatest number is that of its bits, of which one is the sign where it has one.
+    // Its greatest number is that of its bits, one of which is the sign if it is signed.
     ghost width: { greatest ≡ greatest_of SIGNED BITS };
 
     // Zero is zero.
     ghost nothing: { number ZERO ≡ pos 0 };
 
-    // Values of one number are one value.
+    // Values of equal numbers are equal.
     ghost injective: { (x y : Self) → number x ≡ number y → x ≡ y };
 
-    // It is ordered as its numbers are.
+    // Its values are ordered as their numbers.
     ghost ordered: { (x y : Self) → Self.partial_cmp x y ≡ Some (int_cmp (number x) (number y)) };
 
     // It is printed in decimal.
     ghost printed: { (x : Self) → Self.output x ≡ Some (signed_decimal (number x)) };
 
-    // What it is where nothing is said is zero.
+    // Its default value is zero.
     ghost default_zero: { (x : Self) → Self.is_default x → number x ≡ pos 0 };
 }
 

@@ -1,10 +1,10 @@
-//! Octets of two's complement.
+//! Integers in two's complement.
 ghost use Rattle.std.specs.Prelude.{◌≡◌, ℕ, ◌+◌, ◌-◌, ◌*◌, ◌/◌, ◌^◌, ◌<◌, ◌≤◌, List, length, map, drop, false};
 ghost use Rattle.asn1_model.specs.Numbers.{digits, width, octet_width as octet_width_of};
 ghost use Rattle.asn1_values_natives.specs.Octets.{signed_number, unsigned_number, is_padded, is_leading};
 ghost use Rattle.asn1_values_natives.specs.Octets.{is_negative, sign_free, plain_octets};
 
-/// Whether the first octet only repeats the sign: the first nine bits are alike (X.690 8.3.2).
+/// Whether the first octet is redundant: the first nine bits are all equal (X.690 8.3.2).
 pub fn has_padding(octets: &[u8]) -> bool
     ensures { result ≡ is_padded octets.now }
 {
@@ -15,7 +15,7 @@ pub fn has_padding(octets: &[u8]) -> bool
     }
 }
 
-/// The octets behind those that only repeat the sign: the fewest octets of the same number (X.690 8.3.2).
+/// The octets without redundant leading octets: the fewest octets of the same number (X.690 8.3.2).
 pub fn without_padding(octets: &[u8]) -> &[u8]
     ensures same { signed_number result.now ≡ signed_number octets.now }
     ensures fewest { is_padded result.now ≡ false }
@@ -28,14 +28,14 @@ pub fn without_padding(octets: &[u8]) -> &[u8]
     rest
 }
 
-/// An octet of a number's magnitude: turned over in a negative number.
+/// An octet of a number's magnitude: complemented if the number is negative.
 pub fn without_sign(negative: bool, octet: u8) -> u8
     ensures { result ≡ sign_free negative octet }
 {
     if negative { 255 - octet } else { octet }
 }
 
-/// Whether octets of two's complement stand for a number below zero (X.690 8.3.3); no octets do not.
+/// Whether octets encode a negative number in two's complement (X.690 8.3.3); false for no octets.
 pub fn has_sign(octets: &[u8]) -> bool
     ensures { result ≡ is_negative octets.now }
 {
@@ -45,7 +45,7 @@ pub fn has_sign(octets: &[u8]) -> bool
     }
 }
 
-/// Whether the first octet is one of the sign alone: zero, or 255 in a negative number.
+/// Whether the first octet holds only sign bits: 0, or 255 in a negative number.
 pub fn has_leading(negative: bool, octets: &[u8]) -> bool
     ensures { result ≡ is_leading negative octets.now }
 {
@@ -55,7 +55,7 @@ pub fn has_leading(negative: bool, octets: &[u8]) -> bool
     }
 }
 
-/// The octets behind leading ones of the sign alone.
+/// The octets after the leading octets that hold only sign bits.
 pub fn without_leading(negative: bool, octets: &[u8]) -> &[u8]
     ensures same { unsigned_number (map (sign_free negative) result.now)
         ≡ unsigned_number (map (sign_free negative) octets.now) }
@@ -68,7 +68,8 @@ pub fn without_leading(negative: bool, octets: &[u8]) -> &[u8]
     rest
 }
 
-/// Fewest octets of two's complement without the zero octet in front, which only shows that the number is not negative.
+/// The fewest octets in two's complement without the leading zero octet, which only shows that the number is not
+/// negative.
 pub fn without_zero(octets: &[u8]) -> &[u8]
     ensures { result.now ≡ plain_octets octets.now }
 {
@@ -78,7 +79,7 @@ pub fn without_zero(octets: &[u8]) -> &[u8]
     }
 }
 
-/// The number that at most sixteen octets stand for, the highest first, each turned over if it is negative.
+/// The number that at most sixteen octets encode, the most significant first, each complemented if it is negative.
 pub fn magnitude(negative: bool, octets: &[u8]) -> u128
     requires { length octets.now ≤ 16 }
     ensures value { result ≡ unsigned_number (map (sign_free negative) octets.now) }
@@ -90,7 +91,7 @@ pub fn magnitude(negative: bool, octets: &[u8]) -> u128
     total
 }
 
-/// How many binary digits a number has; zero has none.
+/// The number of binary digits of a number; zero has none.
 pub fn bit_count(number: u128) -> usize
     ensures value { result ≡ width number }
     ensures bound { result ≤ 128 }
@@ -98,7 +99,7 @@ pub fn bit_count(number: u128) -> usize
     128 - number.leading_zeros() as usize
 }
 
-/// How many octets a number has at the fewest; zero has none.
+/// The fewest octets that hold a number; zero needs none.
 #[inline]
 pub fn octet_width(number: u128) -> usize
     ensures width { result ≡ octet_width_of number }
@@ -107,7 +108,7 @@ pub fn octet_width(number: u128) -> usize
     (bit_count(number) + 7) / 8
 }
 
-/// The last `count` octets of a number, each turned over if it is negative, at the end of seventeen octets; those
+/// The last `count` octets of a number, complemented if it is negative, at the end of seventeen octets; the octets
 /// before them are zero.
 pub fn last_octets(negative: bool, number: u128, count: usize) -> [u8; 17]
     requires { count ≤ 17 }

@@ -1,4 +1,4 @@
-//! The common ground of the native integer types.
+//! A common representation of the native integer types.
 ghost use Rattle.std.specs.Prelude.{◌≡◌, ℕ, ◌+◌, ◌^◌, ◌<◌, ◌≤◌, ℤ, pos, nat_lt, is_some, IfSome, length, ◌≤ℤ◌, true};
 ghost use Rattle.asn1_model.specs.Numbers.{is_within};
 ghost use Rattle.asn1_values_natives.specs.Ranges.{natural_range, whole_range};
@@ -7,17 +7,17 @@ ghost use Rattle.asn1_values_natives.specs.Octets.{signed_octets_of, unsigned_oc
 
 use crate::octets::{has_sign, magnitude, without_leading};
 
-/// A whole number between -2^128 and 2^128 - 1: `magnitude`, or -1 less `magnitude`.
+/// An integer from -2^128 to 2^128 - 1: `magnitude`, or -1 - `magnitude` if it is negative.
 #[derive(Clone, Copy, Debug, PartialEq, Eq)]
 pub struct Wide {
-    /// Whether it is below zero.
+    /// Whether the number is negative.
     pub negative: bool,
-    /// The number, or how far it is below -1.
+    /// The number, or -1 minus the number if it is negative.
     pub magnitude: u128,
 }
 
 impl Wide {
-    /// The number that 128 bits hold.
+    /// The number of an `i128`.
     pub fn from_i128(value: i128) -> Wide
         ensures { signed_by result.negative result.magnitude ≡ value }
     {
@@ -34,8 +34,7 @@ impl Wide {
         }
     }
 
-    /// The number that octets of two's complement stand for (X.690 8.3.3), if it is within the range; no octets stand
-    /// for zero.
+    /// The number that octets encode in two's complement (X.690 8.3.3), if it is within the range; zero for no octets.
     pub fn from_signed_octets(octets: &[u8]) -> Option<Wide>
         ensures value { IfSome result (λ w. signed_by w.negative w.magnitude ≡ signed_number octets.now) }
         ensures fits { is_some result ≡ nat_lt (plain (signed_number octets.now)) (2 ^ 128) }
@@ -51,7 +50,7 @@ impl Wide {
         })
     }
 
-    /// The number that octets stand for, the first the highest, if it is within the range.
+    /// The number that unsigned octets encode, the most significant first, if it is within the range.
     pub fn from_unsigned_octets(octets: &[u8]) -> Option<Wide>
         ensures value { IfSome result (λ w. signed_by w.negative w.magnitude ≡ pos (unsigned_number octets.now)) }
         ensures fits { is_some result ≡ nat_lt (unsigned_number octets.now) (2 ^ 128) }
@@ -66,7 +65,7 @@ impl Wide {
         })
     }
 
-    /// The number, which is at most `greatest`.
+    /// The number `value`, which is at most `greatest`.
     pub fn from_natural(value: u128, greatest: u128) -> Wide
         requires { value ≤ greatest }
         ensures value { signed_by result.negative result.magnitude ≡ pos value }
@@ -78,7 +77,7 @@ impl Wide {
         }
     }
 
-    /// The number, which is from one below the negative of `greatest` to `greatest`.
+    /// The number `value`, which is from -`greatest` - 1 to `greatest`.
     pub fn from_whole(value: i128, greatest: i128) -> Wide
         requires { plain value ≤ plain greatest }
         ensures value { signed_by result.negative result.magnitude ≡ value }
@@ -87,7 +86,7 @@ impl Wide {
         Wide::from_i128(value)
     }
 
-    /// The number, if it is from zero to `greatest`.
+    /// The number, if it is from 0 to `greatest`.
     pub fn to_natural(self, greatest: u128) -> Option<u128>
         ensures value { IfSome result (λ n. pos n ≡ signed_by self.negative self.magnitude) }
         ensures bound { IfSome result (λ n. n ≤ greatest) }
@@ -99,7 +98,7 @@ impl Wide {
         Some(self.magnitude)
     }
 
-    /// The number, if it is from one below the negative of `greatest` to `greatest`.
+    /// The number, if it is from -`greatest` - 1 to `greatest`.
     pub fn to_whole(self, greatest: i128) -> Option<i128>
         requires { pos 0 ≤ℤ greatest }
         ensures value { IfSome result (λ z. z ≡ signed_by self.negative self.magnitude) }

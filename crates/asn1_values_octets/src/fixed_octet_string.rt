@@ -20,7 +20,7 @@ use std::marker::Model;
 use std::ops::{DerefSlice, DerefSliceMut};
 use thiserror::Error;
 
-/// An OCTET STRING of exactly `N` octets (X.680 clause 23, with a size of one number), held in place.
+/// An OCTET STRING of exactly `N` octets (X.680 clause 23, with a fixed size), stored inline.
 #[derive(Debug, Drop)]
 pub struct FixedOctetString<const N: usize> {
     octets: [u8; N],
@@ -36,7 +36,7 @@ impl<const N: usize> Model for FixedOctetString<N> {
     ghost inverse = { λ octets. record { octets = octets } };
 }
 
-/// A list of octets of another length than the fixed one.
+/// An error: the number of octets is not `N`.
 #[derive(Debug, Clone, Copy, PartialEq, Eq, Error)]
 #[error("{actual} octets in place of {expected}")]
 pub struct WrongLength {
@@ -76,7 +76,7 @@ impl<const N: usize> FixedOctetString<N> {
         self.octets
     }
 
-    /// Puts `octet` in the place `index`, counted from 0.
+    /// Sets the octet at `index`, counted from 0.
     pub fn set(&mut self, index: usize, octet: u8)
         requires { index < N }
         ensures { self.new ≡ slice_set self.old index octet }
@@ -84,7 +84,7 @@ impl<const N: usize> FixedOctetString<N> {
         self.octets[index] = octet;
     }
 
-    /// Puts these octets in the place of all the old ones.
+    /// Replaces all octets.
     pub fn copy_from_slice(&mut self, octets: &[u8])
         requires { length octets.now ≡ N }
         ensures { self.new ≡ octets.now }
@@ -96,7 +96,7 @@ impl<const N: usize> FixedOctetString<N> {
     ///
     /// # Errors
     ///
-    /// Want of memory.
+    /// Out of memory.
     pub fn to_vec(&self, alloc: Global) -> Result<Vec<u8>, AllocError>
         ensures { IfOk result (λ v. v.items ≡ self.now) }
     {
@@ -104,7 +104,7 @@ impl<const N: usize> FixedOctetString<N> {
     }
 }
 
-/// It takes no memory, and cannot fail.
+/// Allocates nothing and cannot fail.
 impl<const N: usize> Clone for FixedOctetString<N> {
     ghost is_clone = { λ s copy. copy ≡ s };
 
@@ -158,7 +158,7 @@ impl<const N: usize> TryFrom<&[u8]> for FixedOctetString<N> {
     }
 }
 
-/// Refused, the error is the vector as it was.
+/// If the length is wrong, the error is the vector, unchanged.
 impl<const N: usize> TryFrom<Vec<u8>> for FixedOctetString<N> {
     type Error = Vec<u8>;
 
@@ -250,7 +250,7 @@ impl<const N: usize> Hash for FixedOctetString<N> {
     }
 }
 
-/// Once the slice is given back, the string is what was left in it.
+/// When the mutable borrow ends, the string is what the slice then holds.
 impl<const N: usize> DerefSliceMut for FixedOctetString<N> {
     fn deref_mut(&mut self) -> &mut [u8]
         ensures* writes_back { sem 𝓛 (Lends (the_row N.row) (Array octet 0) self.entry result (λ octets. octets)) }

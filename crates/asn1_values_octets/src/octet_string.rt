@@ -31,7 +31,7 @@ impl Model for OctetString {
 }
 
 impl OctetString {
-    /// The string of no octets. It takes no memory.
+    /// The empty string. Allocates nothing.
     pub fn new() -> OctetString
         ensures { result ≡ [] }
     {
@@ -40,7 +40,7 @@ impl OctetString {
         }
     }
 
-    /// The string of octets that live as long as the program. It takes no memory.
+    /// A string of static octets. Allocates nothing.
     pub fn from_static(value: &'static [u8]) -> OctetString
         ensures { result ≡ value.now }
     {
@@ -49,11 +49,11 @@ impl OctetString {
         }
     }
 
-    /// The string of a copy of these octets.
+    /// A copy of the octets.
     ///
     /// # Errors
     ///
-    /// Want of memory.
+    /// Out of memory.
     pub fn from_slice(alloc: Global, value: &[u8]) -> Result<OctetString, AllocError>
         ensures { IfOk result (λ s. s ≡ value.now) }
     {
@@ -72,11 +72,11 @@ impl OctetString {
         OctetString::from_slice(alloc, &value)
     }
 
-    /// The string of the vector's octets, which are not copied. Refused, the error hands the vector back.
+    /// The string of the vector's octets, which are not copied.
     ///
     /// # Errors
     ///
-    /// Want of memory, with the vector in the error.
+    /// Out of memory, with the vector in the error.
     pub fn from_vec(value: Vec<u8>) -> Result<OctetString, AllocFailed<Vec<u8>>>
         ensures ok { IfOk result (λ s. s ≡ value.items) }
         ensures value_returned { IfErr result (λ e. e.value.items ≡ value.items) }
@@ -112,18 +112,18 @@ impl OctetString {
     ///
     /// # Errors
     ///
-    /// Want of memory.
+    /// Out of memory.
     pub fn to_vec(&self, alloc: Global) -> Result<Vec<u8>, AllocError>
         ensures { IfOk result (λ v. v.items ≡ self.now) }
     {
         Vec::from_slice(alloc, self.octets.as_slice())
     }
 
-    /// The octets as a vector. Where no clone shares them, they are not copied.
+    /// The octets as a vector. They are copied only if a clone shares them.
     ///
     /// # Errors
     ///
-    /// Want of memory.
+    /// Out of memory.
     pub fn into_vec(self, alloc: Global) -> Result<Vec<u8>, AllocError>
         ensures { IfOk result (λ v. v.items ≡ self) }
     {

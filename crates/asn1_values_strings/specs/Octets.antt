@@ -1,10 +1,10 @@
--- Characters of runs that end below a bound.
+-- Runs of characters below a limit.
 use Rattle.std.specs.Prelude.{refl, ◌≡◌, ℕ, ◌<◌, ltb, leb, Bool, true, false, ◌&&◌, ◌||◌, List, [], ◌∷◌}
 use Rattle.std.proofs.Common.{arith}
 use Rattle.std.proofs.lemmas.Bool.{ltb-true, leb-true}
 use Rattle.asn1_model.specs.Strings.{Run, is_among}
 
--- whether each run ends below the bound
+-- whether each run ends below the limit
 abbrev pub end_below : ℕ → List Run → Bool
 end_below n [] = true
 end_below n (r ∷ rs) = ltb r.last n && end_below n rs

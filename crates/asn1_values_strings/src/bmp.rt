@@ -1,4 +1,4 @@
-//! The string whose characters are two octets wide.
+//! The character string type with two octets per character.
 ghost use Rattle.std.specs.Prelude.{◌≡◌, ◌+◌, ◌*◌, ◌%◌, ◌<◌, ◌≤◌, ◌^◌, ℕ, [], ◌∷◌, ◌++◌, flat_map, length, Some};
 ghost use Rattle.std.specs.Prelude.{refl, nat_eq, ◌↔◌, IsTrue, IfOk, IfErr, OnOk, OnErr, MatchResult, string_bytes};
 ghost use Rattle.std.specs.Ordering.{nat_cmp};
@@ -33,7 +33,7 @@ use std::ops::DerefSlice;
 
 /// A BMPString, of characters from 0 to 65535 (X.680 41).
 ///
-/// As octets each character is two, the most significant first.
+/// As octets, each character takes two, the most significant first.
 #[derive(Drop)]
 pub struct BmpString {
     characters: Vec<u16>,
@@ -48,7 +48,7 @@ impl Model for BmpString {
 }
 
 impl BmpString {
-    /// The string of no characters. It takes no memory.
+    /// The empty string. Allocates nothing.
     pub fn new(alloc: Global) -> Self
         ensures { result ≡ [] }
     {
@@ -57,11 +57,11 @@ impl BmpString {
         }
     }
 
-    /// The string of the characters that these octets are in pairs. An odd octet is refused.
+    /// The string of octets, two for each character.
     ///
     /// # Errors
     ///
-    /// The refusal of an odd octet, or `Memory` for want of memory.
+    /// `InvalidData` if the number of octets is odd, and `Memory` if memory runs out.
     pub fn from_bytes(alloc: Global, bytes: &[u8]) -> Result<Self, PermittedAlphabetError>
         ensures characters { IfOk result (λ s. flat_map (digits 256 2) s ≡ bytes.now) }
         ensures even { OnOk result (length bytes.now % 2 ≡ 0) }
@@ -87,7 +87,7 @@ impl BmpString {
     ///
     /// # Errors
     ///
-    /// The refusal of the first character that the type has not, or `Memory` for want of memory.
+    /// The error for the first character that the type does not permit, or `Memory` if memory runs out.
     pub fn from_text(alloc: Global, text: &str) -> Result<Self, PermittedAlphabetError>
         ensures characters { IfOk result (λ s. s ≡ chars text.now) }
         ensures permitted { OnOk result (IsTrue (permits_all bmp (chars text.now))) }
@@ -97,11 +97,11 @@ impl BmpString {
         string_of_text(alloc, text)
     }
 
-    /// The string of the characters that these octets are in pairs. An odd octet is refused.
+    /// The string of octets, two for each character.
     ///
     /// # Errors
     ///
-    /// The refusal of an odd octet, or `Memory` for want of memory.
+    /// `InvalidData` if the number of octets is odd, and `Memory` if memory runs out.
     pub fn from_octet_string(
         alloc: Global,
         octets: OctetString,
@@ -126,7 +126,7 @@ impl BmpString {
     ///
     /// # Errors
     ///
-    /// Want of memory.
+    /// Out of memory.
     pub fn to_bytes(&self, alloc: Global) -> Result<Vec<u8>, AllocError>
         ensures { IfOk result (λ v. v.items ≡ flat_map (digits 256 2) self.now) }
     {
@@ -139,21 +139,21 @@ impl BmpString {
         Ok(octets)
     }
 
-    /// The characters. They are not copied.
+    /// The characters, not copied.
     pub fn into_vec(self) -> Vec<u16>
         ensures { result.items ≡ self }
     {
         self.characters
     }
 
-    /// How many characters there are.
+    /// The number of characters.
     pub fn len(&self) -> usize
         ensures { result ≡ length self.now }
     {
         self.as_units().len()
     }
 
-    /// Whether there is no character.
+    /// Whether there are no characters.
     pub fn is_empty(&self) -> bool
         ensures { IsTrue result ↔ (self.now ≡ []) }
     {
@@ -169,11 +169,11 @@ impl BmpString {
         }
     }
 
-    /// Appends a character. Refused, the string is as it was.
+    /// Appends a character. After an error the string is unchanged.
     ///
     /// # Errors
     ///
-    /// The refusal of a character that the type has not, or `Memory` for want of memory.
+    /// The error for a character that the type does not permit, or `Memory` if memory runs out.
     pub fn push_char(&mut self, character: u32) -> Result<(), PermittedAlphabetError>
         ensures pushed { OnOk result (self.new ≡ self.old ++ character ∷ []) }
         ensures permitted { OnOk result (IsTrue (permits bmp character)) }
@@ -193,7 +193,7 @@ impl BmpString {
     }
 }
 
-/// The characters are not copied.
+/// Does not copy the characters.
 impl From<Vec<u16>> for BmpString {
     ghost from_gives = { λ v s. s ≡ v.items };
 
@@ -202,8 +202,7 @@ impl From<Vec<u16>> for BmpString {
     }
 }
 
-/// The octets in pairs, each one character, within the memory that the vector's own comes from. An odd octet is
-/// refused.
+/// Two octets are one character. Allocates from the vector's allocator. An error if the number of octets is odd.
 impl TryFrom<Vec<u8>> for BmpString {
     type Error = PermittedAlphabetError;
 
@@ -215,8 +214,8 @@ impl TryFrom<Vec<u8>> for BmpString {
     }
 }
 
-/// The bits as characters of sixteen, within the memory that theirs comes from. Bits that are no whole
-/// characters are refused.
+/// Sixteen bits are one character. Allocates from the allocator of the bits. An error if the bits are not whole
+/// characters.
 impl TryFrom<BitString> for BmpString {
     type Error = PermittedAlphabetError;
 
@@ -232,7 +231,7 @@ impl TryFrom<BitString> for BmpString {
     }
 }
 
-/// The text's characters, within the memory that the text's own comes from.
+/// Allocates from the allocator of the text.
 impl TryFrom<String> for BmpString {
     type Error = PermittedAlphabetError;
 
@@ -245,7 +244,7 @@ impl TryFrom<String> for BmpString {
     }
 }
 
-/// The string of no characters, in the place of `Default`, which has no allocator.
+/// The empty string. Takes the place of `Default`, which has no allocator.
 impl MadeWith<Global> for BmpString {
     ghost is_made_with = { λ s. s ≡ [] };
 
@@ -307,7 +306,7 @@ impl StaticPermittedAlphabet for BmpString {
     }
 }
 
-/// Octets as characters.
+/// The characters of octets, two for each.
 fn units_of(alloc: Global, octets: &[u8]) -> Result<Vec<u16>, AllocError>
     ensures characters { IfOk result (λ v. v.items ≡ octets.now) }
     ensures permitted { IsTrue (permits_all bmp octets.now) }

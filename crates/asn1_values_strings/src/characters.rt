@@ -1,9 +1,9 @@
-//! The characters of a string, one after the other.
+//! An iterator over the characters of a string.
 ghost use Rattle.std.specs.Iterator.{YieldsFirst, item_count};
 
 use std::marker::Model;
 
-/// The characters of a string of octets, from the first to the last.
+/// An iterator over the characters of a string with one octet per character.
 #[derive(Debug, Drop)]
 pub struct Characters<'a> {
     pub(crate) rest: &'a [u8],

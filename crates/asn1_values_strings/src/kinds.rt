@@ -1,4 +1,4 @@
-//! The kinds of strings, each with the characters that it permits.
+//! The kinds of strings, each with its permitted characters.
 ghost use Rattle.std.specs.Prelude.{◌≡◌, ◌<◌, ℕ, List, true};
 ghost use Rattle.asn1_model.specs.Schema.{StringKind, numeric, printable, visible, ia5, general, graphic, teletex};
 ghost use Rattle.asn1_values_alphabets.specs.Permitted.{permits, permits_all};
@@ -13,7 +13,7 @@ use asn1_values_alphabets::{
     InvalidPrintableString, InvalidRestrictedString, InvalidTeletexString, InvalidVisibleString,
 };
 
-/// A kind of character string whose characters are octets: which ones it permits, and how another one is refused.
+/// A kind of character string with one octet per character: which characters it permits, and its error for others.
 pub trait CharacterKind: Drop {
     ghost kind: { StringKind };
 
@@ -26,18 +26,18 @@ pub trait CharacterKind: Drop {
     fn permits(character: u32) -> bool
         ensures { result ≡ permits kind character };
 
-    /// The refusal of a character that it may not hold.
+    /// The error for a character that it may not hold.
     fn refuse(character: u32) -> InvalidRestrictedString
         ensures { result ≡ refused character };
 
     // its characters are octets
     ghost octets: { (c : ℕ) → permits kind c ≡ true → c < 256 };
 
-    // what such a string may hold are characters that the kind permits
+    // such a string may hold exactly the characters that the kind permits
     ghost holds: { (cs : List ℕ) → may_hold kind cs ≡ permits_all kind cs };
 }
 
-/// A kind whose characters are those of a text in ASCII.
+/// A kind whose characters are all ASCII.
 pub trait TextKind: CharacterKind {
     ghost ascii: { (c : ℕ) → permits Self.kind c ≡ true → c < 128 };
 }

@@ -1,5 +1,5 @@
-//! The values of the character string types (X.680 41): strings whose characters are octets, the BMPString, whose
-//! characters are two octets wide, and octets as the text that a UTF8String holds (ISO/IEC 10646 annex D).
+//! The values of the character string types (X.680 41): strings with one octet per character; the BMPString, with two;
+//! and octets as the text of a UTF8String (ISO/IEC 10646 annex D).
 #![tactic(auto)]
 
 pub mod bmp;
@@ -30,11 +30,11 @@ pub type VisibleString = RestrictedString<Visible>;
 /// An IA5String: the characters of ISO 646 (X.680 41.1).
 pub type Ia5String = RestrictedString<Ia5>;
 
-/// A GeneralString, seen as its octets (X.680 41.1).
+/// A GeneralString, represented by its octets (X.680 41.1).
 pub type GeneralString = RestrictedString<General>;
 
-/// A GraphicString, seen as its octets (X.680 41.1).
+/// A GraphicString, represented by its octets (X.680 41.1).
 pub type GraphicString = RestrictedString<Graphic>;
 
-/// A TeletexString, seen as its octets (X.680 41.1).
+/// A TeletexString, represented by its octets (X.680 41.1).
 pub type TeletexString = RestrictedString<Teletex>;

@@ -1,4 +1,4 @@
-//! Strings of one kind, which hold characters of its alphabet alone.
+//! Strings of one kind, which hold only characters of its permitted alphabet.
 ghost use Rattle.std.specs.Prelude.{◌≡◌, ◌<◌, ◌^◌, ℕ, [], ◌∷◌, ◌++◌, length, Some, refl, nat_eq, ◌↔◌, IsTrue, IfOk};
 ghost use Rattle.std.specs.Prelude.{IfErr, OnOk, OnErr, MatchResult, string_bytes};
 ghost use Rattle.std.specs.Ordering.{nat_cmp};
@@ -29,9 +29,9 @@ use std::hash::{Hash, Hasher};
 use std::marker::{Model, PhantomData};
 use std::ops::DerefSlice;
 
-/// A character string of one kind, whose characters are octets (X.680 41).
+/// A character string of one kind, with one octet per character (X.680 41).
 ///
-/// It holds characters of its kind's alphabet alone.
+/// It holds only characters of its kind's permitted alphabet.
 #[derive(Drop)]
 pub struct RestrictedString<K: CharacterKind> {
     octets: Vec<u8>,
@@ -50,7 +50,7 @@ impl<K: CharacterKind> Model for RestrictedString<K> {
 }
 
 impl<K: CharacterKind> RestrictedString<K> {
-    /// The string of no characters. It takes no memory.
+    /// The empty string. Allocates nothing.
     pub fn new(alloc: Global) -> Self
         ensures { result ≡ [] }
     {
@@ -64,7 +64,7 @@ impl<K: CharacterKind> RestrictedString<K> {
     ///
     /// # Errors
     ///
-    /// The refusal of the first character that the type has not, or `Memory` for want of memory.
+    /// The error for the first character that the type does not permit, or `Memory` if memory runs out.
     pub fn from_bytes(alloc: Global, bytes: &[u8]) -> Result<Self, PermittedAlphabetError>
         ensures characters { IfOk result (λ s. s ≡ bytes.now) }
         ensures permitted { OnOk result (IsTrue (permits_all K.kind bytes.now)) }
@@ -82,7 +82,7 @@ impl<K: CharacterKind> RestrictedString<K> {
     ///
     /// # Errors
     ///
-    /// The refusal of the first character that the type has not, or `Memory` for want of memory.
+    /// The error for the first character that the type does not permit, or `Memory` if memory runs out.
     pub fn from_text(alloc: Global, text: &str) -> Result<Self, PermittedAlphabetError>
         ensures characters { IfOk result (λ s. s ≡ chars text.now) }
         ensures permitted { OnOk result (IsTrue (permits_all K.kind (chars text.now))) }
@@ -91,11 +91,11 @@ impl<K: CharacterKind> RestrictedString<K> {
         string_of_text(alloc, text)
     }
 
-    /// The string of these octets as characters. Where no clone shares the octets, they are not copied.
+    /// The string whose characters are these octets. They are copied only if a clone shares them.
     ///
     /// # Errors
     ///
-    /// The refusal of the first character that the type has not, or `Memory` for want of memory.
+    /// The error for the first character that the type does not permit, or `Memory` if memory runs out.
     pub fn from_octet_string(
         alloc: Global,
         octets: OctetString,
@@ -126,14 +126,14 @@ impl<K: CharacterKind> RestrictedString<K> {
     ///
     /// # Errors
     ///
-    /// Want of memory.
+    /// Out of memory.
     pub fn to_bytes(&self, alloc: Global) -> Result<Vec<u8>, AllocError>
         ensures { IfOk result (λ v. v.items ≡ self.now) }
     {
         Vec::from_slice(alloc, self.as_bytes())
     }
 
-    /// The characters, each one octet. They are not copied.
+    /// The characters, each one octet, not copied.
     pub fn into_vec(self) -> Vec<u8>
         ensures characters { result.items ≡ self }
         ensures permitted { IsTrue (permits_all K.kind self) }
@@ -141,14 +141,14 @@ impl<K: CharacterKind> RestrictedString<K> {
         self.octets
     }
 
-    /// How many characters there are.
+    /// The number of characters.
     pub fn len(&self) -> usize
         ensures { result ≡ length self.now }
     {
         self.as_bytes().len()
     }
 
-    /// Whether there is no character.
+    /// Whether there are no characters.
     pub fn is_empty(&self) -> bool
         ensures { IsTrue result ↔ (self.now ≡ []) }
     {
@@ -164,11 +164,11 @@ impl<K: CharacterKind> RestrictedString<K> {
         }
     }
 
-    /// Appends a character. Refused, the string is as it was.
+    /// Appends a character. After an error the string is unchanged.
     ///
     /// # Errors
     ///
-    /// The refusal of a character that the type has not, or `Memory` for want of memory.
+    /// The error for a character that the type does not permit, or `Memory` if memory runs out.
     pub fn push_char(&mut self, character: u32) -> Result<(), PermittedAlphabetError>
         ensures pushed { OnOk result (self.new ≡ self.old ++ character ∷ []) }
         ensures permitted { OnOk result (IsTrue (permits K.kind character)) }
@@ -185,7 +185,7 @@ impl<K: CharacterKind> RestrictedString<K> {
     }
 }
 
-/// The octets are not copied.
+/// Does not copy the octets.
 impl<K: CharacterKind> TryFrom<Vec<u8>> for RestrictedString<K> {
     type Error = PermittedAlphabetError;
 
@@ -201,7 +201,7 @@ impl<K: CharacterKind> TryFrom<Vec<u8>> for RestrictedString<K> {
     }
 }
 
-/// The bits as characters of eight; their octets are not copied. Bits that are no whole octets are refused.
+/// Eight bits are one character; the octets are not copied. An error if the bits are not whole octets.
 impl<K: CharacterKind> TryFrom<BitString> for RestrictedString<K> {
     type Error = PermittedAlphabetError;
 
@@ -217,8 +217,7 @@ impl<K: CharacterKind> TryFrom<BitString> for RestrictedString<K> {
     }
 }
 
-/// Where the characters are those of ASCII, they are not copied; others are, within the memory that the text's
-/// own comes from.
+/// If all characters are ASCII, they are not copied; else this allocates from the allocator of the text.
 impl<K: CharacterKind> TryFrom<String> for RestrictedString<K> {
     type Error = PermittedAlphabetError;
 
@@ -235,7 +234,7 @@ impl<K: CharacterKind> TryFrom<String> for RestrictedString<K> {
     }
 }
 
-/// The string of no characters, in the place of `Default`, which has no allocator.
+/// The empty string. Takes the place of `Default`, which has no allocator.
 impl<K: CharacterKind> MadeWith<Global> for RestrictedString<K> {
     ghost is_made_with = { λ s. s ≡ [] };
 
@@ -380,7 +379,7 @@ impl<K: CharacterKind> StaticPermittedAlphabet for RestrictedString<K> {
     }
 }
 
-/// Refuses octets that a string of the kind may not hold, by the first such one.
+/// An error for the first octet that a string of the kind may not hold, if there is one.
 fn ensure_permitted<K: CharacterKind>(octets: &[u8]) -> Result<(), PermittedAlphabetError>
     ensures permitted { OnOk result (IsTrue (permits_all K.kind octets.now)) }
     ensures refused { IfErr result (IsOutside K.kind K.refused octets.now) }

@@ -1,4 +1,4 @@
-//! Strings whose characters are those of ISO 646, seen as texts.
+//! Strings of ISO 646 characters as `str`.
 ghost use Rattle.std.specs.Prelude.{◌≡◌, Some, string_bytes, IsTrue, IfOk, IfErr, OnOk, MatchResult};
 ghost use Rattle.std.specs.Fmt.{styled_text};
 ghost use Rattle.asn1_values_alphabets.specs.Permitted.{permits_all, IsRefusalOf};
@@ -15,7 +15,7 @@ impl<K: TextKind> RestrictedString<K> {
     ///
     /// # Errors
     ///
-    /// The refusal of the first character that the type has not, or `Memory` for want of memory.
+    /// The error for the first character that the type does not permit, or `Memory` if memory runs out.
     pub fn from_iso646_bytes(alloc: Global, bytes: &[u8]) -> Result<Self, PermittedAlphabetError>
         ensures characters { IfOk result (λ s. s ≡ bytes.now) }
         ensures permitted { OnOk result (IsTrue (permits_all K.kind bytes.now)) }
@@ -40,7 +40,7 @@ impl<K: TextKind> RestrictedString<K> {
     }
 }
 
-/// Shown as its characters, cut and padded as a text is.
+/// Prints the characters, truncated and padded as a `str`.
 impl<K: TextKind> fmt::Display for RestrictedString<K> {
     ghost output = { λ s. Some s };
 
@@ -59,7 +59,7 @@ impl<K: TextKind> From<RestrictedString<K>> for String {
     }
 }
 
-/// Refused, the error hands the characters back.
+/// If memory runs out, the error returns the characters.
 impl<K: TextKind> TryFrom<RestrictedString<K>> for OctetString {
     type Error = AllocFailed<Vec<u8>>;
 

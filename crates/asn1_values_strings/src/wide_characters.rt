@@ -1,9 +1,9 @@
-//! The characters of a BMPString, one after the other.
+//! An iterator over the characters of a BMPString.
 ghost use Rattle.std.specs.Iterator.{YieldsFirst, item_count};
 
 use std::marker::Model;
 
-/// The characters of a BMPString, from the first to the last.
+/// An iterator over the characters of a BMPString, from the first to the last.
 #[derive(Debug, Drop)]
 pub struct BmpCharacters<'a> {
     pub(crate) rest: &'a [u16],

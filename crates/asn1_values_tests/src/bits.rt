@@ -1,5 +1,5 @@
-//! Bits: buffers, views, readers and strings of them, every alignment with every width, and what is answered when
-//! memory is refused.
+//! Bits: buffers, views, readers and bit strings, every alignment with every width, and the results of failed
+//! allocations.
 ghost use Rattle.std.specs.Prelude.{◌≡◌, ◌++◌, ◌<◌, ◌≤◌, OnOk, OnErr};
 ghost use Rattle.asn1_model.specs.Numbers.{binary};
 
@@ -15,7 +15,7 @@ fn low_bits(value: u128, width: u32) -> u128 {
     value & !u128::MAX.checked_shl(width).unwrap_or(0)
 }
 
-/// Puts so many bits, then the low bits of a value, then three bits into a buffer.
+/// Appends `alignment` bits, then the low bits of a value, then three bits to a buffer.
 fn put(buffer: &mut BitBuffer, alignment: u32, value: u128, width: u32) -> Result<(), AllocError>
     requires narrow { width ≤ 128 }
     requires few { alignment ≤ 8 }
@@ -39,7 +39,7 @@ fn holds_bits(all: BitStr<'_>, alignment: u32, value: u128, width: u32) -> bool
     true
 }
 
-/// The value that is read from where it was written.
+/// The value that is read where it was written.
 fn read_behind(mut reader: BitReader<'_>, alignment: u32, width: u32) -> Option<u128>
     requires narrow { width ≤ 128 }
 {
@@ -51,7 +51,7 @@ fn read_behind(mut reader: BitReader<'_>, alignment: u32, width: u32) -> Option<
     Some(field.first_u128(width))
 }
 
-/// Whether two readers of the same bits say the same of the first of them.
+/// Whether two readers of the same bits agree on the first `width` of them.
 fn say_the_same(one: &BitReader<'_>, other: &BitReader<'_>, width: u32) -> bool
     requires narrow { width ≤ 128 }
 {
@@ -76,7 +76,7 @@ fn take_number(reader: &mut BitReader<'_>, width: u32) -> Option<u64>
     Some(number)
 }
 
-/// The number that is taken in two steps, of which the first takes at most 64 bits.
+/// The number that is taken off in two steps, the first of at most 64 bits.
 fn taken(reader: &mut BitReader<'_>, width: u32) -> Option<u128>
     requires narrow { width ≤ 128 }
 {
@@ -86,7 +86,7 @@ fn taken(reader: &mut BitReader<'_>, width: u32) -> Option<u128>
     Some(u128::from(high) << (width - few) | u128::from(low))
 }
 
-/// Whether the value is taken as numbers from where it was written, and the bits behind it.
+/// Whether the value, and the bits after it, are taken off as numbers where they were written.
 fn is_taken(all: BitStr<'_>, alignment: u32, value: u128, width: u32) -> bool
     requires narrow { width ≤ 128 }
     requires few { alignment ≤ 8 }
@@ -98,8 +98,8 @@ fn is_taken(all: BitStr<'_>, alignment: u32, value: u128, width: u32) -> bool
         && take_number(&mut reader, 1).is_none()
 }
 
-/// Takes so many bits off both readers. Whether they say the same of these, which are taken as the value, and of those
-/// behind them.
+/// Takes `width` bits off both readers. Returns whether they agree on these, which are taken as the value, and on the
+/// bits after them.
 fn split_the_same(
     one: &mut BitReader<'_>,
     other: &mut BitReader<'_>,
@@ -120,8 +120,7 @@ fn split_the_same(
         && take_number(&mut front, 1).is_none()
 }
 
-/// Whether a reader that was made in front of the value, with a window filled there, reads what one reads that is made
-/// at the value.
+/// Whether a reader that was made before the value, with its window filled there, agrees with one made at the value.
 fn is_read_the_same(all: BitStr<'_>, alignment: u32, value: u128, width: u32) -> bool
     requires narrow { width ≤ 128 }
     requires few { alignment ≤ 8 }
@@ -134,7 +133,7 @@ fn is_read_the_same(all: BitStr<'_>, alignment: u32, value: u128, width: u32) ->
     say_the_same(&one, &other, width) && split_the_same(&mut one, &mut other, value, width)
 }
 
-/// Whether the value stands where it was written, in no more octets than it takes, and is read from there.
+/// Whether the value is where it was written, in no more octets than it takes, and is read from there.
 fn is_written_and_read(alloc: Global, alignment: u32, value: u128, width: u32) -> bool
     requires narrow { width ≤ 128 }
     requires few { alignment ≤ 8 }
@@ -171,7 +170,7 @@ fn many_bits(alloc: Global) -> Result<BitBuffer, AllocError> {
     Ok(bits)
 }
 
-/// Puts so many zero bits and the bits of a view into an empty buffer.
+/// Appends `alignment` zero bits and the bits of a view to an empty buffer.
 fn put_behind(buffer: &mut BitBuffer, view: BitStr<'_>, alignment: u32) -> Result<(), AllocError>
     requires { alignment < 8 }
 {
@@ -179,7 +178,7 @@ fn put_behind(buffer: &mut BitBuffer, view: BitStr<'_>, alignment: u32) -> Resul
     buffer.extend_from_bitslice(view)
 }
 
-/// Whether the bits of a long view stand behind so many zero bits.
+/// Whether the bits of a long view are after `alignment` zero bits.
 fn is_copied_behind(alloc: Global, view: BitStr<'_>, alignment: u32) -> bool
     requires { alignment < 8 }
 {
@@ -191,7 +190,7 @@ fn is_copied_behind(alloc: Global, view: BitStr<'_>, alignment: u32) -> bool
     copied.len() > 9000 && copied.split_at(alignment as usize).1 == view
 }
 
-/// Whether long views, from each bit of an octet, are copied to each bit of an octet.
+/// Whether long views, starting at each bit of an octet, are copied to each bit of an octet.
 fn are_copied_behind(alloc: Global, all: BitStr<'_>) -> bool {
     if all.len() <= 9000 {
         return false;
@@ -215,8 +214,8 @@ fn every_shift(rt: HostRuntime) {
     }
 }
 
-/// Whether the VisibleString "John" is written, unaligned, and then fourteen bits, eight ones and 010000, behind
-/// their number in an octet.
+/// Whether the VisibleString "John" is written, unaligned, and then fourteen bits, eight ones and 010000, after their
+/// length in an octet.
 fn are_rows_written(buffer: &mut BitBuffer, fourteen: BitStr<'_>) -> Result<bool, AllocError> {
     buffer.push_bits(4, 8)?;
     for character in b"John" {
@@ -229,7 +228,7 @@ fn are_rows_written(buffer: &mut BitBuffer, fourteen: BitStr<'_>) -> Result<bool
     Ok(is_named && buffer.as_bytes() == [0x0e, 0xff, 0x40].as_slice())
 }
 
-/// Whether those fourteen bits make a string of them.
+/// Whether a string is made of those fourteen bits.
 fn is_of_fourteen(answer: Result<BitString, AllocError>) -> bool {
     match answer {
         Ok(string) => string.len() == 14 && string.as_bytes() == [0xff, 0x40].as_slice(),
@@ -237,8 +236,7 @@ fn is_of_fourteen(answer: Result<BitString, AllocError>) -> bool {
     }
 }
 
-/// Whether sixteen bits, of which a further one is added, are cut to twelve, and eight one bits are then added to make
-/// twenty.
+/// Whether sixteen bits and one more are truncated to twelve, and eight one bits are then added to make twenty.
 fn is_resized(buffer: &mut BitBuffer) -> Result<bool, AllocError> {
     let before = buffer.len();
     buffer.reserve_bytes(4)?;
@@ -249,7 +247,7 @@ fn is_resized(buffer: &mut BitBuffer) -> Result<bool, AllocError> {
     Ok(is_cut && buffer.as_bytes() == [0xa5, 0x0f, 0xf0].as_slice() && buffer.len() == 20)
 }
 
-/// Clears the first and the twentieth bit. Whether the others stay.
+/// Clears the first and the twentieth bit. Returns whether the others are unchanged.
 fn clears_two_bits(buffer: &mut BitBuffer) -> bool {
     if buffer.len() <= 19 {
         return false;
@@ -267,13 +265,13 @@ fn made<T: MadeWith<Global>>(alloc: Global) -> T {
     T::made_with(alloc)
 }
 
-/// Puts the bits 101 and a buffer behind them into another one.
+/// Appends the bits 101 and then a buffer to another buffer.
 fn put_buffer(other: &mut BitBuffer, buffer: &BitBuffer) -> Result<(), AllocError> {
     other.push_bits(0b101, 3)?;
     other.extend_from_buffer(buffer)
 }
 
-/// Whether a buffer is added behind the bits 101.
+/// Whether a buffer is appended after the bits 101.
 fn is_added_behind(alloc: Global, buffer: &BitBuffer) -> Result<bool, AllocError> {
     let mut other: BitBuffer = made(alloc);
     let was_empty = other.is_empty();
@@ -281,7 +279,7 @@ fn is_added_behind(alloc: Global, buffer: &BitBuffer) -> Result<bool, AllocError
     Ok(was_empty && has(&other.into_vec(), &[0xa4, 0xa1, 0xfc]))
 }
 
-/// Clears a buffer. Whether it is empty then.
+/// Clears a buffer. Returns whether it is then empty.
 fn is_cleared(buffer: &mut BitBuffer) -> bool {
     buffer.clear();
     buffer.len() == 0
@@ -297,7 +295,7 @@ fn are_changed(alloc: Global, buffer: &mut BitBuffer) -> Result<bool, AllocError
     )
 }
 
-/// Whether a vector of such bits is.
+/// Whether these operations work on a buffer made from a vector.
 fn is_vector_changed(alloc: Global) -> bool {
     match [0xa5, 0x0f].to_vec(alloc) {
         Ok(octets) => {
@@ -308,7 +306,7 @@ fn is_vector_changed(alloc: Global) -> bool {
     }
 }
 
-/// Whether rows are written into a new buffer.
+/// Whether rows are written to a new buffer.
 fn is_written_to(alloc: Global, fourteen: BitStr<'_>) -> bool {
     let mut buffer = BitBuffer::new(alloc);
     are_rows_written(&mut buffer, fourteen) == Ok(true)
@@ -323,7 +321,7 @@ fn buffers(rt: HostRuntime) {
     assert!(rt; is_of_fourteen(BitString::from_bitslice(alloc, fourteen)));
 }
 
-/// Whether 24 bits are unread, of which the first is a one bit, stands first in an octet and all whole octets are lent.
+/// Whether 24 bits are unread, the first is a one bit and begins an octet, and all whole octets are borrowed.
 fn is_unread(alloc: Global, reader: &mut BitReader<'_>) -> Result<bool, AllocError> {
     let is_there = !reader.is_empty()
         && reader.len() > 0
@@ -343,7 +341,7 @@ fn takes_three_bits(reader: &mut BitReader<'_>) -> bool {
     front.len() > 2 && front.first_bits(3) == 0b101
 }
 
-/// Whether the 21 bits behind them, which stand across octets, are copied.
+/// Whether the 21 bits after them, which cross octet boundaries, are copied.
 fn copies_octets(alloc: Global, reader: &BitReader<'_>) -> Result<bool, AllocError> {
     let are_copied = match reader.octets(alloc)? {
         CowSlice::Owned(rest) => has(&rest, &[0x25, 0x0f, 0xe0]),
@@ -363,7 +361,7 @@ fn are_read(alloc: Global) -> Result<bool, AllocError> {
     )
 }
 
-/// Whether twelve bits, A5 and 1111, are compared and hashed as such, and the first three of them shown.
+/// Whether twelve bits, A5 and 1111, are compared and hashed, and the first three of them printed.
 fn go_by_their_bits(alloc: Global, shifted: BitStr<'_>) -> bool {
     let (same, _) = BitStr::from_slice(&[0xa5, 0xf7]).split_at(12);
     let longer = BitStr::from_slice(&[0xa5, 0xf0]);
@@ -387,7 +385,7 @@ fn is_same(buffer: &BitBuffer, shifted: BitStr<'_>) -> bool {
         && hash_of(&shifted) == hash_of(buffer)
 }
 
-/// Puts those bits into a buffer, and these and one more into another. Whether they were equal before.
+/// Puts those bits into a buffer, and these and one more into another. Returns whether the buffers were equal before.
 fn put_both(
     buffer: &mut BitBuffer,
     longer: &mut BitBuffer,
@@ -400,14 +398,14 @@ fn put_both(
     Ok(was_equal)
 }
 
-/// Whether a buffer of those bits comes before one with one more bit, and this is shown by its first three bits.
+/// Whether a buffer of those bits is less than one with one more bit, and its first three bits are printed.
 fn is_before_longer(alloc: Global, buffer: &BitBuffer, longer: &mut BitBuffer) -> bool {
     let is_before = *buffer < *longer && hash_of(buffer) != hash_of(&*longer);
     longer.truncate(3);
     is_before && is_shown(alloc, &*longer, "101")
 }
 
-/// Whether buffers go by their bits.
+/// Whether buffers compare, hash and print their bits.
 fn are_buffers_compared(alloc: Global, shifted: BitStr<'_>) -> bool {
     let mut buffer = BitBuffer::new(alloc);
     let mut longer = BitBuffer::new(alloc);
@@ -416,7 +414,7 @@ fn are_buffers_compared(alloc: Global, shifted: BitStr<'_>) -> bool {
         && is_before_longer(alloc, &buffer, &mut longer)
 }
 
-/// Whether views and buffers go by their bits, wherever these stand.
+/// Whether views and buffers compare, hash and print their bits, at any position.
 fn are_compared(alloc: Global) -> bool {
     let octets = [0x0a, 0x5f, 0x55, 0xf0];
     let (front, _) = BitStr::front_of(&octets, 31).split_at(16);
@@ -426,7 +424,7 @@ fn are_compared(alloc: Global) -> bool {
         && are_buffers_compared(alloc, shifted)
 }
 
-/// Whether a view lends the octets that hold it, and those that stand whole at its front.
+/// Whether a view borrows the octets that hold it, and the whole octets at its start.
 fn lends_octets() -> bool {
     let octets = [0x12, 0x34, 0x56];
     let all = BitStr::from_slice(&octets);
@@ -448,7 +446,7 @@ fn copies_view() -> bool {
     copied == [0x23, 0x45]
 }
 
-/// Whether the numbers that bits hold are told, read of octets, and put into octets.
+/// Whether numbers are read from octets, and written into octets.
 fn numbers_are_told() -> bool {
     let mut octets = [0x80, 0x01];
     bits::or_bits(&mut octets, 6, &[0xff], 4);
@@ -469,8 +467,8 @@ fn readers_and_views(rt: HostRuntime) {
     assert!(rt; lends_octets() && copies_view() && numbers_are_told());
 }
 
-/// Adds a one bit to a string. Whether a copy is equal to it before, and behind that differs from it and comes before
-/// it.
+/// Appends a one bit to a string. Returns whether a copy is equal to it before, and afterwards differs from it and is
+/// less.
 fn is_behind_its_copy(string: &mut BitString) -> Result<bool, AllocError> {
     let copy = string.clone()?;
     let was_equal = *string == copy;
@@ -486,13 +484,13 @@ fn ends_in_a_ninth_bit(string: &BitString) -> bool {
         && hash_of(string) == hash_of(&string.as_bitslice())
 }
 
-/// Whether strings are made without bits, by the trait and without it.
+/// Whether empty strings are made, by the trait and without it.
 fn are_made_empty(alloc: Global) -> bool {
     let string: BitString = made(alloc);
     string.is_empty() && string == BitString::new(alloc) && BitString::new(alloc).is_empty()
 }
 
-/// Whether a string of eight bits and a one bit is compared, hashed and shown, and given up as a buffer.
+/// Whether a string of eight bits and a one bit is compared, hashed and printed, and converted to a buffer.
 fn is_string(alloc: Global, mut string: BitString) -> bool {
     is_behind_its_copy(&mut string) == Ok(true)
         && ends_in_a_ninth_bit(&string)
@@ -500,8 +498,8 @@ fn is_string(alloc: Global, mut string: BitString) -> bool {
         && BitString::from_buffer(string.into_buffer()).len() == 9
 }
 
-/// Whether three bits, the second of them a zero bit, are all; they make a string of three and none of four, and an
-/// octet makes none.
+/// Whether there are three bits, the second of them zero; a view of three bits makes a string of three and none of
+/// four, and a slice of one octet makes none.
 fn are_three(three: FixedBitString<3>, front: BitStr<'_>) -> bool {
     three.len() == 3
         && !three.is_empty()
@@ -535,7 +533,7 @@ fn strings(rt: HostRuntime) {
     assert!(rt; are_three(three, front) && go_by_three_bits(three, front));
 }
 
-/// One growing call, told by a number.
+/// One call that grows a buffer, by its number.
 fn grow(buffer: &mut BitBuffer, other: &BitBuffer, step: u32) -> Result<(), AllocError> {
     match step % 7 {
         0 => buffer.push(true),
@@ -551,8 +549,8 @@ fn grow(buffer: &mut BitBuffer, other: &BitBuffer, step: u32) -> Result<(), Allo
     }
 }
 
-/// Adds nineteen bits to an empty buffer. Refused, it is empty still, and the same call goes on from there; then
-/// `granted` is false. Whether the bits are added at last.
+/// Appends nineteen bits to an empty buffer. After a failed allocation, which sets `granted` to false, the buffer has
+/// to be empty, and the call is made again. Returns whether the bits are finally there.
 fn adds_nineteen_bits(buffer: &mut BitBuffer, granted: &mut bool) -> bool {
     if buffer.push_bits(0x5_A5A5, 19).is_ok() {
         return true;
@@ -561,8 +559,8 @@ fn adds_nineteen_bits(buffer: &mut BitBuffer, granted: &mut bool) -> bool {
     buffer.is_empty() && buffer.push_bits(0x5_A5A5, 19).is_ok()
 }
 
-/// Grows a buffer by one call. A call that is refused leaves the bits as they were, and the same call goes on from
-/// there; then `granted` is false. Whether the buffer is grown at last.
+/// Grows a buffer by one call. After a failed allocation, which sets `granted` to false, the bits have to be
+/// unchanged, and the call is made again. Returns whether the buffer is finally grown.
 fn is_grown(buffer: &mut BitBuffer, other: &BitBuffer, step: u32, granted: &mut bool) -> bool {
     let len = buffer.len();
     let hash = hash_of(&*buffer);
@@ -576,7 +574,7 @@ fn is_grown(buffer: &mut BitBuffer, other: &BitBuffer, step: u32, granted: &mut 
         && grow(buffer, other, step).is_ok()
 }
 
-/// Grows a buffer by each call in turn. Whether none was refused.
+/// Grows a buffer by each call in turn. Returns whether no allocation failed.
 fn grows(rt: &impl Abort, alloc: Global) -> bool {
     let mut granted = true;
     let mut other = BitBuffer::new(alloc);
@@ -589,7 +587,7 @@ fn grows(rt: &impl Abort, alloc: Global) -> bool {
     granted
 }
 
-/// A number twice, in eight bits each, by an appender: what the contract of a caller can say.
+/// Appends a number twice, in eight bits each, with an appender; the contract is what a caller can state.
 fn append_twice(buffer: &mut BitBuffer, number: u8) -> Result<(), AllocError>
     ensures ok { OnOk result (buffer.new ≡ buffer.old ++ binary 8 number ++ binary 8 number) }
     ensures err { OnErr result (buffer.new ≡ buffer.old) }
@@ -600,8 +598,8 @@ fn append_twice(buffer: &mut BitBuffer, number: u8) -> Result<(), AllocError>
     Ok(())
 }
 
-/// Appends a number twice. Refused, the buffer is as long as before, and the same call goes on from there; then
-/// `granted` is false. Whether it has so many bits at last.
+/// Appends a number twice. After a failed allocation, which sets `granted` to false, the length has to be unchanged,
+/// and the call is made again. Returns whether the buffer finally has `len` bits.
 fn is_appended(buffer: &mut BitBuffer, len: usize, granted: &mut bool) -> bool {
     let before = buffer.len();
     if append_twice(buffer, 0x9c).is_err() {
@@ -613,7 +611,7 @@ fn is_appended(buffer: &mut BitBuffer, len: usize, granted: &mut bool) -> bool {
     buffer.len() == len
 }
 
-/// Whether there are so many octets, all of them this one.
+/// Whether there are `count` octets, all of them `wanted`.
 fn are_alike(octets: &[u8], wanted: u8, count: usize) -> bool {
     for octet in octets {
         if *octet != wanted {
@@ -623,7 +621,7 @@ fn are_alike(octets: &[u8], wanted: u8, count: usize) -> bool {
     octets.len() == count
 }
 
-/// Appends a number many times, each time once more where it was refused. Whether none was refused.
+/// Appends a number many times, again after each failed allocation. Returns whether none failed.
 fn appends(rt: &impl Abort, alloc: Global) -> bool {
     let mut granted = true;
     let mut buffer = BitBuffer::new(alloc);
@@ -634,8 +632,8 @@ fn appends(rt: &impl Abort, alloc: Global) -> bool {
     granted
 }
 
-/// Pushes a bit behind so many. A refused bit leaves the string as it was, and the same call goes on from there; then
-/// `granted` is false. Whether the bit is there at last.
+/// Appends a bit after `count` bits. After a failed allocation, which sets `granted` to false, the string has to be
+/// unchanged, and the call is made again. Returns whether the bit is finally there.
 fn is_pushed(string: &mut BitString, count: usize, granted: &mut bool) -> bool {
     if string.push(count % 3 == 0).is_err() {
         *granted = false;
@@ -646,7 +644,7 @@ fn is_pushed(string: &mut BitString, count: usize, granted: &mut bool) -> bool {
     string.get(count) == Some(count % 3 == 0)
 }
 
-/// Pushes bits. Whether none was refused.
+/// Appends bits. Returns whether no allocation failed.
 fn pushes(rt: &impl Abort, alloc: Global) -> bool {
     let mut granted = true;
     let mut string = BitString::new(alloc);
@@ -668,14 +666,14 @@ fn is_made_of_bits(alloc: Global, bits: BitStr<'_>) -> Result<bool, AllocError> 
     Ok(string.as_bytes() == [0x23, 0x45, 0x60].as_slice() && is_copied(&string)?)
 }
 
-/// Whether a string of octets has them.
+/// Whether a string of octets has their bits.
 fn is_made_of_octets(alloc: Global, octets: &[u8]) -> Result<bool, AllocError> {
     let string = BitString::from_slice(alloc, octets)?;
     Ok(string.as_bytes() == octets)
 }
 
-/// Adds bits to an empty buffer. Refused, it is empty still, and the same call goes on from there; then `granted` is
-/// false. Whether the bits are added at last.
+/// Appends bits to an empty buffer. After a failed allocation, which sets `granted` to false, the buffer has to be
+/// empty, and the call is made again. Returns whether the bits are finally there.
 fn adds_bits(buffer: &mut BitBuffer, bits: BitStr<'_>, granted: &mut bool) -> bool {
     if buffer.extend_from_bitslice(bits).is_ok() {
         return true;
@@ -684,8 +682,8 @@ fn adds_bits(buffer: &mut BitBuffer, bits: BitStr<'_>, granted: &mut bool) -> bo
     buffer.is_empty() && buffer.extend_from_bitslice(bits).is_ok()
 }
 
-/// Copies unaligned bits, in octets, as a buffer and as strings: the answer is whole, or refused. Whether none was
-/// refused.
+/// Copies unaligned bits into octets, a buffer and strings; each result is complete or an error. Returns whether no
+/// allocation failed.
 fn copies(rt: &impl Abort, alloc: Global) -> bool {
     let octets = [0x12, 0x34, 0x56];
     let (_, bits) = BitStr::from_slice(&octets).split_at(4);
@@ -698,7 +696,7 @@ fn copies(rt: &impl Abort, alloc: Global) -> bool {
     granted & is_granted(rt, is_made_of_octets(alloc, &octets))
 }
 
-/// Makes buffers and strings, and has them grow. Whether no request for memory was refused.
+/// Makes buffers and strings, and grows them. Returns whether no allocation failed.
 pub fn requests(rt: &impl Abort, alloc: Global) -> bool {
     let grown = grows(rt, alloc);
     let appended = appends(rt, alloc);

@@ -1,4 +1,4 @@
-//! What the tests have in common.
+//! Helpers of the tests.
 use std::alloc::{AllocError, Global};
 use std::cmp::Ordering;
 use std::convert::AsSlice;
@@ -6,12 +6,13 @@ use std::fmt::{Debug, Display};
 use std::hash::{DefaultHasher, Hash, Hasher};
 use std::process::Abort;
 
-/// Ends the test, and shows what is wrong, unless nothing is: proved here once, and not again with each call.
+/// Ends the test with `wrong` in its message, if there is one. A function, so that this is proved once and not at each
+/// call.
 pub fn assert_none<T: Debug>(rt: &impl Abort, wrong: &Option<T>) {
     assert!(rt; wrong.is_none(), "{wrong:?}");
 }
 
-/// What a hasher makes of a value.
+/// The hash of a value.
 pub fn hash_of<T: Hash>(value: &T) -> u64 {
     let mut state = DefaultHasher::new();
     value.hash(&mut state);
@@ -23,7 +24,7 @@ pub fn has<T: PartialEq, S: AsSlice<T>>(value: &S, items: &[T]) -> bool {
     value.as_slice() == items
 }
 
-/// Whether a call was not refused, and has made a value of these items.
+/// Whether a call has succeeded with a value of these items.
 pub fn is_of<T: PartialEq, S: AsSlice<T> + Drop, E: Drop>(
     answer: Result<S, E>,
     items: &[T],
@@ -34,7 +35,7 @@ pub fn is_of<T: PartialEq, S: AsSlice<T> + Drop, E: Drop>(
     }
 }
 
-/// Whether a call was refused for this reason.
+/// Whether a call has failed with this error.
 pub fn is_refused<T: Drop, E: PartialEq + Drop>(answer: Result<T, E>, wanted: &E) -> bool {
     match answer {
         Ok(_) => false,
@@ -42,7 +43,7 @@ pub fn is_refused<T: Drop, E: PartialEq + Drop>(answer: Result<T, E>, wanted: &E
     }
 }
 
-/// Whether the first of two values is before the second, in each way to compare them.
+/// Whether the first of two values is less than the second, by each comparison.
 pub fn is_before<T: Ord>(first: &T, second: &T) -> bool {
     first < second
         && first != second
@@ -50,13 +51,13 @@ pub fn is_before<T: Ord>(first: &T, second: &T) -> bool {
         && first.partial_cmp(second) == Some(Ordering::Less)
 }
 
-/// Whether a copy of a value is the same as the value.
+/// Whether a clone of a value is equal to it.
 pub fn is_copied<T: Clone + PartialEq + Drop>(value: &T) -> Result<bool, AllocError> {
     let copy = value.clone()?;
     Ok(copy == *value)
 }
 
-/// Whether this is shown of a value with what it is made of.
+/// Whether a value is printed as this text by `Debug`.
 pub fn is_shown<T: Debug>(alloc: Global, value: &T, text: &str) -> bool {
     match format!(in alloc; "{value:?}") {
         Ok(shown) => shown.as_str() == text,
@@ -64,7 +65,7 @@ pub fn is_shown<T: Debug>(alloc: Global, value: &T, text: &str) -> bool {
     }
 }
 
-/// Whether a value tells this.
+/// Whether a value is printed as this text by `Display`.
 pub fn is_told<T: Display>(alloc: Global, value: &T, text: &str) -> bool {
     match format!(in alloc; "{value}") {
         Ok(told) => told.as_str() == text,
@@ -72,7 +73,7 @@ pub fn is_told<T: Display>(alloc: Global, value: &T, text: &str) -> bool {
     }
 }
 
-/// Whether a call was granted its memory: then what it made is whole.
+/// Whether the allocations of a call succeeded; then its result has to be true.
 pub fn is_granted(rt: &impl Abort, answer: Result<bool, AllocError>) -> bool {
     match answer {
         Ok(whole) => {

@@ -1,4 +1,4 @@
-//! Fields as bits: rows of each kind, every alignment with every width, and what is answered when memory is refused.
+//! Fields as bits: rows of each kind, every alignment with every width, and the results of failed allocations.
 ghost use Rattle.std.specs.Prelude.{◌<◌, ◌≤◌};
 
 use crate::common::{has, is_told};
@@ -17,7 +17,7 @@ const ROW_OF_EACH: [u8; 23] = [
     0xB6, 0x47, 0xFE, 2, 2, 2, 2, 2, 2, 2, 2, 2, 2, 2, 2, 2, 2, 2, 2, 2, 2, 2, 2,
 ];
 
-/// The digits and two whole numbers, of which the second is the row's of each kind.
+/// The alphabet of digits and two integers; the second is the one in the long row.
 #[derive(Drop)]
 struct Parts {
     digits: CharacterAlphabet,
@@ -25,7 +25,7 @@ struct Parts {
     long: Integer,
 }
 
-/// Writes 5 in three bits, the octet FF, 0 in one bit and the whole number -1.
+/// Writes 5 in three bits, the octet FF, 0 in one bit and the integer -1.
 fn write_row(buffer: &mut BitBuffer, parts: &Parts) -> Result<(), FieldFault> {
     let fields = [
         FieldBits::Number { value: 5, width: 3 },
@@ -47,8 +47,8 @@ fn read_row(alloc: Global, reader: &mut BitReader<'_>) -> Result<Vec<FieldValue>
     read_fields(alloc, reader, &shapes)
 }
 
-/// Writes 5 in three bits, the bits 1011, the digits "12", the octet FF and the whole number of twenty octets 01: 183
-/// bits, of which none but the first field begins at an octet.
+/// Writes 5 in three bits, the bits 1011, the digits "12", the octet FF and the integer of twenty octets 01: 183 bits,
+/// of which only the first field begins at an octet boundary.
 fn write_each(buffer: &mut BitBuffer, parts: &Parts) -> Result<(), FieldFault> {
     let fields = [
         FieldBits::Number { value: 5, width: 3 },
@@ -82,7 +82,7 @@ fn read_each(
     read_fields(alloc, reader, &shapes)
 }
 
-/// What a field is to be that was read.
+/// What a field that was read is to be.
 enum Wanted {
     Number(u128, u32),
     Bits(usize, &'static [u8]),
@@ -120,7 +120,7 @@ fn are_values(values: &[FieldValue], wanted: &[Wanted]) -> bool {
     values.len() == wanted.len()
 }
 
-/// The fields of the short row, of the long one, and of the octets of the long one from an octet on.
+/// The fields of the short row, of the long one, and of the octets of the long one that begin at an octet boundary.
 const FIELDS: [Wanted; 4] = [
     Wanted::Number(5, 3),
     Wanted::Octets(&[0xFF]),
@@ -141,7 +141,7 @@ const FIELDS_OF_OCTETS: [Wanted; 2] = [
     Wanted::Whole(&[2; 20]),
 ];
 
-/// The alphabet of digits, at the second time where a request for memory was refused, and then `granted` is false.
+/// The alphabet of digits. After a failed allocation, which sets `granted` to false, it is made again.
 fn digits_of(alloc: Global, granted: &mut bool) -> Option<CharacterAlphabet> {
     match CharacterAlphabet::new(alloc, &NUMERIC, false) {
         Ok(digits) => Some(digits),
@@ -152,7 +152,7 @@ fn digits_of(alloc: Global, granted: &mut bool) -> Option<CharacterAlphabet> {
     }
 }
 
-/// The whole number of twenty octets 01, in the same way.
+/// The integer of twenty octets 01. After a failed allocation, which sets `granted` to false, it is made again.
 fn long_of(alloc: Global, granted: &mut bool) -> Option<Integer> {
     match Integer::from_signed_octets(alloc, &[1; 20]) {
         Ok(long) => Some(long),
@@ -163,7 +163,7 @@ fn long_of(alloc: Global, granted: &mut bool) -> Option<Integer> {
     }
 }
 
-/// The alphabet of digits and the whole numbers of the rows.
+/// The alphabet of digits and the integers of the rows.
 fn parts_of(alloc: Global, granted: &mut bool) -> Option<Parts> {
     let digits = digits_of(alloc, granted)?;
     match long_of(alloc, granted) {
@@ -176,14 +176,14 @@ fn parts_of(alloc: Global, granted: &mut bool) -> Option<Parts> {
     }
 }
 
-/// Whether a buffer has so many bits in these octets. It is empty then.
+/// Whether a buffer has `len` bits in these octets. Clears the buffer.
 fn is_emptied_of(buffer: &mut BitBuffer, len: usize, octets: &[u8]) -> bool {
     let is_right = buffer.len() == len && buffer.as_bytes() == octets;
     buffer.clear();
     is_right
 }
 
-/// Whether the fields of both rows are written as their octets, and the digits "123" by their codes.
+/// Whether the fields of both rows are written as their octets, and the digits "123" as their codes.
 fn are_written(buffer: &mut BitBuffer, parts: &Parts) -> Result<bool, FieldFault> {
     write_row(buffer, parts)?;
     let is_short = is_emptied_of(buffer, 20, &ROW);
@@ -204,7 +204,7 @@ fn is_row_read(alloc: Global) -> Result<bool, FieldFault> {
     Ok(are_values(&values, &FIELDS) && reader.len() == 4)
 }
 
-/// Whether octets that begin at an octet are read, and none are left.
+/// Whether octets that begin at an octet boundary are read, and none are left.
 fn are_octets_read(alloc: Global) -> Result<bool, FieldFault> {
     let shapes = [FieldShape::Octets(3), FieldShape::Whole(20)];
     let mut reader = BitReader::from_octets(&ROW_OF_EACH);
@@ -212,8 +212,8 @@ fn are_octets_read(alloc: Global) -> Result<bool, FieldFault> {
     Ok(are_values(&values, &FIELDS_OF_OCTETS) && reader.len() == 0)
 }
 
-/// Whether the octets of the long row are read as its fields, and one bit is left. A request for memory that is
-/// refused is Memory, and then the reader is as before, the same call goes on from there, and `granted` is false.
+/// Whether the octets of the long row are read as its fields, and one bit is left. A failed allocation, which sets
+/// `granted` to false, has to be reported as Memory and leave the reader unchanged, and the call is made again.
 fn is_each_read(alloc: Global, parts: &Parts, granted: &mut bool) -> Result<bool, FieldFault> {
     let mut reader = BitReader::from_octets(&ROW_OF_EACH);
     let values = match read_each(alloc, &mut reader, parts) {
@@ -229,7 +229,7 @@ fn is_each_read(alloc: Global, parts: &Parts, granted: &mut bool) -> Result<bool
     Ok(are_values(&values, &FIELDS_OF_EACH) && reader.len() == 1)
 }
 
-/// Whether the values of two readings are equal, and the first and the last of one are not.
+/// Whether the values of two readings are equal, and the first and the last of one reading are not.
 fn are_compared(alloc: Global) -> Result<bool, FieldFault> {
     let first = read_row(alloc, &mut BitReader::from_octets(&ROW))?;
     let again = read_row(alloc, &mut BitReader::from_octets(&ROW))?;
@@ -247,7 +247,7 @@ fn are_rows(alloc: Global, parts: &Parts) -> Result<bool, FieldFault> {
     )
 }
 
-/// Whether reading one field of these octets, of which none or a few stand here, has this fault.
+/// Whether reading one field from these octets, at most eight, has this error.
 fn has_fault(alloc: Global, octets: &[u8], shape: FieldShape<'_>, kind: FieldFaultKind) -> bool {
     if octets.len() > 8 {
         return false;
@@ -259,8 +259,8 @@ fn has_fault(alloc: Global, octets: &[u8], shape: FieldShape<'_>, kind: FieldFau
     }
 }
 
-/// Whether each octet that is no field, of a known code, in the fewest octets, of enough bits or of 128 bits at most,
-/// is refused for that.
+/// Whether reading fails if the octets are not a field: a code is not known, octets are not the fewest, bits are
+/// missing, or a number has more than 128 bits.
 fn are_refused(alloc: Global, digits: &CharacterAlphabet) -> bool {
     let two = FieldShape::Characters {
         alphabet: digits,
@@ -292,8 +292,8 @@ fn are_refused(alloc: Global, digits: &CharacterAlphabet) -> bool {
     true
 }
 
-/// Whether a field that does not fit is told, alone and behind another, and nothing of those before it is left behind
-/// three bits.
+/// Whether a field that does not fit is reported, alone and after another, and nothing of those before it is left
+/// after three bits.
 fn is_left_alone(buffer: &mut BitBuffer) -> bool {
     let large = FieldBits::Number { value: 8, width: 3 };
     let alone = FieldFault {
@@ -311,13 +311,13 @@ fn is_left_alone(buffer: &mut BitBuffer) -> bool {
         && buffer.as_bytes() == [0xA0].as_slice()
 }
 
-/// Whether a new buffer is left alone so.
+/// Whether a new buffer is left unchanged in the same way.
 fn is_refused_alone(alloc: Global) -> bool {
     let mut buffer = BitBuffer::new(alloc);
     is_left_alone(&mut buffer)
 }
 
-/// Whether rows are written and read, and what is no field is refused.
+/// Whether rows are written and read, and what is not a field is an error.
 fn are_parts_right(alloc: Global) -> bool {
     match parts_of(alloc, &mut true) {
         Some(parts) => are_rows(alloc, &parts) == Ok(true) && are_refused(alloc, &parts.digits),
@@ -366,8 +366,9 @@ fn every_alignment_takes_every_width(rt: HostRuntime) {
     }
 }
 
-/// Writes the long row behind so many of them. A request for memory that is refused is Memory, and then the buffer is
-/// as before, the same call goes on from there, and `granted` is false. Whether the row is written at last.
+/// Writes the long row after `count` copies of it. A failed allocation, which sets `granted` to false, has to be
+/// reported as Memory and leave the buffer unchanged, and the call is made again. Returns whether the row is finally
+/// written.
 fn is_written_behind(
     buffer: &mut BitBuffer,
     parts: &Parts,
@@ -388,7 +389,7 @@ fn is_written_behind(
     buffer.len() == count * 183 + 183
 }
 
-/// Whether the long row is written eight times, one behind the other.
+/// Whether the long row is written eight times in succession.
 fn are_written_behind(alloc: Global, parts: &Parts, granted: &mut bool) -> bool {
     let mut buffer = BitBuffer::new(alloc);
     for count in 0..8 {
@@ -399,7 +400,8 @@ fn are_written_behind(alloc: Global, parts: &Parts, granted: &mut bool) -> bool 
     buffer.as_bytes().starts_with(&ROW_OF_EACH[..22])
 }
 
-/// Writes the long row and reads it, each time once more where it was refused. Whether it was right at last.
+/// Writes the long row and reads it, each again after a failed allocation. Returns whether the result is finally
+/// right.
 fn are_right_at_last(alloc: Global, granted: &mut bool) -> bool {
     match parts_of(alloc, granted) {
         Some(parts) => {
@@ -410,7 +412,7 @@ fn are_right_at_last(alloc: Global, granted: &mut bool) -> bool {
     }
 }
 
-/// Writes and reads fields, each time once more where a request for memory was refused. Whether none was.
+/// Writes and reads fields, each again after a failed allocation. Returns whether none failed.
 pub fn requests(rt: &impl Abort, alloc: Global) -> bool {
     let mut granted = true;
     assert!(rt; are_right_at_last(alloc, &mut granted));

@@ -1,4 +1,4 @@
-//! Octets: that each call can succeed, what is shown, and what is answered when memory is refused.
+//! Octets: that each call can succeed, how strings are printed, and the results of failed allocations.
 ghost use Rattle.std.specs.Prelude.{◌≡◌, slice_set};
 
 use crate::common::{
@@ -12,7 +12,7 @@ use std::process::Abort;
 
 const OCTETS: [u8; 3] = [0xFF, 0x00, 0x61];
 
-/// A string of these octets that takes no memory.
+/// A string of these octets that allocates nothing.
 fn lent() -> OctetString {
     OctetString::from_static(&[0xFF, 0x00, 0x61])
 }
@@ -22,12 +22,12 @@ fn vector(alloc: Global) -> Result<Vec<u8>, AllocError> {
     OCTETS.to_vec(alloc)
 }
 
-/// Whether a vector that is given up is a string.
+/// Whether a vector is converted to a string.
 fn is_made_of_a_vector(alloc: Global) -> Result<bool, AllocError> {
     Ok(is_of(OctetString::try_from(vector(alloc)?), &OCTETS))
 }
 
-/// Whether a string of three octets lends them, and a copy of it is equal.
+/// Whether a string of three octets borrows them, and a copy of it is equal.
 fn is_whole(value: &OctetString) -> Result<bool, AllocError> {
     let copy = value.clone()?;
     Ok(copy == *value && value.len() == 3 && !value.is_empty() && has(value, &OCTETS))
@@ -44,7 +44,7 @@ fn strings_are_made(rt: HostRuntime) {
     assert!(rt; is_whole(&lent()) == Ok(true) && is_empty());
 }
 
-/// Whether bytes are copied and given up as a string, and this as bytes.
+/// Whether bytes are copied and converted to a string, and this to bytes.
 fn are_bytes(alloc: Global) -> Result<bool, AllocError> {
     let value = OctetString::from(Bytes::copy_from_slice(alloc, &OCTETS)?);
     let is_same = has(&value, &OCTETS);
@@ -59,7 +59,7 @@ fn are_ordered(first: &'static [u8], second: &'static [u8]) -> bool {
     )
 }
 
-/// Octets of which the first are before the second.
+/// Octets, the first of which are less than the second.
 const ORDERED: [(&'static [u8], &'static [u8]); 5] = [
     (&[], &[0]),
     (&[0], &[0, 255]),
@@ -68,7 +68,7 @@ const ORDERED: [(&'static [u8], &'static [u8]); 5] = [
     (&[1], &[1, 0]),
 ];
 
-/// Whether strings of as many octets are compared as lists, and each string is hashed as its octets.
+/// Whether strings of the same length are compared as lists, and each string is hashed as its octets.
 fn go_by_their_octets() -> bool {
     let first = FixedOctetString::new([1, 0]);
     let wanted = hash_of(&OCTETS.as_slice());
@@ -78,7 +78,7 @@ fn go_by_their_octets() -> bool {
         && hash_of(&FixedOctetString::new(OCTETS)) == wanted
 }
 
-/// The octets that are not ordered as their row says, if there are such.
+/// The octets that are not ordered as their row says, if there are any.
 fn wrong_order() -> Option<&'static [u8]> {
     for (first, second) in &ORDERED {
         if !are_ordered(first, second) {
@@ -97,7 +97,7 @@ fn strings_go_by_their_octets(rt: HostRuntime) {
 
 type Three = FixedOctetString<3>;
 
-/// Whether a string of three octets is made of three, in each form, and a slice of three is none of four.
+/// Whether a string of three octets is made from three, in each form, and not from four.
 fn is_made_of_three(alloc: Global) -> Result<bool, AllocError> {
     let wanted = WrongLength {
         actual: 3,
@@ -124,12 +124,12 @@ fn gives_three(value: Three) -> Result<bool, AllocError> {
     )
 }
 
-/// Whether strings hold zeros at first.
+/// Whether strings are initially zero.
 fn are_zeros_at_first() -> bool {
     has(&FixedOctetString::<2>::default(), &[0, 0]) && FixedOctetString::<0>::default().len() == 0
 }
 
-/// What a string is after a write through its slice, as the caller's contract.
+/// A string after a write through its slice; the contract is what a caller can state.
 fn write_last(value: &mut Three, octet: u8)
     ensures { value.new ≡ slice_set value.old 2 octet }
 {
@@ -137,7 +137,7 @@ fn write_last(value: &mut Three, octet: u8)
     octets[2] = octet;
 }
 
-/// Whether the octets 1, 2, 3 are written in place.
+/// Whether the octets 1, 2, 3 are overwritten.
 fn is_written(value: &mut Three) -> bool {
     write_last(value, 9);
     let is_last = has(value, &[1, 2, 9]);
@@ -159,37 +159,37 @@ fn strings_of_as_many_octets(rt: HostRuntime) {
     assert!(rt; is_shown(alloc, &value, "OctetString { octets: b\"a\\0\" }"));
 }
 
-/// Whether an octet string of an array is whole.
+/// Whether an octet string of an array is complete.
 fn is_made_of_an_array(alloc: Global) -> Result<bool, AllocError> {
     let value = OctetString::from_array(alloc, OCTETS)?;
     Ok(has(&value, &OCTETS))
 }
 
-/// Whether a vector of a string's octets is whole.
+/// Whether a vector of a string's octets is complete.
 fn is_listed(alloc: Global, value: &OctetString) -> Result<bool, AllocError> {
     let vector = value.to_vec(alloc)?;
     Ok(has(&vector, &OCTETS))
 }
 
-/// Whether a copy gives all the octets, which it shares with its string.
+/// Whether a copy has all the octets, which it shares with its string.
 fn is_copied_of_a_clone(alloc: Global, value: &OctetString) -> Result<bool, AllocError> {
     let vector = value.clone()?.into_vec(alloc)?;
     Ok(has(&vector, &OCTETS))
 }
 
-/// Whether a string that has gone through bytes is what it was.
+/// Whether a string is unchanged after conversion to bytes and back.
 fn is_same_through_bytes(value: &OctetString) -> Result<bool, AllocError> {
     let octets = Bytes::try_from(value)?;
     Ok(OctetString::try_from(&octets)? == *value)
 }
 
-/// Whether a vector of the octets of a string of three is whole.
+/// Whether a vector of the octets of a string of three is complete.
 fn is_listed_of_three(alloc: Global) -> Result<bool, AllocError> {
     let vector = Three::new(OCTETS).to_vec(alloc)?;
     Ok(has(&vector, &OCTETS))
 }
 
-/// The octet string of a slice; where its memory is refused, one that needs none, and then `granted` is false.
+/// The octet string of a slice; after a failed allocation, which sets `granted` to false, one that needs no memory.
 fn of_slice(alloc: Global, granted: &mut bool) -> OctetString {
     match OctetString::from_slice(alloc, &OCTETS) {
         Ok(value) => value,
@@ -200,8 +200,8 @@ fn of_slice(alloc: Global, granted: &mut bool) -> OctetString {
     }
 }
 
-/// Makes octet strings of what is lent, copies them and takes their octets: each answer is whole, or refused. Whether
-/// none was refused.
+/// Makes octet strings of borrowed octets, copies them and takes their octets; each result is complete or an error.
+/// Returns whether no allocation failed.
 fn copies(rt: &impl Abort, alloc: Global) -> bool {
     let mut granted = is_granted(rt, is_made_of_an_array(alloc));
     let value = of_slice(alloc, &mut granted);
@@ -212,14 +212,14 @@ fn copies(rt: &impl Abort, alloc: Global) -> bool {
     granted & is_granted(rt, is_listed_of_three(alloc))
 }
 
-/// Whether a vector of a string that is given up is whole.
+/// Whether a vector is made of a string that is moved.
 fn is_moved_back(alloc: Global, value: OctetString) -> Result<bool, AllocError> {
     let vector = value.into_vec(alloc)?;
     Ok(has(&vector, &OCTETS))
 }
 
-/// Moves a vector into a string, and back out of it. A refused vector is handed back as it was. Whether memory was
-/// not refused.
+/// Moves a vector into a string, and back out of it. After a failed allocation the vector has to be returned
+/// unchanged. Returns whether no allocation failed.
 fn is_moved(rt: &impl Abort, alloc: Global, vector: Vec<u8>) -> bool {
     match OctetString::from_vec(vector) {
         Ok(moved) => is_granted(rt, is_moved_back(alloc, moved)),
@@ -230,7 +230,7 @@ fn is_moved(rt: &impl Abort, alloc: Global, vector: Vec<u8>) -> bool {
     }
 }
 
-/// Whether a string of two octets refuses a vector of three, and hands it back as it was.
+/// Whether a string of two octets rejects a vector of three, and returns it unchanged.
 fn is_handed_back(alloc: Global) -> Result<bool, AllocError> {
     match FixedOctetString::<2>::try_from(vector(alloc)?) {
         Ok(_) => Ok(false),
@@ -238,8 +238,8 @@ fn is_handed_back(alloc: Global) -> Result<bool, AllocError> {
     }
 }
 
-/// Makes and moves strings, and asks for memory. A refused vector is handed back as it was. Whether no request was
-/// refused.
+/// Makes and moves strings, and allocates. After a failed allocation the vector has to be returned unchanged. Returns
+/// whether no allocation failed.
 pub fn requests(rt: &impl Abort, alloc: Global) -> bool {
     let copied = copies(rt, alloc);
     let moved = match vector(alloc) {

@@ -1,9 +1,9 @@
-//! Each request for memory, as it may be refused: what is answered, and what stands then.
+//! Allocations, each of which may fail: the results, and the state afterwards.
 use crate::{bits, fields, octets};
 use std::alloc::Global;
 use std::process::Abort;
 
-/// Makes values of each kind, and has them grow. Whether no request for memory was refused.
+/// Makes values of each kind, and grows them. Returns whether no allocation failed.
 fn requests(rt: &impl Abort, alloc: Global) -> bool {
     let bits = bits::requests(rt, alloc);
     let fields = fields::requests(rt, alloc);

@@ -1,4 +1,4 @@
-//! What the tests have in common.
+//! Helpers of the tests.
 use std::alloc::{AllocError, Global};
 use std::cmp::Ordering;
 use std::convert::AsSlice;
@@ -6,12 +6,13 @@ use std::fmt::{Debug, Display};
 use std::hash::{DefaultHasher, Hash, Hasher};
 use std::process::Abort;
 
-/// Ends the test, and shows what is wrong, unless nothing is: proved here once, and not again with each call.
+/// Ends the test with `wrong` in its message, if there is one. A function, so that this is proved once and not at each
+/// call.
 pub fn assert_none<T: Debug>(rt: &impl Abort, wrong: &Option<T>) {
     assert!(rt; wrong.is_none(), "{wrong:?}");
 }
 
-/// What a hasher makes of a value.
+/// The hash of a value.
 pub fn hash_of<T: Hash>(value: &T) -> u64 {
     let mut state = DefaultHasher::new();
     value.hash(&mut state);
@@ -23,7 +24,7 @@ pub fn has<T: PartialEq, S: AsSlice<T>>(value: &S, items: &[T]) -> bool {
     value.as_slice() == items
 }
 
-/// Whether a call was not refused, and has made a value of these items.
+/// Whether a call has succeeded with a value of these items.
 pub fn is_of<T: PartialEq, S: AsSlice<T> + Drop, E: Drop>(
     answer: Result<S, E>,
     items: &[T],
@@ -34,7 +35,7 @@ pub fn is_of<T: PartialEq, S: AsSlice<T> + Drop, E: Drop>(
     }
 }
 
-/// Whether a call was refused for this reason.
+/// Whether a call has failed with this error.
 pub fn is_refused<T: Drop, E: PartialEq + Drop>(answer: Result<T, E>, wanted: &E) -> bool {
     match answer {
         Ok(_) => false,
@@ -42,7 +43,7 @@ pub fn is_refused<T: Drop, E: PartialEq + Drop>(answer: Result<T, E>, wanted: &E
     }
 }
 
-/// Whether the first of two values is before the second, in each way to compare them.
+/// Whether the first of two values is less than the second, by each comparison.
 pub fn is_before<T: Ord>(first: &T, second: &T) -> bool {
     first < second
         && first != second
@@ -50,13 +51,13 @@ pub fn is_before<T: Ord>(first: &T, second: &T) -> bool {
         && first.partial_cmp(second) == Some(Ordering::Less)
 }
 
-/// Whether a copy of a value is the same as the value.
+/// Whether a clone of a value is equal to it.
 pub fn is_copied<T: Clone + PartialEq + Drop>(value: &T) -> Result<bool, AllocError> {
     let copy = value.clone()?;
     Ok(copy == *value)
 }
 
-/// Whether a copy of a value is the same as the value and hashed as it, and none was refused.
+/// Whether a value is cloned without an error, and the clone is equal to it and has the same hash.
 pub fn has_copy<T: Clone + Hash + PartialEq + Drop>(value: &T) -> bool {
     match value.clone() {
         Ok(copy) => copy == *value && hash_of(&copy) == hash_of(value),
@@ -64,7 +65,7 @@ pub fn has_copy<T: Clone + Hash + PartialEq + Drop>(value: &T) -> bool {
     }
 }
 
-/// Whether this is shown of a value with what it is made of.
+/// Whether a value is printed as this text by `Debug`.
 pub fn is_shown<T: Debug>(alloc: Global, value: &T, text: &str) -> bool {
     match format!(in alloc; "{value:?}") {
         Ok(shown) => shown.as_str() == text,
@@ -72,7 +73,7 @@ pub fn is_shown<T: Debug>(alloc: Global, value: &T, text: &str) -> bool {
     }
 }
 
-/// Whether a value tells this.
+/// Whether a value is printed as this text by `Display`.
 pub fn is_told<T: Display>(alloc: Global, value: &T, text: &str) -> bool {
     match format!(in alloc; "{value}") {
         Ok(told) => told.as_str() == text,
@@ -88,7 +89,7 @@ pub struct Octets {
 }
 
 impl Octets {
-    /// The octets of two hexadecimal digits each.
+    /// Octets from two hexadecimal digits each.
     pub fn of(digits: &str) -> Octets {
         let mut found = Octets {
             octets: [0; 20],
@@ -111,7 +112,7 @@ impl Octets {
         found
     }
 
-    /// All of them.
+    /// All of these octets.
     pub fn all(&self) -> &[u8] {
         if self.len <= 20 {
             &self.octets[..self.len]

@@ -1,4 +1,4 @@
-//! Object identifiers: rows of octets, what is shown, and what is answered when memory is refused.
+//! Object identifiers: rows of octets, how identifiers are printed, and the results of failed allocations.
 use crate::common::{
     Octets, assert_none, has, has_copy, hash_of, is_before, is_of, is_refused, is_shown, is_told,
 };
@@ -16,7 +16,7 @@ const WRITTEN: [(&'static [u32], &'static [u8]); 5] = [
     (&[1, 39, 0], &[0x4F, 0x00]),
 ];
 
-/// Octets that are no identifier, and why.
+/// Octets that are not an identifier, and the error.
 const FAULTS: &str = "\
 9080808050 ArcTooLarge
 8001 Padded
@@ -27,7 +27,7 @@ const FAULTS: &str = "\
 2A9080808080 Truncated
 2A908080800080 ArcTooLarge";
 
-/// Arcs, and whether they are those of an identifier.
+/// Arcs, and whether they are valid.
 const JUDGED: [(&'static [u32], bool); 8] = [
     (&[], false),
     (&[2], true),
@@ -39,7 +39,7 @@ const JUDGED: [(&'static [u32], bool); 8] = [
     (&[1, 39, 4294967295], true),
 ];
 
-/// Whether the arcs are written as these octets, which are read as these arcs.
+/// Whether the arcs are written as these octets, and the octets are read as these arcs.
 fn are_written_and_read(alloc: Global, arcs: &[u32], octets: &[u8]) -> bool {
     match Oid::new(arcs) {
         Some(oid) => {
@@ -49,7 +49,7 @@ fn are_written_and_read(alloc: Global, arcs: &[u32], octets: &[u8]) -> bool {
     }
 }
 
-/// Whether octets are no identifier, as their row says.
+/// Whether decoding octets fails, as their row says.
 fn is_fault(alloc: Global, row: &str) -> bool {
     let (digits, reason) = row.split_once(' ').unwrap_or(("", ""));
     match oid_from_octets(alloc, Octets::of(digits).all()) {
@@ -66,12 +66,12 @@ fn one_arc_is_not_written(alloc: Global) -> bool {
     }
 }
 
-/// Whether the arcs are those of an identifier, lent or kept, or those of neither, as is wanted.
+/// Whether the arcs are valid for a borrowed and for an owned identifier, or for neither, as wanted.
 fn are_judged(arcs: &'static [u32], wanted: bool) -> bool {
     Oid::new(arcs).is_some() == wanted && ObjectIdentifier::new(arcs.into()).is_some() == wanted
 }
 
-/// The arcs that are not written and read as their row says, if there are such.
+/// The arcs that are not written and read as their row says, if there are any.
 fn wrong_octets(alloc: Global) -> Option<&'static [u32]> {
     for (arcs, octets) in &WRITTEN {
         if !are_written_and_read(alloc, arcs, octets) {
@@ -81,7 +81,7 @@ fn wrong_octets(alloc: Global) -> Option<&'static [u32]> {
     None
 }
 
-/// The octets that are not refused as their row says, if there are such.
+/// The octets that do not fail as their row says, if there are any.
 fn wrong_fault(alloc: Global) -> Option<&'static str> {
     for row in FAULTS.lines() {
         if !is_fault(alloc, row) {
@@ -91,7 +91,7 @@ fn wrong_fault(alloc: Global) -> Option<&'static str> {
     None
 }
 
-/// The arcs that are not judged as their row says, if there are such.
+/// The arcs that are not checked as their row says, if there are any.
 fn wrong_judgement() -> Option<&'static [u32]> {
     for (arcs, wanted) in &JUDGED {
         if !are_judged(arcs, *wanted) {
@@ -110,7 +110,7 @@ fn identifiers_are_written_and_read(rt: HostRuntime) {
     assert!(rt; one_arc_is_not_written(alloc));
 }
 
-/// Whether an identifier that is lent and its copy that is kept are the same, with the same three arcs.
+/// Whether a borrowed identifier and its owned copy are equal, with the same three arcs.
 fn are_the_same(first: &Oid<'_>, kept: &ObjectIdentifier) -> bool {
     kept.as_oid() == *first
         && has(first, &[1, 2, 3321])
@@ -121,7 +121,7 @@ fn are_the_same(first: &Oid<'_>, kept: &ObjectIdentifier) -> bool {
         && hash_of(first) == hash_of(kept)
 }
 
-/// Whether the same identifier, lent and kept, is before one whose last arc is greater, and both are shown.
+/// Whether the same identifier, borrowed and owned, is less than one whose last arc is greater, and both are printed.
 fn are_in_order(alloc: Global, kept: &ObjectIdentifier) -> bool {
     let first = Oid::new_unchecked(&[1, 2, 3321]);
     let other = ObjectIdentifier::new_unchecked(CowSlice::Borrowed(&[1, 2, 3322]));
@@ -131,7 +131,7 @@ fn are_in_order(alloc: Global, kept: &ObjectIdentifier) -> bool {
         && is_told(alloc, kept, "1.2.3321")
 }
 
-/// What each fault tells.
+/// The message of each error.
 const TOLD: [(IdentifierError, &'static str); 4] = [
     (IdentifierError::Truncated, "the identifier is truncated"),
     (IdentifierError::Padded, "a subidentifier is padded"),
@@ -139,7 +139,7 @@ const TOLD: [(IdentifierError, &'static str); 4] = [
     (IdentifierError::Memory, "out of memory"),
 ];
 
-/// Whether 1.2.3321 is kept, compared and shown.
+/// Whether 1.2.3321 is owned, compared and printed.
 fn is_kept(alloc: Global) -> bool {
     let first = Oid::new_unchecked(&[1, 2, 3321]);
     match ObjectIdentifier::from_oid(alloc, &first) {
@@ -148,7 +148,7 @@ fn is_kept(alloc: Global) -> bool {
     }
 }
 
-/// The text that is not told of its fault, if there is one.
+/// The message that its error does not print, if there is one.
 fn wrong_text(alloc: Global) -> Option<&'static str> {
     for (error, text) in &TOLD {
         if !is_told(alloc, error, text) {
@@ -176,20 +176,21 @@ fn is_read(alloc: Global, octets: &[u8], arcs: &[u32]) -> Result<bool, Identifie
     Ok(has(&read, arcs))
 }
 
-/// Whether an identifier that is kept, and then copied, is the same.
+/// Whether an owned identifier and its clone are equal.
 fn is_kept_and_copied(alloc: Global, oid: &Oid<'_>) -> Result<bool, IdentifierError> {
     let kept = ObjectIdentifier::from_oid(alloc, oid)?;
     let copy = kept.clone()?;
     Ok(copy.as_oid() == *oid)
 }
 
-/// Whether a call was granted its memory: then what it made is whole, and else it wants memory.
+/// Whether the allocations of a call succeeded; then its result has to be true, and else its error is `Memory`.
 fn is_granted(rt: &impl Abort, answer: Result<bool, IdentifierError>) -> bool {
     assert!(rt; answer == Ok(true) || answer == Err(IdentifierError::Memory));
     answer.is_ok()
 }
 
-/// Writes an identifier, reads it and copies it: each answer is this one, or wants memory. Whether none was refused.
+/// Writes an identifier, reads it and copies it; each result is right, or memory ran out. Returns whether no
+/// allocation failed.
 pub fn requests(rt: &impl Abort, alloc: Global) -> bool {
     let octets = [0x90, 0x80, 0x80, 0x80, 0x4F, 0x99, 0x79];
     let oid = Oid::new_unchecked(&[2, 4294967295, 3321]);

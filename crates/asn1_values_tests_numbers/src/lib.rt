@@ -1,4 +1,4 @@
-//! Tests of the native integer types, of whole numbers and of object identifiers.
+//! Tests of the native integer types, of integers and of object identifiers.
 #![tactic(auto)]
 
 #[cfg(test)]

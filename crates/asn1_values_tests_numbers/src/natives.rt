@@ -1,5 +1,5 @@
-//! The native integer types, each by the claims of a text: its ends, octets, sums, conversions and what is shown; and
-//! the common ground of their numbers. Numbers are told as octets of two's complement.
+//! The native integer types, each tested by the claims of a text: its bounds, octets, sums, conversions and printed
+//! form; and `Wide`. Numbers are given as octets in two's complement.
 use crate::common::{Octets, assert_none, has, is_refused, is_shown, is_told};
 use asn1_values::{
     Integer, IntegerBytes, IntegerError, IntegerType, NativeInteger, TryFromIntegerError, Wide,
@@ -17,7 +17,7 @@ fn natural(magnitude: u128) -> Wide {
     }
 }
 
-/// The number below zero that is so far below -1.
+/// The negative number with this magnitude.
 fn below(magnitude: u128) -> Wide {
     Wide {
         negative: true,
@@ -42,7 +42,7 @@ fn wide(octets: &[u8]) -> Wide {
     }
 }
 
-/// The number that octets in hexadecimal digits are; none where a hyphen stands for them.
+/// The number of octets given in hexadecimal digits; none for a hyphen.
 fn number_of(word: &str) -> Option<Wide> {
     if word == "-" {
         None
@@ -51,7 +51,7 @@ fn number_of(word: &str) -> Option<Wide> {
     }
 }
 
-/// The number, if 128 bits of two's complement hold it.
+/// The number, if an `i128` holds it.
 fn whole(number: Wide) -> Option<i128> {
     match i128::try_from(number.magnitude) {
         Ok(magnitude) if number.negative => Some(-1 - magnitude),
@@ -60,7 +60,7 @@ fn whole(number: Wide) -> Option<i128> {
     }
 }
 
-/// Whether a type with these ends holds a number.
+/// Whether a type with these bounds holds a number.
 fn is_between(number: Wide, (least, greatest): (Wide, Wide)) -> bool {
     if number.negative {
         least.negative && number.magnitude <= least.magnitude
@@ -69,7 +69,7 @@ fn is_between(number: Wide, (least, greatest): (Wide, Wide)) -> bool {
     }
 }
 
-/// Whether the type holds the number, whose value is the number again.
+/// Whether the type holds the number, as a value with that number.
 fn is_held<T: NativeInteger>(number: Wide) -> bool {
     match T::from_wide(number) {
         Some(value) => value.to_wide() == number,
@@ -77,7 +77,7 @@ fn is_held<T: NativeInteger>(number: Wide) -> bool {
     }
 }
 
-/// Whether the type holds its ends, and no number beside them.
+/// Whether the type holds its bounds, and not the numbers next to them.
 fn has_ends<T: NativeInteger>(least: Wide, greatest: Wide) -> bool {
     let lower = if least.negative {
         below(least.magnitude.saturating_add(1))
@@ -97,7 +97,7 @@ fn has_ends<T: NativeInteger>(least: Wide, greatest: Wide) -> bool {
         && T::BITS as usize == bit_count(greatest.magnitude) + usize::from(T::SIGNED)
 }
 
-/// Whether the type has so many octets, a sign where it has numbers below zero, and zero.
+/// Whether the type has this number of octets, is signed if it has negative numbers, and has zero.
 fn has_width<T: NativeInteger + IntegerType>(octets: usize) -> bool {
     T::BITS as usize / 8 == octets
         && <T as IntegerType>::WIDTH == T::BITS
@@ -108,7 +108,7 @@ fn has_width<T: NativeInteger + IntegerType>(octets: usize) -> bool {
         && <T as IntegerType>::ZERO.is_signed() == T::SIGNED
 }
 
-/// Whether a number has these octets, and the sign that the first of them says.
+/// Whether a number has these octets, and the sign that the first of them indicates.
 pub fn has_octets<T: IntegerType>(value: &T, octets: &[u8]) -> bool {
     let is_signed = match octets {
         [first, ..] => *first >= 128,
@@ -117,7 +117,7 @@ pub fn has_octets<T: IntegerType>(value: &T, octets: &[u8]) -> bool {
     has(&value.to_signed_bytes_be(), octets) && value.is_negative() == is_signed
 }
 
-/// Whether the octets are those of a number of the type, and of the same number of any size.
+/// Whether the octets encode a number of the type, and the same `Integer`.
 fn is_kept<T: IntegerType + Drop>(alloc: Global, octets: &[u8]) -> bool {
     match T::try_from_signed_bytes(alloc, octets) {
         Ok(value) => {
@@ -129,14 +129,14 @@ fn is_kept<T: IntegerType + Drop>(alloc: Global, octets: &[u8]) -> bool {
     }
 }
 
-/// Whether no octets are no number of a type, in each way to read them.
+/// Whether no octets are an error, in each way to read a number of the type.
 fn refuses_nothing<T: IntegerType + Drop>(alloc: Global) -> bool {
     is_refused(T::try_from_signed_bytes(alloc, &[]), &IntegerError::Empty)
         && is_refused(T::try_from_unsigned_bytes(alloc, &[]), &IntegerError::Empty)
         && is_refused(T::try_from_bytes(alloc, &[]), &IntegerError::Empty)
 }
 
-/// Whether this is the sum of two numbers, by each name of the sum.
+/// Whether this is the sum of two numbers, by each call that adds.
 fn is_sum<T: NativeInteger<Unsigned = U> + IntegerType<UnsignedPair = U>, U: NativeInteger>(
     number: Wide,
     other: Wide,
@@ -151,7 +151,7 @@ fn is_sum<T: NativeInteger<Unsigned = U> + IntegerType<UnsignedPair = U>, U: Nat
     }
 }
 
-/// Whether the type holds a number of 128 bits, as itself, where it is to.
+/// Whether the type holds a 128-bit number unchanged, if it should.
 fn is_held_as<T: IntegerType + Drop>(number: Wide, is_held: bool) -> bool {
     match whole(number) {
         Some(number) => match T::from_i128(number) {
@@ -170,7 +170,7 @@ fn is_read<T: NativeInteger>(answer: Result<T, IntegerError>, number: Wide) -> b
     }
 }
 
-/// Whether a number has these octets without a sign.
+/// Whether a number has these unsigned octets.
 fn is_plain<T: NativeInteger + IntegerType>(number: Wide, octets: &[u8]) -> bool {
     match T::from_wide(number) {
         Some(value) => has(&value.to_unsigned_bytes_be(), octets),
@@ -178,8 +178,8 @@ fn is_plain<T: NativeInteger + IntegerType>(number: Wide, octets: &[u8]) -> bool
     }
 }
 
-/// Whether a number other than zero is told and shown as this text, and is above the default if it is above zero; and
-/// whether zero is told.
+/// Whether a number other than zero is printed as this text, and is greater than the default if it is positive; and
+/// whether zero is printed.
 fn is_described<T: NativeInteger>(alloc: Global, number: Wide, text: &str) -> bool {
     match T::from_wide(number) {
         Some(value) => {
@@ -192,7 +192,7 @@ fn is_described<T: NativeInteger>(alloc: Global, number: Wide, text: &str) -> bo
     }
 }
 
-/// Whether what octets say of a type is so: of a sum, what is added is told without a sign.
+/// Whether a claim, given as octets, is right for a type; of a sum, the number added is unsigned.
 fn is_so<T: NativeInteger<Unsigned = U> + IntegerType<UnsignedPair = U> + Drop, U: NativeInteger>(
     alloc: Global,
     name: &str,
@@ -224,7 +224,7 @@ fn is_so<T: NativeInteger<Unsigned = U> + IntegerType<UnsignedPair = U> + Drop, 
     }
 }
 
-/// Whether a claim is so.
+/// Whether a claim is right.
 fn is_claim<
     T: NativeInteger<Unsigned = U> + IntegerType<UnsignedPair = U> + Drop,
     U: NativeInteger,
@@ -246,8 +246,8 @@ fn is_claim<
     )
 }
 
-/// Whether the number is one of the type, lent and given up, where the type is to hold it, and is then given back;
-/// else it is refused, and the refusal gives it back.
+/// Whether the number, borrowed and moved, is converted to the type if the type holds it, and then back; else the
+/// conversion fails, and the error returns the number.
 fn is_converted<
     'a,
     T: NativeInteger
@@ -270,7 +270,7 @@ fn is_converted<
     }
 }
 
-/// The ends of a type, which the first of its claims tells.
+/// The bounds of a type, given by the first of its claims.
 fn ends_of(claims: &str) -> (Wide, Wide) {
     let (ends, _) = claims.split_once('\n').unwrap_or(("", ""));
     let (_, least, greatest) = words_of(ends);
@@ -280,7 +280,7 @@ fn ends_of(claims: &str) -> (Wide, Wide) {
     )
 }
 
-/// Whether all claims on a type are so.
+/// Whether all claims on a type are right.
 fn are_claims<
     T: NativeInteger<Unsigned = U> + IntegerType<UnsignedPair = U> + Drop,
     U: NativeInteger,
@@ -293,7 +293,7 @@ fn are_claims<
     true
 }
 
-/// Whether a type with these ends converts these numbers as its ends say.
+/// Whether a type with these bounds converts these numbers as its bounds say.
 fn are_converted<
     'a,
     T: NativeInteger
@@ -309,7 +309,7 @@ fn are_converted<
     true
 }
 
-/// Whether all claims on a type are so, and it converts these numbers as its ends say.
+/// Whether all claims on a type are right, and it converts these numbers as its bounds say.
 fn is_native<
     'a,
     T: NativeInteger<Unsigned = U>
@@ -434,8 +434,8 @@ beside FF7FFFFFFFFFFFFFFF
 beside 008000000000000000
 sum 8000000000000000 00FFFFFFFFFFFFFFFF 7FFFFFFFFFFFFFFF";
 
-/// Numbers that are converted to each type, where the type holds them: 255, 65536, 7, -7, the greatest of 128 bits,
-/// 9, -129, the least of 64 bits, 3, 200, 256 and -1.
+/// Numbers that are converted to each type that holds them: 255, 65536, 7, -7, the greatest 128-bit number, 9, -129,
+/// the least 64-bit number, 3, 200, 256 and -1.
 const NUMBERS: &str =
     "00FF 010000 07 F9 00FFFFFFFFFFFFFFFFFFFFFFFFFFFFFFFF 09 FF7F 8000000000000000 03 00C8 0100 FF";
 
@@ -477,10 +477,10 @@ fn native_types(rt: HostRuntime) {
     assert!(rt; IntegerType::to_i128(&u128::MAX).is_none());
 }
 
-/// Rows of octets. `wide`: octets, and their numbers with a sign and without one, or a hyphen where they are outside
-/// the common ground. `within`: a number, and what it is where the greatest is 7, without a sign and with one, or a
-/// hyphen where it is outside. `fewest`: a number as its fewest octets with a sign, and without one. `padded`: octets,
-/// and what they are without those at the front that only repeat the sign.
+/// Rows of octets. `wide`: octets, and their signed and unsigned numbers, or a hyphen if they are outside the range of
+/// `Wide`. `within`: a number, and its unsigned and signed value if the greatest is 7, or a hyphen if it is outside.
+/// `fewest`: a number as its fewest octets, signed and unsigned. `padded`: octets, and the same without redundant
+/// leading octets.
 const ROWS: &str = "\
 wide FFFFFFFFFFFFFFFFFFFFFFFFFFFFFFFFFF FF -
 wide 00FFFFFFFFFFFFFFFFFFFFFFFFFFFFFFFF 00FFFFFFFFFFFFFFFFFFFFFFFFFFFFFFFF 00FFFFFFFFFFFFFFFFFFFFFFFFFFFFFFFF
@@ -520,7 +520,7 @@ fn words_of(row: &str) -> (&str, &str, &str) {
     (first, second, words.next().unwrap_or(""))
 }
 
-/// Whether octets have the numbers of a row.
+/// Whether octets encode the numbers of a row.
 fn are_wide(row: &str) -> bool {
     let (octets, signed, unsigned) = words_of(row);
     let octets = Octets::of(octets);
@@ -551,7 +551,7 @@ fn are_fewest(row: &str) -> bool {
         && has(&IntegerBytes::unsigned(number), unsigned.all())
 }
 
-/// Whether padding is found, and left out.
+/// Whether redundant leading octets are found and removed.
 fn is_padding(row: &str) -> bool {
     let (padded, rest, _) = words_of(row);
     let (padded, rest) = (Octets::of(padded), Octets::of(rest));
@@ -559,7 +559,7 @@ fn is_padding(row: &str) -> bool {
     has_padding(octets) == (fewest.len() < octets.len()) && without_padding(octets) == fewest
 }
 
-/// Whether octets that are lent are these octets, and numbers are in the common ground.
+/// Whether borrowed octets are these octets, and numbers are converted to `Wide`.
 fn are_lent_and_wide() -> bool {
     let lent = IntegerBytes::lent(&[1, 2, 3]);
     lent.first() == Some(&1)
@@ -569,7 +569,8 @@ fn are_lent_and_wide() -> bool {
         && Wide::from_whole(-8, 7) == below(7)
 }
 
-/// Whether the sign is found, and left out of an octet, and leading octets of the sign alone are found, and left out.
+/// Whether the sign is found and removed from an octet, and leading octets that hold only sign bits are found and
+/// removed.
 fn signs_are_found() -> bool {
     has_sign(&[0x80, 0])
         && !has_sign(&[0x7f, 0xff])
@@ -585,7 +586,7 @@ fn signs_are_found() -> bool {
         && without_zero(&[1, 0]) == [1, 0].as_slice()
 }
 
-/// Seventeen octets: the last two, behind fifteen zeros.
+/// Seventeen octets: fifteen zeros, and the two given ones.
 fn ending_in(octets: [u8; 2]) -> [u8; 17] {
     let mut last = [0; 17];
     last[15] = octets[0];
@@ -593,7 +594,7 @@ fn ending_in(octets: [u8; 2]) -> [u8; 17] {
     last
 }
 
-/// Whether magnitudes and their bits are counted, and their last octets are those of their numbers.
+/// Whether magnitudes and their bits are computed, and their last octets are those of their numbers.
 fn magnitudes_are_counted() -> bool {
     magnitude(false, &[1, 2]) == 258
         && magnitude(true, &[0xfe, 0xff]) == 256
@@ -604,7 +605,7 @@ fn magnitudes_are_counted() -> bool {
         && last_octets(true, 0x03_0102, 2) == ending_in([0xfe, 0xfd])
 }
 
-/// Whether a row is so.
+/// Whether a row is right.
 fn is_row(row: &str) -> bool {
     match row.split_once(' ') {
         Some(("wide", row)) => are_wide(row),
@@ -615,7 +616,7 @@ fn is_row(row: &str) -> bool {
     }
 }
 
-/// The row that is not so, if there is one.
+/// The row that is not right, if there is one.
 fn wrong_row() -> Option<&'static str> {
     for row in ROWS.lines() {
         if !is_row(row) {

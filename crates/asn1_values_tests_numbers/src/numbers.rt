@@ -1,5 +1,5 @@
-//! Whole numbers of any size: their ends, texts, sums and conversions, those within a range, and what is answered
-//! when memory is refused.
+//! Integers of any size: their bounds, texts, sums and conversions, integers within a range, and the results of failed
+//! allocations.
 use crate::common::{
     Octets, assert_none, has, has_copy, hash_of, is_before, is_copied, is_refused, is_shown,
     is_told,
@@ -10,7 +10,7 @@ use asn1_values_integers::ConstrainedInteger;
 use std::alloc::{AllocError, Global};
 use std::process::Abort;
 
-/// Rows of octets. `text`: those of a number, and its text. `plain`: those of a number without a sign, and its fewest.
+/// Rows of octets. `text`: those of a number, and its text. `plain`: those of an unsigned number, and its fewest.
 /// `before`: those of two numbers, the first less than the second.
 const ROWS: &str = "\
 text 00 0
@@ -36,7 +36,7 @@ before 7FFFFFFFFFFFFFFFFFFFFFFFFFFFFFFF 0080000000000000000000000000000000
 before 0080000000000000000000000000000000 00FFFFFFFFFFFFFFFFFFFFFFFFFFFFFFFF
 before 00FFFFFFFFFFFFFFFFFFFFFFFFFFFFFFFF 0100000000000000000000000000000000";
 
-/// Whether the octets of a row are those of a number of its text, read in each way, and copied.
+/// Whether the octets of a row encode a number with its text, read in each way, and copied.
 fn is_number(alloc: Global, row: &str) -> bool {
     let (digits, text) = row.split_once(' ').unwrap_or(("", ""));
     let octets = Octets::of(digits);
@@ -48,7 +48,7 @@ fn is_number(alloc: Global, row: &str) -> bool {
     }
 }
 
-/// Whether the octets of a row are those of a number without a sign, which has the fewest of the row.
+/// Whether the octets of a row encode an unsigned number, which has the fewest octets of the row.
 fn is_natural(alloc: Global, row: &str) -> bool {
     let (digits, fewest) = row.split_once(' ').unwrap_or(("", ""));
     let (octets, fewest) = (Octets::of(digits), Octets::of(fewest));
@@ -61,7 +61,7 @@ fn is_natural(alloc: Global, row: &str) -> bool {
     )
 }
 
-/// Whether a number was read that has these octets without a sign.
+/// Whether a number was read that has these unsigned octets.
 fn is_plain(answer: Result<Integer, IntegerError>, octets: &[u8]) -> bool {
     match answer {
         Ok(number) => has(&number.to_unsigned_bytes_be(), octets),
@@ -77,7 +77,7 @@ fn is_whole(answer: Result<Integer, IntegerError>, octets: &[u8]) -> bool {
     }
 }
 
-/// Whether the number was read, or this reason was given.
+/// Whether the number was read, or this error was returned.
 fn is_this(answer: Result<Integer, IntegerError>, wanted: &Integer) -> bool {
     match answer {
         Ok(number) => number == *wanted,
@@ -85,7 +85,7 @@ fn is_this(answer: Result<Integer, IntegerError>, wanted: &Integer) -> bool {
     }
 }
 
-/// Whether the number of the first octets of a row is less than that of the others.
+/// Whether the number of the first octets of a row is less than that of the second.
 fn are_ordered(alloc: Global, row: &str) -> bool {
     let (first, second) = row.split_once(' ').unwrap_or(("", ""));
     match Integer::from_signed_octets(alloc, Octets::of(first).all()) {
@@ -97,7 +97,7 @@ fn are_ordered(alloc: Global, row: &str) -> bool {
     }
 }
 
-/// Whether no octets are no number, and octets that only repeat the sign are taken, and not kept.
+/// Whether no octets are an error, and redundant leading octets are accepted and dropped.
 fn fewest_are_kept(alloc: Global) -> bool {
     is_refused(
         Integer::from_signed_octets(alloc, &[]),
@@ -108,14 +108,14 @@ fn fewest_are_kept(alloc: Global) -> bool {
     )
 }
 
-/// Whether the octets of twenty are read in each way, as numbers that have them.
+/// Whether the octets of numbers of twenty octets are read in each way.
 fn are_read(alloc: Global, octets: &[u8]) -> bool {
     is_whole(Integer::try_from_bytes(alloc, octets), octets)
         && is_whole(Integer::try_from_signed_bytes(alloc, octets), octets)
         && is_whole(Integer::from_signed_octets(alloc, octets), octets)
 }
 
-/// Whether a row is so.
+/// Whether a row is right.
 fn is_row(alloc: Global, row: &str) -> bool {
     match row.split_once(' ') {
         Some(("text", row)) => is_number(alloc, row),
@@ -125,7 +125,7 @@ fn is_row(alloc: Global, row: &str) -> bool {
     }
 }
 
-/// The row that is not so, if there is one.
+/// The row that is not right, if there is one.
 fn wrong_row(alloc: Global) -> Option<&'static str> {
     for row in ROWS.lines() {
         if !is_row(alloc, row) {
@@ -143,7 +143,7 @@ fn integers_of_any_size(rt: HostRuntime) {
     assert!(rt; are_read(alloc, &[1; 20]) && are_read(alloc, &[0x80; 20]));
 }
 
-/// The octets of 256 to the 127, less 1.
+/// The octets of 256 ^ 127 - 1.
 fn long_octets(alloc: Global) -> Result<Vec<u8>, AllocError> {
     let mut octets = vec![in alloc; 0xff; 128]?;
     if let Some(first) = octets.first_mut() {
@@ -152,7 +152,7 @@ fn long_octets(alloc: Global) -> Result<Vec<u8>, AllocError> {
     Ok(octets)
 }
 
-/// Whether that number has its octets, and is greater than each number of 128 bits.
+/// Whether that number has its octets, and is greater than each 128-bit number.
 fn is_long(number: &Integer, octets: &[u8]) -> bool {
     has(&number.to_signed_bytes_be(), octets)
         && number.to_unsigned_bytes_be().len() == 127
@@ -172,8 +172,7 @@ fn is_long_read(alloc: Global) -> Result<bool, AllocError> {
     }
 }
 
-/// Whether the number of octets that are given up is refused by a type of 8 bits, and the copy of the refusal gives
-/// the number back.
+/// Whether a type of 8 bits rejects the number of owned octets, and the copy of the error returns the number.
 fn is_given_back(alloc: Global, kept: Integer, octets: &[u8]) -> bool {
     match u8::try_from(kept) {
         Ok(_) => false,
@@ -187,7 +186,7 @@ fn is_given_back(alloc: Global, kept: Integer, octets: &[u8]) -> bool {
     }
 }
 
-/// Whether numbers of twenty octets that are given up are so.
+/// Whether numbers of twenty owned octets are rejected in that way.
 fn are_given_up(alloc: Global) -> Result<bool, AllocError> {
     let low = Integer::from_fewest_octets(vec![in alloc; 1; 20]?);
     let is_low = is_given_back(alloc, low, &[1; 20]);
@@ -195,13 +194,13 @@ fn are_given_up(alloc: Global) -> Result<bool, AllocError> {
     Ok(is_low && is_given_back(alloc, high, &[0x80; 20]))
 }
 
-/// Whether a number of one octet is that of the octet that is given up.
+/// Whether a number of one owned octet is that of the octet.
 fn is_short(alloc: Global) -> Result<bool, AllocError> {
     let short = Integer::from_fewest_octets(vec![in alloc; 0x80; 1]?);
     Ok(short == Integer::from(-128i16))
 }
 
-/// Whether zero and one are such, by each name.
+/// Whether zero and one are right, by each name.
 fn are_zero_and_one() -> bool {
     Integer::default() == Integer::ZERO
         && Integer::zero() == Integer::ZERO
@@ -211,7 +210,7 @@ fn are_zero_and_one() -> bool {
         && <Integer as IntegerType>::WIDTH == u32::MAX
 }
 
-/// Whether a number that is read is the same number that is made, and has its hash.
+/// Whether a number that is read equals the same number that is made, and has its hash.
 fn is_greatest(answer: Result<Integer, IntegerError>) -> bool {
     let made = Integer::from(u128::MAX);
     match answer {
@@ -220,8 +219,7 @@ fn is_greatest(answer: Result<Integer, IntegerError>) -> bool {
     }
 }
 
-/// Whether the greatest number of 128 bits is read, with a sign and without one, and is no number of 128 bits with a
-/// sign.
+/// Whether the greatest 128-bit number is read, signed and unsigned, and is not a signed 128-bit number.
 fn is_greatest_read(alloc: Global) -> bool {
     let octets = Octets::of("00FFFFFFFFFFFFFFFFFFFFFFFFFFFFFFFF");
     is_greatest(Integer::from_signed_octets(alloc, octets.all()))
@@ -237,7 +235,7 @@ fn long_and_short_integers(rt: HostRuntime) {
     assert!(rt; are_given_up(alloc) == Ok(true) && are_zero_and_one() && is_greatest_read(alloc));
 }
 
-/// Whether this is the sum of two numbers, of which the second is without a sign, at 128 bits.
+/// Whether this is the sum of two numbers at 128 bits, the second of which is unsigned.
 fn is_wrapped(number: Integer, other: Integer, wanted: &Integer) -> bool {
     IntegerType::wrapping_unsigned_add(number, other) == *wanted
 }
@@ -249,7 +247,7 @@ fn is_minus_one(answer: Option<Integer>) -> bool {
     }
 }
 
-/// Whether sums and differences outside 128 bits, of which these are the ends, are none.
+/// Whether sums and differences outside 128 bits, with these bounds, are none.
 fn are_ends(least: &Integer, greatest: &Integer) -> bool {
     greatest.checked_add(&Integer::ONE).is_none()
         && least.checked_sub(&Integer::ONE).is_none()
@@ -257,7 +255,7 @@ fn are_ends(least: &Integer, greatest: &Integer) -> bool {
         && is_minus_one(Integer::ZERO.checked_sub(&Integer::ONE))
 }
 
-/// Whether these two are the ends, and the sums of them and of a number without a sign wrap.
+/// Whether these two are the bounds, and the sums of them and of an unsigned number wrap.
 fn have_ends() -> bool {
     let (least, greatest) = (Integer::from_i128(i128::MIN), Integer::from_i128(i128::MAX));
     let are_ends = are_ends(&least, &greatest);
@@ -270,7 +268,7 @@ fn have_ends() -> bool {
     are_ends && is_least && is_two
 }
 
-/// Whether numbers are those of 64 bits, where these have room, and of 128.
+/// Whether numbers are 64-bit numbers if they fit, and 128-bit numbers.
 fn words_are_exact() -> bool {
     Integer::from(-1i8).to_i64() == Some(-1)
         && Integer::from(-1i8).to_u64().is_none()
@@ -279,7 +277,7 @@ fn words_are_exact() -> bool {
         && <Integer as IntegerType>::from_i128(i128::MIN) == Some(Integer::from_i128(i128::MIN))
 }
 
-/// Whether the refusal to convert 256 to a type of 8 bits is shown, copied and gives the number back.
+/// Whether the error of converting 256 to a type of 8 bits is printed, copied and returns the number.
 fn is_refusal_of_256(alloc: Global, refusal: TryFromIntegerError) -> bool {
     is_told(alloc, &refusal, "256 is outside the range of its type")
         && is_shown(
@@ -292,7 +290,7 @@ fn is_refusal_of_256(alloc: Global, refusal: TryFromIntegerError) -> bool {
         && refusal.into_original() == Integer::from(256u16)
 }
 
-/// Whether 256 is refused so.
+/// Whether 256 is rejected in that way.
 fn is_256_refused(alloc: Global) -> bool {
     match u8::try_from(Integer::from(256u16)) {
         Ok(_) => false,
@@ -300,7 +298,7 @@ fn is_256_refused(alloc: Global) -> bool {
     }
 }
 
-/// What each reason tells.
+/// The message of each error.
 const REASONS: [(IntegerError, &'static str); 3] = [
     (IntegerError::Empty, "no octets"),
     (
@@ -310,7 +308,7 @@ const REASONS: [(IntegerError, &'static str); 3] = [
     (IntegerError::Memory, "out of memory"),
 ];
 
-/// The text that is not told of its reason, if there is one.
+/// The message that its error does not print, if there is one.
 fn wrong_text(alloc: Global) -> Option<&'static str> {
     for (reason, text) in &REASONS {
         if !is_told(alloc, reason, text) {
@@ -332,7 +330,7 @@ const LEAST: i64 = -5;
 
 type Small = ConstrainedInteger<LEAST, 5>;
 
-/// Whether numbers within a range are in order, and copied, and those beside it are none of it.
+/// Whether numbers within a range are ordered and copied, and those next to it are not in it.
 fn are_within(least: &Small, greatest: &Small) -> bool {
     greatest.to_i64() == Some(5)
         && is_before(least, greatest)
@@ -351,7 +349,7 @@ fn constrained_integers(rt: HostRuntime) {
     }
 }
 
-/// Whether a copy is the same. Where memory is refused for it, `granted` is false.
+/// Whether a clone is equal. A failed allocation sets `granted` to false.
 fn is_same_or_refused<T: Clone + PartialEq + Drop>(value: &T, granted: &mut bool) -> bool {
     match is_copied(value) {
         Ok(is_same) => is_same,
@@ -362,7 +360,7 @@ fn is_same_or_refused<T: Clone + PartialEq + Drop>(value: &T, granted: &mut bool
     }
 }
 
-/// Whether the refusal to convert the number to a type of 8 bits is copied, where there is memory for a copy.
+/// Whether the error of converting the number to a type of 8 bits is copied, if there is memory for a copy.
 fn is_copied_in_refusal(number: Integer, granted: &mut bool) -> bool {
     match u8::try_from(number) {
         Ok(_) => false,
@@ -370,15 +368,14 @@ fn is_copied_in_refusal(number: Integer, granted: &mut bool) -> bool {
     }
 }
 
-/// Whether this is the number of the octets, which is copied alone and in a refusal, where there is memory for a copy.
+/// Whether this is the number of the octets, and is copied alone and in an error, if there is memory for a copy.
 fn is_number_copied(number: Integer, octets: &[u8], granted: &mut bool) -> bool {
     let is_same = is_same_or_refused(&number, granted);
     let is_read = has(&number.to_unsigned_bytes_be(), octets);
     is_copied_in_refusal(number, granted) && is_read && is_same
 }
 
-/// Either the number of the octets was read, and copied, or memory is wanting, and nothing else. Whether no request
-/// was refused.
+/// The number of the octets was read and copied, or memory ran out. Returns whether no allocation failed.
 fn is_read_or_refused(
     rt: &impl Abort,
     answer: Result<Integer, IntegerError>,
@@ -396,8 +393,8 @@ fn is_read_or_refused(
     granted
 }
 
-/// Reads numbers of twenty octets in each way: each is whole, or memory is wanting. Whether none was refused. What
-/// takes no memory is always read.
+/// Reads numbers of twenty octets in each way; each is complete, or memory ran out. Returns whether no allocation
+/// failed. What allocates nothing has to succeed.
 pub fn requests(rt: &impl Abort, alloc: Global) -> bool {
     let octets = [1; 20];
     let own = is_read_or_refused(rt, Integer::try_from_bytes(alloc, &octets), &octets);

@@ -1,4 +1,4 @@
-//! Rows of widths and codes, and what errors tell.
+//! Rows of widths and codes, and the messages of errors.
 use crate::common::assert_none;
 use crate::rows::{KINDS, Kind, number_of, numbers_of, refusal};
 use asn1_values::{
@@ -7,12 +7,12 @@ use asn1_values::{
 use std::alloc::{AllocError, Global};
 use std::process::Abort;
 
-/// The alphabets: their characters, or the first and the last of them; whether the width of their codes is raised to
-/// 1, 2, 4, 8, 16 or 32 bits; this width; characters with their codes; and a character and a code that the alphabet
-/// lacks. All numbers are in hexadecimal digits. They are that of NumericString; those of 0 to 3, which take two
-/// bits, and so do 0, 1 and 3, where no character has the code 2; those of one character, where 61 does not fit a
-/// code of no bits, and 0 does, and both have the code 0; those of VisibleString, IA5String and BMPString, whose
-/// codes are the characters' own numbers; and those of so many characters from 3E8 on, whose codes are their places.
+/// The alphabets: their characters, or the first and the last of them; whether the width of a code is raised to 1, 2,
+/// 4, 8, 16 or 32 bits; this width; characters with their codes; and a character and a code that the alphabet lacks.
+/// All numbers are hexadecimal. The alphabets are: that of NumericString; 0 to 3, which take two bits, as do 0, 1 and
+/// 3, where no character has the code 2; single characters, where 61 does not fit a code of no bits, 0 does, and both
+/// have the code 0; those of VisibleString, IA5String and BMPString, whose codes are the characters' values; and
+/// consecutive characters from 3E8 on, whose codes are their indices.
 const ROWS: &str = "\
 of 20 30 31 32 33 34 35 36 37 38 39;plain;4;31:2 32:3 33:4 20:0 39:A;41 B
 of 0 1 3;plain;2;0:0 1:1 3:3;2 2
@@ -49,7 +49,7 @@ from 3E8 4E7;raised;8;;
 from 3E8 4E8;plain;9;3E8:0 4E8:100;
 from 3E8 4E8;raised;10;;";
 
-/// The characters from one to another.
+/// The characters from `first` to `last`.
 fn characters_from_to(alloc: Global, first: u32, last: u32) -> Result<Vec<u32>, AllocError> {
     let mut characters = Vec::new(alloc);
     for character in first..=last {
@@ -70,12 +70,12 @@ fn listed(alloc: Global, words: &str) -> Result<Vec<u32>, AllocError> {
     }
 }
 
-/// Whether a character has this code, and the code stands for the character.
+/// Whether a character has this code, and the code decodes to the character.
 fn has_code(alphabet: &CharacterAlphabet, character: u32, code: u32) -> bool {
     alphabet.encode(character).ok() == Some(code) && alphabet.decode(code).ok() == Some(character)
 }
 
-/// Whether each character has its code among these, and each code stands for its character.
+/// Whether each character has its code in these rows, and each code decodes to its character.
 fn has_codes(alphabet: &CharacterAlphabet, rows: &str) -> bool {
     for row in rows.split_whitespace() {
         match row.split_once(':') {
@@ -87,7 +87,7 @@ fn has_codes(alphabet: &CharacterAlphabet, rows: &str) -> bool {
     true
 }
 
-/// Whether an alphabet tells that it lacks this character and this code.
+/// Whether an alphabet reports this character and this code as missing.
 fn lacks(alphabet: &CharacterAlphabet, missing: u32, unused: u32) -> bool {
     matches!(
         alphabet.encode(missing),
@@ -98,8 +98,7 @@ fn lacks(alphabet: &CharacterAlphabet, missing: u32, unused: u32) -> bool {
     )
 }
 
-/// Whether an alphabet has codes of this width, these among them, and lacks a character and a code, if there are any
-/// here.
+/// Whether an alphabet has codes of this width, including these, and lacks a character and a code, if any are given.
 fn is_as_said(alphabet: &CharacterAlphabet, width: &str, codes: &str, lacking: &str) -> bool {
     alphabet.width() == number_of(width)
         && has_codes(alphabet, codes)
@@ -109,7 +108,7 @@ fn is_as_said(alphabet: &CharacterAlphabet, width: &str, codes: &str, lacking: &
         }
 }
 
-/// Whether the alphabet of a row is made as the row says; want of memory is answered as such.
+/// Whether the alphabet of a row is made as the row says, or memory runs out.
 fn is_row(alloc: Global, row: &str) -> Result<bool, AllocError> {
     let mut parts = row.split(';');
     let characters = listed(alloc, parts.next().unwrap_or(""))?;
@@ -124,7 +123,7 @@ fn is_row(alloc: Global, row: &str) -> Result<bool, AllocError> {
     }
 }
 
-/// Whether a list of characters is refused since it does not ascend.
+/// Whether a list of characters that does not ascend is an error.
 fn is_no_list(alloc: Global, characters: &[u32]) -> bool {
     matches!(
         CharacterAlphabet::new(alloc, characters, false),
@@ -132,7 +131,7 @@ fn is_no_list(alloc: Global, characters: &[u32]) -> bool {
     )
 }
 
-/// The row whose alphabet is not made as it says, if there is one. Where memory is refused, `granted` is false.
+/// The row whose alphabet is not made as it says, if there is one. A failed allocation sets `granted` to false.
 fn wrong_row(alloc: Global, granted: &mut bool) -> Option<&'static str> {
     for row in ROWS.lines() {
         match is_row(alloc, row) {
@@ -144,7 +143,7 @@ fn wrong_row(alloc: Global, granted: &mut bool) -> Option<&'static str> {
     None
 }
 
-/// Makes each alphabet: the answer is the whole one, or wants memory. Whether none was refused.
+/// Makes each alphabet; it is complete, or memory ran out. Returns whether no allocation failed.
 pub fn requests(rt: &impl Abort, alloc: Global) -> bool {
     let mut granted = true;
     assert_none(rt, &wrong_row(alloc, &mut granted));
@@ -152,7 +151,7 @@ pub fn requests(rt: &impl Abort, alloc: Global) -> bool {
     granted
 }
 
-/// Errors, and what each tells of itself.
+/// Errors, and their messages.
 const TOLD: [(PermittedAlphabetError, &'static str); 4] = [
     (
         PermittedAlphabetError::Other,
@@ -172,7 +171,7 @@ const TOLD: [(PermittedAlphabetError, &'static str); 4] = [
     ),
 ];
 
-/// What each kind of string tells of its refusal of the character 65.
+/// The message of each kind of string about the character 65.
 const REFUSED: [&'static str; 8] = [
     "character 65 is not permitted in a NumericString",
     "character 65 is not permitted in a PrintableString",
@@ -184,7 +183,7 @@ const REFUSED: [&'static str; 8] = [
     "character 65 is not permitted in a BMPString",
 ];
 
-/// What an error tells of itself, also where there was no memory for it at first.
+/// The message of an error; after a failed allocation it is made again.
 fn told(alloc: Global, error: &PermittedAlphabetError) -> Result<String, AllocError> {
     match format!(in alloc; "{error}") {
         Err(AllocError) => format!(in alloc; "{error}"),
@@ -192,7 +191,7 @@ fn told(alloc: Global, error: &PermittedAlphabetError) -> Result<String, AllocEr
     }
 }
 
-/// Whether an error tells this of itself.
+/// Whether an error has this message.
 fn tells(alloc: Global, error: &PermittedAlphabetError, wanted: &str) -> bool {
     match told(alloc, error) {
         Ok(text) => text.as_str() == wanted,
@@ -200,7 +199,7 @@ fn tells(alloc: Global, error: &PermittedAlphabetError, wanted: &str) -> bool {
     }
 }
 
-/// The text that is not told of its error, if there is one.
+/// The message that its error does not print, if there is one.
 fn wrong_text(alloc: Global) -> Option<&'static str> {
     for (error, wanted) in &TOLD {
         if !tells(alloc, error, wanted) {
@@ -210,7 +209,7 @@ fn wrong_text(alloc: Global) -> Option<&'static str> {
     None
 }
 
-/// Whether a kind of string tells this of its refusal of the character 65.
+/// Whether a kind of string has this message about the character 65.
 fn tells_of_65(alloc: Global, kind: Option<&Kind>, wanted: &str) -> bool {
     match kind {
         Some(kind) => tells(
@@ -222,7 +221,7 @@ fn tells_of_65(alloc: Global, kind: Option<&Kind>, wanted: &str) -> bool {
     }
 }
 
-/// The text that is not told of its refusal, if there is one.
+/// The message that its kind of string does not print, if there is one.
 fn wrong_refusal(alloc: Global) -> Option<&'static str> {
     for (place, wanted) in REFUSED.iter().enumerate() {
         if !tells_of_65(alloc, KINDS.get(place), wanted) {

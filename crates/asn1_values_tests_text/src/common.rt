@@ -1,8 +1,9 @@
-//! What the tests have in common.
+//! Helpers of the tests.
 use std::fmt::Debug;
 use std::process::Abort;
 
-/// Ends the test, and shows what is wrong, unless nothing is: proved here once, and not again with each call.
+/// Ends the test with `wrong` in its message, if there is one. A function, so that this is proved once and not at each
+/// call.
 pub fn assert_none<T: Debug>(rt: &impl Abort, wrong: &Option<T>) {
     assert!(rt; wrong.is_none(), "{wrong:?}");
 }

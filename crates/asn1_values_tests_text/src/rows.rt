@@ -1,4 +1,4 @@
-//! Rows of strings of each kind: what they are made of, and their characters, or why there is none.
+//! Rows of strings of each kind: what they are made from, and their characters, or the error.
 use crate::common::assert_none;
 use asn1_values::{
     BitString, BmpString, CharacterKind, General, Graphic, Ia5, InvalidBmpString,
@@ -35,7 +35,7 @@ pub const KINDS: [Kind; 8] = [
     Kind::Bmp,
 ];
 
-/// The refusal of a character by a kind of string.
+/// The error of a kind of string for a character.
 pub fn refusal(kind: Kind, character: u32) -> InvalidRestrictedString {
     match kind {
         Kind::Numeric => InvalidNumericString::from(character).into(),
@@ -63,7 +63,7 @@ fn permits(kind: Kind, character: u32) -> bool {
     }
 }
 
-/// The characters that a kind permits: these, or those from one to another.
+/// The characters that a kind permits: these, or those from the first to the last.
 enum Alphabet {
     These(&'static [u8]),
     FromTo(u32, u32),
@@ -124,8 +124,8 @@ fn alphabets(rt: HostRuntime) {
     assert_none(&rt, &wrong_kind());
 }
 
-/// What a string is made of: of octets, a text or a character that are lent, of octets or a text in a value that is
-/// given up, or of so many zero bits.
+/// What a string is made from: borrowed octets, a borrowed text or a character; owned octets or an owned text; or a
+/// number of zero bits.
 #[derive(Clone, Copy)]
 enum Source {
     Octets,
@@ -138,7 +138,7 @@ enum Source {
     Character,
 }
 
-/// That text, the octets for which its digits stand, and the number for which they do.
+/// The text of a row, the octets that its digits encode, and the number that they encode.
 #[derive(Drop)]
 struct Parts<'a> {
     text: &'a str,
@@ -146,7 +146,7 @@ struct Parts<'a> {
     number: u32,
 }
 
-/// The string of a text that is given up.
+/// The string of an owned text.
 fn of_string<S: TryFrom<String, Error = PermittedAlphabetError>>(
     alloc: Global,
     text: &str,
@@ -170,7 +170,7 @@ fn of_vector<S: TryFrom<Vec<u8>, Error = PermittedAlphabetError>>(
     S::try_from(Vec::from_slice(alloc, octets)?)
 }
 
-/// So many zero bits.
+/// A bit string of `len` zero bits.
 fn zeros(alloc: Global, len: usize) -> Result<BitString, AllocError> {
     let mut bits = BitString::new(alloc);
     for _ in 0..len {
@@ -179,7 +179,7 @@ fn zeros(alloc: Global, len: usize) -> Result<BitString, AllocError> {
     Ok(bits)
 }
 
-/// The string of so many zero bits.
+/// The string of `len` zero bits.
 fn of_zeros<S: TryFrom<BitString, Error = PermittedAlphabetError>>(
     alloc: Global,
     len: usize,
@@ -197,7 +197,7 @@ fn of_character<S: StaticPermittedAlphabet + Drop>(
     Ok(string)
 }
 
-/// What one call makes.
+/// The result of one call.
 fn made<K: CharacterKind>(
     alloc: Global,
     source: Source,
@@ -218,7 +218,7 @@ fn made<K: CharacterKind>(
     }
 }
 
-/// What one call makes of characters of two octets.
+/// The result of one call for a BMPString.
 fn made_wide(
     alloc: Global,
     source: Source,
@@ -238,8 +238,8 @@ fn made_wide(
     }
 }
 
-/// What is to be made: a string of these characters, or none, by a character outside the alphabet, or since there are
-/// no whole characters.
+/// What has to result: a string of these characters, an error for a character outside the alphabet, or an error
+/// because the data are not whole characters.
 #[derive(Drop)]
 enum Wanted {
     Characters(Vec<u32>),
@@ -247,7 +247,7 @@ enum Wanted {
     NoData,
 }
 
-/// What was answered: the right string or the right refusal, want of memory, or neither.
+/// The result: the right string or the right error, out of memory, or neither.
 #[derive(Clone, Copy, PartialEq, Eq)]
 enum Answer {
     Right,
@@ -255,7 +255,7 @@ enum Answer {
     Wrong,
 }
 
-/// Whether a string that is asked for its characters, one by one and all at once, gives these.
+/// Whether a string has these characters, one by one and as a slice.
 pub fn lists<T: Copy + Into<u32>, S: StaticPermittedAlphabet + AsSlice<T>>(
     string: &S,
     wanted: &[u32],
@@ -276,7 +276,7 @@ pub fn lists<T: Copy + Into<u32>, S: StaticPermittedAlphabet + AsSlice<T>>(
     string.char_count() == wanted.len() && characters.len() == wanted.len()
 }
 
-/// What was answered in place of a string.
+/// Whether the error is right.
 fn judged_error(kind: Kind, error: PermittedAlphabetError, wanted: &Wanted) -> Answer {
     let is_right = match (error, wanted) {
         (PermittedAlphabetError::Memory(_), _) => return Answer::Memory,
@@ -293,7 +293,7 @@ fn judged_error(kind: Kind, error: PermittedAlphabetError, wanted: &Wanted) -> A
     }
 }
 
-/// What was answered, where a string of these characters is wanted.
+/// Whether the result is right if a string of these characters is wanted.
 fn judged_slice<T: Copy + Into<u32>, S: StaticPermittedAlphabet + AsSlice<T> + Drop>(
     kind: Kind,
     answer: Result<S, PermittedAlphabetError>,
@@ -306,7 +306,7 @@ fn judged_slice<T: Copy + Into<u32>, S: StaticPermittedAlphabet + AsSlice<T> + D
     }
 }
 
-/// What was answered.
+/// Whether the result is right.
 fn judged<T: Copy + Into<u32>, S: StaticPermittedAlphabet + AsSlice<T> + Drop>(
     kind: Kind,
     answer: Result<S, PermittedAlphabetError>,
@@ -321,7 +321,7 @@ fn judged<T: Copy + Into<u32>, S: StaticPermittedAlphabet + AsSlice<T> + Drop>(
     }
 }
 
-/// What is answered to a call.
+/// Makes a call and says whether its result is right.
 fn answer_to(
     alloc: Global,
     (kind, source): (Kind, Source),
@@ -393,7 +393,7 @@ fn octets_of(alloc: Global, digits: &str) -> Result<Vec<u8>, AllocError> {
     Ok(octets)
 }
 
-/// What is to be made, as a sign and numbers say: `=` characters, `!` a character outside the alphabet, `?` no whole
+/// What has to result, from a sign and numbers: `=` characters, `!` a character outside the alphabet, `?` not whole
 /// characters.
 fn wanted_of(alloc: Global, sign: &str, numbers: &str) -> Result<Wanted, AllocError> {
     Ok(match sign {
@@ -403,7 +403,7 @@ fn wanted_of(alloc: Global, sign: &str, numbers: &str) -> Result<Wanted, AllocEr
     })
 }
 
-/// What is answered to the call of a row.
+/// Makes the call of a row and says whether its result is right.
 fn answer_to_row(
     alloc: Global,
     (kind, source, text): (&str, &str, &str),
@@ -420,7 +420,7 @@ fn answer_to_row(
     }
 }
 
-/// Whether the answer to the call of a row is right; want of memory is answered as such.
+/// Whether the result of the call of a row is right, or memory runs out.
 fn is_row(alloc: Global, row: &str) -> Result<bool, AllocError> {
     let mut words = row.splitn(5, ' ');
     let kind = words.next().unwrap_or("");
@@ -435,7 +435,7 @@ fn is_row(alloc: Global, row: &str) -> Result<bool, AllocError> {
     }
 }
 
-/// Strings of octets that stand for as long as the program runs.
+/// Strings of static octets.
 fn of_static_octets(alloc: Global) -> [Answer; 2] {
     let narrow = RestrictedString::<Numeric>::from_octet_string(
         alloc,
@@ -448,7 +448,7 @@ fn of_static_octets(alloc: Global) -> [Answer; 2] {
     ]
 }
 
-/// The row whose string is not made as it says, if there is one. Where memory is refused, `granted` is false.
+/// The row whose string is not made as it says, if there is one. A failed allocation sets `granted` to false.
 fn wrong_row(alloc: Global, granted: &mut bool) -> Option<&'static str> {
     for row in ROWS.lines() {
         match is_row(alloc, row) {
@@ -460,7 +460,7 @@ fn wrong_row(alloc: Global, granted: &mut bool) -> Option<&'static str> {
     None
 }
 
-/// Makes each string of the rows: the answer is right, or wants memory. Whether none was refused.
+/// Makes each string of the rows; the result is right, or memory ran out. Returns whether no allocation failed.
 pub fn requests(rt: &impl Abort, alloc: Global) -> bool {
     let mut granted = true;
     assert_none(rt, &wrong_row(alloc, &mut granted));
@@ -471,11 +471,10 @@ pub fn requests(rt: &impl Abort, alloc: Global) -> bool {
     granted
 }
 
-/// The rows: a kind, what a string is made of, and what is to be made, with numbers in hexadecimal digits. First
-/// octets of each alphabet, and those refused by the first one outside it; then the first and the last characters of
-/// each alphabet, and those next to them; texts that are lent, where E9 is one octet of a TeletexString, and two of
-/// the text, and texts that are given up; octets in each other form; and zero bits, which are whole characters or
-/// none.
+/// The rows: a kind, what a string is made from, and what has to result, with hexadecimal numbers. First octets of
+/// each alphabet, and octets with one outside it; then the first and the last characters of each alphabet, and those
+/// next to them; borrowed texts, where E9 is one octet of a TeletexString and two of the text, and owned texts; octets
+/// in each other form; and zero bits, which are whole characters or not.
 const ROWS: &str = "\
 numeric octets 31.32.33 = 31 32 33
 printable octets 4A.6F.20.28.31.29.3F = 4A 6F 20 28 31 29 3F

@@ -1,4 +1,4 @@
-//! What strings give, how they are compared, copied and shown, and what stands after a refused request for memory.
+//! What strings contain, how they are compared, copied and printed, and their state after a failed allocation.
 use crate::rows::lists;
 use crate::{alphabets, rows};
 use asn1_values::{
@@ -14,7 +14,7 @@ use std::fmt::Debug;
 use std::hash::{BuildHasher, BuildHasherDefault, DefaultHasher, Hash};
 use std::process::Abort;
 
-/// What a call makes, and what it makes the next time where it found no memory at first.
+/// A string of these characters. After a failed allocation, a character is appended again.
 fn made<S: StaticPermittedAlphabet + Drop>(
     alloc: Global,
     characters: &[u32],
@@ -28,7 +28,7 @@ fn made<S: StaticPermittedAlphabet + Drop>(
     Ok(string)
 }
 
-/// Appends a character, a second time where there was no memory at first; whether it was appended.
+/// Appends a character, again after a failed allocation. Returns whether it was appended.
 fn is_pushed<S: StaticPermittedAlphabet>(string: &mut S, character: u32) -> bool {
     match string.push_char(character) {
         Err(PermittedAlphabetError::Memory(_)) => string.push_char(character).is_ok(),
@@ -36,7 +36,8 @@ fn is_pushed<S: StaticPermittedAlphabet>(string: &mut S, character: u32) -> bool
     }
 }
 
-/// Whether characters are appended to an empty string, each that is permitted, and it is then of these.
+/// Appends characters to an empty string; each that is permitted has to succeed. Returns whether the string then has
+/// the wanted ones.
 fn takes<T: Copy + Into<u32>, S: StaticPermittedAlphabet + AsSlice<T> + Drop>(
     alloc: Global,
     characters: &[(u32, bool)],
@@ -51,7 +52,7 @@ fn takes<T: Copy + Into<u32>, S: StaticPermittedAlphabet + AsSlice<T> + Drop>(
     lists(&string, wanted)
 }
 
-/// An empty string with room, also where there was none at first.
+/// An empty string with room, allocated again after a failed allocation.
 fn roomy<S: StaticPermittedAlphabet>(alloc: Global, count: usize) -> Result<S, AllocError> {
     match S::with_capacity(alloc, count) {
         Err(AllocError) => S::with_capacity(alloc, count),
@@ -59,7 +60,7 @@ fn roomy<S: StaticPermittedAlphabet>(alloc: Global, count: usize) -> Result<S, A
     }
 }
 
-/// Whether the empty string of a type, one with room, and what the type makes with an allocator have no characters.
+/// Whether the empty string of a type, one with room, and one made with an allocator by the trait have no characters.
 fn are_made_empty<T, S: StaticPermittedAlphabet + MadeWith<Global> + PartialEq + AsSlice<T> + Drop>(
     alloc: Global,
 ) -> bool {
@@ -78,7 +79,7 @@ fn is_empty_of_octets(alloc: Global) -> bool {
     string.is_empty() && string.chars().next() == None
 }
 
-/// Whether a new BMPString has none.
+/// Whether a new BMPString has no characters.
 fn is_empty_of_pairs(alloc: Global) -> bool {
     let string = BmpString::new(alloc);
     string.is_empty()
@@ -95,7 +96,7 @@ fn appended_characters(rt: HostRuntime) {
     assert!(rt; are_made_empty::<u16, BmpString>(alloc) && is_empty_of_pairs(alloc));
 }
 
-/// The octets that a call gives, at the second time where there was no memory at first.
+/// Whether the octets that a call returns are the wanted ones.
 fn are_given(first: Result<Vec<u8>, AllocError>, wanted: &[u8]) -> bool {
     match first {
         Ok(octets) => octets.as_slice() == wanted,
@@ -103,7 +104,7 @@ fn are_given(first: Result<Vec<u8>, AllocError>, wanted: &[u8]) -> bool {
     }
 }
 
-/// What a string of octets that is gone through gives at first.
+/// The first results of the iterator of a string.
 fn first_four(string: &PrintableString) -> [Option<u32>; 4] {
     let mut characters = string.chars();
     [
@@ -114,7 +115,7 @@ fn first_four(string: &PrintableString) -> [Option<u32>; 4] {
     ]
 }
 
-/// What a BMPString that is gone through gives at first.
+/// The first results of the iterator of a BMPString.
 fn first_four_pairs(string: &BmpString) -> [Option<u32>; 4] {
     let mut characters = string.chars();
     [
@@ -125,7 +126,7 @@ fn first_four_pairs(string: &BmpString) -> [Option<u32>; 4] {
     ]
 }
 
-/// Whether a string of octets has the characters 65 and 98, lent and given up.
+/// Whether a string has the characters 65 and 98, borrowed and moved.
 fn has_two_octets(alloc: Global, string: PrintableString) -> bool {
     let is_lent = string.len() == 2
         && !string.is_empty()
@@ -137,7 +138,7 @@ fn has_two_octets(alloc: Global, string: PrintableString) -> bool {
     is_lent && octets.as_slice() == b"Ab".as_slice()
 }
 
-/// Whether a BMPString has the characters 41 and 20AC, lent and given up, also as octets.
+/// Whether a BMPString has the characters 41 and 20AC, borrowed and moved, also as octets.
 fn has_two_pairs(alloc: Global, string: BmpString) -> bool {
     let is_lent = string.len() == 2
         && string.as_units() == [0x41, 0x20AC].as_slice()
@@ -156,7 +157,7 @@ fn have_two(alloc: Global) -> Result<bool, PermittedAlphabetError> {
     )
 }
 
-/// Whether what was made is made again of its own octets.
+/// Whether a string is made again from its own octets.
 fn is_made_again(alloc: Global) -> Result<bool, PermittedAlphabetError> {
     let string = BmpString::from(Vec::from_slice(alloc, &[0, 1, 0x20AC, 0xFFFF])?);
     let again = BmpString::try_from(string.to_bytes(alloc)?)?;
@@ -169,17 +170,17 @@ fn characters_of_strings(rt: HostRuntime) {
     assert!(rt; matches!(is_made_again(rt.alloc()), Ok(true)));
 }
 
-/// Whether two values are ordered so, in each way to compare them.
+/// Whether two values are ordered in this way, by each comparison.
 fn is_before<T: Ord>(first: &T, second: &T) -> bool {
     first < second && first != second && first.cmp(second) == Ordering::Less
 }
 
-/// What a hasher makes of a value.
+/// The hash of a value.
 fn hash_of<T: Hash + Drop>(value: T) -> u64 {
     BuildHasherDefault::<DefaultHasher>::new().hash_one(value)
 }
 
-/// A copy, also where there was no memory for it at first.
+/// A clone, made again after a failed allocation.
 fn copied<S: Clone>(string: &S) -> Result<S, AllocError> {
     match string.clone() {
         Ok(copy) => Ok(copy),
@@ -187,7 +188,7 @@ fn copied<S: Clone>(string: &S) -> Result<S, AllocError> {
     }
 }
 
-/// Whether a copy is equal to its string, and hashed as that and as the characters are.
+/// Whether a clone is equal to its string, and has its hash and that of the characters.
 fn is_copied<T: Hash, S: Clone + Hash + PartialEq + AsSlice<T> + Drop>(string: &S) -> bool {
     match copied(string) {
         Ok(copy) => {
@@ -199,7 +200,7 @@ fn is_copied<T: Hash, S: Clone + Hash + PartialEq + AsSlice<T> + Drop>(string: &
     }
 }
 
-/// Whether three strings are in this order, and the first is copied.
+/// Whether three strings are in this order, and the first is cloned.
 fn are_ordered<T: Hash, S: StaticPermittedAlphabet + Ord + Clone + Hash + AsSlice<T> + Drop>(
     alloc: Global,
     [first, second, third]: [&[u32]; 3],
@@ -210,7 +211,7 @@ fn are_ordered<T: Hash, S: StaticPermittedAlphabet + Ord + Clone + Hash + AsSlic
     Ok(is_before(&first, &second) && is_before(&second, &third) && is_copied(&first))
 }
 
-/// Whether strings are ordered by their first characters that differ.
+/// Whether strings are ordered by the first characters in which they differ.
 fn are_in_order(alloc: Global) -> Result<bool, PermittedAlphabetError> {
     Ok(
         are_ordered::<u8, GraphicString>(alloc, [&[1, 2], &[1, 3], &[2]])?
@@ -218,7 +219,7 @@ fn are_in_order(alloc: Global) -> Result<bool, PermittedAlphabetError> {
     )
 }
 
-/// The string "Jo" of a kind with texts, also where there was no memory for it at first.
+/// The string "Jo" of a kind of ASCII characters, made again after a failed allocation.
 fn jo<K: TextKind>(alloc: Global) -> Result<RestrictedString<K>, PermittedAlphabetError> {
     match RestrictedString::from_iso646_bytes(alloc, b"Jo") {
         Err(PermittedAlphabetError::Memory(_)) => {
@@ -228,17 +229,17 @@ fn jo<K: TextKind>(alloc: Global) -> Result<RestrictedString<K>, PermittedAlphab
     }
 }
 
-/// What is shown of a string: its text, in four places, and as a value.
+/// How a string is printed: as it is, in four columns, and by `Debug`.
 fn shown(alloc: Global, string: &VisibleString) -> Result<String, AllocError> {
     format!(in alloc; "{string} {string:>4} {string:?}")
 }
 
-/// What is shown of a value.
+/// How a value is printed.
 fn shown_value<T: Debug>(alloc: Global, value: &T) -> Result<String, AllocError> {
     format!(in alloc; "{value:?}")
 }
 
-/// Whether a call shows this text.
+/// Whether a call prints this text.
 fn is_text(text: Result<String, AllocError>, wanted: &str) -> bool {
     match text {
         Ok(text) => text.as_str() == wanted,
@@ -246,7 +247,7 @@ fn is_text(text: Result<String, AllocError>, wanted: &str) -> bool {
     }
 }
 
-/// Whether a string is the text "Jo", lent, shown and given up.
+/// Whether a string is the text "Jo", borrowed, printed and moved.
 fn is_jo(alloc: Global, string: VisibleString) -> bool {
     let is_lent = string.as_str() == "Jo"
         && string.as_iso646_bytes() == b"Jo".as_slice()
@@ -261,7 +262,7 @@ fn octets_of(alloc: Global) -> Result<OctetString, PermittedAlphabetError> {
     Ok(OctetString::try_from(string)?)
 }
 
-/// Whether texts are shown, and octets given.
+/// Whether texts are printed, and octets returned.
 fn are_texts(alloc: Global) -> Result<bool, PermittedAlphabetError> {
     let wide = made::<BmpString>(alloc, &[65])?;
     Ok(
@@ -271,7 +272,7 @@ fn are_texts(alloc: Global) -> Result<bool, PermittedAlphabetError> {
     )
 }
 
-/// Whether a text makes an IA5String whose octets are these.
+/// Whether a text makes an IA5String with these octets.
 fn is_iso646(alloc: Global, text: &str, octets: &[u8]) -> bool {
     match Ia5String::from_text(alloc, text) {
         Ok(string) => string.as_iso646_bytes() == octets,
@@ -286,7 +287,7 @@ fn orders_and_texts(rt: HostRuntime) {
     assert!(rt; is_iso646(alloc, "Jo", b"Jo"));
 }
 
-/// Whether a call was granted its memory: then it has made a value of these, and else it wants memory.
+/// Whether the allocations of a call succeeded; then its result has to be these items, and else its error is `Memory`.
 fn is_whole<T: PartialEq, S: AsSlice<T> + Drop>(
     rt: &impl Abort,
     answer: Result<S, PermittedAlphabetError>,
@@ -300,7 +301,7 @@ fn is_whole<T: PartialEq, S: AsSlice<T> + Drop>(
     is_granted
 }
 
-/// Whether there are twenty items, all of them this one.
+/// Whether there are twenty items, all of them `wanted`.
 fn are_twenty<T: PartialEq>(items: &[T], wanted: &T) -> bool {
     for item in items {
         if item != wanted {
@@ -310,8 +311,8 @@ fn are_twenty<T: PartialEq>(items: &[T], wanted: &T) -> bool {
     items.len() == 20
 }
 
-/// Appends a character twenty times, which makes a string of as many items, and copies it. A refused one leaves the
-/// string as it was. Whether none was refused.
+/// Appends a character twenty times, which makes a string of twenty items, and clones it. After a failed allocation
+/// the string has to be unchanged. Returns whether none failed.
 fn appends<T: PartialEq, S: StaticPermittedAlphabet + Clone + AsSlice<T> + Drop>(
     rt: &impl Abort,
     string: &mut S,
@@ -330,7 +331,7 @@ fn appends<T: PartialEq, S: StaticPermittedAlphabet + Clone + AsSlice<T> + Drop>
     granted & is_whole(rt, copied, string.as_slice())
 }
 
-/// Whether a call was granted its memory: then it has given forty octets.
+/// Whether the allocations of a call succeeded; then its result has to be forty octets.
 fn gives_forty(rt: &impl Abort, answer: Result<Vec<u8>, AllocError>) -> bool {
     match answer {
         Ok(octets) => {
@@ -341,7 +342,7 @@ fn gives_forty(rt: &impl Abort, answer: Result<Vec<u8>, AllocError>) -> bool {
     }
 }
 
-/// Takes the octets of an empty string, which is handed back where they are refused. Whether they were not.
+/// Takes the octets of an empty string; a failed allocation has to return it. Returns whether none failed.
 fn gives_no_octets(rt: &impl Abort, alloc: Global) -> bool {
     let (is_granted, is_empty) = match OctetString::try_from(Ia5String::new(alloc)) {
         Ok(octets) => (true, octets.is_empty()),
@@ -351,7 +352,7 @@ fn gives_no_octets(rt: &impl Abort, alloc: Global) -> bool {
     is_granted
 }
 
-/// Appends characters, copies the strings and takes octets. Whether no request for memory was refused.
+/// Appends characters, clones the strings and takes octets. Returns whether no allocation failed.
 fn grows(rt: &impl Abort, alloc: Global) -> bool {
     let mut narrow = NumericString::new(alloc);
     let mut granted = appends(rt, &mut narrow, 0x31, &0x31);
@@ -366,7 +367,7 @@ fn grows(rt: &impl Abort, alloc: Global) -> bool {
     granted & is_whole(rt, octets_of(alloc), b"Jo")
 }
 
-/// Makes the strings and alphabets of all rows, and has strings grow. Whether no request for memory was refused.
+/// Makes the strings and alphabets of all rows, and grows strings. Returns whether no allocation failed.
 fn requests(rt: &impl Abort, alloc: Global) -> bool {
     let rows = rows::requests(rt, alloc);
     let alphabets = alphabets::requests(rt, alloc);

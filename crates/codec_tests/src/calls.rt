@@ -1,4 +1,4 @@
-//! The calls that write and read.
+//! The calls that encode and decode.
 use asn1_schema_constraints::{Bounded, Constraint, Constraints, Extensible, Size, Value};
 use asn1_schema_encode::Encode;
 use asn1_schema_faults::{DecodeError, EncodeError};
@@ -15,7 +15,7 @@ use std::test::Fail;
 /// OCTET STRING (SIZE (5)).
 type FiveOctets = Constrained<SizeRange<5, 5>, OctetString>;
 
-/// Four octets, where five are wanted.
+/// Four octets, where five are required.
 fn four(alloc: Global) -> Result<FiveOctets, AllocError> {
     let octets = OctetString::from_slice(alloc, &[1, 2, 3, 4])?;
     Ok(FiveOctets::new(octets))
@@ -36,20 +36,20 @@ fn is_refused<T: Encode>(alloc: Global, value: &T, buffer: &mut Vec<u8>) -> bool
         && buffer.as_slice() == [0xAA].as_slice()
 }
 
-/// Whether they refuse four octets so.
+/// Whether they refuse four octets like that.
 fn four_are_refused(alloc: Global, buffer: &mut Vec<u8>) -> Result<bool, AllocError> {
     let four = four(alloc)?;
     Ok(is_refused(alloc, &four, buffer))
 }
 
-/// Whether they refuse a list of four octets so, whose count is written in front of them.
+/// Whether they refuse a list of four octets like that, after its count was written.
 fn list_of_four_is_refused(alloc: Global, buffer: &mut Vec<u8>) -> Result<bool, AllocError> {
     let mut list = Vec::new(alloc);
     list.push(four(alloc)?)?;
     Ok(is_refused(alloc, &list, buffer))
 }
 
-/// Whether they refuse a bag of five octets and of four so, whose first member is written apart.
+/// Whether they refuse a bag of five octets and four like that, after its first member was written apart.
 fn bag_is_refused(alloc: Global, buffer: &mut Vec<u8>) -> Result<bool, AllocError> {
     let mut members = Vec::new(alloc);
     members.push(five(alloc)?)?;
@@ -57,7 +57,7 @@ fn bag_is_refused(alloc: Global, buffer: &mut Vec<u8>) -> Result<bool, AllocErro
     Ok(is_refused(alloc, &SetOf::from_vec(members), buffer))
 }
 
-/// Adds true to what the buffer holds, twice: whether it stands behind that.
+/// Adds true to the buffer twice. Returns whether it follows what was there.
 fn adds_true(alloc: Global, buffer: &mut Vec<u8>) -> Result<bool, EncodeError> {
     coer::encode_buf(alloc, &true, buffer)?;
     let once = buffer.as_slice() == [0xAA, 0xFF].as_slice();
@@ -65,14 +65,14 @@ fn adds_true(alloc: Global, buffer: &mut Vec<u8>) -> Result<bool, EncodeError> {
     Ok(once && buffer.as_slice() == [0xAA, 0xFF, 0xFF].as_slice())
 }
 
-/// Adds a bag of 2 and of 1 to what the buffer holds: whether it stands behind that.
+/// Adds a bag of 2 and 1 to the buffer. Returns whether it follows what was there.
 fn adds_bag(alloc: Global, buffer: &mut Vec<u8>) -> Result<bool, EncodeError> {
     let bag = SetOf::from_vec(vec![in alloc; 2u8, 1]?);
     coer::encode_buf(alloc, &bag, buffer)?;
     Ok(buffer.as_slice() == [0xAA, 0xFF, 0xFF, 0x01, 0x02, 0x01, 0x02].as_slice())
 }
 
-/// A buffer is as it was where a value is refused, and else a value stands behind what it held.
+/// A refused value leaves the buffer as it was; any other value follows what was there.
 #[test]
 fn buffers(rt: HostRuntime) -> Result<(), Fail> {
     let alloc = rt.alloc();
@@ -91,7 +91,7 @@ fn refusal<T: Encode>(alloc: Global, constraint: Constraint<'_>, value: &T) -> O
     coer::encode_with_constraints(alloc, &Constraints::new(&list), value).err()
 }
 
-/// Whether OCTET STRING has none, as its size is not one of these.
+/// Whether an OCTET STRING has none, because its size is not allowed.
 fn octets_are_refused(
     alloc: Global,
     size: Constraint<'_>,
@@ -101,13 +101,13 @@ fn octets_are_refused(
     Ok(refusal(alloc, size, &string) == Some(EncodeError::SizeConstraintNotSatisfied))
 }
 
-/// Whether BIT STRING of 14 bits has none, as its size is not one of these.
+/// Whether a BIT STRING of 14 bits has none, because its size is not allowed.
 fn fourteen_are_refused(alloc: Global, size: Constraint<'_>) -> Result<bool, AllocError> {
     let bits = BitString::from_bitslice(alloc, BitStr::front_of(&[0xFF, 0x40], 14))?;
     Ok(refusal(alloc, size, &bits) == Some(EncodeError::SizeConstraintNotSatisfied))
 }
 
-/// The constraint to sizes from one to another.
+/// The constraint to sizes of `low` to `high`.
 fn size(low: usize, high: usize) -> Constraint<'static> {
     Constraint::Size(Extensible::new(Size::new(Bounded::const_new(low, high))))
 }
@@ -125,7 +125,7 @@ fn values_outside_their_constraints(rt: HostRuntime) -> Result<(), Fail> {
     Ok(())
 }
 
-/// Whether true stands in front, and this behind it.
+/// Whether `input` begins with true, and `rest` follows.
 fn is_true_before(alloc: Global, input: &[u8], rest: &[u8]) -> Result<bool, DecodeError> {
     let (value, behind) = decode_with_remainder::<bool>(alloc, input, EncodingRules::Coer)?;
     Ok(value && *behind == *rest)
@@ -142,7 +142,7 @@ fn is_seven_under(
     Ok(number == 7)
 }
 
-/// What stands behind a value is lent, or passed over; given constraints stand in place of those of the type.
+/// What follows a value is lent, or ignored; given constraints replace those of the type.
 #[test]
 fn octets_behind_a_value(rt: HostRuntime) -> Result<(), Fail> {
     let alloc = rt.alloc();

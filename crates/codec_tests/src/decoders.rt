@@ -1,4 +1,4 @@
-//! Decoders of octets, call by call.
+//! Decoders of OER and COER, call by call.
 ghost use Rattle.std.specs.Prelude.{◌≡◌, IfErr};
 
 use crate::common::assert_none;
@@ -35,12 +35,12 @@ const ROOT: &[Step] = by!(false 1);
 /// The alternative [2].
 const ADDITION: &[Step] = by!(true 0);
 
-/// Whether what comes next is that of its calls.
+/// Whether what comes next matches the calls.
 type Answer = Result<bool, DecodeError>;
 
 const NO_NUMBER: Answer = Err(DecodeError::InvalidTagNumberOnChoice);
 
-/// Calls, octets, and the answer of the basic rules and that of the canonical ones.
+/// Calls, octets, and the results in OER and COER.
 const CHOICES: [(&[Step], &[u8], Answer, Answer); 7] = [
     (ROOT, &[0x85, 0xFF], Ok(true), Ok(true)),
     (ADDITION, &[0x82, 0x01, 0xFF], Ok(true), Ok(true)),
@@ -71,7 +71,7 @@ const CHOICES: [(&[Step], &[u8], Answer, Answer); 7] = [
     (ROOT, &[0xBF, 0x80, 0x01, 0x01, 0x07], NO_NUMBER, NO_NUMBER),
 ];
 
-/// The octets that are not read as their row says, if there are such.
+/// The first octets that are not read as their row says, if there are any.
 fn wrong_choice(alloc: Global) -> Option<&'static [u8]> {
     for (steps, octets, basic, canonical) in &CHOICES {
         let calls = (*steps, NOTHING);
@@ -89,7 +89,7 @@ fn choices(rt: HostRuntime) {
     assert_none(&rt, &wrong_choice(rt.alloc()));
 }
 
-/// Reads a truth value in front by a decoder of its own, of which no call was refused before.
+/// Reads a BOOLEAN at the start with a new decoder, which has not failed.
 fn truth_in_front(
     alloc: Global,
     octets: &[u8],
@@ -110,24 +110,24 @@ fn a_decoder_that_has_not_failed(rt: HostRuntime) {
     assert!(rt; truth_in_front(alloc, &[], basic) == Err(DecodeError::Incomplete));
 }
 
-/// Whether the octet in front is refused, and what stands behind it is then not read either.
+/// Whether the first octet is refused, and the next one is then not read either.
 fn fails_for_good(decoder: &mut Decoder<'_>) -> bool {
     decoder.decode_bool(Tag::BOOL) == Err(DecodeError::InvalidBool)
         && decoder.decode_bool(Tag::BOOL) == Err(DecodeError::AlreadyFailed)
 }
 
-/// Whether true stands in front, and one octet behind it.
+/// Whether true comes first, and one octet after it.
 fn is_true_before(decoder: &mut Decoder<'_>, octet: u8) -> bool {
     decoder.decode_bool(Tag::BOOL) == Ok(true) && *decoder.remaining() == *[octet].as_slice()
 }
 
-/// Whether the canonical rules refuse an octet for good.
+/// Whether COER refuses an octet for good.
 fn canonical_rules_refuse(alloc: Global, octets: &[u8]) -> bool {
     let mut decoder = Decoder::new(alloc, octets, DecoderOptions::coer());
     fails_for_good(&mut decoder)
 }
 
-/// Whether the basic rules take it.
+/// Whether OER accepts it.
 fn basic_rules_take(alloc: Global, octets: &[u8]) -> bool {
     let mut decoder = Decoder::new(alloc, octets, DecoderOptions::oer());
     is_true_before(&mut decoder, 0xFF)
@@ -145,7 +145,7 @@ fn begin_list(decoder: &mut Decoder<'_>) -> Result<(), DecodeError> {
     decoder.begin_list(Tag::SEQUENCE, &Constraints::NONE, Bounded::None)
 }
 
-/// Begins 128 lists, each in a member of the one before: whether all of them have a member, and one more is refused.
+/// Begins 128 nested lists. Returns whether each of them has a member, and one more is refused.
 fn is_full_of_lists(decoder: &mut Decoder<'_>) -> Result<bool, DecodeError> {
     for _ in 0..128u8 {
         begin_list(decoder)?;
@@ -160,7 +160,7 @@ fn is_full_of_lists(decoder: &mut Decoder<'_>) -> Result<bool, DecodeError> {
     )
 }
 
-/// Begins 128 sequences, each in the one before: whether one more is refused.
+/// Begins 128 nested sequences. Returns whether one more is refused.
 fn is_full_of_sequences(decoder: &mut Decoder<'_>) -> Result<bool, DecodeError> {
     for _ in 0..128u8 {
         decoder.begin_sequence(Tag::SEQUENCE, false, 0)?;
@@ -173,13 +173,13 @@ fn is_full_of_sequences(decoder: &mut Decoder<'_>) -> Result<bool, DecodeError> 
     )
 }
 
-/// Whether the list past 128 levels of these octets is refused.
+/// Whether the list at level 129 of these octets is refused.
 fn are_full_of_lists(alloc: Global, octets: &[u8]) -> Result<bool, DecodeError> {
     let mut decoder = Decoder::new(alloc, octets, DecoderOptions::coer());
     is_full_of_lists(&mut decoder)
 }
 
-/// Whether the sequence past 128 levels of no octets is refused.
+/// Whether the sequence at level 129, without octets, is refused.
 fn none_are_full_of_sequences(alloc: Global) -> Result<bool, DecodeError> {
     let mut decoder = Decoder::new(alloc, &[], DecoderOptions::coer());
     is_full_of_sequences(&mut decoder)

@@ -1,4 +1,4 @@
-//! What is taken from encoders, what they leave, and what they refuse.
+//! What encoders return, leave and refuse.
 use crate::messages::{ADDED, NOTHING, add};
 use crate::steps::{Lent, Step};
 use asn1_schema_encode::{Encode, Encoder as Writing};
@@ -25,7 +25,7 @@ const NESTED: [Step; 11] = [
     Step::End,
 ];
 
-/// A message whose string is this.
+/// A message with this string.
 fn of(string: &[u8]) -> Lent<'_> {
     Lent {
         tags: &[],
@@ -34,20 +34,20 @@ fn of(string: &[u8]) -> Lent<'_> {
     }
 }
 
-/// A worker with room for 64 octets that holds what another message left.
+/// A worker of capacity 64 that holds octets of another message.
 fn used_worker(alloc: Global) -> Result<Vec<u8>, AllocError> {
     let mut worker = Vec::with_capacity(alloc, 64)?;
     worker.extend_from_slice(&[0xAA, 0xBB, 0xCC])?;
     Ok(worker)
 }
 
-/// Three messages, one behind the other.
+/// Three messages in sequence.
 const THREE: [u8; 21] = [
     0x82, 0x04, 0x03, 0x01, 0x02, 0x03, 0x82, 0x02, 0x01, 0x04, 0x80, 0x02, 0x07, 0x80, 0x06, 0x80,
     0x02, 0x07, 0x80, 0x01, 0xFF,
 ];
 
-/// Adds three messages with one worker: whether they stand so, and it has the room that it had.
+/// Adds three messages with one worker. Returns whether they are as expected, and the worker keeps its capacity.
 fn keeps_room(
     alloc: Global,
     buffer: &mut Vec<u8>,
@@ -61,15 +61,15 @@ fn keeps_room(
     Ok(between == room && worker.capacity() == room && buffer.as_slice() == THREE.as_slice())
 }
 
-/// Whether a worker that holds something is used again and again.
+/// Whether a worker that holds something can be reused.
 fn is_used_again(alloc: Global) -> Result<bool, EncodeError> {
     let mut worker = used_worker(alloc)?;
     let mut buffer = Vec::new(alloc);
     keeps_room(alloc, &mut buffer, &mut worker)
 }
 
-/// What a worker holds does not matter, and it keeps its room from message to message, also where one addition stands
-/// in another.
+/// The contents of a worker do not matter. It keeps its capacity from message to message, even if one addition is in
+/// another.
 #[test]
 fn one_worker_for_more_messages(rt: HostRuntime) -> Result<(), Fail> {
     let alloc = rt.alloc();
@@ -77,13 +77,13 @@ fn one_worker_for_more_messages(rt: HostRuntime) -> Result<(), Fail> {
     Ok(())
 }
 
-/// Writes true: whether it alone is the output.
+/// Writes true. Returns whether it alone is the output.
 fn outputs_true(encoder: &mut Encoder<'_>) -> Result<bool, EncodeError> {
     true.encode(encoder)?;
     Ok(encoder.output().as_slice() == [0xFF].as_slice())
 }
 
-/// Whether the end of nothing is refused, and what follows.
+/// Whether an end with nothing open is refused, and then every call.
 fn fails_for_good(encoder: &mut Encoder<'_>) -> bool {
     encoder.end() == Err(EncodeError::CallOutOfPlace)
         && encoder.encode_presence_bit(true) == Err(EncodeError::AlreadyFailed)
@@ -91,7 +91,7 @@ fn fails_for_good(encoder: &mut Encoder<'_>) -> bool {
             == Err(EncodeError::AlreadyFailed)
 }
 
-/// Whether values that are written one after the other are each the output alone, until the encoder fails.
+/// Whether each of two values, one written after the other, is the whole output, until the encoder fails.
 fn outputs_two(encoder: &mut Encoder<'_>) -> Result<bool, EncodeError> {
     let first = outputs_true(encoder)?;
     let second = outputs_true(encoder)?;
@@ -113,7 +113,7 @@ fn begin_without_marker<E: Writing>(encoder: &mut E, additions: &[Tag]) -> Resul
     encoder.begin_choice(Tag::CHOICE, &roots, false, additions, Chosen::addition(0))
 }
 
-/// Whether an encoder of octets refuses that.
+/// Whether an OER encoder refuses that.
 fn refuses_without_marker(alloc: Global) -> bool {
     let mut buffer = Vec::new(alloc);
     let mut worker = Vec::new(alloc);
@@ -130,8 +130,7 @@ fn encoders_that_have_failed(rt: HostRuntime) {
     assert!(rt; refuses_without_marker(alloc));
 }
 
-/// Whether the octet of TRUE is taken from an encoder once, and of what is left then, which is nothing, the octet of no
-/// bits.
+/// Whether an encoder returns the octet of TRUE once, and then the octet of a message without bits.
 fn gives_true_once(encoder: &mut uper::Encoder) -> Result<bool, EncodeError> {
     true.encode(encoder)?;
     let first = encoder.output()?;
@@ -139,7 +138,7 @@ fn gives_true_once(encoder: &mut uper::Encoder) -> Result<bool, EncodeError> {
     Ok(first.as_slice() == [0x80].as_slice() && second.as_slice() == [0x00].as_slice())
 }
 
-/// Whether an encoder in which nothing was begun refuses to end it, and a presence bit behind this.
+/// Whether an encoder with nothing open refuses to end it, and then a presence bit.
 fn refuses_to_end(encoder: &mut uper::Encoder) -> bool {
     encoder.end() == Err(EncodeError::CallOutOfPlace)
         && encoder.encode_presence_bit(true) == Err(EncodeError::AlreadyFailed)

@@ -1,13 +1,12 @@
-//! The calls that read the value in front and pass over what stands behind it, and the readers of fronts, which tell
-//! how many octets it takes: each by itself.
+//! The calls that decode a value at the start and ignore what follows, and the front readers, which return the number
+//! of octets of the value: each by itself.
 use asn1_schema_decode::FrontReader;
 use asn1_schema_faults::DecodeError;
 use oer_codec::{CoerFront, OerFront, coer, oer};
 use per_codec::{AperFront, UperFront, aper, uper};
 use std::alloc::Global;
 
-/// Whether the packed rules read INTEGER (0..4294967295), which is 32 bits in the unaligned ones, and an octet behind
-/// its length in two bits in the aligned ones.
+/// Whether PER reads INTEGER (0..4294967295): 32 bits in UPER, and octets after a length of two bits in APER.
 fn numbers_are_read(alloc: Global) -> bool {
     let unaligned = [0x00, 0x00, 0x00, 0x07, 0xFF];
     let aligned = [0x00, 0x07, 0xFF];
@@ -17,8 +16,7 @@ fn numbers_are_read(alloc: Global) -> bool {
         && aper::decode::<u32>(alloc, &[0xC0, 0x00]) == Err(DecodeError::Incomplete)
 }
 
-/// Whether the octet rules read BOOLEAN, which is TRUE by any octet but zero in the basic ones, and by FF in the
-/// canonical ones.
+/// Whether OER reads BOOLEAN: any octet but zero is TRUE in OER, and only FF in COER.
 fn truths_are_read(alloc: Global) -> bool {
     oer::decode::<bool>(alloc, &[0x05, 0x00]) == Ok(true)
         && oer::decode::<bool>(alloc, &[]) == Err(DecodeError::Incomplete)
@@ -26,7 +24,7 @@ fn truths_are_read(alloc: Global) -> bool {
         && coer::decode::<bool>(alloc, &[0x05, 0x00]) == Err(DecodeError::InvalidBool)
 }
 
-/// Whether the readers of the packed rules find such a number, in four octets and in two.
+/// Whether the front readers of PER find such a number, in four octets and in two.
 fn numbers_are_found(alloc: Global) -> bool {
     let unaligned: Result<(u32, usize), DecodeError> = UperFront.read_front(
         alloc,
@@ -40,7 +38,7 @@ fn numbers_are_found(alloc: Global) -> bool {
     unaligned == Ok((7, 4)) && aligned == Ok((7, 2)) && short == Err(DecodeError::Incomplete)
 }
 
-/// Whether those of the octet rules find TRUE in one octet, the canonical one by FF alone.
+/// Whether those of OER and COER find TRUE in one octet, COER only in FF.
 fn truths_are_found(alloc: Global) -> bool {
     let basic: Result<(bool, usize), DecodeError> = OerFront.read_front(alloc, &[0x05, 0x00]);
     let canonical: Result<(bool, usize), DecodeError> = CoerFront.read_front(alloc, &[0xFF, 0x00]);

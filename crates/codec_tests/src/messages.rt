@@ -1,5 +1,5 @@
-//! Values by one call after another, in each set of rules: components that may be absent, bags, many additions, many
-//! alternatives, and long open types (X.691 11.2, 11.5 to 11.9, 19, 21 and 23, X.696 8.7, 16.4 and 20).
+//! Values call by call, in each set of rules: components that may be absent, bags, many additions, many alternatives,
+//! and long open types (X.691 11.2, 11.5 to 11.9, 19, 21 and 23, X.696 8.7, 16.4 and 20).
 use crate::common::assert_none;
 use crate::spelled::octets;
 use crate::steps::{Choice, Lent, Step, are_found, places_of, put_all, tags};
@@ -11,8 +11,8 @@ use per_codec::uper;
 use std::alloc::{AllocError, Global};
 use std::test::Fail;
 
-/// SEQUENCE {a BOOLEAN, ..., and so many additions INTEGER (0..255) OPTIONAL}: a true, and 7 in the last addition
-/// alone.
+/// SEQUENCE {a BOOLEAN, ..., and a number of additions INTEGER (0..255) OPTIONAL}: a true, and 7 only in the last
+/// addition.
 macro_rules! last_of {
     ($count:literal) => {
         &[
@@ -28,7 +28,7 @@ macro_rules! last_of {
     };
 }
 
-/// SEQUENCE {..., and so many additions NULL OPTIONAL}: the last addition alone.
+/// SEQUENCE {..., and a number of additions NULL OPTIONAL}: only the last addition.
 macro_rules! null_of {
     ($count:literal) => {
         &[
@@ -43,7 +43,7 @@ macro_rules! null_of {
     };
 }
 
-/// CHOICE {[0] INTEGER, ..., and 300 added alternatives of INTEGER}: 333 by the added one at this place.
+/// CHOICE {[0] INTEGER, ..., and 300 added alternatives of INTEGER}: 333 in the added one with this index.
 macro_rules! addition {
     ($place:literal) => {
         &[
@@ -60,7 +60,7 @@ macro_rules! addition {
     };
 }
 
-/// A choice of 300 alternatives, each a BOOLEAN: TRUE by the one at this place.
+/// A choice of 300 alternatives, each a BOOLEAN: TRUE in the one with this index.
 macro_rules! root {
     ($place:literal) => {
         &[
@@ -77,7 +77,7 @@ macro_rules! root {
     };
 }
 
-/// SEQUENCE {..., and 65 additions INTEGER (0..255) OPTIONAL}: 7 in the last addition alone.
+/// SEQUENCE {..., and 65 additions INTEGER (0..255) OPTIONAL}: 7 only in the last addition.
 const LAST_OF_65: [Step; 7] = [
     Step::Sequence(true, 0),
     Step::Additions(65),
@@ -109,7 +109,7 @@ const UNSIZED: [Step; 6] = [
     Step::End,
 ];
 
-/// SEQUENCE {a INTEGER (0..65535) OPTIONAL, b BOOLEAN OPTIONAL}: a alone.
+/// SEQUENCE {a INTEGER (0..65535) OPTIONAL, b BOOLEAN OPTIONAL}: only a.
 const OPTIONAL: [Step; 5] = [
     Step::Sequence(false, 2),
     Step::Present(true),
@@ -118,7 +118,7 @@ const OPTIONAL: [Step; 5] = [
     Step::End,
 ];
 
-/// A choice with the added alternative [2] OCTET STRING: the string by this.
+/// A choice with the added alternative [2] OCTET STRING: the string in it.
 pub const ADDED: [Step; 3] = [
     Step::Choice(
         Choice::OfThree,
@@ -131,8 +131,8 @@ pub const ADDED: [Step; 3] = [
     Step::End,
 ];
 
-/// SEQUENCE {INTEGER, SEQUENCE {INTEGER DEFAULT 0, BOOLEAN OPTIONAL}}: 5, 7 and true; and behind that
-/// SET {BOOLEAN OPTIONAL}: true.
+/// SEQUENCE {INTEGER, SEQUENCE {INTEGER DEFAULT 0, BOOLEAN OPTIONAL}}: 5, 7 and true; and after it SET {BOOLEAN
+/// OPTIONAL}: true.
 const BOTH: [Step; 13] = [
     Step::Sequence(false, 0),
     Step::Number(5),
@@ -149,7 +149,7 @@ const BOTH: [Step; 13] = [
     Step::End,
 ];
 
-/// The rules by which a message is written and read. Where these are COER, it is also read by the basic rules.
+/// The rules in which a message is written and read. COER messages are also read in OER.
 #[derive(Clone, Copy)]
 enum Rules {
     Uper,
@@ -169,11 +169,11 @@ const COER: Rules = Rules::Coer;
 /// Rules, calls, the octets of the message's string, and those of the message.
 type Row = (Rules, &'static [Step], &'static str, &'static str);
 
-/// In the packed rules, up to 64 additions are counted in six bits behind a bit that is not set, from 65 on by a length
-/// behind a bit that is set, which has two octets from 128 on. A place of an added alternative is up to 63 six bits;
-/// from 64 on it stands behind its length. From 16384 octets on an open type stands in fragments, behind which comes
-/// the length of the rest, even of none. In the octet rules, a bitmap stands behind its length, which counts the octet
-/// of the unused bits too, and an open type however long it is.
+/// In PER, up to 64 additions are counted in six bits after a zero bit, and 65 or more with a length determinant
+/// after a one bit, which has two octets from 128 on. The index of an added alternative has six bits up to 63; from
+/// 64 on it follows a length determinant. From 16384 octets on, an open type is in fragments, followed by the length
+/// of the rest, even if that is zero. In OER, a bitmap follows a length determinant, which also counts the octet of
+/// the unused bits, and an open type of any length is in one piece.
 const ROWS: [Row; 62] = [
     (UPER, &OPTIONAL, "", "84 8D 00"),
     (UPER, last_of!(7), "", "C3 01*2 07"),
@@ -239,7 +239,7 @@ const ROWS: [Row; 62] = [
     (COER, root!(299), "", "BF 82 2B FF"),
 ];
 
-/// The octets that UPER or APER writes by these calls.
+/// The octets that UPER or APER writes in these calls.
 fn packed(
     alloc: Global,
     options: uper::EncoderOptions,
@@ -251,7 +251,7 @@ fn packed(
     encoder.output()
 }
 
-/// Adds the octets that COER writes by these calls.
+/// Adds the octets that COER writes in these calls.
 pub fn add(
     alloc: Global,
     buffer: &mut Vec<u8>,
@@ -264,7 +264,7 @@ pub fn add(
     put_all(&mut encoder, steps, lent)
 }
 
-/// The octets that COER writes by these calls.
+/// The octets that COER writes in these calls.
 fn in_octets(alloc: Global, steps: &[Step], lent: Lent<'_>) -> Result<Vec<u8>, EncodeError> {
     let mut buffer = Vec::new(alloc);
     let mut worker = Vec::new(alloc);
@@ -272,7 +272,7 @@ fn in_octets(alloc: Global, steps: &[Step], lent: Lent<'_>) -> Result<Vec<u8>, E
     Ok(buffer)
 }
 
-/// The octets that are written by these calls.
+/// The octets that are written in these calls.
 fn written(
     alloc: Global,
     rules: Rules,
@@ -286,7 +286,7 @@ fn written(
     }
 }
 
-/// Whether these octets are written so.
+/// Whether these octets are written.
 fn are_written(
     alloc: Global,
     rules: Rules,
@@ -297,7 +297,7 @@ fn are_written(
     Ok(written.as_slice() == octets)
 }
 
-/// Whether a packed decoder finds what is written by these calls, and nothing behind it.
+/// Whether a PER decoder finds what these calls write, and nothing after it.
 fn are_all_packed(
     alloc: Global,
     decoder: &mut uper::Decoder<'_>,
@@ -309,7 +309,7 @@ fn are_all_packed(
     Ok(are_found && decoder.input().is_empty())
 }
 
-/// Whether UPER or APER reads these octets so.
+/// Whether UPER or APER reads these octets as these calls.
 fn are_packed(
     alloc: Global,
     options: uper::DecoderOptions,
@@ -320,7 +320,7 @@ fn are_packed(
     are_all_packed(alloc, &mut decoder, steps, lent)
 }
 
-/// Whether a decoder of octets finds what is written by these calls, and nothing behind it.
+/// Whether an OER decoder finds what these calls write, and nothing after it.
 fn are_all_in_octets(
     alloc: Global,
     decoder: &mut coer::Decoder<'_>,
@@ -330,7 +330,7 @@ fn are_all_in_octets(
     Ok(are_found(alloc, decoder, steps, lent)? && decoder.remaining().is_empty())
 }
 
-/// Whether OER or COER reads these octets so.
+/// Whether OER or COER reads these octets as these calls.
 pub fn are_in_octets(
     alloc: Global,
     options: coer::DecoderOptions,
@@ -341,7 +341,7 @@ pub fn are_in_octets(
     are_all_in_octets(alloc, &mut decoder, steps, lent)
 }
 
-/// Whether these octets are read so.
+/// Whether these octets are read as these calls.
 fn are_read(
     alloc: Global,
     rules: Rules,
@@ -362,7 +362,7 @@ fn are_read(
 /// The tables of tags of all choices.
 type Tables<'a> = (&'a [Tag], &'a [TagPlace]);
 
-/// Whether a message stands in the octets of its row.
+/// Whether a message is encoded as the octets of its row.
 fn is_right(
     alloc: Global,
     (tags, places): Tables<'_>,
@@ -389,7 +389,7 @@ fn wrong_row(alloc: Global, tables: Tables<'_>) -> Result<Option<&'static str>, 
     Ok(None)
 }
 
-/// Places that no alternative has, behind 300 added ones and behind 300 root ones.
+/// Indices without an alternative, after 300 added ones and after 300 root ones.
 const BEHIND_THE_LAST: [(Rules, &[Step], &str); 6] = [
     (UPER, addition!(300), "C0 80 4B 00 C0 80 53 40"),
     (APER, addition!(300), "C0 02 01 2C 03 02 01 4D"),
@@ -399,7 +399,7 @@ const BEHIND_THE_LAST: [(Rules, &[Step], &str); 6] = [
     (COER, root!(300), "BF 82 2C FF"),
 ];
 
-/// The octets of the first row whose place is not refused, if one is not.
+/// The octets of the first row whose index is not refused, if there is one.
 fn wrong_place(alloc: Global, (tags, places): Tables<'_>) -> Result<Option<&'static str>, Fail> {
     let lent = Lent {
         tags,
@@ -414,7 +414,7 @@ fn wrong_place(alloc: Global, (tags, places): Tables<'_>) -> Result<Option<&'sta
     Ok(None)
 }
 
-/// Whether the place of an alternative is refused in these octets.
+/// Whether the index of an alternative in these octets is refused.
 fn is_place_refused(
     alloc: Global,
     rules: Rules,
@@ -447,8 +447,8 @@ fn messages(rt: HostRuntime) -> Result<(), Fail> {
     Ok(())
 }
 
-/// SEQUENCE {a BOOLEAN, b SET (SIZE (1..2)) OF SEQUENCE {c BOOLEAN, d INTEGER (0..65535)}}: a true, and in b so many
-/// members.
+/// SEQUENCE {a BOOLEAN, b SET (SIZE (1..2)) OF SEQUENCE {c BOOLEAN, d INTEGER (0..65535)}}: a true, and in b a number
+/// of members.
 macro_rules! bag {
     ($count:literal, $(($c:literal, $d:literal)),*) => {
         &[
@@ -469,7 +469,7 @@ macro_rules! bag {
     };
 }
 
-/// Steps that speak of nothing else.
+/// For steps that refer to nothing else.
 pub const NOTHING: Lent<'static> = Lent {
     tags: &[],
     places: &[],
@@ -480,7 +480,7 @@ const OF_TWO: &[Step] = bag!(2, (true, 1), (false, 2));
 
 const OF_THREE: &[Step] = bag!(3, (true, 1), (false, 2), (false, 3));
 
-/// The members of a bag stand in their order, also behind other bits, and are padded where they stand. Three are too
+/// The members of a bag are in order, also after other bits, and are padded at their final position. Three are too
 /// many here.
 #[test]
 fn bags_behind_a_bit(rt: HostRuntime) -> Result<(), Fail> {

@@ -1,8 +1,8 @@
-//! Octets as the tables spell them.
+//! Octets in the tables' notation.
 use std::alloc::Global;
 use std::test::Fail;
 
-/// Adds an octet of two hexadecimal digits, or one so many times: `61*16384`.
+/// Adds an octet in two hexadecimal digits, or one repeated, as `61*16384`.
 fn push_octets(octets: &mut Vec<u8>, word: &str) -> Result<(), Fail> {
     let (digits, count) = match word.split_once('*') {
         Some((digits, count)) => (digits, count.parse::<usize>()?),
@@ -15,7 +15,7 @@ fn push_octets(octets: &mut Vec<u8>, word: &str) -> Result<(), Fail> {
     Ok(())
 }
 
-/// The octets that a text spells in hexadecimal digits, many of one as `61*16384`.
+/// The octets in a text of hexadecimal digits; a repeated one as `61*16384`.
 pub fn octets(alloc: Global, text: &str) -> Result<Vec<u8>, Fail> {
     let mut octets = Vec::new(alloc);
     for word in text.split_whitespace() {

@@ -1,4 +1,4 @@
-//! Calls of an encoder, one behind another, and what a decoder finds by the same calls.
+//! Calls of an encoder in sequence, and what a decoder finds with the same calls.
 use asn1_schema_constraints::{Bounded, Constraints, Extensible, Size};
 use asn1_schema_decode::{Decode, Decoder, ReadOctets};
 use asn1_schema_encode::{Encode, Encoder};
@@ -7,30 +7,30 @@ use asn1_schema_tags::{Class, Identifier, Tag, TagPlace, TagTables};
 use asn1_schema_variants::Chosen;
 use std::alloc::{AllocError, Global};
 
-/// A call, with what is written by it and is to be found.
+/// A call, with what it writes and finds.
 #[derive(Clone, Copy)]
 pub enum Step {
-    /// SEQUENCE begins, with an extension marker or without, of whose root components so many may be absent.
+    /// Begins a SEQUENCE, with an extension marker or without, and a number of root components that may be absent.
     Sequence(bool, usize),
-    /// So does SET.
+    /// Begins such a SET.
     Set(bool, usize),
-    /// SET (SIZE (1..2)) OF begins, with so many members.
+    /// Begins a SET (SIZE (1..2)) OF with a number of members.
     Bag(usize),
-    /// A choice begins by one of its alternatives.
+    /// Begins a choice with one of its alternatives.
     Choice(Choice, Chosen),
-    /// Whether a component is there.
+    /// Whether a component is present.
     Present(bool),
-    /// Whether a further member comes.
+    /// Whether there is a further member.
     Further(bool),
-    /// So many additions begin.
+    /// Begins a number of additions.
     Additions(usize),
-    /// All additions in front of the last one of so many are absent.
+    /// All but the last of a number of additions are absent.
     AbsentOf(usize),
-    /// Whether an addition is there.
+    /// Whether an addition is present.
     Addition(bool),
-    /// An addition ends.
+    /// Ends an addition.
     EndOfAddition,
-    /// What began last ends.
+    /// Ends what began last.
     End,
     /// NULL.
     Null,
@@ -42,7 +42,7 @@ pub enum Step {
     Word(u16),
     /// INTEGER.
     Number(i64),
-    /// OCTET STRING: the string of the message, constrained to its size or not.
+    /// OCTET STRING: the string of the message, constrained to its size if true.
     String(bool),
 }
 
@@ -57,12 +57,12 @@ pub enum Choice {
     WithAdditions,
 }
 
-/// What steps speak of.
+/// What steps refer to.
 #[derive(Clone, Copy)]
 pub struct Lent<'a> {
     /// The tags from [0] to [300].
     pub tags: &'a [Tag],
-    /// These, each at the place of its number.
+    /// These, each with its number as its index.
     pub places: &'a [TagPlace],
     /// The octets of the message's string.
     pub string: &'a [u8],
@@ -77,7 +77,7 @@ pub fn tags(alloc: Global) -> Result<Vec<Tag>, AllocError> {
     Ok(tags)
 }
 
-/// Each tag at its place.
+/// Each tag with its index.
 pub fn places_of(alloc: Global, tags: &[Tag]) -> Result<Vec<TagPlace>, AllocError> {
     let mut places = Vec::new(alloc);
     for (place, tag) in tags.iter().enumerate() {
@@ -96,7 +96,7 @@ macro_rules! context {
     };
 }
 
-/// A context-specific tag, at a place.
+/// A context-specific tag, with an index.
 macro_rules! at {
     ($value:literal $place:literal) => {
         TagPlace {
@@ -106,7 +106,7 @@ macro_rules! at {
     };
 }
 
-/// The places of CHOICE {[0], [5], ..., [2]}.
+/// The indices of CHOICE {[0], [5], ..., [2]}.
 const PLACES_OF_THREE: [TagPlace; 3] = [at!(0 0), at!(2 2), at!(5 1)];
 
 /// Its root alternatives.
@@ -115,15 +115,15 @@ const ROOTS_OF_THREE: [Tag; 2] = [context!(0), context!(5)];
 /// Its addition.
 const ADDITIONS_OF_THREE: [Tag; 1] = [context!(2)];
 
-/// The tags of a choice's root alternatives and of its additions, and the places of all.
+/// The tags of a choice's root alternatives and of its additions, and the indices of all.
 type Tags<'a> = (&'a [Tag], &'a [Tag], &'a [TagPlace]);
 
-/// So many items, or all if there are no more, and those behind.
+/// The first `count` items, or all if there are no more, and those after them.
 fn parted<T>(items: &[T], count: usize) -> (&[T], &[T]) {
     items.split_at(count.min(items.len()))
 }
 
-/// The tags of 300 root alternatives, and their places.
+/// The tags of 300 root alternatives, and their indices.
 fn tags_of_300(lent: Lent<'_>) -> Tags<'_> {
     let (roots, _) = parted(lent.tags, 300);
     let (places, _) = parted(lent.places, 300);
@@ -167,7 +167,7 @@ fn constraints_of(is_sized: bool, string: &[u8]) -> Constraints<'static> {
     }
 }
 
-/// Writes that all additions in front of the last one of so many are absent.
+/// Writes that all but the last of `count` additions are absent.
 fn put_absent<E: Encoder>(encoder: &mut E, count: usize) -> Result<(), EncodeError> {
     for _ in 1..count {
         encoder.encode_addition(false)?;
@@ -175,7 +175,7 @@ fn put_absent<E: Encoder>(encoder: &mut E, count: usize) -> Result<(), EncodeErr
     Ok(())
 }
 
-/// Writes what has no components.
+/// Writes a value without components.
 fn put_value<E: Encoder>(encoder: &mut E, step: Step, string: &[u8]) -> Result<(), EncodeError> {
     match step {
         Step::Null => encoder.encode_null(Tag::NULL, Identifier::NULL),
@@ -192,7 +192,7 @@ fn put_value<E: Encoder>(encoder: &mut E, step: Step, string: &[u8]) -> Result<(
     }
 }
 
-/// Makes a call of an encoder.
+/// Does a call of an encoder.
 fn put<E: Encoder>(encoder: &mut E, step: Step, lent: Lent<'_>) -> Result<(), EncodeError> {
     match step {
         Step::Sequence(is_extensible, optional) => {
@@ -215,7 +215,7 @@ fn put<E: Encoder>(encoder: &mut E, step: Step, lent: Lent<'_>) -> Result<(), En
     }
 }
 
-/// Makes calls of an encoder.
+/// Does calls of an encoder.
 pub fn put_all<E: Encoder>(
     encoder: &mut E,
     steps: &[Step],
@@ -227,7 +227,7 @@ pub fn put_all<E: Encoder>(
     Ok(())
 }
 
-/// Whether all additions in front of the last one of so many are absent.
+/// Whether all but the last of `count` additions are absent.
 fn are_absent<D: Decoder>(decoder: &mut D, count: usize) -> Result<bool, DecodeError> {
     for _ in 1..count {
         if decoder.get_addition()? {
@@ -263,7 +263,7 @@ fn is_string<D: Decoder>(
     Ok(found.octets() == string)
 }
 
-/// Finds what has no value.
+/// Finds a step without a value.
 fn find<D: Decoder>(decoder: &mut D, step: Step) -> Result<(), DecodeError> {
     match step {
         Step::Sequence(is_extensible, optional) => {
@@ -278,7 +278,7 @@ fn find<D: Decoder>(decoder: &mut D, step: Step) -> Result<(), DecodeError> {
     }
 }
 
-/// Whether what comes next is that of a step.
+/// Whether what comes next is the value of a step.
 fn is_found<D: Decoder>(
     alloc: Global,
     decoder: &mut D,
@@ -305,7 +305,7 @@ fn is_found<D: Decoder>(
     }
 }
 
-/// Whether a decoder finds what is written by these steps.
+/// Whether a decoder finds what these steps write.
 pub fn are_found<D: Decoder>(
     alloc: Global,
     decoder: &mut D,

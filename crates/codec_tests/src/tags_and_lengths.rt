@@ -1,4 +1,4 @@
-//! Readers and writers of tags, lengths and what has no octets.
+//! Readers and writers of tags and length determinants, and of NULL.
 use crate::common::assert_none;
 use asn1_schema_faults::{DecodeError, EncodeError};
 use asn1_schema_tags::{Class, Tag};
@@ -9,7 +9,7 @@ use oer_codec_writing::push_tag;
 use std::alloc::Global;
 use std::test::Fail;
 
-/// Octets, and the tag that each set of rules finds in front of them.
+/// Octets, and the tag that each set of rules finds at their start.
 #[derive(Drop)]
 struct Row {
     octets: &'static [u8],
@@ -29,7 +29,7 @@ const FIVE: Tag = Tag {
     value: 5,
 };
 
-/// In one octet and in more, and numbers past 32 bits or behind a group of zeros.
+/// In one octet and in more, and numbers past 32 bits or after a group of zeros.
 const TAGS: [Row; 6] = [
     Row {
         octets: &[0x82],
@@ -69,7 +69,7 @@ fn is_right(row: &Row) -> bool {
         && read_tag(&mut Cursor::new(row.octets), EncodingRules::Coer) == row.canonical
 }
 
-/// Whether the context-specific tags 62 and 63 stand in one octet and in two.
+/// Whether the context-specific tags 62 and 63 have one octet and two.
 fn greatest_of_one_octet(alloc: Global) -> Result<bool, EncodeError> {
     let mut octets = Vec::new(alloc);
     for value in [62, 63] {
@@ -79,7 +79,7 @@ fn greatest_of_one_octet(alloc: Global) -> Result<bool, EncodeError> {
     Ok(octets.as_slice() == [0xBE, 0xBF, 0x3F].as_slice())
 }
 
-/// The octets whose tag is not found as their row says, if there are such.
+/// The first octets whose tag is not found as their row says, if there are any.
 fn wrong_tag() -> Option<&'static [u8]> {
     for row in &TAGS {
         if !is_right(row) {
@@ -96,7 +96,7 @@ fn tags(rt: HostRuntime) -> Result<(), Fail> {
     Ok(())
 }
 
-/// Whether two octets behind their number are lent, and one behind them is too few for its own.
+/// Whether two octets after their length determinant are lent, and the one after them is too few for its own.
 fn lends_two(cursor: &mut Cursor<'_>) -> bool {
     read_counted(cursor, EncodingRules::Coer) == Ok([0xAA, 0xBB].as_slice())
         && cursor.remaining() == [0xCC].as_slice()

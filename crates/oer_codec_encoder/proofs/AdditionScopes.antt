@@ -1,4 +1,4 @@
--- Additions that begin, go on and end, in the octets and the frames of an encoder.
+-- Additions that begin, continue and end, in the octets and the frames of an encoder.
 use Rattle.std.proofs.Common.{◌≡◌, ℕ, not, suc, ◌+◌, ◌-◌, ◌*◌, ◌/◌, ◌%◌, ◌^◌, ◌<◌, ◌||◌, Bool, true, false, List, [], ◌∷◌, ◌++◌, length, take, drop, get_or, set, replicate, Option, Some, None, refl, ap, subst, sym, ◌∙◌, arith, length-append, length-set}
 use Rattle.std.proofs.lemmas.List.{get_or_append_left}
 use Rattle.asn1_model.specs.Form.{written}
@@ -20,7 +20,7 @@ pub is_so : (b : Bool) → not b ≡ false → b ≡ true
 is_so true h = refl
 is_so false h = cc
 
--- ---- whether one is there
+-- ---- whether one is present
 
 or_none : (b : Bool) → (b || false) ≡ b
 or_none true = refl
@@ -31,7 +31,7 @@ any_more [] b = or_none b
 any_more (true ∷ bs) b = refl
 any_more (false ∷ bs) b = any_more bs b
 
--- ---- behind the root
+-- ---- after the root
 
 abbrev begun : ℕ → Preamble → ℕ → ℕ → Additions
 begun n c bitmap root_end = record {
@@ -86,7 +86,7 @@ with_due k a = record {
   root_end = a.root_end;
 }
 
--- what holds of additions holds of those behind the next one, with its bit
+-- what holds for additions holds for those after the next one, with its bit
 behind : (rest : List Frame) (a : Additions) (here : Bool) (o p : List ℕ) (s : State) → (h : IsExtended (λ q t. Holds rest q t) (with_due (suc (a.due - 1)) a) o s) → (i : HasBits false (a.due - 1) (a.given + 1) a.bitmap p) → i.front ≡ h.has.front → i.inner ≡ h.has.inner → i.presence_bits ≡ h.has.presence_bits ++ here ∷ [] → Holds (Added (with_next here a) ∷ rest) p (behind_root (a.due - 1) h.has.inner h.preamble.presence_bits h.preamble.inner (h.has.presence_bits ++ here ∷ []) h.outer)
 behind rest a here o p s h i front inner bits =
     let count : a.given + 1 + (a.due - 1) ≡ a.given + suc (a.due - 1) = omega arith in
@@ -105,7 +105,7 @@ behind rest a here o p s h i front inner bits =
           ∙ ap (λ bs. behind_root (a.due - 1) i.inner h.preamble.presence_bits h.preamble.inner bs h.outer) (sym bits);
     }
 
--- an open type begins behind what there is
+-- an open type begins after what is there
 pub begins_apart : (fs : List Frame) (o : List ℕ) (s : State) → Holds fs o s → Holds (OpenType (length o) ∷ fs) (o ++ 0 ∷ []) ([], open_type s.0 ∷ s.1)
 begins_apart fs o s h = record { front = o; room = 0; inner = []; outer = s; text = refl; starts = refl; under = h; is = refl }
 

@@ -1,4 +1,4 @@
--- Bags that begin, go on and end, in the octets and the frames of an encoder.
+-- Bags that begin, continue and end, in the octets and the frames of an encoder.
 use Rattle.std.proofs.Common.{◌≡◌, ℕ, suc, ◌+◌, ◌-◌, ◌<◌, Bool, true, false, cond, ltb, List, [], ◌∷◌, ◌++◌, length, map, Option, Some, None, option_map, Vec, Box, Global, Result, Ok, Err, MatchResult, refl, ap, subst, sym, ◌∙◌, arith}
 use Rattle.std.proofs.lemmas.List.{append-nil}
 use Rattle.asn1_model.specs.Form.{written, exactly, only_if, given, joined, stands_before, ascending, with_keys, put_in_place}
@@ -42,7 +42,7 @@ does_begin_bag fs gs o p q z h n outer boxed x r v held y = record { after = λ 
 pub no_begin_bag : (z : Size) (h : Counts) (n : ℕ) → written (only_if (is_count_within h n) (Oer.unsigned n)) 0 ≡ None → (s : State) → run (bag_begins z h n) s ≡ None
 no_begin_bag z h n e s = ap (option_map (λ w. let v : State = ([], bag_members n None (s.0 ++ w) ∷ s.1) in v)) e
 
--- ---- it goes on
+-- ---- it continues
 
 abbrev with_due : ℕ → BagFrame → BagFrame
 with_due k b = record { due = k; outer = b.outer; members = b.members }
@@ -144,13 +144,13 @@ adds_ordered ws es old new h e = ap (option_map (λ w. old ++ w)) (ap (λ l. wri
     forms : map (λ w. exactly w) ws ≡ map form_of h.all
     forms = ap (map (λ w. exactly w)) (sym (placed_octets 0 ws h.all h.placed)) ∙ sym (forms_of h.all)
 
--- one alone
+-- a single member
 pub adds_one : (ws : List (List ℕ)) (w old new : List ℕ) → ws ≡ [] → new ≡ old ++ w → Adds (bag_text (ws ++ w ∷ [])) old new
 unfolding written Oer.in_any_order
 adds_one [] w old new n e = ap (λ l. Some (old ++ l)) (append-nil w) ∙ ap Some (sym e)
 adds_one (v ∷ vs) w old new n e = cc
 
--- none at all
+-- no members
 adds_none : (old : List ℕ) → Adds (bag_text []) old old
 unfolding written Oer.in_any_order
 adds_none old = ap Some (append-nil old)
@@ -171,7 +171,7 @@ no_end_of_bag boxed k o n s h = ap (run ends) (subst (λ j. IsInBag (λ l t. Hol
     one : boxed.value.due ≡ suc (boxed.value.due - 1)
     one = omega arith
 
--- whatever is around it
+-- whatever encloses it
 pub bag_ends : (f : Frame) (boxed : Box BagFrame Global) (o p : List ℕ) (r : Result (Unit {0}) EncodeError) → f ≡ Bag boxed → MatchResult r (λ _. BagEnds boxed.value o p) (NoEnd boxed.value.due) → MatchResult r (λ _. (k : List Frame) → Does ends (f ∷ k) o k p) (λ e. (k : List Frame) → Cannot ends (f ∷ k) o e)
 bag_ends f boxed o p (Ok u) x m = λ k. subst (λ g. Does ends (g ∷ k) o k p) (sym x) (does_end_bag boxed k o p m)
 bag_ends f boxed o p (Err e) x m = λ k. subst (λ g. Cannot ends (g ∷ k) o e) (sym x) (cannot ends (Bag boxed ∷ k) o e m.0 (λ n. no_end_of_bag boxed k o (m.1 n)))
@@ -181,7 +181,7 @@ pub ends_with_open : (b : BagFrame) (o p q w : List ℕ) (ms : List (List ℕ)) 
 ends_with_open b o p q w ms n e f g x =
     (n, subst (λ l. Adds (bag_text l) b.outer.items p) (ap (λ l. ms ++ l ∷ []) f ∙ ap (λ m. with_open m o) (sym e)) (subst (λ l. Adds (bag_text (ms ++ w ∷ [])) l p) g x))
 
--- no member was told
+-- no members were due
 pub ends_without : (b : BagFrame) (o p : List ℕ) → b.due ≡ 0 → b.members ≡ None → p ≡ b.outer.items → BagEnds b o p
 ends_without b o p n e g =
     (n, subst (λ l. Adds (bag_text l) b.outer.items p) (ap (λ m. with_open m o) (sym e)) (subst (λ l. Adds (bag_text []) b.outer.items l) (sym g) (adds_none b.outer.items)))

@@ -78,7 +78,7 @@ pub two_steps : {X Y Z : Type 0} (g : Y → Option Z) (f : X → Option Y) (o : 
 two_steps g f None = refl
 two_steps g f (Some x) = refl
 
--- two texts, one behind the other
+-- two texts in sequence
 pub two_texts : (o : Option (List ℕ)) (q : List ℕ → Option (List ℕ)) (os : List ℕ) (f : List ℕ → Option State) → option_and_then (λ a. option_and_then (λ b. f ((os ++ a) ++ b)) (q a)) o ≡ option_and_then (λ w. f (os ++ w)) (option_and_then (λ a. option_map (λ b. a ++ b) (q a)) o)
 two_texts None q os f = refl
 two_texts (Some a) q os f = go (q a)
@@ -109,7 +109,7 @@ spelled_out s v h true g p os k rest = ap (λ l. runs l (os, k)) (append_assoc (
 spelled_out s v h false true p os k rest = ap (λ l. runs l (os, k)) (append_assoc (presents s v) (is_empty ∷ []) rest) ∙ h p os k (is_empty ∷ rest) ∙ none_behind (written (Oer.form s v) p)
 spelled_out s v h false false p os k rest = ap (λ l. runs (l ++ rest) (os, k)) (append-nil (presents s v)) ∙ h p os k rest
 
--- a component that is there, and those behind it
+-- a component that is present, and those after it
 abbrev pub Root : Bool → Components → Type 0
 Root e cs = (ps : Parts) (p : ℕ) (ms : List Bool) (front os : List ℕ) (k : List Scope) (rs more : List Record) → runs (root_records cs ps rs ++ more) (os, components e (optional_count cs) ms front ∷ k) ≡ option_and_then (λ w. runs (rs ++ more) (os ++ w, components e 0 (ms ++ presence_bits cs ps) front ∷ k)) (written (Oer.component_forms cs ps) p)
 
@@ -142,7 +142,7 @@ root e (component t o s cs) h (present v ps) p ms front os k rs more = one_there
 root e (component t o s cs) h (absent ps) p ms front os k rs more = one_absent e (is_required o) cs (root e cs h.1) ps p ms front os k rs more
 root e (component t o s cs) h end p ms front os k rs more = refl
 
--- the end puts the presence bits in front of the root's octets
+-- the end puts the presence bits before the root's octets
 pub closed_off : (cs : Components) → EachBridges cs → (ps : Parts) (p : ℕ) (os : List ℕ) (k : List Scope) (rest : List Record) → runs (root_records cs ps (ends ∷ []) ++ rest) ([], components false (optional_count cs) [] os ∷ k) ≡ option_and_then (λ w. runs rest (os ++ w, k)) (written (both (Oer.preamble (presence_bits cs ps)) (Oer.component_forms cs ps)) p)
 unfolding written Oer.sequence_form
 closed_off cs h ps p os k rest =
@@ -152,7 +152,7 @@ closed_off cs h ps p os k rest =
     go None = refl
     go (Some w) = refl
 
--- so it does that of a group, which has neither extension marker nor additions
+-- and so does the end of a group, which has neither extension marker nor additions
 pub groups : (cs : Components) → EachBridges cs → Bridges (group cs)
 unfolding presents Oer.form written
 groups cs h (fields ps end) p os k rest = closed_off cs h ps p os k rest

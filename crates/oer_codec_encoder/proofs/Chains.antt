@@ -22,7 +22,7 @@ runs_chain (r ∷ rs) a b h = go (λ m f. runs_chain rs m b f) (run r a) refl h
     go again None e f = cc
     go again (Some m) e f = (m, e, again m f)
 
--- the records of a value are a chain exactly from what is held to the same with the value's octets behind it
+-- the records of a value are a chain exactly from what is held to that with the value's octets appended
 pub chains_add : ChainsAddTheOctets
 chains_add s v os k new = (λ c. go (written (Oer.form s v) 0) refl (sym at ∙ chain_runs (presents s v) (os, k) new c), λ t. runs_chain (presents s v) (os, k) new (at ∙ ap (option_and_then (λ w. Some (os ++ w, k))) t.1 ∙ ap Some (sym t.2)))
   where

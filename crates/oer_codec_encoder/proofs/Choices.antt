@@ -13,7 +13,7 @@ use Rattle.oer_codec_encoder.proofs.Still.{tag_still}
 use Rattle.oer_codec_encoder.proofs.Bridge.{chain_same, two_steps, one_text, two_texts}
 use Rattle.oer_codec_encoder.proofs.StepAdditions.{opened, open_text, open_still}
 
--- what stands behind the octets of a tag
+-- what follows the octets of a tag
 behind_tag : (b : Bool) (t : Tag) (x : Oer.OctetForm) (p : ℕ) (os : List ℕ) (k : List Scope) (rs rest : List Record) → ((a : List ℕ) → option_and_then (λ m. runs rs m) (chosen_on b a (os, k)) ≡ option_and_then (λ w. runs rest ((os ++ a) ++ w, k)) (written x (p + length a))) → option_and_then (λ m. runs rs m) (option_and_then (λ w. chosen_on b w (os, k)) (written (Oer.tag_form t) 0)) ≡ option_and_then (λ w. runs rest (os ++ w, k)) (written (both (Oer.tag_form t) x) p)
 unfolding written
 behind_tag b t x p os k rs rest h =

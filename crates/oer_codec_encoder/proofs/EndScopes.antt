@@ -44,7 +44,7 @@ does_end_open fs rest o p start a x = record { after = λ s h. go s (on_top fs r
 pub open_within : (fs rest : List Frame) (o : List ℕ) (start : ℕ) → AreSound fs o → fs ≡ OpenType start ∷ rest → start < length o
 open_within fs rest o start s a = room_within start o s.state (on_top fs rest (OpenType start) o s.state a s.holds)
 
--- ---- a frame ends, whatever is around it
+-- ---- a frame ends, whatever encloses it
 
 -- an open type
 open_ends : (start : ℕ) (o p : List ℕ) (r : Result (Unit {0}) EncodeError) → MatchResult r (λ _. Adds (written (Oer.counted (drop (start + 1) o)) 0) (take start o) p) (λ e. e ≡ OutOfMemory) → MatchResult r (λ _. (k : List Frame) → Does ends (OpenType start ∷ k) o k p) (λ e. (k : List Frame) → Cannot ends (OpenType start ∷ k) o e)
@@ -184,7 +184,7 @@ module _ (a : Additions) (k : List Frame) (o p : List ℕ) (n : a.due ≡ 0) whe
           ∙ append_assoc j.front (first ++ j.inner) tail ∙ ap (λ l. j.front ++ l) (append_assoc first j.inner tail) ∙ ap (λ l. j.front ++ (first ++ (j.inner ++ l))) behind in
           closes s h (first ++ (j.inner ++ added)) (some_added j.presence_bits j.inner (h.heading ++ bs) i.presence_bits i.inner (sym h.any ∙ some) headed) (sym text)
 
--- where the preamble stands
+-- the position of the preamble
 pub added_within : (fs rest : List Frame) (a : Additions) (o : List ℕ) (s : State) → fs ≡ Added a ∷ rest → Holds fs o s → a.start < length o
 added_within fs rest a o s b h =
     let k = on_top fs rest (Added a) o s b h in
@@ -197,6 +197,6 @@ added_frame_within f a o h e = added_within (f ∷ h.0) h.0 a o h.1.state (ap (�
 pub added_frame_ends : (f : Frame) (a : Additions) (o p : List ℕ) (r : Result (Unit {0}) EncodeError) → f ≡ Added a → MatchResult r (λ _. (k : List Frame) → Does ends (Added a ∷ k) o k p) (λ e. (k : List Frame) → Cannot ends (Added a ∷ k) o e) → MatchResult r (λ _. (k : List Frame) → Does ends (f ∷ k) o k p) (λ e. (k : List Frame) → Cannot ends (f ∷ k) o e)
 added_frame_ends f a o p r e m = subst (λ g. MatchResult r (λ _. (k : List Frame) → Does ends (g ∷ k) o k p) (λ x. (k : List Frame) → Cannot ends (g ∷ k) o x)) (sym e) m
 
--- what was ended is left
+-- what has ended is closed
 pub ends_and_leaves : (fs gs : List Frame) (f : Frame) (k : List Frame) (o p : List ℕ) → fs ≡ f ∷ k → gs ≡ k → ((k : List Frame) → Does ends (f ∷ k) o k p) → Does ends fs o gs p
 ends_and_leaves fs gs f k o p e x h = subst (λ l. Does ends l o gs p) (sym e) (subst (λ l. Does ends (f ∷ k) o l p) (sym x) (h k))

@@ -1,4 +1,4 @@
--- The octets in front of all that is open stay, whatever comes of a record.
+-- The octets before everything that is open stay, whatever a record does.
 use Rattle.std.proofs.Common.{◌≡◌, ℕ, zero, suc, ◌+◌, ◌≤◌, Bool, true, false, ◌-◌, List, [], ◌∷◌, ◌++◌, length, set, take, drop, Box, Global, Option, Some, None, option_map, option_and_then, refl, ap, subst, sym, ◌∙◌, arith, length-append}
 use Rattle.std.proofs.lemmas.List.{set-append_right, take-append-drop, take-append-le}
 use Rattle.asn1_model.specs.Form.{written}
@@ -26,7 +26,7 @@ begins_longer n x y h l = omega (arith, l, length-append x h.0, ap length h.1)
 first_taken : (n : ℕ) (x y : List ℕ) → n ≤ length x → Begins x y → take n y ≡ take n x
 first_taken n x y l h = ap (take n) (sym h.1) ∙ take-append-le n x h.0 l
 
--- ---- a step leaves what is in front
+-- ---- a step keeps the octets before
 
 pub outermost_on : (a b : List ℕ) (k : List Scope) → Begins a b → Begins (outermost a k) (outermost b k)
 outermost_on a b [] h = h
@@ -185,7 +185,7 @@ ground_on (Alternative ∷ fs) o p h = ground_on fs o p h
 pub ground_as : (fs gs : List Frame) (o : List ℕ) → fs ≡ gs → ground fs o ≡ ground gs o
 ground_as fs gs o e = ap (λ l. ground l o) e
 
--- what is in front of all that is open begins the octets that are kept for it
+-- the octets before everything that is open are a prefix of those that are kept for it
 pub in_front : (fs : List Frame) (o : List ℕ) (s : State) → Holds fs o s → Begins (first_of s) (ground fs o)
 in_front [] o s h = begins_same _ _ (sym (ap first_of h))
 in_front (Components c ∷ fs) o s h =
@@ -208,7 +208,7 @@ keeps_ground fs gs o p b = record { keeps = λ s h. begins_through _ _ _ (in_fro
 pub keeps_same : (fs gs : List Frame) (o p : List ℕ) → gs ≡ fs → p ≡ o → Keeps fs o gs p
 keeps_same fs gs o p e f = keeps_ground fs gs o p (begins_same _ _ (ap (λ l. ground l p) e ∙ ap (ground fs) f))
 
--- a list or a bag whose members go on
+-- a list or a bag that continues
 pub keeps_members : (fs rest gs : List Frame) (due next : ℕ) (o : List ℕ) → fs ≡ Members due ∷ rest → gs ≡ Members next ∷ rest → Keeps fs o gs o
 keeps_members fs rest gs due next o e f = keeps_ground fs gs o o (begins_same _ _ (ap (λ l. ground l o) f ∙ sym (ap (λ l. ground l o) e)))
 
@@ -235,11 +235,11 @@ begins_added o p w e = (w, sym e)
 pub begins_taken : (n : ℕ) (o : List ℕ) → Begins (take n o) o
 begins_taken n o = (drop n o, take-append-drop n o)
 
--- the octets have more behind them, and the same frames are open
+-- octets are appended, and the same frames are open
 pub keeps_behind : (fs gs : List Frame) (o p : List ℕ) → gs ≡ fs → Begins o p → Keeps fs o gs p
 keeps_behind fs gs o p e b = keeps_ground fs gs o p (subst (λ l. Begins (ground fs o) (ground l p)) (sym e) (ground_on fs o p b))
 
--- an open type that ends, of which the octets in front are left
+-- an open type that ends: the octets before it are left
 pub keeps_room : (fs k gs : List Frame) (o p : List ℕ) (start : ℕ) → fs ≡ OpenType start ∷ k → ground gs p ≡ ground k p → Begins (take start o) p → Keeps fs o gs p
 keeps_room fs k gs o p start e same b = record { keeps = λ s h. go s (subst (λ l. Holds l o s) e h) }
   where
@@ -248,17 +248,17 @@ keeps_room fs k gs o p start e same b = record { keeps = λ s h. go s (subst (λ
         let front : Begins h.front p = subst (λ l. Begins l p) (before_room start o s h) b in
         rebased _ _ _ (ap first_of h.is) (subst (λ l. Begins (first_of h.outer) l) (sym same) (begins_through _ _ _ (in_front k h.front h.outer h.under) (ground_on k h.front p front)))
 
--- ---- what an encoder has in front
+-- ---- the octets before an encoder's own
 
 module _ (fs gs : List Frame) (o p : List ℕ) {n : ℕ} (h : Stands fs o n) where
   same_taken : Begins (first_of (shown fs o)) (ground gs p) → take n (ground gs p) ≡ take n (ground fs o)
   same_taken b = first_taken n _ _ h.behind b ∙ sym (first_taken n _ _ h.behind (in_front fs o (shown fs o) h.holds))
 
-  -- behind a record that was refused
+  -- after a record that was refused
   pub front_kept : Keeps fs o gs p → take n (ground gs p) ≡ take n (ground fs o)
   front_kept k = same_taken (k.keeps (shown fs o) h.holds)
 
-  -- behind one that is written
+  -- after one that is written
   leads_on : (r : Record) → (d : Does r fs o gs p) → Begins (first_of (shown fs o)) (first_of (d.after (shown fs o) h.holds).0)
   leads_on r d = let t = d.after (shown fs o) h.holds in run_leads r (shown fs o) t.0 t.1
 

@@ -1,4 +1,4 @@
--- What goes on where no small frame is innermost, in the octets and the frames of an encoder.
+-- What continues if no small frame is innermost, in the octets and the frames of an encoder.
 use Rattle.std.proofs.Common.{◌≡◌, ℕ, Bool, List, ◌∷◌, reverse, Option, Some, None, Vec, Box, Global, Result, Ok, Err, MatchResult, refl, ap, sym, ◌∙◌}
 use Rattle.asn1_schema_faults.specs.declared.EncodeError.{EncodeError}
 use Rattle.asn1_schema_presented.specs.Records.{further}
@@ -25,7 +25,7 @@ pub bag_goes_on : (more : Bool) (fs rest gs : List Frame) (b c : Box BagFrame Gl
 bag_goes_on more fs rest gs b c o p (Ok u) a m d = does_next fs rest gs b c o p a d more m
 bag_goes_on more fs rest gs b c o p (Err e) a m d = cannot (further more) fs o e m.0 (λ n. no_member_of_bag fs rest b o more a (m.1 n))
 
--- octets that are exchanged with those in front of the innermost bag
+-- octets that are exchanged with those before the innermost bag
 pub sets_aside : (fs rest gs k : List Frame) (b f next : Box BagFrame Global) (o p : Vec ℕ Global) → fs ≡ Bag f ∷ rest → gs ≡ Bag next ∷ rest → (let a = f.value in next.value ≡ record a { outer = o }) → p ≡ f.value.outer → fs ≡ Bag b ∷ k → let a = b.value in (c : Box BagFrame Global) × (gs ≡ Bag c ∷ k) × (c.value ≡ record a { outer = o }) × (p ≡ a.outer)
 sets_aside fs rest gs k b f next o p d g v w e =
     let q : Bag f ∷ rest ≡ Bag b ∷ k = sym d ∙ e in
@@ -33,7 +33,7 @@ sets_aside fs rest gs k b f next o p d g v w e =
     let around : rest ≡ k = cc q in
     (next, g ∙ ap (λ l. Bag next ∷ l) around, v ∙ ap (λ (x : Box BagFrame Global). let a = x.value in record a { outer = o }) same, w ∙ ap (λ (x : Box BagFrame Global). x.value.outer) same)
 
--- a small frame has nothing apart
+-- a small frame has nothing set aside
 pub ground_small : (e : SmallFrame) (k : List Frame) (o : List ℕ) → ground (frame_of e ∷ k) o ≡ ground k o
 ground_small (SmallMembers due) k o = refl
 ground_small SmallAlternative k o = refl

@@ -5,7 +5,7 @@ use Rattle.asn1_schema_order.specs.declared.encodings.Entry.{Entry}
 use Rattle.asn1_schema_order.specs.Entries.{octets_of}
 use Rattle.oer_codec_encoder.specs.Joined.{texts_joined}
 
--- ---- texts one behind the other
+-- ---- texts in sequence
 
 texts_more : (xs : List Entry) (x : Entry) → texts_joined (map octets_of (xs ++ x ∷ [])) ≡ texts_joined (map octets_of xs) ++ octets_of x
 texts_more [] x = append-nil (octets_of x)

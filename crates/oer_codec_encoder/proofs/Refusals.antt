@@ -20,7 +20,7 @@ pub passed_on : {T E : Type 0} (P : T → Type 0) (Q : E → Type 0) (x : E) (r 
 passed_on P Q x (Ok v) n h p = let e : false ≡ true = n in cc
 passed_on P Q x (Err y) n h p = subst Q (sym h) p
 
--- a writer refused a text without which there is no step
+-- a writer refused a text, and without it there is no step
 pub no_text : (r : Record) (x : Option (List ℕ)) (fs : List Frame) (o : List ℕ) (e : EncodeError) → (x ≡ None → (s : State) → run r s ≡ None) → Refuses x e → Cannot r fs o e
 no_text r x fs o OutOfMemory q h = tt
 no_text r x fs o ValueConstraintNotSatisfied q h = λ s _. q h s

@@ -1,4 +1,4 @@
--- A length below 128 in the room in front of its octets.
+-- A length below 128 in the octet reserved before its contents.
 use Rattle.std.proofs.Common.{◌≡◌, ℕ, suc, ◌+◌, ◌-◌, ◌<◌, true, List, [], ◌∷◌, ◌++◌, ◌&&◌, length, get_or, set, take, drop, refl, ap, subst, sym, ◌∙◌, arith, append_assoc}
 use Rattle.std.proofs.lemmas.Bool.{lt-ltb}
 use Rattle.std.proofs.lemmas.List.{take-append-drop, take-set, drop-set, drop-set-lt, length-drop, length-set, get_or-drop}

@@ -1,4 +1,4 @@
--- Sequences and lists that begin, go on and end, in the octets and the frames of an encoder.
+-- Sequences and lists that begin, continue and end, in the octets and the frames of an encoder.
 use Rattle.std.proofs.Common.{◌≡◌, ℕ, zero, suc, ◌+◌, ◌-◌, ◌*◌, ◌/◌, ◌%◌, ◌^◌, ◌<◌, Bool, true, false, cond, ltb, List, [], ◌∷◌, ◌++◌, length, get_or, set, take, drop, replicate, Option, Some, None, option_map, refl, ap, subst, sym, ◌∙◌, arith, append_assoc, length-append, length-set, inl, inr}
 use mir.Val.{bool_byte}
 use Rattle.std.proofs.lemmas.Bool.{cases_eq, ltb-true, ltb-false}
@@ -22,7 +22,7 @@ use Rattle.asn1_schema_finding.specs.PresenceBits.{preamble}
 use Rattle.oer_codec_encoder.specs.Holding.{given_bits, octets_filled, shown, HasBits, IsOpen, IsExtended, IsApart, Holds, AreSound, Does}
 use Rattle.oer_codec_writing.specs.Writing.{Adds}
 
--- ---- what is shown is what they stand for
+-- ---- what is shown is what they represent
 
 presence_bits_behind : (e : Bool) (ms rest : List Bool) (given : ℕ) → length ms ≡ given → take given (drop (length (preamble e [])) (preamble e ms ++ rest)) ≡ ms
 presence_bits_behind true ms rest given h = take_at ms rest given h
@@ -53,7 +53,7 @@ length-bitmap e due given start o h =
     let k : length h.bitmap * 8 ≡ length bs + missing (length bs) = sym (length-octet_bits h.bitmap) ∙ ap length h.bits ∙ length-append bs unused ∙ ap (λ j. length bs + j) (length-replicate (missing (length bs)) false) in
     octets_whole (length h.bitmap) (length bs) k ∙ ap (λ j. (j + 7) / 8) n
 
--- the octets in front of presence bits, those behind them, and those of them that were given
+-- the octets before presence bits, those after them, and the bits that were given
 pub parts : (e : Bool) (due given start n : ℕ) (o : List ℕ) → n ≡ given + due → (h : HasBits e due given start o) → (take start o ≡ h.front) × (drop (start + octets_filled e n) o ≡ h.inner) × (given_bits e given start o ≡ h.presence_bits)
 parts e due given start n o m h =
     let front : take start o ≡ h.front = ap (take start) h.text ∙ take_at h.front (h.bitmap ++ h.inner) start h.starts in
@@ -69,7 +69,7 @@ parts e due given start n o m h =
     let presence_bits = ap (λ l. take given (drop (length (preamble e [])) l)) all ∙ presence_bits_behind e h.presence_bits ((zeros ++ unused) ++ octet_bits h.inner) given h.told in
     (front, inner, presence_bits)
 
--- the octets up to the end of a root, and those behind it
+-- the octets up to the end of a root, and those after it
 pub root_first : {below : List ℕ → State → Type 0} (a : Additions) (o : List ℕ) (s : State) → (h : IsExtended below a o s) → o ≡ h.root ++ (h.heading ++ (h.has.bitmap ++ h.has.inner))
 root_first a o s h =
     let behind : List ℕ = h.has.bitmap ++ h.has.inner in
@@ -78,7 +78,7 @@ root_first a o s h =
 pub root_taken : {below : List ℕ → State → Type 0} (a : Additions) (o : List ℕ) (s : State) → (h : IsExtended below a o s) → take a.root_end o ≡ h.root
 root_taken a o s h = ap (take a.root_end) (root_first a o s h) ∙ take_at h.root (h.heading ++ (h.has.bitmap ++ h.has.inner)) a.root_end h.ends
 
--- a state behind a root
+-- a state after a root
 abbrev pub behind_root : ℕ → List ℕ → List Bool → List ℕ → List Bool → State → State
 behind_root due os ms root bs t = (os, added due ms root bs t.0 ∷ t.1)
 
@@ -87,7 +87,7 @@ same_behind due i j ms ns r q bs cs t u a b c d e =
     ap (λ x. behind_root due x ms r bs t) a ∙ ap (λ x. behind_root due j x r bs t) b ∙ ap (λ x. behind_root due j ns x bs t) c
     ∙ ap (λ x. behind_root due j ns q x t) d ∙ ap (λ x. behind_root due j ns q cs x) e
 
--- the octets in front of an open type, and its own
+-- the octets before an open type, and those of the open type
 parts_apart : {below : List ℕ → State → Type 0} (start : ℕ) (o : List ℕ) (s : State) → (h : IsApart below start o s) → (take start o ≡ h.front) × (drop (start + 1) o ≡ h.inner)
 parts_apart start o s h =
     let whole : o ≡ (h.front ++ h.room ∷ []) ++ h.inner = h.text ∙ sym (append_assoc h.front (h.room ∷ []) h.inner) in
@@ -126,9 +126,9 @@ shown_is (Bag b ∷ fs) o s h = ap (λ (t : State). let l : State = (o, bag_memb
 shown_is (Alternative ∷ fs) o s h = ap (λ (t : State). let l : State = (t.0, alternative ∷ t.1) in l) (shown_is fs o h.0 h.2) ∙ sym h.1
 shown_is (Members due ∷ fs) o s h = ap (λ (t : State). let l : State = (t.0, members due ∷ t.1) in l) (shown_is fs o h.0 h.2) ∙ sym h.1
 
--- ---- octets behind those that stand there
+-- ---- octets that are appended
 
--- presence bits with more behind them
+-- presence bits with more octets after them
 abbrev more_behind : (e : Bool) (due given start : ℕ) (o w : List ℕ) → HasBits e due given start o → HasBits e due given start (o ++ w)
 more_behind e due given start o w h = record {
   front = h.front;
@@ -450,12 +450,12 @@ nothing_open (Bag b ∷ fs) o s h n = let p = ap (λ (t : State). t.1) h.1 in cc
 nothing_open (Alternative ∷ fs) o s h n = let p = ap (λ (t : State). t.1) h.1 in cc
 nothing_open (Members due ∷ fs) o s h n = let p = ap (λ (t : State). t.1) h.1 in cc
 
--- ---- sequences, sets and groups begin alike
+-- ---- sequences, sets and groups begin in the same way
 
 pub does_same : (r q : Record) (fs gs : List Frame) (o p : List ℕ) → ((s : State) → run q s ≡ run r s) → Does r fs o gs p → Does q fs o gs p
 does_same r q fs gs o p e d = record { after = λ s h. let t = d.after s h in (t.0, e s ∙ t.1, t.2) }
 
--- ---- what stands on top
+-- ---- the innermost frame
 
 pub none_on_top : (r : Record) (fs rest : List Frame) (f : Frame) (o : List ℕ) → fs ≡ f ∷ rest → ((s : State) → Holds (f ∷ rest) o s → run r s ≡ None) → (s : State) → Holds fs o s → run r s ≡ None
 none_on_top r fs rest f o e h s k = h s (on_top fs rest f o s e k)

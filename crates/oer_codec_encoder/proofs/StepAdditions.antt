@@ -1,4 +1,4 @@
--- Additions: each stands as an open type behind its length, and a bitmap in front of them.
+-- Additions: each is an open type after its length determinant, with a bitmap before all of them.
 use Rattle.std.proofs.Common.{◌≡◌, ℕ, suc, ◌+◌, ltb, take, drop, arith, Bool, true, false, cond, List, [], ◌∷◌, ◌++◌, length, map, Option, Some, None, option_map, option_and_then, refl, ap, sym, ◌∙◌, append_assoc}
 use Rattle.std.proofs.lemmas.List.{append-nil}
 use Rattle.asn1_model.specs.Value.{Value, fields, Parts, end, absent, present}
@@ -27,7 +27,7 @@ texts_of (Some x ∷ xs) = option_and_then (λ w. option_map (λ us. Some w ∷ 
 abbrev pub closing : List Bool → List ℕ → List (Option (List ℕ)) → Option (List ℕ)
 closing ms r us = written (Oer.sequence_form true ms (exactly r) (map (λ o. option_map (λ w. exactly w) o) us)) 0
 
--- an addition that is there
+-- an addition that is present
 abbrev pub opened : Option (List ℕ) → Option (List ℕ)
 opened o = option_and_then (λ w. written (Oer.counted w) 0) o
 
@@ -63,7 +63,7 @@ own ms x xs p = go (is_any_present xs) refl
 abbrev as_forms : List (Option (List ℕ)) → List (Option Oer.OctetForm)
 as_forms us = map (λ o. option_map (λ w. exactly w) o) us
 
--- which additions are there
+-- which additions are present
 abbrev told : List (Option (List ℕ)) → List Bool
 told us = map (λ o. is_some o) us
 
@@ -128,7 +128,7 @@ still_exact : (l : List ℕ) → OctetsStill (exactly l)
 unfolding written
 still_exact l = record { at = λ p. refl }
 
--- ---- the same by which are there, and by all of their octets
+-- ---- the same by which are present, and by all of their octets
 
 told_more : (us : List (Option (List ℕ))) (o : Option (List ℕ)) → told (us ++ o ∷ []) ≡ told us ++ is_some o ∷ []
 told_more [] o = refl
@@ -176,11 +176,11 @@ same_closing ms r us =
 
 -- ---- the records of additions
 
--- the rest of the additions, behind those that are there
+-- the rest of the additions, after those that were given
 abbrev Rest : Components → Type 0
 Rest cs = (qs : Parts) (ms : List Bool) (r : List ℕ) (slots : List (Option (List ℕ))) (front : List ℕ) (k : List Scope) (rest : List Record) → runs (added_records cs qs ++ rest) (texts_joined slots, added (component_count cs) ms r (told slots) front ∷ k) ≡ option_and_then (λ xs. option_and_then (λ us. option_and_then (λ w. runs rest (front ++ w, k)) (closing ms r (slots ++ us))) (texts_of xs)) (Oer.addition_forms cs qs)
 
--- one slot more
+-- one more slot
 abbrev after_slot : List Bool → List ℕ → List (Option (List ℕ)) → List ℕ → List Scope → List Record → Option (List ℕ) → Option (List (Option Oer.OctetForm)) → Option State
 after_slot ms r slots front k rest u o = option_and_then (λ xs. option_and_then (λ us. option_and_then (λ w. runs rest (front ++ w, k)) (closing ms r ((slots ++ u ∷ []) ++ us))) (texts_of xs)) o
 
@@ -211,7 +211,7 @@ one_added s v h d g n ms r bs os front k rest =
     ∙ h 0 [] (open_type os ∷ added n ms r bs front ∷ k) (addition_ends ∷ (noted_by d g ++ rest))
     ∙ noted d g
   where
-    -- the octets behind their number, and what comes then
+    -- the octets after their length determinant, and what comes then
     kept : (more : List Record) (o : Option (List ℕ)) → option_and_then (λ w. runs (addition_ends ∷ more) (w, open_type os ∷ added n ms r bs front ∷ k)) o ≡ option_and_then (λ w. runs more (os ++ w, added n ms r bs front ∷ k)) (opened o)
     kept more None = refl
     kept more (Some w) = one_text (written (Oer.counted w) 0) os (added n ms r bs front ∷ k) more
@@ -221,7 +221,7 @@ one_added s v h d g n ms r bs os front k rest =
     noted false true = kept (is_empty ∷ rest) (written (Oer.form s v) 0) ∙ none_behind (opened (written (Oer.form s v) 0))
     noted false false = kept rest (written (Oer.form s v) 0) ∙ ap (λ o. option_and_then (λ w. runs rest (os ++ w, added n ms r bs front ∷ k)) o) (sym (open_text (Oer.form s v)))
 
--- what is held behind one addition more
+-- what is held after one more addition
 one_more : (n : ℕ) (ms : List Bool) (r : List ℕ) (slots : List (Option (List ℕ))) (w front : List ℕ) (k : List Scope) → (let t : State = (texts_joined slots ++ w, added n ms r (told slots ++ true ∷ []) front ∷ k) in t) ≡ (texts_joined (slots ++ Some w ∷ []), added n ms r (told (slots ++ Some w ∷ [])) front ∷ k)
 one_more n ms r slots w front k =
     ap (λ l. let t : State = (l, added n ms r (told slots ++ true ∷ []) front ∷ k) in t) (sym (joined_more slots w))
@@ -249,7 +249,7 @@ rest_of (component t o s cs) h (present v qs) ms r slots front k rest =
 rest_of (component t o s cs) h (absent qs) ms r slots front k rest = one_left_out (is_required o) cs (rest_of cs h.1) qs ms r slots front k rest
 rest_of (component t o s cs) h end ms r slots front k rest = refl
 
--- where each addition has a text
+-- if each addition has a text
 module _ (ms : List Bool) (x : Oer.OctetForm) (xs : List (Option Oer.OctetForm)) (us : List (Option (List ℕ))) (hx : OctetsStill x) (h : EachStill xs) (e : texts_of xs ≡ Some us) (p : ℕ) where
   a : Alike xs us
   a = alike xs us h e
@@ -281,7 +281,7 @@ module _ (ms : List Bool) (x : Oer.OctetForm) (xs : List (Option Oer.OctetForm))
   closes : written (Oer.sequence_form true ms x xs) p ≡ option_and_then (λ r. closing ms r us) (written x 0)
   closes = own ms x xs p ∙ go (is_any_present xs) refl
 
--- ---- where an addition has no text there is none
+-- ---- if an addition has no text, there is none
 
 abbrev Lost : List (Option Oer.OctetForm) → Type 0
 Lost xs = (is_any_present xs ≡ true) × ((p : ℕ) → written (joined (present_ones xs)) p ≡ None)

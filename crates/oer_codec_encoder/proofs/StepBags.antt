@@ -44,7 +44,7 @@ abbrev sorted : List (List ℕ) → List (List ℕ)
 sorted [] = []
 sorted (w ∷ ws) = placed w (sorted ws)
 
--- the texts one behind the other
+-- the texts in sequence
 abbrev all_of : List (List ℕ) → List ℕ
 all_of [] = []
 all_of (w ∷ ws) = w ++ all_of ws
@@ -69,7 +69,7 @@ put_length e (f ∷ fs) = go (put_length e fs) (before f.0 e.0)
     go others true = ap suc others
     go others false = refl
 
--- so many forms in order have the texts in order, and where one has none there is nothing
+-- the forms in order have the texts in order; if one has no text, there is nothing
 abbrev InOrder : ℕ → Option (List Keyed) → Option (List (List ℕ)) → Type 0
 InOrder n None None = Unit {0}
 InOrder n (Some es) (Some ws) = AreKeyed es (sorted ws) × (length es ≡ n)
@@ -151,7 +151,7 @@ closed_of h n p (Some es) (Some ws) k = rw (length-map es (λ e. e.1), k.1) (go 
     go false = refl
     go true = chain_same (written (Oer.unsigned n) p) _ (λ a. Some (a ++ all_of (sorted ws))) (λ a. ap (option_map (λ b. a ++ b)) (joined_keyed es (sorted ws) k.0 (p + length a)))
 
--- the count, and the members behind it
+-- the count, and the members after it
 counted_bag : (n p : ℕ) (os : List ℕ) (k : List Scope) (rs rest : List Record) (ws : Option (List (List ℕ))) → ((front : List ℕ) → runs rs ([], bag_members n None front ∷ k) ≡ option_and_then (λ us. runs rest (front ++ all_of (sorted us), k)) ws) → (c : Bool) → option_and_then (λ m. runs rs m) (option_map {U = State} (λ w. ([], bag_members n None (os ++ w) ∷ k)) (written (only_if c (Oer.unsigned n)) 0)) ≡ option_and_then (λ w. runs rest (os ++ w, k)) (option_and_then (λ us. written (only_if c (both (Oer.unsigned n) (exactly (all_of (sorted us))))) p) ws)
 unfolding written
 counted_bag n p os k rs rest ws h false = ap (option_and_then (λ w. runs rest (os ++ w, k))) (sym (none_behind ws))

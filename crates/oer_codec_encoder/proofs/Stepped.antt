@@ -16,7 +16,7 @@ use Rattle.oer_codec_encoder.proofs.Fronts.{front_behind, front_kept, keeps_behi
 use Rattle.oer_codec_encoder.proofs.Refusals.{no_text}
 use Rattle.oer_codec_encoder.proofs.Scopes.{shown_is, appended}
 
--- what the octets and the frames stand for
+-- what the octets and the frames represent
 abbrev pub now : List Frame → List ℕ → State
 now fs o = shown fs o
 
@@ -29,7 +29,7 @@ stays_sound r fs gs o p h d = stands_behind fs gs o p h r d
 pub takes_step : {n : ℕ} (r : Record) (fs gs : List Frame) (o p : List ℕ) → Stands fs o n → Does r fs o gs p → run r (now fs o) ≡ Some (now gs p)
 takes_step r fs gs o p h d = let t = d.after (now fs o) h.holds in t.1 ∙ ap Some (sym (shown_is gs p t.0 t.2))
 
--- what an encoder shows, of which so many octets were there when it began
+-- what an encoder shows, and the number of octets that were there when it began
 abbrev pub holding : List Frame → List ℕ → Bool → ℕ → Written
 holding fs o f n = record { state = now fs o; failed = f; front = take n (ground fs o) }
 
@@ -57,7 +57,7 @@ puts r fs gs o p f w e g h d = (
   front_behind fs gs o p h r d ∙ ap (λ (v : Written). v.front) e,
 )
 
--- what stood in front stands there behind a record that is written, and behind one that was refused
+-- what was there before is still there after a record that is written, and after one that was refused
 pub same_front : {n : ℕ} (r : Record) (fs gs : List Frame) (o p : List ℕ) (f : Bool) (w : Written) → holding fs o f n ≡ w → Stands fs o n → Does r fs o gs p → take n (ground gs p) ≡ w.front
 same_front r fs gs o p f w e h d = front_behind fs gs o p h r d ∙ ap (λ (v : Written). v.front) e
 

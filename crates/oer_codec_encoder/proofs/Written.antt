@@ -1,4 +1,4 @@
--- What a writer holds behind the records of a value.
+-- What a writer holds after the records of a value.
 use Rattle.std.proofs.Common.{◌≡◌, ℕ, List, [], ◌∷◌, Option, Some, None, option_and_then, refl, ap, sym, subst, ◌∙◌, arith}
 use Rattle.asn1_model.specs.Schema.{Schema}
 use Rattle.asn1_model.specs.Value.{Value, depth}

@@ -1,4 +1,4 @@
--- The frames of an encoder, and how they go on.
+-- The frames of an encoder, and how they change.
 use Rattle.std.specs.Prelude.{◌≡◌, ℕ, ◌+◌, ◌-◌, ◌<◌, Bool, ◌||◌, List, [], ◌∷◌, reverse, not, ltb, Option, Some, None}
 use Rattle.asn1_schema_faults.specs.declared.EncodeError.{EncodeError}
 use Rattle.asn1_schema_faults.specs.declared.EncodeError.TheVariants.{AlreadyFailed, OutOfMemory}
@@ -11,14 +11,13 @@ use Rattle.oer_codec_encoder.specs.declared.frames.SmallFrame.TheVariants.{Alter
 use Rattle.oer_codec_encoder.specs.declared.frames.SmallFrame.TheVariants.{OpenType as SmallOpenType}
 use Rattle.oer_codec_encoder.specs.declared.frames.SmallFrame.TheVariants.{Members as SmallMembers}
 
--- The frame that a small frame is.
+-- A small frame as a frame.
 abbrev pub frame_of : SmallFrame → Frame
 frame_of (SmallMembers due) = Members due
 frame_of SmallAlternative = Alternative
 frame_of (SmallOpenType start) = OpenType start
 
--- What is open but for a small frame, the innermost first: it stands alone, and those around it in the order in which
--- they began.
+-- What is open apart from a small frame: the innermost frame, then those around it from the inside out.
 abbrev pub others_of : Option Frame → List Frame → List Frame
 others_of None fs = []
 others_of (Some f) fs = f ∷ reverse fs
@@ -28,11 +27,11 @@ abbrev pub frames_of : Option SmallFrame → Option Frame → List Frame → Lis
 frames_of None i fs = others_of i fs
 frames_of (Some e) i fs = frame_of e ∷ others_of i fs
 
--- A preamble behind its next presence bit.
+-- A preamble after its next presence bit.
 abbrev pub told : Preamble → Preamble
 told p = record { extensible = p.extensible; due = p.due - 1; given = p.given + 1; start = p.start }
 
--- The additions behind the next one, of which it was told whether it is there.
+-- The additions after the next one, whose presence was given.
 abbrev pub with_next : Bool → Additions → Additions
 with_next here a = record {
   due = a.due - 1;
@@ -44,10 +43,10 @@ with_next here a = record {
   root_end = a.root_end;
 }
 
--- Why a bag of which so many members are due does not end: memory was refused, or one is due.
+-- Why a bag with a number of members due does not end: memory ran out, or one is due.
 abbrev pub NoEnd : ℕ → EncodeError → Type 0
 NoEnd due e = ¬ (e ≡ AlreadyFailed) × (¬ (e ≡ OutOfMemory) → 0 < due)
 
--- Why no member, or no end of the members, comes where so many are due: memory was refused, or it is not what is due.
+-- Why no member, or no end of the members, comes with a number of them due: memory ran out, or something else is due.
 abbrev pub NoMember : Bool → ℕ → EncodeError → Type 0
 NoMember more due e = ¬ (e ≡ AlreadyFailed) × (¬ (e ≡ OutOfMemory) → more ≡ not (ltb 0 due))

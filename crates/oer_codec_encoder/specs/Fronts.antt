@@ -1,5 +1,5 @@
--- The octets in front of all that is open. An encoder writes behind those with which it began, which stay what they
--- were, also after a refusal.
+-- The octets before everything that is open. An encoder appends to those with which it began. They do not change,
+-- even after an error.
 use Rattle.std.specs.Prelude.{◌≤◌, ℕ, List, [], ◌∷◌, length}
 use Rattle.asn1_model.specs.Versions.{Begins}
 use Rattle.oer_codec_encoder.specs.Holding.{shown, Holds}
@@ -9,7 +9,7 @@ use Rattle.oer_codec_encoder.specs.declared.frame.Frame.{Frame}
 use Rattle.oer_codec_encoder.specs.declared.frame.Frame.TheVariants.{Components, Added, OpenType, Members, Bag}
 use Rattle.oer_codec_encoder.specs.declared.frame.Frame.TheVariants.{Alternative}
 
--- Of what a writer holds: those in front of the outermost scope that has some in front of it, and all if none has.
+-- In what a writer holds: those before the outermost scope that has such octets, and all octets if none has.
 abbrev pub outermost : List ℕ → List Scope → List ℕ
 outermost os [] = os
 outermost os (components e n ms front ∷ k) = outermost front k
@@ -22,7 +22,7 @@ outermost os (alternative ∷ k) = outermost os k
 abbrev pub first_of : State → List ℕ
 first_of s = outermost s.0 s.1
 
--- Of an encoder: the octets that it writes, or where bags are open those in front of the outermost one.
+-- In an encoder: the octets that it writes, or, if bags are open, those before the outermost one.
 abbrev pub ground : List Frame → List ℕ → List ℕ
 ground [] o = o
 ground (Components c ∷ fs) o = ground fs o
@@ -32,11 +32,11 @@ ground (Members due ∷ fs) o = ground fs o
 ground (Bag boxed ∷ fs) o = ground fs boxed.value.outer.items
 ground (Alternative ∷ fs) o = ground fs o
 
--- What a refused record leaves: what stood in front of all that was open stands there still.
+-- What a refused record leaves: the octets before everything that was open are still there.
 pub record Keeps (fs : List Frame) (o : List ℕ) (gs : List Frame) (p : List ℕ) : Type 0 where
   pub keeps : (s : State) → Holds fs o s → Begins (first_of s) (ground gs p)
 
--- The octets and the frames stand for what they show, and so many octets are in front of all that is open.
+-- The octets and the frames represent what they show, and `n` octets come before everything that is open.
 pub record Stands (fs : List Frame) (o : List ℕ) (n : ℕ) : Type 0 where
   pub holds : Holds fs o (shown fs o)
   pub behind : n ≤ length (first_of (shown fs o))

@@ -1,4 +1,4 @@
--- How the octets and the frames of an encoder stand for what a writer holds. The frames are given the innermost first.
+-- How the octets and the frames of an encoder represent what a writer holds. The innermost frame comes first.
 use Rattle.std.specs.Prelude.{◌≡◌, ℕ, ◌+◌, ◌-◌, ◌/◌, ◌^◌, ◌<◌, Bool, true, false, cond, List, [], ◌∷◌, ◌++◌, length}
 use Rattle.std.specs.Prelude.{take, drop, map, replicate, Some, None, slice_index}
 use Rattle.asn1_model.specs.Form.{written, exactly, joined}
@@ -18,11 +18,11 @@ use Rattle.oer_codec_encoder.specs.declared.frame.Frame.TheVariants.{Components,
 use Rattle.oer_codec_encoder.specs.declared.frame.Frame.TheVariants.{Alternative}
 use Rattle.oer_codec_writing.specs.Writing.{Adds, bits_heading}
 
--- How many octets an extension bit, where there is one, and so many presence bits fill.
+-- The number of octets that an extension bit, if there is one, and a number of presence bits fill.
 abbrev pub octets_filled : Bool → ℕ → ℕ
 octets_filled e n = (n + cond e 1 0 + 7) / 8
 
--- The presence bits that were given, behind the extension marker, where there is one.
+-- The presence bits that were given, after the extension bit, if there is one.
 abbrev pub given_bits : Bool → ℕ → ℕ → List ℕ → List Bool
 given_bits e given start o = take given (drop (length (preamble e [])) (octet_bits (drop start o)))
 
@@ -55,8 +55,8 @@ shown (Alternative ∷ fs) o =
     let below = shown fs o in
     (below.0, alternative ∷ below.1)
 
--- The octets are those in front of some presence bits; these, in whole octets, behind an extension bit that is not set,
--- where there is one, and those that are due not set either; and those behind.
+-- The octets are: those before some presence bits; in whole octets, an extension bit that is zero, if there is one,
+-- the presence bits given, and those due, which are zero; and those after.
 pub record HasBits (e : Bool) (due given start : ℕ) (o : List ℕ) : Type 0 where
   pub front : List ℕ
   pub bitmap : List ℕ
@@ -69,7 +69,7 @@ pub record HasBits (e : Bool) (due given start : ℕ) (o : List ℕ) : Type 0 wh
   pub bits : octet_bits bitmap ≡ padded (preamble e (presence_bits ++ replicate due false))
   pub small : (k : ℕ) → k < length bitmap → slice_index bitmap k < 256
 
--- The octets are those in front of an open sequence, its preamble, and those behind it.
+-- The octets are those before an open sequence, its preamble, and those after it.
 pub record IsOpen (below : List ℕ → State → Type 0) (e : Bool) (due given start : ℕ) (o : List ℕ)
     (s : State) : Type 0 where
   pub has : HasBits e due given start o
@@ -77,8 +77,8 @@ pub record IsOpen (below : List ℕ → State → Type 0) (e : Bool) (due given 
   pub under : below has.front outer
   pub is : s ≡ (has.inner, components e due has.presence_bits outer.0 ∷ outer.1)
 
--- The octets are those up to the end of a root, behind a preamble whose extension bit is not set; the presence bitmap
--- of the additions, behind what stands in front of its bits; and those of the additions.
+-- The octets are: those up to the end of a root whose preamble has an extension bit of zero; the presence bitmap of
+-- the additions, after its heading; and those of the additions.
 pub record IsExtended (below : List ℕ → State → Type 0) (a : Additions) (o : List ℕ) (s : State) : Type 0 where
   pub has : HasBits false a.due a.given a.bitmap o
   pub root : List ℕ
@@ -92,7 +92,7 @@ pub record IsExtended (below : List ℕ → State → Type 0) (a : Additions) (o
   pub any : a.any ≡ is_any_set has.presence_bits
   pub is : s ≡ (has.inner, added a.due preamble.presence_bits preamble.inner has.presence_bits outer.0 ∷ outer.1)
 
--- The octets are those in front of an open type, room for one octet, and those of the open type.
+-- The octets are those before an open type, one reserved octet, and those of the open type.
 pub record IsApart (below : List ℕ → State → Type 0) (start : ℕ) (o : List ℕ) (s : State) : Type 0 where
   pub front : List ℕ
   pub room : ℕ
@@ -103,12 +103,12 @@ pub record IsApart (below : List ℕ → State → Type 0) (start : ℕ) (o : Li
   pub under : below front outer
   pub is : s ≡ (inner, open_type outer.0 ∷ outer.1)
 
--- The octets are those of the open member of a bag, which has those in front of it.
+-- The octets are those of the open member of a bag. The bag has those before it.
 abbrev pub IsInBag : (List ℕ → State → Type 0) → BagFrame → List ℕ → State → Type 0
 IsInBag below b o s = (outer : State) × (s ≡ (o, bag_members b.due b.members outer.0 ∷ outer.1))
     × below b.outer.items outer
 
--- The octets and the frames stand for a state.
+-- The octets and the frames represent a state.
 abbrev pub Holds : List Frame → List ℕ → State → Type 0
 Holds [] o s = s ≡ (o, [])
 Holds (Components c ∷ fs) o s = IsOpen (λ p t. Holds fs p t) c.extensible c.due c.given c.start o s
@@ -118,7 +118,7 @@ Holds (Members due ∷ fs) o s = (below : State) × (s ≡ (below.0, members due
 Holds (Bag boxed ∷ fs) o s = IsInBag (λ p t. Holds fs p t) boxed.value o s
 Holds (Alternative ∷ fs) o s = (below : State) × (s ≡ (below.0, alternative ∷ below.1)) × Holds fs o below
 
--- The octets and the frames stand for some state.
+-- The octets and the frames represent some state.
 pub record AreSound (fs : List Frame) (o : List ℕ) : Type 0 where
   pub state : State
   pub holds : Holds fs o state
@@ -127,13 +127,13 @@ pub record AreSound (fs : List Frame) (o : List ℕ) : Type 0 where
 pub record Does (r : Record) (fs : List Frame) (o : List ℕ) (gs : List Frame) (p : List ℕ) : Type 0 where
   pub after : (s : State) → Holds fs o s → (t : State) × (run r s ≡ Some t) × Holds gs p t
 
--- Why a record was refused: memory was, or there is no step. What writes it knows of no earlier refusal.
+-- Why a record was refused: memory ran out, or there is no step. Its writer does not know of earlier errors.
 abbrev pub Cannot : Record → List Frame → List ℕ → EncodeError → Type 0
 Cannot r fs o OutOfMemory = Unit {0}
 Cannot r fs o AlreadyFailed = ⊥
 Cannot r fs o e = (s : State) → Holds fs o s → run r s ≡ None
 
--- A bag behind the octets of a member that begins, or as it was.
+-- A bag, and the octets of a member: one that begins, or the bag as it was.
 abbrev pub NextOfBag : Bool → BagFrame → List ℕ → BagFrame → List ℕ → Type 0
 NextOfBag true b o c p = (0 < b.due) × (c.due ≡ b.due - 1) × (c.outer ≡ b.outer)
     × (c.members ≡ Some (with_open b.members o)) × (p ≡ [])

@@ -16,19 +16,19 @@ use Rattle.asn1_schema_presented.specs.Records.{addition_ends, choice_begins, en
 
 -- An open scope.
 pub data Scope : Type 0 where
-  -- a sequence, set or group: whether it has an extension marker, how many presence bits are due, those that are
-  -- there, and the octets in front of it
+  -- a sequence, set or group: whether it has an extension marker, how many presence bits are due, those that were
+  -- given, and the octets before it
   components : Bool → ℕ → List Bool → List ℕ → Scope
-  -- behind the root of such a type with an extension marker: how many additions are due, the presence bits, the root's
-  -- octets, which of the additions in front are there, and the octets in front of the sequence; the octets of the scope
-  -- are those of the additions, one behind the other
+  -- after the root of such a type with an extension marker: how many additions are due, the presence bits, the root's
+  -- octets, which of the previous additions are present, and the octets before the sequence; the octets of the scope
+  -- are those of the additions in sequence
   added : ℕ → List Bool → List ℕ → List Bool → List ℕ → Scope
-  -- an addition, or an added alternative: its octets stand alone, and those in front are these
+  -- an addition, or an added alternative: its octets are kept apart, and those before it are these
   open_type : List ℕ → Scope
   -- a list: how many members are due
   members : ℕ → Scope
-  -- a bag: how many members are due, the octets of each that stands before the open one, if one is open, and the
-  -- octets in front of the members
+  -- a bag: how many members are due, the octets of each member before the open one, if one is open, and the octets
+  -- before the members
   bag_members : ℕ → Option (List (List ℕ)) → List ℕ → Scope
   -- an alternative of the root
   alternative : Scope
@@ -54,12 +54,12 @@ counted_on zero os k false = Some (os, members zero ∷ k)
 counted_on (suc n) os k true = Some (os, members n ∷ k)
 counted_on (suc n) os k false = None
 
--- The octets of each member of a bag, the open one behind the others.
+-- The octets of each member of a bag, the open one last.
 abbrev pub with_open : Option (List (List ℕ)) → List ℕ → List (List ℕ)
 with_open None os = []
 with_open (Some ws) os = ws ++ os ∷ []
 
--- A member of a bag stands alone until the end, which puts them in their order.
+-- The members of a bag are kept apart until the end, which puts them in order.
 abbrev pub counted_in : ℕ → Option (List (List ℕ)) → List ℕ → List ℕ → List Scope → Bool → Option State
 counted_in zero ws front os k true = None
 counted_in zero ws front os k false = Some (os, bag_members zero ws front ∷ k)
@@ -71,13 +71,13 @@ goes_on b os (members n ∷ k) = counted_on n os k b
 goes_on b os (bag_members n ws front ∷ k) = counted_in n ws front os k b
 goes_on b os k = None
 
--- The end of a type without additions: its form is that of the definitions, around the octets of its root.
+-- The end of a type without additions: its canonical form, around the octets of its root.
 abbrev pub closed : Bool → ℕ → List Bool → List ℕ → List ℕ → List Scope → Option State
 closed false zero ms front os k = adds_text (written (Oer.sequence_form false ms (exactly os) []) 0) (front, k)
 closed e n ms front os k = None
 
--- The preamble and the root, and where an addition is there the extension bit is set, and the bitmap and the additions'
--- octets stand behind (X.696 16).
+-- The preamble and the root. If an addition is present, the extension bit is set, and the bitmap and the octets of
+-- the additions follow (X.696 16).
 abbrev pub with_added : List Bool → List ℕ → List Bool → List ℕ → Option (List ℕ)
 with_added ms root bs os = cond (is_any_set bs)
     (written (both (Oer.preamble (true ∷ ms)) (both (exactly root) (both (Oer.counted_bits bs) (exactly os)))) 0)
@@ -103,7 +103,7 @@ ended os (bag_members n ws front ∷ k) = closed_bag n (with_open ws os) front k
 ended os (alternative ∷ k) = Some (os, k)
 ended os k = None
 
--- Behind the root components of a type with an extension marker come the additions.
+-- After the root components of a type with an extension marker come the additions.
 abbrev pub rooted : Bool → ℕ → List Bool → List ℕ → List ℕ → List Scope → ℕ → Option State
 rooted true zero ms front os k n = Some ([], added n ms os [] front ∷ k)
 rooted e due ms front os k n = None
@@ -121,25 +121,25 @@ abbrev pub adds : Bool → List ℕ → List Scope → Option State
 adds b os (added n ms root bs front ∷ k) = next_addition n ms root bs front os k b
 adds b os k = None
 
--- An addition's octets stand behind their number, and behind the additions in front.
+-- The octets of an addition, after the previous additions and a length determinant.
 abbrev pub added_one : List ℕ → List Scope → Option State
 added_one os (open_type front ∷ added n ms root bs before ∷ k) = adds_text (written (Oer.counted os) 0)
     (front, added n ms root bs before ∷ k)
 added_one os k = None
 
--- The tag at a place.
+-- The tag at an index.
 abbrev pub tag_at : ℕ → List Tag → Option Tag
 tag_at i [] = None
 tag_at zero (t ∷ ts) = Some t
 tag_at (suc i) (t ∷ ts) = tag_at i ts
 
--- The tags among which the chosen alternative has its place: of a type without an extension marker none is added.
+-- The tags that the index of the chosen alternative refers to: a type without an extension marker has no added ones.
 abbrev pub tags_among : List Tag → Bool → List Tag → Bool → List Tag
 tags_among roots e others false = roots
 tags_among roots false others true = []
 tags_among roots true others true = others
 
--- An alternative of the root stands behind its tag, an added one as an open type (X.696 20).
+-- An alternative of the root follows its tag; an added one is an open type (X.696 20).
 abbrev pub chosen_on : Bool → List ℕ → State → Option State
 chosen_on false t s = Some (s.0 ++ t, alternative ∷ s.1)
 chosen_on true t s = Some ([], open_type (s.0 ++ t) ∷ s.1)
@@ -172,7 +172,7 @@ run (choice_begins roots e others plus i) s = option_and_then
 run ends s = ended s.0 s.1
 run r s = None
 
--- The relation of a writer: what is held before a record, and behind it.
+-- The relation of a writer: what is held before a record, and after it.
 abbrev pub Step : State → Record → State → Type 0
 Step a r b = run r a ≡ Some b
 

@@ -1,4 +1,4 @@
--- The bridge: the records of a value add its canonical octets, and nothing is added just where it has none.
+-- The bridge: the records of a value append its canonical octets, and append nothing exactly if it has none.
 use Rattle.std.specs.Prelude.{◌≡◌, ◌↔◌, ℕ, List, ◌++◌, Some, option_and_then}
 use Rattle.asn1_model.specs.Schema.{Schema}
 use Rattle.asn1_model.specs.Value.{Value}
@@ -9,7 +9,7 @@ use Rattle.asn1_schema_presented.specs.Presents.{presents}
 use Rattle.asn1_schema_presented.specs.Chains.{Chain}
 use Rattle.oer_codec_encoder.specs.Steps.{Scope, State, Step, runs}
 
--- whatever comes behind, and at every position: none of these forms depends on it
+-- whatever follows, and at every position: none of these forms depends on it
 abbrev pub BridgesAt : Schema → Value → Type 0
 BridgesAt s v = (p : ℕ) (os : List ℕ) (k : List Scope) (rest : List Record) → runs (presents s v ++ rest) (os, k)
     ≡ option_and_then (λ w. runs rest (os ++ w, k)) (written (Oer.form s v) p)
@@ -21,7 +21,7 @@ Bridges s = (v : Value) → BridgesAt s v
 abbrev pub EveryTypeBridges : Type 0
 EveryTypeBridges = (s : Schema) → Bridges s
 
--- a chain of steps by them is just that
+-- a chain of steps by them does exactly that
 abbrev pub ChainsAddTheOctets : Type 0
 ChainsAddTheOctets = (s : Schema) (v : Value) (os : List ℕ) (k : List Scope) (new : State)
     → Chain Step (presents s v) (os, k) new ↔ ((w : List ℕ) × (written (Oer.form s v) 0 ≡ Some w)

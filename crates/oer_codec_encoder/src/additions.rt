@@ -1,4 +1,4 @@
-//! Additions of sequences and of sets, each an open type (X.696 16 and 30).
+//! Extension additions of sequences and sets, each an open type (X.696 16 and 30).
 ghost use Rattle.std.specs.Prelude.{◌≡◌, OnErr, MatchResult};
 ghost use Rattle.asn1_schema_presented.specs.Records.{additions_begin, addition, addition_ends};
 ghost use Rattle.oer_codec_encoder.specs.Fronts.{Keeps};
@@ -12,12 +12,12 @@ use asn1_schema_faults::EncodeError;
 use oer_codec_writing::{preamble_len, push_bits_heading};
 use std::alloc::Global;
 
-/// Begins the additions behind the root of a sequence or of a set with an extension marker (X.696 16), with their
-/// presence bitmap, in which no bit is set.
+/// Begins the extension additions, after the root of a sequence or set with an extension marker (X.696 16): adds the
+/// presence bitmap with all bits zero.
 ///
 /// # Errors
 ///
-/// `CallOutOfPlace` if nothing that is open takes this call, and `OutOfMemory`.
+/// `CallOutOfPlace` if the innermost frame does not take this call, and `OutOfMemory`.
 #[inline(always)]
 pub(crate) fn begin_additions(
     octets: &mut Vec<u8>,
@@ -50,12 +50,12 @@ pub(crate) fn begin_additions(
     Ok(())
 }
 
-/// Whether the next addition is there (X.696 16.4): its bit is then set, and its octets stand behind those in front, as
-/// an open type.
+/// Sets the bit of the next addition if it is present (X.696 16.4), and begins it as an open type after the previous
+/// additions.
 ///
 /// # Errors
 ///
-/// `CallOutOfPlace` if nothing that is open takes this call, and `OutOfMemory`.
+/// `CallOutOfPlace` if the innermost frame does not take this call, and `OutOfMemory`.
 #[inline(always)]
 pub(crate) fn encode_addition(
     octets: &mut Vec<u8>,
@@ -77,11 +77,11 @@ pub(crate) fn encode_addition(
     Ok(())
 }
 
-/// Ends an addition that is there, whose octets stand behind their number (X.696 16.5).
+/// Ends an addition that is present, and writes its length determinant (X.696 16.5).
 ///
 /// # Errors
 ///
-/// `CallOutOfPlace` if nothing that is open takes this call, and `OutOfMemory`.
+/// `CallOutOfPlace` if the innermost frame does not take this call, and `OutOfMemory`.
 #[inline(always)]
 pub(crate) fn end_addition(
     octets: &mut Vec<u8>,

@@ -13,7 +13,7 @@ use asn1_schema_tags::Tag;
 use asn1_schema_variants::Chosen;
 use oer_codec_writing::push_tag;
 
-/// The tag at a place, if there is one.
+/// The tag at an index, if there is one.
 #[inline(always)]
 fn tag_from(tags: &[Tag], place: usize) -> Option<Tag>
     ensures { option_map tag_of result ≡ tag_at place (map tag_of tags.now) }
@@ -39,7 +39,7 @@ fn tag_of_chosen(roots: &[Tag], extensible: bool, additions: &[Tag], chosen: Cho
     tag_from(additions, chosen.place)
 }
 
-/// Begins a CHOICE with the tag of the chosen alternative (X.696 20), of which an added one is an open type.
+/// Begins a CHOICE with the tag of the chosen alternative (X.696 20). An added alternative is an open type.
 ///
 /// # Errors
 ///

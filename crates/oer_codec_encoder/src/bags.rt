@@ -1,4 +1,4 @@
-//! Bags, whose members stand in ascending order (X.696 19).
+//! Bags: SET OF, whose members are in ascending order (X.696 19).
 ghost use Rattle.std.specs.Prelude.{◌≡◌, ◌++◌, [], ◌∷◌, map, OnOk, OnErr, MatchResult};
 ghost use Rattle.asn1_model.specs.Form.{written, exactly, joined};
 ghost use Rattle.asn1_model.specs.Oer.{in_any_order};
@@ -23,11 +23,11 @@ use oer_codec_writing::push_count;
 use std::alloc::{AllocError, Global};
 use std::mem;
 
-/// Begins a bag with its count (X.696 19), which the program's type has to hold.
+/// Begins a bag with its count (X.696 19), which the Rust type must be able to hold.
 ///
 /// # Errors
 ///
-/// `SizeConstraintNotSatisfied` if the program's type does not hold so many, and `OutOfMemory`.
+/// `SizeConstraintNotSatisfied` if the Rust type cannot hold `count` members, and `OutOfMemory`.
 pub(crate) fn begin_bag(
     octets: &mut Vec<u8>,
     frames: &mut Frames,
@@ -54,7 +54,7 @@ pub(crate) fn begin_bag(
     Ok(())
 }
 
-/// Exchanges octets with those in front of a bag.
+/// Exchanges the octets with those before a bag.
 #[inline]
 pub(crate) fn exchange(octets: &mut Vec<u8>, bag: &mut Bag)
     ensures bag { let a = bag.old in bag.new ≡ record a { outer = octets.old } }
@@ -63,7 +63,8 @@ pub(crate) fn exchange(octets: &mut Vec<u8>, bag: &mut Bag)
     mem::swap(octets, &mut bag.outer);
 }
 
-/// Whether a further member of a bag comes (X.696 19): the octets of each stand alone, and as many come as were told.
+/// Begins a further member of a bag if `more`, else expects none to be due (X.696 19). The octets of each member are
+/// kept apart.
 pub(crate) fn next_of_bag(
     octets: &mut Vec<u8>,
     bag: &mut Bag,
@@ -85,7 +86,7 @@ pub(crate) fn next_of_bag(
     Ok(())
 }
 
-/// Adds the octets of entries, one behind the other.
+/// Adds the octets of the entries in sequence.
 fn push_each(octets: &mut Vec<u8>, entries: &[Entry<'_>]) -> Result<(), AllocError>
     ensures text { OnOk result (octets.new.items ≡ octets.old.items ++ texts_joined (map octets_of entries.now)) }
     ensures kept { OnErr result (Begins octets.old.items octets.new.items) }
@@ -96,8 +97,8 @@ fn push_each(octets: &mut Vec<u8>, entries: &[Entry<'_>]) -> Result<(), AllocErr
     Ok(())
 }
 
-/// Adds the members of a bag, the open one behind the others, in the ascending order of their octets (X.696 19). One
-/// alone is added as it is.
+/// Adds the members of a bag, `last` among them, in ascending order of their octets (X.696 19). A single member is
+/// added as it is.
 pub(crate) fn push_members(
     octets: &mut Vec<u8>,
     alloc: Global,

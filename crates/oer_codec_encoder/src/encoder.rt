@@ -27,17 +27,17 @@ use std::alloc::Global;
 use std::marker::Model;
 use std::mem;
 
-/// Writes values in the canonical octet encoding rules (X.696) into one buffer.
+/// Encodes values in COER (X.696) into one buffer.
 ///
-/// All stands in the buffer from the first: the octets of additions too, behind a bitmap that tells which of them are
-/// there. The members of a bag alone are written apart, since their order is known at its end. What stood in the buffer
-/// when the encoder began is never changed.
+/// Everything is written to the buffer directly, also the octets of additions, after their presence bitmap. Only the
+/// members of a SET OF are written apart, since their order is known at its end. Octets that were in the buffer when
+/// the encoder began never change.
 #[derive(Drop)]
 pub struct Encoder<'buffer> {
     output: &'buffer mut Vec<u8>,
     frames: Frames,
     failed: bool,
-    /// How many octets stood in the buffer when it began.
+    /// The length of the buffer when the encoder began.
     start: usize,
     alloc: Global,
 }
@@ -61,9 +61,9 @@ impl<'buffer> Model for Encoder<'buffer> {
 }
 
 impl<'buffer> Encoder<'buffer> {
-    /// An encoder that writes behind what stands in the buffer. It takes no memory.
+    /// An encoder that appends to the buffer. It does not allocate.
     ///
-    /// The worker is not touched. It is a parameter so that a call has the form that it has where additions are written
+    /// The worker is not used. It is a parameter so that calls look like those of encoders that write additions
     /// apart.
     #[inline]
     pub fn from_buffer(
@@ -88,7 +88,7 @@ impl<'buffer> Encoder<'buffer> {
         }
     }
 
-    /// Takes the contents of the buffer, and leaves none.
+    /// Takes the contents of the buffer, and leaves it empty.
     #[inline(always)]
     pub fn output(&mut self) -> Vec<u8>
         ensures octets { self.old.failed ≡ false → self.old.state.1 ≡ [] → result.items ≡ self.old.state.0 }
@@ -99,7 +99,7 @@ impl<'buffer> Encoder<'buffer> {
         mem::replace(self.output, Vec::new(self.alloc))
     }
 
-    /// The contents of the buffer, of which none are left, as `output` takes them. What is open is let go first.
+    /// Takes the contents of the buffer as `output` does, after it drops what is open.
     #[inline(always)]
     pub fn into_output(self) -> Vec<u8>
         ensures octets { self.entry.failed ≡ false → self.entry.state.1 ≡ [] → result.items ≡ self.entry.state.0 }
@@ -114,8 +114,8 @@ impl<'buffer> Encoder<'buffer> {
         mem::replace(output, Vec::new(alloc))
     }
 
-    /// What stood in the buffer when the encoder began, of which nothing is left there: what was written behind it is
-    /// given up.
+    /// Takes the octets that were in the buffer when the encoder began, and leaves it empty. What the encoder wrote
+    /// is discarded.
     pub fn into_front(self) -> Vec<u8>
         ensures { result.items ≡ self.entry.front }
     {
@@ -132,7 +132,8 @@ impl<'buffer> Encoder<'buffer> {
     }
 }
 
-// One call: `AlreadyFailed` after a refusal, else what is written of its record, and after a refusal no more.
+// One call: `AlreadyFailed` if an earlier call failed, else what its record writes. After an error the encoder has
+// failed.
 macro_rules! record {
     ($encoder:ident, $written:expr) => {{
         begin_record(&mut $encoder.failed)?;

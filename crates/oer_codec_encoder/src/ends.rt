@@ -1,4 +1,4 @@
-//! What ends.
+//! Ends of frames.
 ghost use Rattle.std.specs.Prelude.{◌≡◌, ◌<◌, ◌∷◌, OnErr, MatchResult, vec_len};
 ghost use Rattle.asn1_model.specs.Versions.{Begins};
 ghost use Rattle.asn1_schema_presented.specs.Records.{ends};
@@ -15,8 +15,8 @@ use crate::sequences::raise_bit;
 use asn1_schema_faults::EncodeError;
 use std::alloc::Global;
 
-/// Ends a sequence or a set behind its root (X.696 16), of which no addition is due: with one that is there the
-/// extension bit is set, and with none the presence bitmap is taken off again.
+/// Ends a sequence or set after its root (X.696 16), if no addition is due. If an addition is present, the extension
+/// bit is set; if none is, the presence bitmap is removed.
 #[inline(always)]
 fn end_added(octets: &mut Vec<u8>, additions: Additions) -> Result<(), EncodeError>
     requires { additions.start < vec_len octets.old }
@@ -36,8 +36,7 @@ fn end_added(octets: &mut Vec<u8>, additions: Additions) -> Result<(), EncodeErr
     Ok(())
 }
 
-/// Ends a bag (X.696 19), of which no member is due: its members stand behind the octets in front of it, which the bag
-/// has until then.
+/// Ends a bag (X.696 19), if no member is due: its members follow the octets before it, which the bag kept until now.
 fn end_bag(octets: &mut Vec<u8>, alloc: Global, bag: &mut Bag) -> Result<(), EncodeError>
     ensures step { MatchResult result (λ _. BagEnds bag.old octets.old.items octets.new.items) (NoEnd bag.old.due) }
     ensures kept { OnErr result (Begins bag.old.outer.items bag.new.outer.items) }
@@ -54,7 +53,7 @@ fn end_bag(octets: &mut Vec<u8>, alloc: Global, bag: &mut Bag) -> Result<(), Enc
     Ok(())
 }
 
-/// Ends a small frame, which is innermost of all (X.696 17, 20 and 30).
+/// Ends a small frame, the innermost (X.696 17, 20 and 30).
 ///
 /// # Errors
 ///
@@ -78,9 +77,9 @@ pub(crate) fn end_small(
     }
 }
 
-/// Ends a frame within which nothing is open (X.696 16, 17, 19, 20 and 30): of a sequence without an extension marker
-/// no presence bit is due, of one with an extension marker no addition, and of a list and a bag no member. The frame is
-/// only looked at, but for a bag, of which nothing is left; one that does not end has the octets in front of it still.
+/// Ends a frame that has nothing open inside (X.696 16, 17, 19, 20 and 30), if nothing is due: presence bits in a
+/// sequence without an extension marker, additions in one with a marker, members in a list or bag. Only a bag
+/// changes: nothing is left in it. If it does not end, it still has the octets before it.
 ///
 /// # Errors
 ///

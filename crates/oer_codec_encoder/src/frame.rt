@@ -1,49 +1,49 @@
-//! What may be open.
+//! What may be open: the frames.
 
 use asn1_schema_order::Encodings;
 
-/// The preamble of a sequence, a set or a group of additions (X.696 16.2), whose presence bits are told one at a time.
-/// The components stand behind it.
+/// The preamble of a sequence, a set or an extension addition group (X.696 16.2). Its presence bits are given one at
+/// a time, and the components follow it.
 #[derive(Clone, Copy)]
 pub(crate) struct Preamble {
-    /// Whether it has an extension marker.
+    /// Whether there is an extension marker.
     pub(crate) extensible: bool,
-    /// How many presence bits are due.
+    /// The number of presence bits still due.
     pub(crate) due: usize,
-    /// How many were given.
+    /// The number of presence bits given.
     pub(crate) given: usize,
-    /// Where it stands.
+    /// The position of the preamble.
     pub(crate) start: usize,
 }
 
-/// The additions of a sequence or of a set (X.696 16.4 and 16.5). The presence bitmap stands behind the root, with a
-/// bit for each, and behind it the octets of those that are there, one behind the other.
+/// The extension additions of a sequence or set (X.696 16.4 and 16.5). After the root comes the presence bitmap, with
+/// a bit for each addition, then the octets of the additions that are present.
 #[derive(Clone, Copy)]
 pub(crate) struct Additions {
-    /// How many are due.
+    /// The number of additions still due.
     pub(crate) due: usize,
-    /// Of how many it was told whether they are there.
+    /// The number of additions whose presence was given.
     pub(crate) given: usize,
-    /// Whether one of these is there.
+    /// Whether an addition is present.
     pub(crate) any: bool,
-    /// Where the bits stand that tell which are there.
+    /// The position of the bits of the presence bitmap.
     pub(crate) bitmap: usize,
-    /// How many presence bits the preamble has.
+    /// The number of presence bits in the preamble.
     pub(crate) optional: usize,
-    /// Where the preamble stands.
+    /// The position of the preamble.
     pub(crate) start: usize,
-    /// Where the root ends.
+    /// The end of the root.
     pub(crate) root_end: usize,
 }
 
-/// A bag (X.696 19), of whose members the open one stands alone.
+/// A bag (X.696 19). Its open member is written into a buffer that holds nothing else.
 #[derive(Drop)]
 pub(crate) struct Bag {
-    /// How many members are due.
+    /// The number of members still due.
     pub(crate) due: usize,
-    /// The octets in front of the members.
+    /// The octets before the members.
     pub(crate) outer: Vec<u8>,
-    /// The octets of each member in front of the open one, if one is open.
+    /// The octets of each member before the open one; `None` if no member is open.
     pub(crate) members: Option<Encodings>,
 }
 
@@ -52,20 +52,20 @@ pub(crate) struct Bag {
 pub(crate) enum Frame {
     /// A sequence, a set, or a group of additions.
     Components(Preamble),
-    /// A sequence or a set behind its root.
+    /// A sequence or a set after its root.
     Added(Additions),
-    /// An addition or an added alternative, whose octets stand behind room for one octet of their number.
+    /// An addition or an added alternative. Its octets follow one octet reserved for the length determinant.
     OpenType {
-        /// Where this room is.
+        /// The position of the reserved octet.
         start: usize,
     },
     /// A list.
     Members {
-        /// How many members are due.
+        /// The number of members still due.
         due: usize,
     },
-    /// A bag. It stands apart, as it is larger than the others.
+    /// A bag. It is boxed because it is larger than the others.
     Bag(Box<Bag>),
-    /// An alternative of the root of a choice.
+    /// A root alternative of a choice.
     Alternative,
 }

@@ -1,4 +1,4 @@
-//! All that is open.
+//! All open frames.
 ghost use Rattle.std.specs.Prelude.{◌≡◌, ◌+◌, ◌^◌, ◌<◌, ◌∷◌, [], List, reverse, OnOk, OnErr, IfSome, IfNone};
 ghost use Rattle.std.specs.Prelude.{MatchResult};
 ghost use Rattle.asn1_schema_presented.specs.Records.{ends, further};
@@ -17,26 +17,26 @@ use std::alloc::{AllocError, Global};
 use std::marker::Model;
 use std::mem;
 
-/// A frame that is innermost of all and takes no more than one number: what encloses one value alone, or a list while
-/// nothing has begun in a member of it.
+/// An innermost frame that needs no more than one number: a frame around a single value, or a list whose member has
+/// opened nothing.
 #[derive(Clone, Copy)]
 pub(crate) enum SmallFrame {
     /// A list.
     Members {
-        /// How many members are due.
+        /// The number of members still due.
         due: usize,
     },
-    /// An alternative of the root of a choice.
+    /// A root alternative of a choice.
     Alternative,
-    /// An addition or an added alternative, whose octets stand behind room for one octet of their number.
+    /// An addition or an added alternative. Its octets follow one octet reserved for the length determinant.
     OpenType {
-        /// Where this room is.
+        /// The position of the reserved octet.
         start: usize,
     },
 }
 
 impl SmallFrame {
-    /// The frame that it is.
+    /// The same frame as a `Frame`.
     #[inline(always)]
     fn frame(self) -> Frame
         ensures { result ≡ frame_of self }
@@ -49,8 +49,8 @@ impl SmallFrame {
     }
 }
 
-/// All that has begun and has not ended. A small frame is innermost of all, if there is one; then comes the innermost
-/// of the other frames, and what is around it. Neither of the two takes memory.
+/// All frames that are open, from the inside out: the small frame, if there is one; the innermost other frame; and
+/// those around it. The first two need no allocation.
 #[derive(Drop)]
 pub(crate) struct Frames {
     small: Option<SmallFrame>,
@@ -68,7 +68,7 @@ impl Model for Frames {
     ghost view = { λ f. frames_of f.small f.innermost f.outer.items };
 }
 
-/// Opens a frame inside all others, where no small frame is innermost. If memory is refused, all is as it was.
+/// Opens a frame inside all others. The innermost frame is not a small one. If an allocation fails, nothing changes.
 #[inline(always)]
 fn open_frame(
     innermost: &mut Option<Frame>,
@@ -84,7 +84,7 @@ fn open_frame(
         if !outer.is_empty() {
             outer.clear();
         }
-        // No frame stood there that is to be let go.
+        // There is no previous frame to drop.
         mem::forget(innermost.replace(frame));
         return Ok(());
     }
@@ -95,8 +95,8 @@ fn open_frame(
     Ok(())
 }
 
-/// Opens a small frame as a frame inside all others. It is seldom called: where something begins in an open type, in an
-/// alternative or in the first member of a list.
+/// Opens a small frame as a frame inside all others. Rarely called: only where something begins in an open type, in
+/// an alternative or in the first member of a list.
 #[cold]
 fn settle_small(
     innermost: &mut Option<Frame>,
@@ -111,7 +111,7 @@ fn settle_small(
     open_frame(innermost, outer, small.frame())
 }
 
-/// Moves the small frame, if there is one, to the other frames. If memory is refused, all is as it was.
+/// Moves the small frame, if there is one, to the other frames. If an allocation fails, nothing changes.
 #[inline(always)]
 fn settle(
     small: &mut Option<SmallFrame>,
@@ -131,7 +131,7 @@ fn settle(
     Ok(())
 }
 
-/// Leaves the innermost frame, where no small frame is innermost.
+/// Closes the innermost frame, which is not a small one.
 #[inline(always)]
 fn leave(innermost: &mut Option<Frame>, outer: &mut Vec<Frame>)
     ensures { (f : _) → innermost.old ≡ Some f → others_of innermost.old outer.old.items
@@ -144,8 +144,8 @@ fn leave(innermost: &mut Option<Frame>, outer: &mut Vec<Frame>)
     }
 }
 
-/// Leaves the innermost frame, where no small frame is innermost, if it is an open type, and answers where the room for
-/// its number is.
+/// Closes the innermost frame if it is an open type, and returns the position of its reserved octet. The innermost
+/// frame is not a small one.
 #[inline(always)]
 fn leave_open_type(innermost: &mut Option<Frame>, outer: &mut Vec<Frame>) -> Option<usize>
     ensures some { IfSome result (λ start. others_of innermost.old outer.old.items
@@ -163,7 +163,7 @@ fn leave_open_type(innermost: &mut Option<Frame>, outer: &mut Vec<Frame>) -> Opt
     Some(start)
 }
 
-/// Ends the innermost frame, where no small frame is innermost.
+/// Ends the innermost frame, which is not a small one.
 #[inline(always)]
 fn end_other(
     octets: &mut Vec<u8>,
@@ -186,7 +186,7 @@ fn end_other(
     Ok(())
 }
 
-/// Takes back the octets in front of a frame that has them apart, which a bag alone does.
+/// Restores the octets that a frame set aside, which only a bag does.
 fn bring_back(octets: &mut Vec<u8>, frame: &mut Frame)
     ensures { (k : _) → ground k octets.new.items ≡ ground (frame.old ∷ k) octets.old.items }
 {
@@ -196,7 +196,7 @@ fn bring_back(octets: &mut Vec<u8>, frame: &mut Frame)
     }
 }
 
-/// Takes back the octets in front of the outermost of these frames that has them apart, of which none is left.
+/// Restores the octets that the outermost bag among these frames set aside, and removes all frames.
 fn bring_all_back(octets: &mut Vec<u8>, frames: &mut Vec<Frame>)
     ensures { octets.new.items ≡ ground (reverse frames.old.items) octets.old.items }
 {
@@ -205,7 +205,7 @@ fn bring_all_back(octets: &mut Vec<u8>, frames: &mut Vec<Frame>)
     }
 }
 
-/// The same of the innermost frame and of those around it.
+/// Restores the octets that the outermost bag set aside, among the innermost frame and those around it.
 fn bring_others_back(octets: &mut Vec<u8>, innermost: &mut Option<Frame>, outer: &mut Vec<Frame>)
     ensures { octets.new.items ≡ ground (others_of innermost.old outer.old.items) octets.old.items }
 {
@@ -217,7 +217,7 @@ fn bring_others_back(octets: &mut Vec<u8>, innermost: &mut Option<Frame>, outer:
 }
 
 impl Frames {
-    /// Nothing is open. It takes no memory.
+    /// No open frames. It does not allocate.
     #[inline(always)]
     pub(crate) fn new(alloc: Global) -> Self
         ensures { result ≡ [] }
@@ -229,7 +229,7 @@ impl Frames {
         }
     }
 
-    /// Leaves nothing open.
+    /// Closes all frames.
     #[inline(always)]
     pub(crate) fn clear(&mut self)
         ensures { self.new ≡ [] }
@@ -243,7 +243,7 @@ impl Frames {
         }
     }
 
-    /// Lets all go that is open.
+    /// Drops all frames.
     #[inline(always)]
     pub(crate) fn let_go(self) {
         let Frames {
@@ -254,7 +254,7 @@ impl Frames {
         let_go(innermost, outer);
     }
 
-    /// Leaves nothing open, and takes back the octets in front of the outermost bag, if one is open.
+    /// Closes all frames, and restores the octets that the outermost bag set aside, if a bag is open.
     pub(crate) fn bring_back(&mut self, octets: &mut Vec<u8>)
         ensures octets { octets.new.items ≡ ground self.old octets.old.items }
         ensures none { self.new ≡ [] }
@@ -263,7 +263,7 @@ impl Frames {
         self.clear();
     }
 
-    /// Exchanges the octets with those that the innermost frame, a bag, has in front of it.
+    /// Exchanges the octets with those that the innermost frame, a bag, has set aside.
     pub(crate) fn set_aside(&mut self, octets: &mut Vec<u8>)
         requires { (b : _) × (k : _) × (self.old ≡ Bag b ∷ k) }
         ensures { (b : _) (k : _) → self.old ≡ Bag b ∷ k → let a = b.value in (c : _) × (self.new ≡ Bag c ∷ k)
@@ -275,7 +275,7 @@ impl Frames {
         exchange(octets, bag);
     }
 
-    /// Opens a frame inside all others. If memory is refused, all is as it was.
+    /// Opens a frame inside all others. If an allocation fails, nothing changes.
     #[inline(always)]
     pub(crate) fn open(&mut self, frame: Frame) -> Result<(), AllocError>
         ensures ok { OnOk result (self.new ≡ frame ∷ self.old) }
@@ -285,7 +285,7 @@ impl Frames {
         open_frame(&mut self.innermost, &mut self.outer, frame)
     }
 
-    /// Opens a small frame inside all others. If memory is refused, all is as it was.
+    /// Opens a small frame inside all others. If an allocation fails, nothing changes.
     #[inline(always)]
     pub(crate) fn open_small(&mut self, small: SmallFrame) -> Result<(), AllocError>
         ensures ok { OnOk result (self.new ≡ frame_of small ∷ self.old) }
@@ -296,7 +296,7 @@ impl Frames {
         Ok(())
     }
 
-    /// Closes the innermost frame, if it is an open type, and answers where the room for its number is.
+    /// Closes the innermost frame if it is an open type, and returns the position of its reserved octet.
     #[inline(always)]
     pub(crate) fn close_open_type(&mut self) -> Option<usize>
         ensures some { IfSome result (λ start. self.old ≡ OpenType start ∷ self.new) }
@@ -313,11 +313,11 @@ impl Frames {
         }
     }
 
-    /// Ends what is innermost (X.696 16, 17, 19, 20 and 30).
+    /// Ends the innermost frame (X.696 16, 17, 19, 20 and 30).
     ///
     /// # Errors
     ///
-    /// `CallOutOfPlace` if nothing that is open takes this call, and `OutOfMemory`.
+    /// `CallOutOfPlace` if the innermost frame does not take this call, and `OutOfMemory`.
     #[inline(always)]
     pub(crate) fn end_innermost(
         &mut self,
@@ -336,7 +336,7 @@ impl Frames {
         end_other(octets, alloc, &mut self.innermost, &mut self.outer)
     }
 
-    /// The preamble of the innermost sequence, if it is not behind its root.
+    /// The preamble of the innermost frame, if it is a sequence that has not passed its root.
     #[inline(always)]
     pub(crate) fn preamble(&self) -> Option<Preamble>
         ensures some { IfSome result (λ p. (k : _) × (self.now ≡ Components p ∷ k)) }
@@ -348,7 +348,7 @@ impl Frames {
         }
     }
 
-    /// Puts a frame in the place of the components of the innermost sequence.
+    /// Replaces the innermost frame, a sequence in its root.
     #[inline(always)]
     pub(crate) fn replace(&mut self, frame: Frame)
         requires { (p : _) × (k : _) × (self.old ≡ Components p ∷ k) }
@@ -357,7 +357,7 @@ impl Frames {
         self.innermost = Some(frame);
     }
 
-    /// Takes the next presence bit of the innermost sequence, and gives the preamble as it was in front of it.
+    /// Takes the next presence bit of the innermost sequence, and returns the preamble as it was before.
     #[inline(always)]
     pub(crate) fn next_presence_bit(&mut self) -> Option<Preamble>
         requires { (p : _) (k : _) → self.old ≡ Components p ∷ k → p.given + p.due < 2 ^ 64 }
@@ -380,12 +380,12 @@ impl Frames {
         }
     }
 
-    /// Whether a further member of the innermost list or bag comes (X.696 17 and 19): nothing is written, and as many
-    /// come as were told.
+    /// Begins a further member of the innermost list or bag if `more`, else expects none to be due (X.696 17 and 19).
+    /// It writes nothing.
     ///
     /// # Errors
     ///
-    /// `CallOutOfPlace` if nothing that is open takes this call, and `OutOfMemory`.
+    /// `CallOutOfPlace` if the innermost frame does not take this call, and `OutOfMemory`.
     #[inline(always)]
     pub(crate) fn encode_further(
         &mut self,
@@ -410,7 +410,7 @@ impl Frames {
         Ok(())
     }
 
-    /// Counts the next addition of the innermost sequence, and gives the additions as they were in front of it.
+    /// Counts the next addition of the innermost sequence, and returns the additions as they were before.
     #[inline(always)]
     pub(crate) fn next_addition(&mut self, present: bool) -> Option<Additions>
         requires { (a : _) (k : _) → self.old ≡ Added a ∷ k → a.given + a.due < 2 ^ 64 }
@@ -434,7 +434,7 @@ impl Frames {
         }
     }
 
-    /// The additions of the innermost sequence, if it is behind its root.
+    /// The additions of the innermost sequence, if it has passed its root.
     #[inline(always)]
     pub(crate) fn additions(&self) -> Option<&Additions>
         ensures some { IfSome result (λ a. (k : _) × (self.now ≡ Added a.now ∷ k)) }

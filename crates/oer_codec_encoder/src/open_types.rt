@@ -1,4 +1,4 @@
-//! Open types (X.696 30), whose octets are written where they stay.
+//! Open types (X.696 30), written in place.
 ghost use Rattle.std.specs.Prelude.{◌≡◌, ◌+◌, ◌<◌, ◌++◌, ◌∷◌, [], length, take, drop, OnOk, OnErr, MatchResult};
 ghost use Rattle.std.specs.Prelude.{slice_set, vec_len};
 ghost use Rattle.asn1_model.specs.Form.{written};
@@ -12,7 +12,7 @@ use asn1_schema_faults::EncodeError;
 use oer_codec_writing::{push_counted, short_length};
 use std::alloc::{AllocError, Global};
 
-/// Opens an open type behind the octets, with room for one octet of their number.
+/// Opens an open type at the end of the octets, after one octet reserved for its length determinant.
 #[inline(always)]
 pub(crate) fn open_in_place(octets: &mut Vec<u8>, frames: &mut Frames) -> Result<(), AllocError>
     ensures octets { OnOk result (octets.new.items ≡ octets.old.items ++ 0 ∷ []) }
@@ -26,7 +26,7 @@ pub(crate) fn open_in_place(octets: &mut Vec<u8>, frames: &mut Frames) -> Result
     Ok(())
 }
 
-/// Sets the octet at a place.
+/// Sets one octet.
 #[inline(always)]
 fn set_octet(octets: &mut Vec<u8>, at: usize, octet: u8)
     requires { at < vec_len octets.old }
@@ -35,8 +35,8 @@ fn set_octet(octets: &mut Vec<u8>, at: usize, octet: u8)
     octets[at] = octet;
 }
 
-/// Inserts a length in front of the octets behind the room for it (X.696 8.6 and 30): the octets of a longer one are
-/// moved.
+/// Writes the length determinant of the octets after its reserved octet (X.696 8.6 and 30). A longer determinant
+/// moves those octets.
 #[inline(always)]
 pub(crate) fn insert_length(
     octets: &mut Vec<u8>,
@@ -56,7 +56,7 @@ pub(crate) fn insert_length(
     Ok(())
 }
 
-/// Inserts a length of any size in front of the octets behind the room for it.
+/// Inserts a length determinant of any size before the octets after its reserved octet.
 #[inline(never)]
 fn insert_long_length(octets: &mut Vec<u8>, alloc: Global, start: usize) -> Result<(), EncodeError>
     requires { start < vec_len octets.old }

@@ -1,6 +1,6 @@
 //! Options of encoders.
 
-/// How values are written. The octet encoding rules have one canonical form, so that nothing is left to choose.
+/// Options of an encoder. COER is the only canonical form of OER, so there is nothing to choose.
 #[derive(Clone, Copy, Debug, Default)]
 pub struct EncoderOptions {}
 

@@ -1,4 +1,4 @@
-//! Sequences, sets, groups and lists.
+//! Sequences, sets, extension addition groups and lists.
 ghost use Rattle.std.specs.Prelude.{◌≡◌, ℕ, List, ltb, ◌-◌, ◌+◌, ◌*◌, ◌/◌, ◌%◌, ◌<◌, ◌++◌, ◌∷◌, [], cond, replicate};
 ghost use Rattle.std.specs.Prelude.{OnErr, MatchResult, vec_len, true, slice_set, slice_index};
 ghost use Rattle.asn1_model.specs.Numbers.{binary};
@@ -16,7 +16,7 @@ use asn1_schema_constraints::{Bounded, Constraints};
 use asn1_schema_faults::EncodeError;
 use oer_codec_writing::{preamble_len, push_count};
 
-/// Adds so many octets of zero bits.
+/// Adds `count` zero octets.
 #[inline]
 pub(crate) fn push_zeros(octets: &mut Vec<u8>, count: usize) -> Result<(), EncodeError>
     ensures text { MatchResult result (λ _. octets.new.items ≡ octets.old.items ++ replicate count 0)
@@ -30,11 +30,11 @@ pub(crate) fn push_zeros(octets: &mut Vec<u8>, count: usize) -> Result<(), Encod
     Ok(())
 }
 
-/// Begins a sequence, with its preamble (X.696 16.2), in which no bit is set.
+/// Begins a sequence with its preamble (X.696 16.2), all bits zero.
 ///
 /// # Errors
 ///
-/// `OutOfMemory`, and no other.
+/// Only `OutOfMemory`.
 #[inline]
 pub(crate) fn begin_components(
     octets: &mut Vec<u8>,
@@ -57,7 +57,7 @@ pub(crate) fn begin_components(
     Ok(())
 }
 
-/// An octet with one of its bits set, of which the highest is the first.
+/// An octet with one of its bits set; index 0 is bit 8.
 fn with_bit(octet: u8, index: u32) -> u8
     requires { index < 8 }
     ensures { binary 8 result ≡ slice_set (binary 8 octet) index true }
@@ -65,7 +65,7 @@ fn with_bit(octet: u8, index: u32) -> u8
     octet | 1 << (7 - index)
 }
 
-/// Sets a bit of those that stand in the octets from one on.
+/// Sets the bit at `place`, counted from the octet at `start`.
 #[inline]
 pub(crate) fn raise_bit(octets: &mut Vec<u8>, start: usize, place: usize)
     requires { start + place / 8 < vec_len octets.old }
@@ -78,11 +78,11 @@ pub(crate) fn raise_bit(octets: &mut Vec<u8>, start: usize, place: usize)
     octets[at] = with_bit(octets[at], (place % 8) as u32);
 }
 
-/// Whether the next component is there, of those that may be absent (X.696 16.2): sets its bit if it is.
+/// Sets the presence bit of the next component that may be absent (X.696 16.2), if it is present.
 ///
 /// # Errors
 ///
-/// `CallOutOfPlace` if nothing that is open takes this call, and `OutOfMemory`.
+/// `CallOutOfPlace` if the innermost frame does not take this call, and `OutOfMemory`.
 #[inline]
 pub(crate) fn encode_presence_bit(
     octets: &mut Vec<u8>,
@@ -105,11 +105,11 @@ pub(crate) fn encode_presence_bit(
     Ok(())
 }
 
-/// Begins a list with its count (X.696 17), which the program's type has to hold.
+/// Begins a list with its count (X.696 17), which the Rust type must be able to hold.
 ///
 /// # Errors
 ///
-/// `SizeConstraintNotSatisfied` if the program's type does not hold so many, and `OutOfMemory`.
+/// `SizeConstraintNotSatisfied` if the Rust type cannot hold `count` members, and `OutOfMemory`.
 #[inline]
 pub(crate) fn begin_members(
     octets: &mut Vec<u8>,
@@ -129,7 +129,7 @@ pub(crate) fn begin_members(
     Ok(())
 }
 
-/// Counts a further member, if one comes: as many come as were told.
+/// Counts a further member if `more`, else expects none to be due.
 #[inline(always)]
 pub(crate) fn count_member(due: &mut usize, more: bool) -> Result<(), EncodeError>
     ensures { MatchResult result (λ _. (more ≡ ltb 0 due.old) × (due.new ≡ due.old - cond more 1 0))

@@ -1,5 +1,6 @@
-//! What a writer of the octet encoding rules (X.696) holds from record to record, and that the records of a value add
-//! just its canonical octets. Each function does nothing: its contract is a law.
+//! Laws of the writer of OER (X.696): its state after each record, and that the records of a value add exactly its
+//! canonical octets. A record is one call of an encoder, with its value. The functions do nothing: each contract is a
+//! law.
 
 ghost use Rattle.asn1_schema_presented.specs.Records.{Record};
 ghost use Rattle.oer_codec_encoder.specs.Steps.{State};
@@ -7,48 +8,47 @@ ghost use Rattle.oer_codec_encoder.specs.Ties.{ChainsAddTheOctets, EveryTypeBrid
 ghost use Rattle.oer_codec_encoder.specs.Written.{IsWriter, RefusedByRecords, RefusesOnlyNone, WrittenByRecords};
 ghost use Rattle.oer_codec_encoder.specs.Written.{WritesTheOctets};
 
-/// The records of each value of each type add its octets to those that are there, and are refused where it has none.
+/// The records of each value of each type append the value's octets. They are refused if it has none.
 pub fn every_type_bridges()
     ensures { EveryTypeBridges }
 {}
 
-/// A chain of steps by the records of a value leads just from what is held to the same with the octets of the value
-/// behind it.
+/// The records of a value lead from a state exactly to the state with the value's octets appended.
 pub fn chains_add_the_octets()
     ensures { ChainsAddTheOctets }
 {}
 
-/// From nothing the records of a value lead just to its octets, in whatever depth its type is unfolded.
+/// From the empty state, the records of a value lead exactly to its octets, at whatever depth its type is unfolded.
 pub fn written_by_records()
     ensures { WrittenByRecords }
 {}
 
-/// The records of a value are refused for another reason than memory just where it has no octets.
+/// The records of a value are refused, other than for memory, exactly if it has no octets.
 pub fn refused_by_records()
     ensures { RefusedByRecords }
 {}
 
-/// What takes records, and holds what a writer does.
+/// Something that takes records, and has the state of a writer.
 pub trait Writer {
-    /// How what there is before a record and behind it go together.
+    /// The steps: how a record relates what is before and after it.
     ghost step: { Self → Record → Self → Type 0 };
 
-    /// What is held.
+    /// Its state.
     ghost held: { Self → State };
 
     /// No record was refused.
     ghost ready: { Self → Type 0 };
 
-    /// The steps are those of a writer, and none of them is missing.
+    /// The steps are exactly those of a writer.
     ghost is_writer: { IsWriter step held ready };
 }
 
-/// A writer that held nothing holds the canonical octets of a value behind its records.
+/// From the empty state, a writer has the canonical octets of a value after its records.
 pub fn writes_the_octets<W: Writer>()
     ensures { WritesTheOctets W.step W.held }
 {}
 
-/// A writer refuses a value for another reason than memory only where that has no canonical octets.
+/// A writer refuses a value, other than for memory, only if that has no canonical octets.
 pub fn refuses_only_none<W: Writer>()
     ensures { RefusesOnlyNone W.step W.held W.ready }
 {}

@@ -1,4 +1,4 @@
--- Sequences with an extension marker, as a reader finds them: what a bitmap tells, of the type's own additions and of
+-- Sequences with an extension marker, as a reader finds them: what a bitmap says of the type's additions and of
 -- unknown ones.
 use Rattle.std.proofs.Common.{◌≡◌, ◌⊎◌, inl, inr, ℕ, suc, not, Bool, true, false, cond, IsTrue, List, [], ◌∷◌, ◌++◌, length, drop, Option, Some, None, refl, ap, sym, ◌∙◌, subst}
 use Rattle.std.proofs.lemmas.List.{append-nil}
@@ -34,7 +34,7 @@ module _ (free : Oer.Freedom → Bool) where
   told_of : (b : Bitmap) (xs all : Forms) → covered_by (λ os. Oer.counted os) b xs ≡ Some all → Told xs all
   told_of b xs all e = bitmaps.told_of free (λ os. Oer.counted os) (λ os ps. counted_alike free os ps) b xs all e
 
-  -- ---- texts one behind the other
+  -- ---- texts in sequence
   append_moves : (xs : Forms) (ys : List Oer.OctetForm) → EachMoves free xs → Moves free (joined ys) → Moves free (joined (present_ones xs ++ ys))
   append_moves [] ys h k = k
   append_moves (None ∷ xs) ys h k = append_moves xs ys h k
@@ -55,7 +55,7 @@ module _ (free : Oer.Freedom → Bool) where
       let r = append_split xs ys h.1 k q.0 rest q.2 in
       (r.0, join free x (joined (present_ones xs)) (joined_moves free xs h.1) os q.0 r.0 q.1 r.1, r.2)
 
-  -- ---- a bitmap of which a bit is set, or none
+  -- ---- a bitmap with a bit set, or none
   shown_in : (t : Bool) (x : Oer.OctetForm) (os rest : List ℕ) → (t ≡ true) ⊎ IsTrue (free Oer.empty_bitmap) → Front free x os rest → Front free (cond t x (varied Oer.empty_bitmap false (λ e. only_if e x))) os rest
   shown_in true x os rest d f = f
   shown_in false x os rest (inl e) f = cc
@@ -69,7 +69,7 @@ module _ (free : Oer.Freedom → Bool) where
       let q = let_through free Oer.empty_bitmap r.0 x 0 f.text r.1 r.2 in
       (inr q.0, record { text = f.text; has_form = q.1; in_front = f.in_front })
 
-  -- what a reader finds of such a form
+  -- what a reader finds for such a form
   abbrev Without : List Bool → Oer.OctetForm → Forms → List ℕ → List ℕ → Type 0
   Without ms y xs os rest = (mid : List ℕ) × (is_any_present xs ≡ false) × Front free (Oer.preamble (false ∷ ms)) os mid × Front free y mid rest
 

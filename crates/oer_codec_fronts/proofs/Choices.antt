@@ -1,4 +1,4 @@
--- Choices, as a reader finds them: a tag has one place among those of a type whose tags are distinct.
+-- Choices, as a reader finds them: a tag has one index among those of a type whose tags are distinct.
 use Rattle.std.proofs.Common.{◌≡◌, ℕ, zero, suc, ◌==◌, not, Bool, true, false, cond, List, [], ◌∷◌, ◌++◌, Option, Some, None, option_map, refl, ap, sym, ◌∙◌, subst, arith}
 use Rattle.std.proofs.lemmas.Bool.{and_parts, and_from, eq-eqb}
 use Rattle.asn1_model.specs.Value.{Value, chosen, same}
@@ -21,7 +21,7 @@ use Rattle.asn1_schema_finding.proofs.Alike.{Like, chosen_same}
 use Rattle.oer_codec_fronts.proofs.Fronts.{Finds, Shows, Step, of_refused, split, join, none, from_state}
 use Rattle.oer_codec_fronts.proofs.Sequences.{open_in, open_out}
 
--- ---- places of tags
+-- ---- indices of tags
 
 place_first : (q : Bool) (o : Option ℕ) → cond q (Some zero) (option_map suc o) ≡ Some zero → q ≡ true
 place_first true o e = refl
@@ -40,7 +40,7 @@ not_true : (b : Bool) → not b ≡ true → b ≡ false
 not_true true e = cc
 not_true false e = refl
 
--- a tag that is none of these has no place, and another that has one is not it
+-- a tag that is none of these has no index, and another one with an index is not it
 apart_from : (u t : Tag) (us : List Tag) (i : ℕ) → list_all (λ w. not (tag_same u w)) us ≡ true → tag_place t us ≡ Some i → tag_same t u ≡ false
 apart_from u t [] i h e = cc
 apart_from u t (w ∷ us) i h e = by_head (λ j f. apart_from u t us j ((and_parts _ _ h).1) f) (tag_same t w) refl
@@ -61,7 +61,7 @@ apart_from u t (w ∷ us) i h e = by_head (λ j f. apart_from u t us j ((and_par
     by_head again true g = turned (tag_same t u) refl g
     by_head again false g = later again i e g
 
--- a tag that has a place among the later ones has none among the earlier ones
+-- a tag that has an index among the later ones has none among the earlier ones
 behind_all : (t : Tag) (us ws : List Tag) (i : ℕ) → are_distinct tag_same (us ++ ws) ≡ true → tag_place t ws ≡ Some i → tag_place t us ≡ None
 behind_all t [] ws i h e = refl
 behind_all t (u ∷ us) ws i h e =

@@ -1,4 +1,4 @@
--- Fronts of forms put together, and what is noted behind a component.
+-- Compositions of forms at the start of the octets, and what is noted after a component.
 use Rattle.std.proofs.Common.{◌≡◌, ◌⊎◌, inl, inr, ◌↔◌, ℕ, ◌+◌, Bool, true, false, cond, IsTrue, List, [], ◌∷◌, ◌++◌, length, Option, Some, None, refl, ap, sym, ◌∙◌, subst, append_assoc}
 use Rattle.asn1_model.specs.Value.{Value}
 use Rattle.asn1_model.specs.Normal.{is_at_default, is_group_left_out}
@@ -16,19 +16,19 @@ use Rattle.asn1_schema_finding.proofs.Alike.{Like, noted_by, noted_same}
 use Rattle.oer_codec_fronts.proofs.Next.{state_same}
 use Rattle.oer_codec_fronts.proofs.Anywhere.{Moves}
 
--- the form of a component by what is noted behind it
+-- the form of a component by what is noted after it
 abbrev pub spelled_by : Bool → Bool → Oer.OctetForm → Oer.OctetForm
 spelled_by d g x = cond d (varied Oer.default_spelled_out false (λ b. only_if b x)) (cond g (varied Oer.empty_group false (λ b. only_if b x)) x)
 
--- the records of a value are found where the octets have its form
+-- the records of a value are found if the octets have its form
 abbrev pub Finds : (Oer.Freedom → Bool) → Schema → Type 0
 Finds free s = (v : Value) (a b : State) → Chain (Takes free) (presents s v) a b → Found free (Oer.form s v) a b
 
--- and octets of its form show the records of one that is like it
+-- and if octets have its form, the records are found of a value like it
 abbrev pub Shows : (Oer.Freedom → Bool) → Schema → Type 0
 Shows free s = (v : Value) (a b : State) → Found free (Oer.form s v) a b → (w : Value) × Like s v w × Chain (Takes free) (presents s w) a b
 
--- where both go by the very value
+-- if both are about the very value
 pub by_itself : (free : Oer.Freedom → Bool) (s : Schema) → ((v : Value) → Bridges free s v) → Finds free s × Shows free s
 by_itself free s h = (λ v a b c. (h v a b).0 c, λ v a b f. (v, (same_self v, λ e. refl), (h v a b).1 f))
 
@@ -89,7 +89,7 @@ module _ (free : Oer.Freedom → Bool) where
   if_in true x os rest e f = f
   if_in false x os rest e f = cc
 
-  -- what a freedom alone lets through
+  -- what only a freedom allows
   pub let_through : (c : Oer.Freedom) (e : Bool) (x : Oer.OctetForm) (p : ℕ) (w : List ℕ) → ((e ≡ false) ⊎ IsTrue (free c)) → Reads free (only_if e x) p w → IsTrue (free c) × Reads free x p w
   unfolding Reads
   let_through c true x p w (inl d) r = cc
@@ -113,7 +113,7 @@ module _ (free : Oer.Freedom → Bool) where
   pub from_scopes : (rs : List Record) (a b : State) (k : List Scope) → a.1 ≡ k → Chain Step rs a b → Chain Step rs (a.0, k) b
   from_scopes rs a b k e c = from_state rs a b a.0 k (state_same a (a.0, k) refl e) c
 
-  -- ---- what is noted behind a component
+  -- ---- what is noted after a component
   pub noted_in : (d g : Bool) (x : Oer.OctetForm) (a m b : State) → Found free x a m → Chain Step (noted_by d g) m b → Found free (spelled_by d g x) a b
   unfolding Reads
   noted_in true g x a m b f c = subst (λ s. Found free (spelled_by true g x) a s) (sym (c.2 ∙ c.1.1)) (record { text = f.0.text; has_form = (true, inr c.1.0, f.0.has_form); in_front = f.0.in_front }, f.1)
@@ -132,7 +132,7 @@ module _ (free : Oer.Freedom → Bool) where
       ((record { text = f.0.text; has_form = t.1; in_front = f.0.in_front }, f.1), (b, (t.0, refl), refl))
   noted_out false false x a b f = (f, refl)
 
-  -- a component that is there, and what is noted behind it
+  -- a component that is present, and what is noted after it
   pub there_in : (s : Schema) (v : Value) → Finds free s → (d g : Bool) (a b : State) → Chain Step (presents s v ++ noted_by d g) a b → Found free (spelled_by d g (Oer.form s v)) a b
   there_in s v h d g a b c =
       let q = chain_split Step (presents s v) (noted_by d g) a b c in

@@ -1,4 +1,4 @@
--- Of the records that answer a question one at most is next.
+-- Among the records that answer the same question at most one is next.
 use Rattle.std.proofs.Common.{◌≡◌, ℕ, ℤ, zero, suc, Bool, true, false, ◌&&◌, ◌||◌, List, [], ◌∷◌, ◌++◌, length, drop, Option, Some, None, refl, ap, sym, ◌∙◌, subst}
 use Rattle.std.proofs.lemmas.List.{append_cancel_left}
 use Rattle.std.proofs.lemmas.Bool.{and_parts, eqb-true}
@@ -37,7 +37,7 @@ same_tag t u e =
     q ∙ ap (λ x. record { class = u.class; number = x }) n
 
 module _ (free : Oer.Freedom → Bool) where
-  -- fronts of forms that agree
+  -- prefixes of forms that agree
   pub same_fronts : {x y : Oer.OctetForm} {P : Type 0} → OctetsAlike free x y P → (os r s : List ℕ) → Front free x os r → Front free y os s → P × (r ≡ s)
   same_fronts h os r s f g =
       let q = h.fronts 0 f.text g.text r s f.has_form g.has_form (f.in_front ∙ sym g.in_front) in

@@ -167,11 +167,11 @@ module _ (free : Oer.Freedom → Bool) where
   bag_shows z h s shows v a b f = absurd (of_refused free a.0 b.0 f.0)
 
   -- ---- components
-  -- what is read of root components: these presence bits, octets of this form, and then the records behind them
+  -- what is read of root components: these presence bits, octets of this form, and then the records after them
   abbrev pub RootRead : List Bool → Oer.OctetForm → List Record → Option Bool → List Bool → List ℕ → List Scope → State → Type 0
   RootRead bs y rs x ms os k b = (mid : List ℕ) × (more : List Bool) × (ms ≡ bs ++ more) × Front free y os mid × Chain (Step free) rs (mid, components x more ∷ k) b
 
-  -- a chain that reads so, from any octets and presence bits on
+  -- a chain that reads this, from any octets and presence bits
   abbrev Goes : List Bool → Oer.OctetForm → List Record → List Record → Option Bool → List Scope → State → Type 0
   Goes bs y rs tail x k b = (ms : List Bool) (os : List ℕ) → Chain (Step free) tail (os, components x ms ∷ k) b → RootRead bs y rs x ms os k b
 

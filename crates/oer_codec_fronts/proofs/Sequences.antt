@@ -1,4 +1,4 @@
--- Sequences, sets and groups, as a reader finds them: the preamble and the root, and additions behind a bitmap.
+-- Sequences, sets and groups, as a reader finds them: the preamble and the root, and additions after a bitmap.
 use Rattle.std.proofs.Common.{◌≡◌, ◌⊎◌, ℕ, Bool, true, false, cond, IsTrue, List, [], ◌∷◌, ◌++◌, map, Option, Some, None, option_map, refl, ap, sym, ◌∙◌, subst}
 use Rattle.std.proofs.lemmas.List.{append-nil}
 use Rattle.asn1_model.specs.Value.{Value, Parts, end, absent, present}
@@ -78,7 +78,7 @@ module _ (free : Oer.Freedom → Bool) where
       (r.0 ++ r.2.0, r.2.0, record { text = f.text; has_form = r.2.2; in_front = f.in_front }, record { text = r.0; has_form = r.1; in_front = refl }, r.2.1)
 
   -- ---- additions
-  -- what is read of additions: those that these bits tell of, and unknown ones
+  -- what is read of additions: those of these bits, and unknown ones
   abbrev pub AddRead : Option (List (Option Oer.OctetForm)) → List Bool → List Bool → List ℕ → List Scope → State → Type 0
   AddRead o ms us os k b = (xs : List (Option Oer.OctetForm)) × (mid : List ℕ) × (o ≡ Some xs) × (map (λ a. is_some a) xs ≡ ms) × Front free (joined (present_ones xs)) os mid × Skips free us mid b.0 × (b.1 ≡ k)
 
@@ -97,7 +97,7 @@ module _ (free : Oer.Freedom → Bool) where
   abbrev Its : Schema → Value → Bool → Bool → List Record
   Its s v d g = presents s v ++ (addition_ends ∷ noted_by d g)
 
-  -- an addition that is there, from its first octet to the last behind it
+  -- an addition that is present, from its first octet to the last one after it
   one_in : (s : Schema) (v : Value) → Finds free s → (d g : Bool) (os : List ℕ) (ms us : List Bool) (k : List Scope) (m n : State) → Opens free os (added ms us ∷ k) m → Chain (Step free) (Its s v d g) m n → Found free (Opening s v d g) (os, added ms us ∷ k) n
   one_in s v h d g os ms us k m n opens c =
       let rest : List ℕ = opens.0 in
@@ -171,7 +171,7 @@ module _ (free : Oer.Freedom → Bool) where
       let t = map_parts o (λ xs. x ∷ xs) r.0 r.2 in
       (t.0, t.1, sym (ap (λ xs. map (λ a. is_some a) xs) t.2 ∙ r.3), r.1, subst (λ xs. Front free (joined (present_ones xs)) os r.1) (sym t.2) r.4, r.5, r.6)
 
-  -- unless it is required, an addition may be left out
+  -- unless it is required, an addition may be absent
   unless_required : (q : Bool) (o : Option (List (Option Oer.OctetForm))) (xs : List (Option Oer.OctetForm)) → cond q None o ≡ Some xs → (q ≡ false) × (o ≡ Some xs)
   unless_required true o xs e = cc
   unless_required false o xs e = (refl, e)

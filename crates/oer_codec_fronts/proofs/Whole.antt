@@ -26,7 +26,7 @@ use Rattle.oer_codec_fronts.proofs.Choices.{choice_finds, choice_shows}
 
 module _ (free : Oer.Freedom → Bool) (other : IsTrue (free Oer.other_bitmap)) where
   -- ---- SEQUENCE and SET
-  -- records of components behind a first one, and the form of a value of them
+  -- records of components after a first one, and the form of a value of them
   abbrev Parted : Components → Bool → Components → Parts → Parts → State → State → Type 0
   Parted cs e adds ps qs m b = Chain (Step free) (root_records cs ps (behind_root e adds (added_records adds qs))) m b
 

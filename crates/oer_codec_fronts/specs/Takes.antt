@@ -1,5 +1,5 @@
--- What a reader of the octet encoding rules (X.696) holds: the octets that are left in the innermost open scope, and
--- the open scopes. Each record takes octets in front, of a form that the reader's freedoms allow.
+-- What a reader of OER (X.696) holds: the octets that are left in the innermost open scope, and the open scopes. Each
+-- record takes octets at the start, of a form that the reader's freedoms allow.
 use Rattle.std.specs.Prelude.{◌≡◌, ◌⊎◌, ℕ, zero, suc, Bool, true, false, cond, IsTrue, List, [], ◌∷◌, ◌++◌}
 use Rattle.std.specs.Prelude.{length, drop, map, Option, Some, None, option_map}
 use Rattle.asn1_model.specs.Value.{truth, nothing, number, item, bit_list, octet_list, text, arcs}
@@ -18,13 +18,13 @@ use Rattle.asn1_schema_presented.specs.Records.{additions_begin, addition, addit
 
 -- An open scope.
 pub data Scope : Type 0 where
-  -- a sequence, set or group: the bit of its extension marker, if it has an extension marker, and the presence bits
-  -- that are still to come
+  -- a sequence, set or group: the extension bit, if it has an extension marker, and the presence bits that are still
+  -- to come
   components : Option Bool → List Bool → Scope
-  -- behind the root of such a type with an extension marker: the presence bits of its additions still to come, and of
-  -- unknown ones behind all of them
+  -- after the root of such a type with an extension marker: the presence bits of its additions still to come, and
+  -- those of unknown ones after them
   added : List Bool → List Bool → Scope
-  -- an addition, or an added alternative: its octets stand alone, and those behind it are these
+  -- an addition, or an added alternative: only its octets are read, and those after it are these
   open_type : List ℕ → Scope
   -- a list or bag: how many members are still to come
   members : ℕ → Scope
@@ -34,20 +34,20 @@ pub data Scope : Type 0 where
 abbrev pub State : Type 0
 State = List ℕ × List Scope
 
--- Some octets in front have the form, and the others are left.
+-- The octets begin with the form, and the others are left.
 pub record Front (free : Oer.Freedom → Bool) (x : Oer.OctetForm) (os rest : List ℕ) : Type 0 where
   pub text : List ℕ
   pub has_form : Reads free x 0 text
   pub in_front : text ++ rest ≡ os
 
--- The same from one state to the next, in the same scopes.
+-- The same from one state to the next, with the same scopes.
 abbrev pub Found : (Oer.Freedom → Bool) → Oer.OctetForm → State → State → Type 0
 Found free x a b = Front free x a.0 b.0 × (b.1 ≡ a.1)
 
 -- ---- lists and bags
 
--- The number of members, in front of them (X.696 17 and 19): one that the program's type holds, as is the number that
--- the record tells. That the two are the same is known at the end.
+-- The number of members, before them (X.696 17 and 19): one that the Rust type holds, as is the number in the record.
+-- That the two are equal is known at the end.
 abbrev pub Counted : (Oer.Freedom → Bool) → Counts → ℕ → State → State → Type 0
 Counted free h n a b =
     (m : ℕ) × (is_count_within h n ≡ true) × (is_count_within h m ≡ true) × Front free (Oer.unsigned m) a.0 b.0
@@ -61,7 +61,7 @@ NextMember v os k b = ⊥
 
 -- ---- components
 
--- A preamble with or without the extension bit, and with so many presence bits.
+-- A preamble with or without the extension bit, and with a number of presence bits.
 abbrev pub Begins : (Oer.Freedom → Bool) → Bool → ℕ → State → State → Type 0
 Begins free e n a b =
     (x : Option Bool) × (ms : List Bool) × (is_some x ≡ e) × (length ms ≡ n)
@@ -74,8 +74,8 @@ NextPresenceBit v os k b = ⊥
 
 -- ---- additions
 
--- Behind the root components: without the extension bit no addition is there, and with it a bitmap tells which are.
--- Those past its width are absent, and what stands past the type's own is unknown (X.696 16.4).
+-- After the root components: without the extension bit no addition is present, and with it a bitmap says which are.
+-- Additions past its width are absent, and those past the type's additions are unknown (X.696 16.4).
 abbrev pub AdditionsBegin : (Oer.Freedom → Bool) → ℕ → List ℕ → List Scope → State → Type 0
 AdditionsBegin free n os (components (Some false) [] ∷ k) b = b ≡ (os, added (first_bits n []) [] ∷ k)
 AdditionsBegin free n os (components (Some true) [] ∷ k) b =
@@ -83,15 +83,15 @@ AdditionsBegin free n os (components (Some true) [] ∷ k) b =
     × Front free (Oer.counted_bits bs) os b.0 × (b.1 ≡ added (first_bits n bs) (drop n bs) ∷ k)
 AdditionsBegin free n os k b = ⊥
 
--- An open type begins: its octets stand behind their number (X.696 30).
+-- An open type begins: its octets follow a length determinant (X.696 30).
 abbrev pub Opens : (Oer.Freedom → Bool) → List ℕ → List Scope → State → Type 0
 Opens free os k b = (rest : List ℕ) × Front free (Oer.counted b.0) os rest × (b.1 ≡ open_type rest ∷ k)
 
--- It ends: nothing is left of its octets, or the reader takes octets behind the value.
+-- It ends: none of its octets is left, or the reader accepts octets after the value.
 abbrev pub Closes : (Oer.Freedom → Bool) → List ℕ → List ℕ → List Scope → State → Type 0
 Closes free os rest k b = ((os ≡ []) ⊎ IsTrue (free Oer.octets_behind)) × (b ≡ (rest, k))
 
--- Whether the next addition is there.
+-- Whether the next addition is present.
 abbrev pub NextAddition : (Oer.Freedom → Bool) → Bool → List ℕ → List Scope → State → Type 0
 NextAddition free v os (added (false ∷ ms) us ∷ k) b = (v ≡ false) × (b ≡ (os, added ms us ∷ k))
 NextAddition free v os (added (true ∷ ms) us ∷ k) b = (v ≡ true) × Opens free os (added ms us ∷ k) b
@@ -105,7 +105,7 @@ AdditionEnds free os k b = ⊥
 abbrev pub unknown_forms : List (Option (List ℕ)) → List (Option Oer.OctetForm)
 unknown_forms xs = map (option_map (λ os. Oer.counted os)) xs
 
--- Unknown additions are passed over by their lengths.
+-- Unknown additions are skipped by their length determinants.
 abbrev pub Skips : (Oer.Freedom → Bool) → List Bool → List ℕ → List ℕ → Type 0
 Skips free us os rest =
     (xs : List (Option (List ℕ))) × (map (λ a. is_some a) (unknown_forms xs) ≡ us)
@@ -113,12 +113,12 @@ Skips free us os rest =
 
 -- ---- choices
 
--- The first place of a tag.
+-- The first index of a tag.
 abbrev pub tag_place : Tag → List Tag → Option ℕ
 tag_place t [] = None
 tag_place t (u ∷ us) = cond (tag_same t u) (Some zero) (option_map suc (tag_place t us))
 
--- The alternative of a tag: one of the root, else an added one behind an extension marker.
+-- The alternative with a tag: one of the root, else an added one if there is an extension marker.
 abbrev pub IsPlace : List Tag → Bool → List Tag → Tag → Bool → ℕ → Type 0
 IsPlace roots e others t false i = tag_place t roots ≡ Some i
 IsPlace roots e others t true i = (e ≡ true) × (tag_place t roots ≡ None) × (tag_place t others ≡ Some i)
@@ -128,7 +128,7 @@ abbrev pub Enters : (Oer.Freedom → Bool) → Bool → List ℕ → List Scope 
 Enters free false os k b = b ≡ (os, alternative ∷ k)
 Enters free true os k b = Opens free os k b
 
--- The tag, and what it tells.
+-- The tag, and the alternative that it selects.
 abbrev pub Chooses : (Oer.Freedom → Bool) → List Tag → Bool → List Tag → Bool → ℕ → State → State → Type 0
 Chooses free roots e others plus i a b =
     (t : Tag) × (os : List ℕ) × IsPlace roots e others t plus i × Front free (Oer.tag_form t) a.0 os

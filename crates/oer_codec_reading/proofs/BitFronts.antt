@@ -1,4 +1,4 @@
--- What stands in front where bits do.
+-- Octets that begin with bits.
 use Rattle.std.proofs.Common.{◌≡◌, ℕ, zero, suc, ◌+◌, ◌*◌, ◌/◌, ◌^◌, ◌≤◌, ◌<◌, ◌==◌, Bool, true, false, cond, ◌⊎◌, inl, inr, List, [], ◌∷◌, ◌++◌, length, take, drop, map, replicate, refl, sym, ap, ◌∙◌, arith, append_assoc, length-append, length-drop, get_or}
 use Rattle.std.proofs.lemmas.List.{append-nil, take-append-drop, length-take-le, take_all}
 use Rattle.std.proofs.Math.Nat.{mod-eq_of_lt}
@@ -55,7 +55,7 @@ small_at (o ∷ os) a (suc k) h = small_at os a.1 k (omega arith)
 pub packed_octets : (os : List ℕ) → AreOctets os → packed (octet_bits os) ≡ os
 packed_octets os a = packed-octet_bits os (small_at os a)
 
--- ---- bits with others behind them, up to whole octets
+-- ---- bits with others after them, up to whole octets
 
 length_with_unused : (bs unused : List Bool) → length unused ≡ missing (length bs) → length (bs ++ unused) ≡ 8 * ((length bs + 7) / 8)
 length_with_unused bs unused e = length-append bs unused ∙ whole_octets (length bs) (length unused) e
@@ -65,7 +65,7 @@ packed_length bs unused e =
     let b = packed_back ((length bs + 7) / 8) (bs ++ unused) (length_with_unused bs unused e) in
     sym (length-octet_bits (packed (bs ++ unused))) ∙ ap length b ∙ length-append bs unused ∙ ap (λ m. length bs + m) e
 
--- Bits that stand in front are those of the octets that were taken.
+-- Bits that come first are those of the octets that were taken.
 pub front_with_unused : (bs unused : List Bool) (os w new rest : List ℕ) → length unused ≡ missing (length bs) → packed (bs ++ unused) ++ rest ≡ w → os ++ new ≡ w → length os * 8 ≡ length bs + missing (length bs)
     → (take (length bs) (octet_bits os) ≡ bs) × (drop (length bs) (octet_bits os) ≡ unused) × (rest ≡ new)
 front_with_unused bs unused os w new rest e h i l =
@@ -143,7 +143,7 @@ module _ (r : EncodingRules) where
         | inr t ↦ false≢true (sym z.0 ∙ t)
       ]
 
-  -- Bits in front are no longer than what they stand in front of.
+  -- Bits at the start are no longer than the whole.
   pub bits_long : (bs : List Bool) (w rest : List ℕ) → Stands (freedoms r) (bits_form bs) w rest → (length bs + 7) / 8 ≤ length w
   bits_long bs w rest h =
       let f = bits_front (length bs) bs w rest (if_stands (freedoms r) (length bs == length bs) (bits_form bs) w rest (eq-eqb _ _ refl) h) in
@@ -152,7 +152,7 @@ module _ (r : EncodingRules) where
       let u = ap length f.1.text in
       omega (arith, p, q, u)
 
-  -- So many bits at most stand in front.
+  -- The octets begin with at most this number of bits.
   pub bits_one : (n : ℕ) (a b : List Bool) (w x y : List ℕ) → Stands (freedoms r) (bits_in n a) w x → Stands (freedoms r) (bits_in n b) w y → (a ≡ b) × (x ≡ y)
   bits_one n a b w x y s t =
       let f = bits_front n a w x s in

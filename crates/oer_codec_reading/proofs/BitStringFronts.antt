@@ -1,4 +1,4 @@
--- What stands in front where bits of any number do.
+-- Octets that begin with bits of any number.
 use Rattle.std.proofs.Common.{◌≡◌, ℕ, ◌+◌, ◌/◌, ◌<◌, ◌==◌, Bool, true, false, cond, IsTrue, ◌⊎◌, inl, inr, Option, Some, None, List, [], ◌∷◌, ◌++◌, length, refl, sym, ap, ◌∙◌, subst, arith, append_assoc, Result, Ok, Err, IfErr, IfOk}
 use Rattle.std.proofs.lemmas.Bool.{false≢true, eqb-true, eq-eqb}
 use Rattle.asn1_model.specs.Schema.{Size, Counts, bit_string}
@@ -18,7 +18,7 @@ use Rattle.oer_codec_reading_lengths.proofs.Fronts.{if_stands, if_front, varied_
 use Rattle.oer_codec_reading_lengths.proofs.LengthFronts.{length_one}
 use Rattle.oer_codec_reading.proofs.BitFronts.{bits_long, bits_one}
 
--- bits have one text at each place
+-- bits have one text at each position
 still_if : (free : Freedom → Bool) (t : Bool) (l w : List ℕ) (p q : ℕ) → Reads {D = Detail} free (only_if t (exactly l)) p w → Reads {D = Detail} free (only_if t (exactly l)) q w
 unfolding Reads
 still_if free true l w p q h = h
@@ -28,14 +28,14 @@ still : (free : Freedom → Bool) (bs : List Bool) (w : List ℕ) (p q : ℕ) �
 unfolding Reads bits_form
 still free bs w p q h = (h.0, h.1, still_if free (length h.0 == missing (length bs)) (packed (bs ++ h.0)) w p q h.2)
 
--- how many octets bits take behind their length
+-- the number of octets of bits after their length determinant
 abbrev octets_of : ℕ → ℕ
 octets_of n = (n + 7) / 8 + 1
 
 same_count : (n m : ℕ) → octets_of n ≡ octets_of m → missing n ≡ missing m → n ≡ m
 same_count n m e f = omega arith
 
--- bits behind their length stand in front
+-- the octets begin with bits after their length determinant
 record Counted (free : Freedom → Bool) (bs : List Bool) (w rest : List ℕ) : Type 0 where
   pub behind : List ℕ
   pub counts : Stands free (length_form (octets_of (length bs))) w (missing (length bs) ∷ behind)
@@ -101,7 +101,7 @@ module _ (r : EncodingRules) where
     | inr c ↦ let o = (length_one (freedoms r) n (octets_of (length bs)) w mid _ h c.counts).0 in absurd (omega (arith, z, o))
   ]
 
-  -- where the length is not zero
+  -- if the length is not zero
   counted_only : (w mid : List ℕ) (n : ℕ) → (n ≡ 0 → ⊥) → Stands (freedoms r) (length_form n) w mid → ((bs : List Bool) (behind rest : List ℕ) → n ≡ octets_of (length bs) → mid ≡ missing (length bs) ∷ behind → Stands (freedoms r) (bits_form bs) behind rest → ⊥) → NoneStands (freedoms r) (bit_string_form false) w
   counted_only w mid n z h f bs rest s = elim (varying_front bs w rest s) [
     | inl a ↦ z (length_one (freedoms r) n 0 w mid rest h a.1).0
@@ -130,7 +130,7 @@ module _ (r : EncodingRules) where
   varying_refused (Ok x) w mid new n u k z e f g h m = tt
   varying_refused (Err x) w mid new n u k z e f g h m = misses_also (freedoms r) (bits_in k) (bit_string_form false) new w x (wrong_bits w mid new n u k z e f g h) m
 
-  -- ---- bits of one size, or behind their length
+  -- ---- bits of a fixed size, or after a length determinant
 
   varying_one : (a b : List Bool) (w x y : List ℕ) → Stands (freedoms r) (bit_string_form false a) w x → Stands (freedoms r) (bit_string_form false b) w y → (a ≡ b) × (x ≡ y)
   varying_one a b w x y s t = go (varying_front a w x s) (varying_front b w y t)

@@ -1,4 +1,4 @@
--- What stands in front where a presence bitmap does.
+-- Octets that begin with a presence bitmap.
 use Rattle.std.proofs.Common.{◌≡◌, ℕ, ◌+◌, ◌/◌, ◌%◌, ◌^◌, ◌<◌, ◌==◌, Bool, false, inl, List, [], ◌∷◌, ◌++◌, drop, length, replicate, Some, None, slice_get, refl, sym, ap, ◌∙◌, subst, arith, append_assoc}
 use Rattle.std.proofs.Math.Nat.{mod-eq_of_lt}
 use Rattle.std.proofs.lemmas.Bool.{eqb-true}
@@ -15,7 +15,7 @@ use Rattle.oer_codec_reading.proofs.Fronts.{if_front, misses_also, varied_stands
 use Rattle.oer_codec_reading.proofs.LengthFronts.{length_one}
 use Rattle.oer_codec_reading.proofs.BitStringFronts.{wrong_bits}
 
--- the first bit, and those behind it
+-- the first bit, and those after it
 pub first_and_others : (bs : List Bool) (b : Bool) → slice_get bs 0 ≡ Some b → bs ≡ b ∷ drop 1 bs
 first_and_others [] b e = cc
 first_and_others (c ∷ bs) b e = let f : c ≡ b = cc in ap (λ x. x ∷ bs) f
@@ -24,11 +24,11 @@ pub no_first : (bs : List Bool) → slice_get bs 0 ≡ None → bs ≡ []
 no_first [] e = refl
 no_first (b ∷ bs) e = cc
 
--- a number of no set bit
+-- a number with no bit set
 pub zero_bits : (w n : ℕ) (bs : List Bool) → n < 2 ^ w → binary w n ≡ bs → bs ≡ replicate w false → n ≡ 0
 zero_bits w n bs h e f = let z : n % 2 ^ w ≡ 0 = low_zeros w n (e ∙ f) in sym (mod-eq_of_lt h) ∙ z
 
--- how many octets bits take behind their length
+-- the number of octets of bits after their length determinant
 abbrev octets_of : ℕ → ℕ
 octets_of n = (n + 7) / 8 + 1
 
@@ -36,7 +36,7 @@ counted_length : (free : Freedom → Bool) (bs : List Bool) (w rest : List ℕ) 
 unfolding Reads counted_bits
 counted_length free bs w rest h = let u = h.2 in (u.1 ++ rest, (u.0, sym (append_assoc u.0 u.1 rest) ∙ ap (λ c. c ++ rest) u.4 ∙ h.1, u.2))
 
--- bits have one text at each place
+-- bits have one text at each position
 bits_move : (free : Freedom → Bool) (bs : List Bool) → Anywhere free (bits_form bs)
 unfolding bits_form
 bits_move free bs = moves_varied free {c = any_unused_bits} (λ unused. moves_if free _ (moves_exactly free _))
@@ -53,7 +53,7 @@ unfolding bit_string_form
 as_string free bs w rest h = varied_stands free empty_bit_string false false _ w rest (inl refl) h
 
 module _ (r : EncodingRules) where
-  -- where no string of bits stands there is no bitmap
+  -- without a string of bits there is no bitmap
   pub no_bitmap : (w : List ℕ) → NoneStands (freedoms r) (bit_string_form false) w → NoneStands (freedoms r) counted_bits w
   no_bitmap w none bs rest h = none bs rest (as_string (freedoms r) bs w rest h)
 

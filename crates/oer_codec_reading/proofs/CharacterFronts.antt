@@ -1,4 +1,4 @@
--- What stands in front where a character string with an alphabet of its own does.
+-- Octets that begin with a restricted character string other than UTF8String.
 use Rattle.std.proofs.Common.{◌≡◌, ℕ, ◌*◌, ◌/◌, ◌%◌, ◌<◌, Bool, true, false, cond, ◌&&◌, ◌⊎◌, inl, inr, Option, Some, None, List, length, ap, sym, subst, ◌∙◌, arith}
 use Rattle.std.proofs.lemmas.Bool.{false≢true, and_parts, and_from}
 use Rattle.asn1_model.specs.Form.{Reads}
@@ -18,7 +18,7 @@ use Rattle.oer_codec_reading.proofs.SizedFronts.{one_length, sized_one, sized_oc
 use Rattle.oer_codec_reading.specs.Characters.{width, spelled, characters_in, octet_size}
 use Rattle.oer_codec_reading.proofs.Spelled.{length-characters, length-spelled, text_octets, characters-spelled, spelled-characters}
 
--- ---- octets of so many characters
+-- ---- octets of a number of characters
 pub few_characters : (free : Freedom → Bool) (wide : Bool) (size : Option ℕ) (n : ℕ) (w : List ℕ) → size ≡ Some n → length w < n → NoneStands free (sized (octet_size wide size)) w
 few_characters free true size n w e l = too_few free (octet_size true size) (n * 2) w (ap (octet_size true) e) (omega (arith, l))
 few_characters free false size n w e l = too_few free (octet_size false size) (n * 1) w (ap (octet_size false) e) (omega (arith, l))
@@ -39,7 +39,7 @@ no_rest true n = omega arith
 no_rest false n = omega arith
 
 module _ (free : Freedom → Bool) (k : StringKind) (law : (cs : List ℕ) → may_hold k cs ≡ permits_all k cs) (wide : Bool) (is : permits k 256 ≡ wide) (z : Size) (a : Alphabet) (h : Counts) where
-  -- octets of the one size, or behind their number, as the type has them
+  -- octets of a fixed size, or after a length determinant, as the type has them
   from_octets : (t : Bool) (low : ℕ) (os w rest : List ℕ) → Stands free (sized (octet_size wide (cond t (Some low) None)) os) w rest → Stands free (octets_form t os) w rest
   from_octets true low os w rest f = from_sized free true (low * width wide) os w rest f
   from_octets false low os w rest f = from_sized free false (low * width wide) os w rest f
@@ -69,7 +69,7 @@ module _ (free : Freedom → Bool) (k : StringKind) (law : (cs : List ℕ) → m
   spells v w rest f = absurd f.2
 
   module _ (size : Option ℕ) (of : size ≡ one_size z) where
-    -- Octets of permitted characters, as many as are admitted, are a string.
+    -- Octets of permitted characters, in an admitted number, are a string.
     pub characters_stand : (os cs w rest : List ℕ) → cs ≡ characters_in wide os → length os % width wide ≡ 0 → admits z h (length os / width wide) ≡ true → permits_all k (characters_in wide os) ≡ true → Stands free (sized (octet_size wide size) os) w rest → Front free (character_string k z a h) (text cs) w rest
     unfolding form Reads
     characters_stand os cs w rest c e m p f =
@@ -85,7 +85,7 @@ module _ (free : Freedom → Bool) (k : StringKind) (law : (cs : List ℕ) → m
         let s = spells v w rest f in
         n (spelled wide s.characters) rest (subst (λ m. Stands free (sized (octet_size wide m) (spelled wide s.characters)) w rest) (sym of) s.octets)
 
-    -- Octets that are those of no admitted and permitted characters are no string.
+    -- Octets that are not those of admitted and permitted characters are no string.
     no_string : (os w mid : List ℕ) → Stands free (sized (octet_size wide size) os) w mid → ((cs : List ℕ) → admits z h (length cs) ≡ true → permits_all k cs ≡ true → os ≡ spelled wide cs → ⊥) → NoneStands free (form (character_string k z a h)) w
     no_string os w mid f n v rest g =
         let s = spells v w rest g in

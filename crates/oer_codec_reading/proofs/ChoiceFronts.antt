@@ -1,4 +1,4 @@
--- The alternative whose tag stands in front.
+-- The alternative whose tag comes first.
 use Rattle.std.proofs.Common.{◌≡◌, ℕ, zero, suc, ◌+◌, ◌<◌, Bool, true, false, cond, List, [], ◌∷◌, length, Option, Some, None, option_map, IfSome, IfNone, refl, sym, ap, ◌∙◌, subst, arith}
 use Rattle.std.specs.List.{position_from}
 use Rattle.asn1_model.specs.Oer
@@ -22,7 +22,7 @@ module _ (roots : List Tag) (e : Bool) (others : List Tag) (t : Tag) where
   fits a b true i p = place_fits t others i b p.2
 
 -- ---- the alternative of a tag
--- a search in tags tells the place of a tag among them
+-- a search among tags gives the index of a tag
 later : (n : ℕ) (o : Option ℕ) → option_map (λ k. n + 1 + k) o ≡ option_map (λ k. n + k) (option_map suc o)
 later n None = refl
 later n (Some k) = let e : n + 1 + k ≡ n + suc k = omega arith in ap (λ (j : ℕ). Some j) e
@@ -41,7 +41,7 @@ from_zero (Some k) = let e : 0 + k ≡ k = omega arith in ap (λ (j : ℕ). Some
 place_is : (t : Tag) (us : List Tag) → place_of us t ≡ tag_place t us
 place_is t us = searched t 0 us ∙ from_zero (tag_place t us)
 
--- what is found by these places
+-- what is found by these indices
 module _ (roots others : List Tag) (t : Tag) where
   found_at : (x : Bool) (o p : Option ℕ) → tag_place t roots ≡ o → tag_place t others ≡ p → IfSome (alternative_at x o p) (λ c. IsPlace roots x others t c.added c.place)
   found_at x (Some i) p f g = f

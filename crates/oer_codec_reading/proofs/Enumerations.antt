@@ -1,4 +1,4 @@
--- What stands in front where an enumeration does.
+-- Octets that begin with an ENUMERATED.
 use Rattle.std.proofs.Common.{◌≡◌, ℕ, ℤ, Bool, true, false, ◌&&◌, ◌||◌, inl, inr, List, Option, Some, None, refl, sym, subst}
 use Rattle.std.proofs.lemmas.Bool.{and_parts, or_cases}
 use Rattle.asn1_laws_fronts.proofs.OctetUnits.{items_alike}

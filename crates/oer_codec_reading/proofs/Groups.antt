@@ -66,7 +66,7 @@ begun_ended (suc m) o os h =
     let l : groups_of_seven (suc m * 128 + o % 128) ≡ leading (suc m) ++ o ∷ [] = groups_more (suc m * 128 + o % 128) (omega arith) ∙ ap (λ x. leading x ++ ((suc m * 128 + o % 128) % 128) ∷ []) q ∙ ap (λ x. leading (suc m) ++ x ∷ []) r in
     sym (ap (λ (t : List ℕ). t ++ os) l ∙ append_assoc (leading (suc m)) (o ∷ []) os)
 
--- A number that is read stands in front, and 32 bits hold it.
+-- A number that is read comes first, and fits in 32 bits.
 pub record Read (n m : ℕ) (os rest : List ℕ) : Type 0 where
   pub some : 1 ≤ m
   pub fits : m < 2 ^ 32

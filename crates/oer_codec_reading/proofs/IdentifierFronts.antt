@@ -1,4 +1,4 @@
--- What stands in front where an OBJECT IDENTIFIER does.
+-- Octets that begin with an OBJECT IDENTIFIER.
 use Rattle.std.proofs.Common.{◌≡◌, ℕ, Bool, true, ◌⊎◌, inl, inr, List, Ok, Err, sym, ap, ◌∙◌, subst}
 use Rattle.asn1_model.specs.Schema.{object_identifier}
 use Rattle.asn1_model.specs.Value.{Value, arcs}

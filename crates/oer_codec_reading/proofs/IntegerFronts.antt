@@ -1,4 +1,4 @@
--- What stands in front where an INTEGER does.
+-- Octets that begin with an INTEGER.
 use Rattle.asn1_model.specs.Schema.{wide_range}
 use Rattle.std.specs.Prelude.{max}
 use Rattle.std.proofs.Common.{◌≡◌, ℕ, ◌≤◌, leb, not, ℤ, pos, negsuc, Bool, true, false, cond, ◌&&◌, ◌||◌, ◌⊎◌, inl, inr, Option, Some, None, List, Result, Ok, Err, IfOk, OnOk, IfErr, refl, sym, ap, ◌∙◌, subst, arith}
@@ -122,7 +122,7 @@ module _ (free : Freedom → Bool) where
   unfolding form integer_form
   integer_stands b held v w rest a f e h = if_stands free (is_within held v && (not (is_bounded b) || fits_128 v)) _ w rest (and_true _ _ a f) (either_stands b.extensible b.range.low b.range.high v w rest e h)
 
-  -- ---- what read_integer answers
+  -- ---- what read_integer returns
 
   pub integer_read : (c : Option (Extensible Constraint.Value)) (h : Range) (v : ℤ) (w rest : List ℕ) → admits_whole c v ≡ true → is_within h v ≡ true → Stands free (number_in (sign_under (bounds_of c)) (width_under (bounds_of c)) v) w rest → Front free (integer (bounds_of c) (held_of c h)) (number v) w rest
   integer_read None h v w rest a i s = integer_stands (bounds_of None) h v w rest i refl refl s
@@ -135,7 +135,7 @@ module _ (free : Freedom → Bool) where
       let i = integer_front (bounds_of c) (held_of c h) u w rest s in
       n i.0 rest (subst (λ t. Stands free (number_in t width i.0) w rest) (sym e) (subst (λ o. Stands free (number_in (sign_under (bounds_of c)) o i.0) w rest) (sym f) i.3))
 
-  -- a number that stands in front and is not of the type
+  -- a number that comes first and is not of the type
   other_integer : (c : Option (Extensible Constraint.Value)) (h : Range) (v : ℤ) (w mid : List ℕ) → (is_within (held_of c h) v ≡ true → ((bounds_of c).extensible || is_within (bounds_of c).range v) ≡ true → ⊥) → Stands free (number_in (sign_under (bounds_of c)) (width_under (bounds_of c)) v) w mid → NoneStands free (form (integer (bounds_of c) (held_of c h))) w
   other_integer c h v w mid n s u rest t =
       let i = integer_front (bounds_of c) (held_of c h) u w rest t in

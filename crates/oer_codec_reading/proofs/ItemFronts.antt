@@ -1,4 +1,4 @@
--- What stands in front where an item of an enumeration does.
+-- Octets that begin with an enumeration value.
 use Rattle.std.proofs.Common.{◌≡◌, ℕ, ◌+◌, ◌-◌, ◌*◌, ◌^◌, ◌<◌, ◌≤◌, ltb, leb, ℤ, pos, negsuc, Bool, true, false, cond, IsTrue, ◌&&◌, ◌⊎◌, inl, inr, List, [], ◌∷◌, ◌++◌, length, take, Option, Some, None, refl, ap, sym, ◌∙◌, subst, arith, length-append}
 use Rattle.std.proofs.lemmas.Bool.{false≢true, le-leb, lt-ltb, leb-true, ltb-true, ltb-false, and_parts}
 use Rattle.asn1_model.specs.Numbers.{complement, signed_octets}
@@ -22,7 +22,7 @@ longer_item_is_basic Coer = refl
 abbrev some_item : ℤ → Option ℕ → OctetForm
 some_item v o = elim o [ None ↦ short_item v | Some k ↦ long_item k v ]
 
--- An item in octets behind their number stands in front.
+-- The octets begin with an enumeration value in the long form.
 record Long (free : Freedom → Bool) (v : ℤ) (k : ℕ) (os rest : List ℕ) : Type 0 where
   pub enough : signed_octets v ≤ k
   pub most : k ≤ 127
@@ -115,7 +115,7 @@ shortest_item (x ∷ y ∷ os) a l e =
     let h : 128 ≤ plain (signed_number (x ∷ y ∷ os)) = omega (arith, p, q) in
     ap Some (sym (signed_octets-fewest x (y ∷ os) a e)) ∙ wide_item (signed_number (x ∷ y ∷ os)) h
 
--- ---- what read_item answers
+-- ---- what read_item returns
 
 pub no_octet : (free : Freedom → Bool) (os : List ℕ) → os ≡ [] → NoneStands free item_form os
 no_octet free os e v rest h = elim (item_front free v os rest h) [
@@ -128,7 +128,7 @@ short_read free o ws os new e f l =
     let t : take 1 ws ≡ o ∷ [] = ap (take 1) (e ∙ f) in
     subst (λ v. Stands free (item_form v) os new) (sym (ap signed_number t ∙ one_low o l)) (short_stands free o os new l (sym f))
 
--- behind an octet of 128 or more
+-- after an octet of 128 or more
 record Behind (free : Freedom → Bool) (v : ℤ) (k : ℕ) (mid rest : List ℕ) : Type 0 where
   pub enough : signed_octets v ≤ k
   pub text : complement k v ++ rest ≡ mid

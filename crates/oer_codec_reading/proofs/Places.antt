@@ -1,4 +1,4 @@
--- The places of tags and of items in tables.
+-- The indices of tags and of items in tables.
 use Rattle.std.proofs.Common.{◌≡◌, ℕ, zero, suc, ◌+◌, ◌-◌, ◌^◌, ◌<◌, ltb, ℤ, pos, negsuc, ◌-ℤ◌, Bool, true, false, cond, List, [], ◌∷◌, ◌++◌, length, map, take, get_or, Option, Some, None, option_map, refl, ap, sym, ◌∙◌, arith}
 use Rattle.std.proofs.lemmas.List.{take_more, map-append}
 use Rattle.std.proofs.lemmas.Bool.{and_parts, eqb-true, lt-ltb, lt-leb}
@@ -45,7 +45,7 @@ same_numbers (negsuc a) (negsuc b) e = ap negsuc (eqb-true a b e)
 same_numbers (pos a) (negsuc b) e = cc e
 same_numbers (negsuc a) (pos b) e = cc e
 
--- what 64 bits hold is native
+-- what fits in 64 bits is native
 in_native : (d : ℤ) → plain d < 2 ^ 63 → is_within (whole_range (2 ^ 63 - 1)) d ≡ true
 in_native (pos n) l = and_true _ _ (at_most (negsuc (2 ^ 63 - 1)) (pos n) (omega (arith, ints))) (at_most (pos n) (pos (2 ^ 63 - 1)) (omega (arith, ints, l)))
 in_native (negsuc n) l = and_true _ _ (at_most (negsuc (2 ^ 63 - 1)) (negsuc n) (omega (arith, ints, l))) (at_most (negsuc n) (pos (2 ^ 63 - 1)) (omega (arith, ints)))
@@ -60,7 +60,7 @@ another_number v d n e l none = go (same_number v d) refl
         let r : native_of v ≡ Some v = ap (λ b. cond b (Some v) None) (ap (is_within (whole_range (2 ^ 63 - 1))) q ∙ in_native d l) in
         absurd (none (e ∙ r ∙ ap Some (q ∙ sym (to_z-of_z w64 d (record { sfits = l })))))
 
--- an octet below 128 alone
+-- a single octet below 128
 pub small_item : (os : List ℕ) → length os ≡ 1 → get_or os 0 0 < 128 → Some (pos (get_or os 0 0)) ≡ native_of (signed_number os)
 small_item [] h l = absurd (omega arith)
 small_item (o ∷ []) h l =
@@ -79,7 +79,7 @@ numbers_more f xs i d n l e s g =
     ∙ ap (list_all is_in_32_bits) (map-append f (take i xs) (get_or xs i d ∷ []))
     ∙ each_more (map f (take i xs)) (f (get_or xs i d)) g (ap (λ k. ltb k (2 ^ 32)) (sym e) ∙ lt-ltb n (2 ^ 32) s)
 
--- a tag that has a place in a table is one of its tags
+-- a tag that has an index in a table is one of its tags
 pub place_fits : (t : Tag) (us : List Tag) (i : ℕ) → list_all is_in_32_bits us ≡ true → tag_place t us ≡ Some i → is_in_32_bits t ≡ true
 place_fits t [] i a e = cc e
 place_fits t (u ∷ us) i a e = go (tag_same t u) refl (tag_place t us) refl (λ j f. place_fits t us j ((and_parts (is_in_32_bits u) (list_all is_in_32_bits us) a).1) f)
@@ -89,7 +89,7 @@ place_fits t (u ∷ us) i a e = go (tag_same t u) refl (tag_place t us) refl (λ
     go false b None f further = let g : None ≡ Some i = sym (ap (λ c. cond c (Some zero) (option_map suc (tag_place t us))) b ∙ ap (option_map suc) f) ∙ e in cc g
     go false b (Some j) f further = further j f
 
--- and its place is one of the table's
+-- and its index is one of the table's
 pub place_below : (t : Tag) (us : List Tag) (i : ℕ) → tag_place t us ≡ Some i → i < length us
 place_below t [] i e = cc e
 place_below t (u ∷ us) i e = go (tag_same t u) refl (tag_place t us) refl (λ j f. place_below t us j f)

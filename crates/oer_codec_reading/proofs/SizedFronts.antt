@@ -1,4 +1,4 @@
--- What stands in front where octets of one size do, or a string of octets.
+-- Octets that begin with octets of a fixed size, or with an OCTET STRING.
 use Rattle.std.proofs.Common.{◌≡◌, ℕ, ◌≤◌, ◌<◌, ◌==◌, leb, Bool, true, false, cond, not, ◌&&◌, ◌||◌, Option, Some, None, List, ◌++◌, length, refl, sym, ap, ◌∙◌, subst, arith, length-append}
 use Rattle.std.proofs.lemmas.Bool.{false≢true, leb-true, eqb-true, eq-eqb, and_parts}
 use Rattle.asn1_model.specs.Schema.{Size, Counts, octet_string}
@@ -17,9 +17,9 @@ use Rattle.oer_codec_reading_lengths.proofs.Fronts.{fronts_equal, exactly_stands
 use Rattle.oer_codec_reading_lengths.proofs.LengthFronts.{each_octet, counted_front, counted_one}
 use Rattle.std.specs.Option.{option_map_or}
 
--- ---- one size
+-- ---- a fixed size
 
--- what has one size has that length
+-- what has a fixed size has that length
 at_one : (c : Counts) (high : Option ℕ) (n : ℕ) → is_fixed_at c high ≡ true → (leb c.low n && (option_map_or (λ x. leb n x) high true)) ≡ true → n ≡ c.low
 at_one c None n e f = cc
 at_one c (Some top) n e f =
@@ -33,7 +33,7 @@ at_size : (e : Bool) (c : Counts) (n : ℕ) → (not e && is_fixed_at c c.high) 
 at_size true c n f g = cc
 at_size false c n f g = at_one c c.high n f g
 
--- A length that a type of one size admits is that size.
+-- A length that a type of a fixed size admits is that size.
 pub one_length : (z : Size) (held : Counts) (n : ℕ) → is_fixed z ≡ true → admits z held n ≡ true → n ≡ z.counts.low
 one_length z held n f g = at_size z.extensible z.counts n f ((and_parts _ _ g).1)
 
@@ -54,7 +54,7 @@ module _ (free : Freedom → Bool) where
   unfolding octets_form
   is_counted os w rest h = h
 
-  -- ---- what read_sized answers
+  -- ---- what read_sized returns
   pub of_size : (size : Option ℕ) (n : ℕ) (os w rest : List ℕ) → size ≡ Some n → AreOctets os → length os ≡ n → os ++ rest ≡ w → Stands free (sized size os) w rest
   unfolding sized
   of_size None n os w rest z a l e = cc
@@ -81,7 +81,7 @@ module _ (free : Freedom → Bool) where
   no_number None w z n os rest h = n os rest (counted_is os w rest h)
   no_number (Some m) w z n os rest h = cc
 
-  -- One list of octets at most stands in front.
+  -- The octets begin with at most one list of octets.
   pub sized_one : (size : Option ℕ) (a b w r s : List ℕ) → Stands free (sized size a) w r → Stands free (sized size b) w s → (a ≡ b) × (r ≡ s)
   unfolding sized
   sized_one None a b w r s x y = counted_one free a b w r s (counted_is a w r x) (counted_is b w s y)
@@ -90,7 +90,7 @@ module _ (free : Freedom → Bool) where
       let g = if_front free (length b == m) (octets_form true b) w s y in
       fronts_equal a b r s (eqb-true _ _ f.0 ∙ sym (eqb-true _ _ g.0)) (octets_front a w r f.1 ∙ sym (octets_front b w s g.1))
 
-  -- Octets of a type's one size, or behind their number, as the type has them.
+  -- Octets of a type's fixed size, or after a length determinant, as the type has them.
   pub from_sized : (t : Bool) (low : ℕ) (os w rest : List ℕ) → Stands free (sized (cond t (Some low) None) os) w rest → Stands free (octets_form t os) w rest
   unfolding sized
   from_sized true low os w rest h = (if_front free (length os == low) (octets_form true os) w rest h).1
@@ -101,7 +101,7 @@ module _ (free : Freedom → Bool) where
   to_sized true low os w rest e h = if_stands free (length os == low) (octets_form true os) w rest (eq-eqb _ _ (e refl)) h
   to_sized false low os w rest e h = h
 
-  -- What stands in front is octets.
+  -- What comes first is octets.
   pub sized_octets : (size : Option ℕ) (os w rest : List ℕ) → Stands free (sized size os) w rest → list_all is_octet os ≡ true
   unfolding sized octets_form
   sized_octets None os w rest h = (counted_front free os w rest h).0
@@ -115,7 +115,7 @@ module _ (free : Freedom → Bool) where
   unfolding sized
   sized_counted os w rest h = counted_is os w rest h
 
-  -- ---- strings of octets
+  -- ---- OCTET STRING
   octet_string_front : (z : Size) (held : Counts) (v : Value) (w rest : List ℕ) → Stands free (form (octet_string z held) v) w rest → (os : List ℕ) × (v ≡ octet_list os) × (admits z held (length os) ≡ true) × Stands free (sized (one_size z) os) w rest
   unfolding form Reads
   octet_string_front z held (octet_list os) w rest h =

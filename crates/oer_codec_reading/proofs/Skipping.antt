@@ -1,4 +1,4 @@
--- Unknown additions that are passed over.
+-- Unknown additions that are skipped.
 use Rattle.std.proofs.Common.{◌≡◌, ℕ, ◌^◌, ◌-◌, ◌<◌, Bool, true, false, List, [], ◌∷◌, length, take, Some, None, refl, sym, ap, ◌∙◌, subst, arith, take_all}
 use Rattle.asn1_laws_fronts.proofs.OerNumbers.{counted_alike}
 use Rattle.asn1_model.specs.Form.{joined, present_ones}
@@ -31,7 +31,7 @@ module _ (free : Oer.Freedom → Bool) where
   skipped_absent us os rest (None ∷ xs, e, f) = (xs, cc e, f)
   skipped_absent us os rest (Some x ∷ xs, e, f) = cc e
 
-  -- one that is there
+  -- one that is present
   pub skip_present : (us : List Bool) (l os mid rest : List ℕ) → Stands free (Oer.counted l) os mid → Skips free us mid rest → Skips free (true ∷ us) os rest
   skip_present us l os mid rest h s = (Some l ∷ s.0, ap (λ l. true ∷ l) s.1, join free (Oer.counted l) (joined (present_ones (unknown_forms s.0))) (joined_moves free (unknown_forms s.0) (each_unknown_moves free s.0)) os mid rest (as_front free (Oer.counted l) os mid h) s.2)
 
@@ -56,7 +56,7 @@ all_taken l h = take_all (2 ^ 60 - 1) l (omega (arith, h))
 
 -- ---- one turn of the loop
 
--- what stands in front before the turn and what stands in front after it go together
+-- how the octets before a turn and those after it are related
 abbrev pub Together : (Oer.Freedom → Bool) → List Bool → List Bool → List ℕ → List ℕ → Type 0
 Together free us vs os mid = ((rest : List ℕ) → Skips free vs mid rest → Skips free us os rest) × ((rest : List ℕ) → Skips free us os rest → Skips free vs mid rest)
 
@@ -81,7 +81,7 @@ first_missed free us vs b os e f t m =
     let g : us ≡ true ∷ vs = f ∙ ap (λ x. x ∷ vs) t in
     subst (λ ws. SkipsNone free ws os e) (sym g) (none_present free vs os e m)
 
--- where those of later bits are not passed over, neither are all
+-- if those of later bits are not skipped, neither are all
 pub stopped : (free : Oer.Freedom → Bool) (us vs : List Bool) (os mid : List ℕ) (e : DecodeError) → Together free us vs os mid → SkipsNone free vs mid e → SkipsNone free us os e
 stopped free us vs os mid e t m = record { none = λ i rest s. m.none i rest (t.1 rest s); fresh = m.fresh }
 

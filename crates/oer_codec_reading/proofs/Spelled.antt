@@ -35,7 +35,7 @@ pub at-wide : (wide : Bool) (os : List ℕ) (i a b : ℕ) → wide ≡ true → 
 at-wide true os i a b e l x y = ap (λ n. n * 256 + b) x ∙ ap (λ n. get_or os (i * 2) 0 * 256 + n) y ∙ at-pairs os i l
 at-wide false os i a b e l x y = absurd (false≢true e)
 
--- ---- a loop over the characters that octets are
+-- ---- a loop over the characters in octets
 within : (wide : Bool) (os : List ℕ) (k i : ℕ) → k ≡ width wide → i < length os / k → i < length (characters_in wide os)
 within wide os k i e l = subst (λ n. i < n) (sym (length-characters wide os)) (subst (λ n. i < length os / n) e l)
 
@@ -106,7 +106,7 @@ spelled-pairs (o ∷ p ∷ os) a e =
     let low : (o * 256 + p) / 1 % 256 ≡ p = omega arith in
     ap (λ n. n ∷ ((o * 256 + p) / 1 % 256) ∷ spelled true (pairs os)) high ∙ ap (λ n. o ∷ n ∷ spelled true (pairs os)) low ∙ ap (λ xs. o ∷ p ∷ xs) (spelled-pairs os r.1 (omega (arith, e)))
 
--- Octets are those of the characters that they are.
+-- Octets are those of the characters in them.
 pub spelled-characters : (wide : Bool) (os : List ℕ) → list_all is_octet os ≡ true → length os % width wide ≡ 0 → spelled wide (characters_in wide os) ≡ os
 spelled-characters true os a e = spelled-pairs os a e
 spelled-characters false os a e = refl

@@ -1,4 +1,4 @@
--- What stands in front where a tag does.
+-- Octets that begin with a tag.
 use Rattle.std.proofs.Common.{◌≡◌, ℕ, ◌+◌, ◌*◌, ◌/◌, ◌%◌, ◌^◌, ◌<◌, ◌≤◌, ltb, leb, Bool, true, false, cond, IsTrue, ◌⊎◌, inl, inr, List, [], ◌∷◌, ◌++◌, Option, Some, None, refl, ap, sym, ◌∙◌, arith}
 use Rattle.std.proofs.lemmas.Bool.{false≢true, le-leb, lt-ltb, leb-true, ltb-true}
 use Rattle.asn1_model.specs.Schema.{Tag}
@@ -19,7 +19,7 @@ long_tag_is_basic Coer = refl
 abbrev either_tag : Tag → Bool → OctetForm
 either_tag t long = cond long (long_tag_octets t) (only_if (ltb t.number 63) (exactly ((t.class * 64 + t.number) ∷ [])))
 
--- A tag in the long form stands in front.
+-- The octets begin with a tag in the long form.
 record Long (free : Freedom → Bool) (t : Tag) (os rest : List ℕ) : Type 0 where
   pub some : 1 ≤ t.number
   pub may : (63 ≤ t.number) ⊎ (free long_tag ≡ true)
@@ -51,7 +51,7 @@ module _ (free : Freedom → Bool) where
       varied_stands free long_tag (leb 63 t.number) true (either_tag t) os rest (elim h.may [ inl e ↦ inl (sym (le-leb 63 t.number e)) | inr e ↦ inr e ])
       (if_stands free (leb 1 t.number) (exactly ((t.class * 64 + 63) ∷ groups_of_seven t.number)) os rest (le-leb _ _ h.some) (exactly_stands free ((t.class * 64 + 63) ∷ groups_of_seven t.number) os rest h.text))
 
--- ---- what read_tag answers
+-- ---- what read_tag returns
 
 low_bits : (c n o : ℕ) → n < 64 → c * 64 + n ≡ o → o % 64 ≡ n
 low_bits c n o l e = omega arith
@@ -84,7 +84,7 @@ module _ (r : EncodingRules) where
     | inr b ↦ let x : (t.class * 64 + 63) ∷ (groups_of_seven t.number ++ rest) ≡ [] = b.text ∙ e in cc
   ]
 
-  -- where the first octet has six one bits, a tag that stands in front has the number that is read behind it
+  -- if the first octet has six one bits, a tag that comes first has the number that is read after it
   in_groups : (t : Tag) (o : ℕ) (os mid rest : List ℕ) → os ≡ o ∷ mid → 63 ≤ o % 64 → Stands (freedoms r) (tag_in t) os rest → (number_behind 0 mid ≡ Some (t.number, rest)) × ((63 ≤ t.number) ⊎ (is_basic r ≡ true))
   in_groups t o os mid rest e l h =
       let i = if_front (freedoms r) (ltb t.number (2 ^ 32)) (tag_form t) os rest h in

@@ -1,4 +1,4 @@
--- What stands in front where a UTF8String does.
+-- Octets that begin with a UTF8String.
 use Rattle.std.proofs.Common.{◌≡◌, Bool, true, false, ◌&&◌, List, ℕ, length, ap, sym, ◌∙◌}
 use Rattle.std.proofs.lemmas.Bool.{false≢true, and_parts, and_from}
 use Rattle.asn1_model.specs.Schema.{Size, Counts, Alphabet, utf8, octet_string, character_string}
@@ -28,7 +28,7 @@ module _ (free : Freedom → Bool) (z : Size) (a : Alphabet) (h : Counts) where
       let j = if_front free (admits z h (length y)) (octets_form (is_fixed z) y) w s g in
       (sized_one free (one_size z) x y w r s (to_sized free (is_fixed z) z.counts.low x w r (λ e. one_length z h (length x) e i.0) i.1) (to_sized free (is_fixed z) z.counts.low y w s (λ e. one_length z h (length y) e j.0) j.1)).0
 
-  -- Octets that are UTF-8 are the text.
+  -- Octets that are UTF-8 are a text.
   pub text_stands : (os w rest : List ℕ) → may_hold utf8 os ≡ true → Front free (octet_string z h) (octet_list os) w rest → Front free (character_string utf8 z a h) (text os) w rest
   unfolding form Reads
   text_stands os w rest u f =
@@ -38,7 +38,7 @@ module _ (free : Freedom → Bool) (z : Size) (a : Alphabet) (h : Counts) where
   pub no_octets : (w : List ℕ) → NoneStands free (form (octet_string z h)) w → NoneStands free (form (character_string utf8 z a h)) w
   no_octets w n v rest f = let t = text_front v w rest f in n (octet_list t.0) rest t.2
 
-  -- Others are none.
+  -- Others are not.
   pub no_text : (os w mid : List ℕ) → may_hold utf8 os ≡ false → Front free (octet_string z h) (octet_list os) w mid → NoneStands free (form (character_string utf8 z a h)) w
   no_text os w mid u f v rest g =
       let t = text_front v w rest g in

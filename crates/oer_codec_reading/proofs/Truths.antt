@@ -1,4 +1,4 @@
--- What stands in front where a truth value or nothing does.
+-- Octets that begin with a BOOLEAN or a NULL.
 use Rattle.std.proofs.Common.{◌≡◌, ℕ, ◌≤◌, ◌<◌, leb, Bool, true, false, ◌&&◌, IsTrue, ◌⊎◌, inl, inr, List, [], ◌∷◌, refl, sym, ap, ◌∙◌, arith}
 use Rattle.std.proofs.lemmas.Bool.{false≢true, le-leb, lt-ltb}
 use Rattle.asn1_model.specs.Schema.{boolean, null}
@@ -11,7 +11,7 @@ use Rattle.oer_codec_reading_lengths.specs.Fronts.{freedoms, is_basic, Front, No
 use Rattle.oer_codec_reading_lengths.proofs.Fronts.{exactly_stands, exactly_front, if_stands, if_front, varied_stands, varied_front}
 use Rattle.oer_codec_reading_lengths.proofs.Freedoms.{any_truth_is_basic, and_true}
 
--- the octets of a truth value, where a reader takes any octet but zero for true
+-- the octets of a BOOLEAN, if a reader takes any octet but zero for true
 abbrev IsTruth : Bool → ℕ → Type 0
 IsTruth any o = (o ≡ 0) ⊎ ((o ≡ 255) ⊎ (any ≡ true))
 

@@ -1,4 +1,4 @@
--- What stands in front where a whole number does.
+-- Octets that begin with an INTEGER.
 use Rattle.std.proofs.Common.{◌≡◌, ℕ, zero, suc, ◌+◌, ◌*◌, ◌^◌, ◌≤◌, ◌<◌, ◌==◌, leb, ltb, not, ℤ, pos, negsuc, Bool, true, false, ◌||◌, ◌⊎◌, inl, inr, Option, Some, None, List, [], ◌∷◌, ◌++◌, length, refl, sym, ap, ◌∙◌, subst, arith}
 use Rattle.std.specs.Prelude.{is_some, IfSome}
 use Rattle.std.proofs.lemmas.Bool.{false≢true, leb-true, le-leb, ltb-true, eqb-true, or_cases, cases_lt, eqb-false}
@@ -24,7 +24,7 @@ use Rattle.oer_codec_reading.proofs.SizedFronts.{of_size, behind_number, sized_o
 least_positive : (v : ℤ) → 1 ≤ signed_octets v
 least_positive v = let e = signed_octets-plain v in omega (arith, e)
 
--- a number's own octets
+-- a number's octets
 signed_back : (k : ℕ) (v : ℤ) → signed_octets v ≤ k → signed_number (complement k v) ≡ v
 signed_back zero v h = let l = least_positive v in absurd (omega arith)
 signed_back (suc k) v h = signed-complement k v (plain-fits v k (omega arith))
@@ -40,7 +40,7 @@ width_at_most n k h = octets-least n k (octet_width n) (octet_width-octets n) h
 digits_of : (os : List ℕ) → AreOctets os → (octet_width (unsigned_number os) ≤ length os) × (digits 256 (length os) (unsigned_number os) ≡ os)
 digits_of os a = (width_at_most (unsigned_number os) (length os) (unsigned-lt os a), digits-unsigned os a)
 
--- none of a number's own fewest octets could be left out
+-- none of the fewest octets of a number is redundant
 fewest_signed : (os : List ℕ) → AreOctets os → 0 < length os → is_padded os ≡ false → signed_octets (signed_number os) ≡ length os
 fewest_signed [] a l e = absurd (omega arith)
 fewest_signed (o ∷ os) a l e = signed_octets-fewest o os a e
@@ -71,7 +71,7 @@ shortest_of (x ∷ b ∷ os) a l e =
     let p : 1 ≤ x = elim (cases_lt 0 x) [ inl g ↦ g | inr g ↦ absurd (eqb-false x 0 e (omega arith)) ] in
     ap length (unsigned-written x (b ∷ os) a p) ∙ length-digits (least_octets (unsigned_number (x ∷ b ∷ os))) (unsigned_number (x ∷ b ∷ os))
 
--- octets of a number stand in front
+-- the octets begin with those of a number
 pub record Contents (free : Freedom → Bool) (sign : Bool) (width : Option ℕ) (v : ℤ) (w rest : List ℕ) : Type 0 where
   pub octets : List ℕ
   pub stand : Stands free (sized width octets) w rest
@@ -126,7 +126,7 @@ module _ (free : Freedom → Bool) where
       fixed_front false k (pos n) (digits 256 k n) w rest (octets-digits k n) (length-digits k n) (ap pos (unsigned-digits k n (octets_hold n k (leb-true _ _ i.0)))) (exactly_front free (digits 256 k n) w rest i.1)
   number_front false (Some k) (negsuc n) w rest h = let i = if_front free (leb (octet_width n) k) _ w rest h in absurd i.1.2
 
-  -- One number at most stands in front.
+  -- The octets begin with at most one number.
   pub number_one : (sign : Bool) (width : Option ℕ) (u v : ℤ) (w r s : List ℕ) → Stands free (number_in sign width u) w r → Stands free (number_in sign width v) w s → (u ≡ v) × (r ≡ s)
   number_one sign width u v w r s x y =
       let a = number_front sign width u w r x in
@@ -167,7 +167,7 @@ module _ (free : Freedom → Bool) where
       let e : digits 256 k (unsigned_number os) ≡ os = ap (λ j. digits 256 j (unsigned_number os)) (sym t.0) ∙ c.1 in
       if_stands free (leb (octet_width (unsigned_number os)) k) (exactly (digits 256 k (unsigned_number os))) w rest (le-leb _ _ (subst (λ j. octet_width (unsigned_number os) ≤ j) t.0 c.0)) (exactly_stands free (digits 256 k (unsigned_number os)) w rest (ap (λ x. x ++ rest) e ∙ t.1))
 
--- ---- what read_number answers
+-- ---- what read_number returns
 
 pub some_octets : (os : List ℕ) → false ≡ (length os == 0) → 0 < length os
 some_octets [] e = cc

@@ -7,7 +7,7 @@ use Rattle.asn1_schema_faults.specs.declared.DecodeError.TheVariants.{AlreadyFai
 use Rattle.oer_codec_fronts.specs.Takes.{IsPlace}
 use Rattle.oer_codec_reading.specs.Fronts.{Stands}
 
--- No tag that has a place in one of the tables (X.696 8.7).
+-- No tag that is in one of the tables (X.696 8.7).
 pub record NoTag (free : Oer.Freedom → Bool) (roots others : List Tag) (os : List ℕ) (e : DecodeError) : Type 0 where
   pub none : ¬ (e ≡ OutOfMemory) → (extensible : Bool) (t : Tag) (plus : Bool) (i : ℕ) (rest : List ℕ)
       → IsPlace roots extensible others t plus i → Stands free (Oer.tag_form t) os rest → ⊥

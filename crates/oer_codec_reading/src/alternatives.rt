@@ -1,4 +1,4 @@
-//! Which alternative of a choice has the tag in front (X.696 20).
+//! The alternative of a choice by its tag (X.696 20).
 ghost use Rattle.std.specs.Prelude.{◌<◌, cond, length, IfOk, IfErr, IfSome, IfNone};
 ghost use Rattle.asn1_model.specs.Oer.{tag_form};
 ghost use Rattle.asn1_schema_tags.specs.Tags.{tag_of};
@@ -12,11 +12,11 @@ use asn1_schema_faults::DecodeError;
 use asn1_schema_tags::{Tag, TagTables};
 use asn1_schema_variants::Chosen;
 
-/// Reads the tag of an alternative, which has a place in one of these tables (X.696 20).
+/// Reads the tag of an alternative of a choice with these tables (X.696 20).
 ///
 /// # Errors
 ///
-/// Those of a tag.
+/// Those of [`read_tag`].
 #[inline(always)]
 pub fn read_alternative_tag(
     cursor: &mut Cursor<'_>,
@@ -36,7 +36,7 @@ pub fn read_alternative_tag(
     }
 }
 
-/// The alternative of a tag: one of the root, else an added one behind an extension marker.
+/// The alternative with a tag: one of the root, else an added one if there is an extension marker.
 #[inline(always)]
 pub fn find_alternative(tag: Tag, tables: &TagTables<'_>) -> Option<Chosen>
     ensures some { IfSome result (λ x. IsPlace tables.now.roots tables.now.extensible tables.now.additions

@@ -20,7 +20,7 @@ use asn1_values_bits::bits::read_bits;
 use asn1_values_bits::{BitStr, free_bits};
 use std::alloc::Global;
 
-/// Whether the bits behind so many are zero, up to the end of the octets that hold these.
+/// Whether the bits after the first `count` are zero, up to the end of the octets that hold these.
 fn has_zero_unused_bits(octets: &[u8], count: usize) -> bool
     requires whole { length octets.now * 8 ≡ count + missing count }
     requires few { length octets.now < 2 ^ 60 }
@@ -29,7 +29,7 @@ fn has_zero_unused_bits(octets: &[u8], count: usize) -> bool
     read_bits(octets, count, free_bits(count)) == 0
 }
 
-/// Whether bits with such unused ones are read: in the canonical rules only if these are zero (X.696 13).
+/// Whether bits with these unused bits are accepted: in COER only if the unused bits are zero (X.696 13).
 fn is_taken(rules: EncodingRules, octets: &[u8], count: usize) -> bool
     requires whole { length octets.now * 8 ≡ count + missing count }
     requires few { length octets.now < 2 ^ 60 }
@@ -44,12 +44,11 @@ fn is_taken(rules: EncodingRules, octets: &[u8], count: usize) -> bool
     has_zero_unused_bits(octets, count)
 }
 
-/// Reads so many bits, and unused ones up to whole octets (X.696 13), and lends the former.
+/// Reads `count` bits, and unused bits up to whole octets (X.696 13), and lends the former.
 ///
 /// # Errors
 ///
-/// `Incomplete` if the octets end early, and `NotValidCanonicalEncoding` if an unused bit is set in the canonical
-/// rules.
+/// `Incomplete` if the octets end early, and `NotValidCanonicalEncoding` if an unused bit is set, in COER.
 #[inline(always)]
 pub(crate) fn read_bits_of_octets<'input>(
     cursor: &mut Cursor<'input>,
@@ -66,7 +65,7 @@ pub(crate) fn read_bits_of_octets<'input>(
     Ok(BitStr::front_of(octets, count))
 }
 
-/// How many bits there are behind a length, by the number of its unused bits (X.696 13), if there are so many at all.
+/// The number of bits, from a length and the number of unused bits (X.696 13), if that many bits can be unused.
 #[inline(always)]
 pub(crate) fn bit_count(length: usize, unused: u8) -> Option<usize>
     requires some { 1 ≤ length }
@@ -81,13 +80,13 @@ pub(crate) fn bit_count(length: usize, unused: u8) -> Option<usize>
     Some(held - unused as usize)
 }
 
-/// Reads bits behind their length and the number of unused bits (X.696 13), and lends them.
+/// Reads bits after a length determinant and the number of unused bits (X.696 13), and lends them.
 ///
 /// # Errors
 ///
 /// `Incomplete` if the octets end early, `InvalidBitString` if there are more than seven unused bits, or unused bits
-/// and no octet, `NotValidCanonicalEncoding` if an unused bit is set or the length is zero in the canonical rules, and
-/// the errors of a length.
+/// and no octet, `NotValidCanonicalEncoding` if an unused bit is set or the length is zero, in COER, and the errors
+/// of a length determinant.
 fn read_varying<'input>(
     cursor: &mut Cursor<'input>,
     rules: EncodingRules,
@@ -113,7 +112,7 @@ fn read_varying<'input>(
     read_bits_of_octets(cursor, rules, count)
 }
 
-/// Reads bits of one size, or behind their length if there is not one size alone, and lends them.
+/// Reads bits, after a length determinant unless the size is fixed, and lends them.
 fn read_sized_bits<'input>(
     cursor: &mut Cursor<'input>,
     rules: EncodingRules,
@@ -134,14 +133,14 @@ fn read_sized_bits<'input>(
     }
 }
 
-/// Reads a string of bits (X.696 13) under a size constraint, in a type of the program that holds so many.
+/// Reads a BIT STRING (X.696 13) under a size constraint, for a Rust type that holds `held`.
 ///
 /// # Errors
 ///
-/// `SizeConstraintNotSatisfied` if the size or the program's type does not admit as many, `Incomplete` if the octets
-/// end early, `InvalidBitString` if there are more than seven unused bits, or unused bits and no octet,
-/// `NotValidCanonicalEncoding` if an unused bit is set or the length is zero in the canonical rules, the errors of a
-/// length, and `OutOfMemory`.
+/// `SizeConstraintNotSatisfied` if the constraint or the Rust type does not admit the number of bits, `Incomplete` if
+/// the octets end early, `InvalidBitString` if there are more than seven unused bits, or unused bits and no octet,
+/// `NotValidCanonicalEncoding` if an unused bit is set or the length is zero, in COER, the errors of a length
+/// determinant, and `OutOfMemory`.
 pub fn read_bit_string(
     alloc: Global,
     cursor: &mut Cursor<'_>,

@@ -11,7 +11,7 @@ use crate::{Cursor, EncodingRules};
 use asn1_schema_faults::DecodeError;
 use asn1_values_bits::BitStr;
 
-/// Takes off the first bit, if there is one.
+/// Removes and returns the first bit, if there is one.
 #[inline(always)]
 pub fn take_bit(bits: &mut BitStr<'_>) -> Option<bool>
     ensures some { IfSome result (λ bit. bits_of bits.old ≡ bit ∷ bits_of bits.new) }
@@ -34,13 +34,13 @@ pub fn are_zero(bits: BitStr<'_>) -> bool
     bits.first_number(bits.len() as u32) == 0
 }
 
-/// Reads a presence bitmap (X.696 16.4), a BIT STRING of varying size, with as many bits as it has.
+/// Reads a presence bitmap (X.696 16.4), a BIT STRING of variable size, of whatever length it has.
 ///
 /// # Errors
 ///
-/// `InvalidExtensionHeader` if its length is zero or it has more unused bits than seven or than there are, `Incomplete`
-/// if the octets end early, `NotValidCanonicalEncoding` if an unused bit is set in the canonical rules, and the errors
-/// of a length.
+/// `InvalidExtensionHeader` if its length is zero or it has more than seven unused bits or more than it has bits,
+/// `Incomplete` if the octets end early, `NotValidCanonicalEncoding` if an unused bit is set, in COER, and the errors
+/// of a length determinant.
 #[inline]
 pub fn read_bitmap<'input>(
     cursor: &mut Cursor<'input>,

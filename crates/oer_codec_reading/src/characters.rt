@@ -1,4 +1,4 @@
-//! Character strings with an alphabet of their own (X.696 27).
+//! Restricted character strings other than UTF8String (X.696 27).
 ghost use Rattle.std.specs.Prelude.{◌≡◌, ◌<◌, ◌/◌, ◌⊎◌, true, false, length, slice_index, IfOk, IfErr, OnOk};
 ghost use Rattle.asn1_model.specs.Schema as Asn1;
 ghost use Rattle.asn1_model.specs.Schema.{any_count};
@@ -16,7 +16,7 @@ use asn1_schema_faults::DecodeError;
 use asn1_values_alphabets::StaticPermittedAlphabet;
 use std::alloc::Global;
 
-/// How many octets each character has: two if characters past an octet are among them, else one.
+/// The number of octets of a character: two if the type has characters above 0xFF, else one.
 #[inline(always)]
 fn octets_each(wide: bool) -> usize
     ensures { result ≡ Characters.width wide }
@@ -24,7 +24,8 @@ fn octets_each(wide: bool) -> usize
     if wide { 2 } else { 1 }
 }
 
-/// Reads the octets of so many characters, or behind their number if there is not one size alone, and lends them.
+/// Reads the octets of `size` characters, or of a string after its length determinant if the size is not fixed, and
+/// lends them.
 #[inline(always)]
 fn read_spelled<'input>(
     cursor: &mut Cursor<'input>,
@@ -51,7 +52,7 @@ fn read_spelled<'input>(
     }
 }
 
-/// The character at a place, counted from 0, among those that octets are.
+/// The character at an index in the octets, from 0.
 #[inline(always)]
 fn character_at(octets: &[u8], wide: bool, place: usize) -> u32
     requires { place < length octets.now / Characters.width wide }
@@ -64,7 +65,7 @@ fn character_at(octets: &[u8], wide: bool, place: usize) -> u32
     }
 }
 
-/// The string of the characters that octets are.
+/// The string of the characters in the octets.
 #[inline(always)]
 fn string_of<S: StaticPermittedAlphabet>(
     alloc: Global,
@@ -93,14 +94,14 @@ fn string_of<S: StaticPermittedAlphabet>(
     Ok(string)
 }
 
-/// Reads a character string with an alphabet of its own (X.696 27) under a size constraint, which counts its
-/// characters: two octets for each character of a BMPString, else one.
+/// Reads a restricted character string other than UTF8String (X.696 27) under a size constraint, which counts its
+/// characters: each has two octets in a BMPString, else one.
 ///
 /// # Errors
 ///
-/// `StringConversionFailed` if the octets of a BMPString are odd in number, `SizeConstraintNotSatisfied` if the size
-/// does not admit as many characters, `PermittedAlphabet` if the type does not hold one of them, `Incomplete` if the
-/// octets end early, the errors of a length, and `OutOfMemory`.
+/// `StringConversionFailed` if a BMPString has an odd number of octets, `SizeConstraintNotSatisfied` if the
+/// constraint does not admit the number of characters, `PermittedAlphabet` if the type does not have one of them,
+/// `Incomplete` if the octets end early, the errors of a length determinant, and `OutOfMemory`.
 #[inline(always)]
 pub fn read_characters<S: StaticPermittedAlphabet>(
     alloc: Global,

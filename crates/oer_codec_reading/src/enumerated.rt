@@ -14,7 +14,7 @@ use asn1_schema_faults::DecodeError;
 use asn1_schema_variants::Enumerated;
 use asn1_values_natives::Wide;
 
-/// The number that octets are in two's complement, if 64 bits hold it.
+/// The number in octets of two's complement, if it fits in 64 bits.
 #[inline(always)]
 fn native_number(octets: &[u8]) -> Option<isize>
     ensures { result ≡ native_of (signed_number octets.now) }
@@ -25,7 +25,7 @@ fn native_number(octets: &[u8]) -> Option<isize>
     wide_number(octets)
 }
 
-/// The same of any octets.
+/// The same for any number of octets.
 #[inline(never)]
 fn wide_number(octets: &[u8]) -> Option<isize>
     ensures { result ≡ native_of (signed_number octets.now) }
@@ -35,7 +35,7 @@ fn wide_number(octets: &[u8]) -> Option<isize>
     Some(number as isize)
 }
 
-/// Whether a number is there, and is this one.
+/// Whether there is a number, and it is `candidate`.
 #[inline(always)]
 fn is_number(number: Option<isize>, candidate: isize) -> bool
     ensures { IsTrue result ↔ (number ≡ Some candidate) }
@@ -46,7 +46,8 @@ fn is_number(number: Option<isize>, candidate: isize) -> bool
     }
 }
 
-/// The first item whose number octets are in two's complement. None has a number that 64 bits do not hold.
+/// The first item with the enumeration value in the octets, in two's complement. No item has a value that does not
+/// fit in 64 bits.
 #[inline(always)]
 fn find_item<T: Enumerated>(items: &[T], octets: &[u8]) -> Option<T>
     ensures { MatchOption result (item_place (signed_number octets.now) (map T.number items.now) ≡ None)
@@ -61,7 +62,7 @@ fn find_item<T: Enumerated>(items: &[T], octets: &[u8]) -> Option<T>
     None
 }
 
-/// The item of the type whose number octets are in two's complement.
+/// The item of the type with the enumeration value in the octets, in two's complement.
 #[inline(always)]
 fn item_of<T: Enumerated>(octets: &[u8]) -> Option<T>
     ensures { MatchOption result (IsNone T.roots T.extensible T.additions (signed_number octets.now))
@@ -76,11 +77,11 @@ fn item_of<T: Enumerated>(octets: &[u8]) -> Option<T>
     }
 }
 
-/// Reads an item of an enumeration (X.696 11).
+/// Reads an ENUMERATED (X.696 11).
 ///
 /// # Errors
 ///
-/// `DiscriminantValueNotFound` if the type has no item of the number, and the errors of [`read_item`].
+/// `DiscriminantValueNotFound` if the type has no item with the enumeration value, and the errors of [`read_item`].
 #[inline(always)]
 pub fn read_enumerated<T: Enumerated>(
     cursor: &mut Cursor<'_>,

@@ -10,12 +10,12 @@ use asn1_schema_faults::{DecodeError, identifier_fault};
 use asn1_values_identifiers::{ObjectIdentifier, oid_from_octets};
 use std::alloc::Global;
 
-/// Reads an object identifier (X.696 21): its contents (X.690 8.19) behind their number.
+/// Reads an OBJECT IDENTIFIER (X.696 21): a length determinant and the contents (X.690 8.19).
 ///
 /// # Errors
 ///
-/// `InvalidObjectIdentifier` if the contents are empty or truncated, a subidentifier is padded or an arc is past 32
-/// bits, `Incomplete` if the octets end early, the errors of a length, and `OutOfMemory`.
+/// `InvalidObjectIdentifier` if the contents are empty or truncated, a subidentifier is padded or an arc does not fit
+/// in 32 bits, `Incomplete` if the octets end early, the errors of a length determinant, and `OutOfMemory`.
 pub fn read_object_identifier(
     alloc: Global,
     cursor: &mut Cursor<'_>,

@@ -19,8 +19,8 @@ use asn1_values_natives::Wide;
 use oer_codec_reading_lengths::magnitudes::short_number;
 use std::alloc::Global;
 
-/// The form of numbers under a value constraint (X.696 10): whether they have a sign, and in how many octets they
-/// stand, if that is fixed.
+/// The form of numbers under a value constraint (X.696 10): whether they are signed, and their number of octets, if
+/// it is fixed.
 #[inline(always)]
 fn form_under(constraints: &Constraints) -> (bool, Option<usize>)
     ensures sign { result.0 ≡ sign_under (bounds_of constraints.now.value) }
@@ -40,7 +40,7 @@ fn form_under(constraints: &Constraints) -> (bool, Option<usize>)
     }
 }
 
-/// The number that octets are, with a sign or without, if 128 bits of two's complement hold it.
+/// The number in octets, signed or unsigned, if it fits in 128 bits of two's complement.
 #[inline(always)]
 fn whole_number(signed: bool, octets: &[u8]) -> Option<i128>
     ensures value { IfSome result (λ z. z ≡ own_number signed octets.now) }
@@ -52,8 +52,7 @@ fn whole_number(signed: bool, octets: &[u8]) -> Option<i128>
     further_number(signed, octets)
 }
 
-/// The same of octets of any number, where what the call answers is put into a place of its own: no place is made ready
-/// for it where there are few octets.
+/// Calls [`long_number`] and moves its result, so that the path of few octets in the caller needs no space for it.
 #[inline(always)]
 fn further_number(signed: bool, octets: &[u8]) -> Option<i128>
     ensures value { IfSome result (λ z. z ≡ own_number signed octets.now) }
@@ -63,7 +62,7 @@ fn further_number(signed: bool, octets: &[u8]) -> Option<i128>
     Some(number)
 }
 
-/// The same of octets of any number.
+/// The same for any number of octets.
 #[inline(never)]
 fn long_number(signed: bool, octets: &[u8]) -> Option<i128>
     ensures value { IfSome result (λ z. z ≡ own_number signed octets.now) }
@@ -75,8 +74,8 @@ fn long_number(signed: bool, octets: &[u8]) -> Option<i128>
     Wide::from_unsigned_octets(octets)?.to_whole(i128::MAX)
 }
 
-/// Whether a value constraint, where there is one, admits a number of 128 bits: one within its bounds, if they have
-/// no extension marker.
+/// Whether a value constraint, if there is one, admits a number of 128 bits: the constraint is extensible, or the
+/// number is within its bounds.
 #[inline(always)]
 fn is_admitted(constraints: &Constraints, number: i128) -> bool
     ensures { result ≡ admits_whole constraints.now.value number }
@@ -87,7 +86,7 @@ fn is_admitted(constraints: &Constraints, number: i128) -> bool
     constraint.extensible.is_some() || constraint.constraint.value.contains(&number)
 }
 
-/// A number that 128 bits do not hold, in a type of the program: no value constraint admits it.
+/// A number that does not fit in 128 bits, as a value of the Rust type. No value constraint admits it.
 #[inline(never)]
 fn value_past<I: IntegerType>(
     alloc: Global,
@@ -111,7 +110,7 @@ fn value_past<I: IntegerType>(
     number_from_octets(alloc, signed, octets)
 }
 
-/// The same, where what the call answers is put into a place of its own.
+/// Calls [`value_past`] and moves its result.
 #[inline(always)]
 fn further_value<I: IntegerType>(
     alloc: Global,
@@ -133,7 +132,7 @@ fn further_value<I: IntegerType>(
     Ok(value)
 }
 
-/// The number that octets are, in a type of the program, if a value constraint, where there is one, admits it and the
+/// The number in octets as a value of the Rust type, if the value constraint, where there is one, admits it and the
 /// type holds it.
 #[inline(always)]
 fn admitted_value<I: IntegerType>(
@@ -160,13 +159,13 @@ fn admitted_value<I: IntegerType>(
     held_number(number)
 }
 
-/// Reads a whole number (X.696 10) under a value constraint, in a type of the program.
+/// Reads an INTEGER (X.696 10) under a value constraint, as a value of the Rust type.
 ///
 /// # Errors
 ///
-/// `Incomplete` if the octets end early, `ZeroLengthOfLength` if there are none, `NotValidCanonicalEncoding` if there
-/// is one more than needed in the canonical rules, `ValueConstraintNotSatisfied` if the constraint does not admit the
-/// number, `IntegerOverflow` if the program's type does not hold it, the errors of a length, and `OutOfMemory`.
+/// `Incomplete` if the octets end early, `ZeroLengthOfLength` if there are none, `NotValidCanonicalEncoding` if the
+/// first one is redundant, in COER, `ValueConstraintNotSatisfied` if the constraint does not admit the number,
+/// `IntegerOverflow` if the Rust type does not hold it, the errors of a length determinant, and `OutOfMemory`.
 #[inline(always)]
 pub fn read_integer<I: IntegerType>(
     alloc: Global,

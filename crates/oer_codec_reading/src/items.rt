@@ -1,4 +1,4 @@
-//! The numbers of the items of enumerations (X.696 11).
+//! Enumeration values (X.696 11).
 ghost use Rattle.std.specs.Prelude.{◌≡◌, ◌||◌, IfOk, IfErr, IfSome, IfNone};
 ghost use Rattle.asn1_model.specs.Oer.{item_form};
 ghost use Rattle.asn1_values_natives.specs.Octets.{signed_number};
@@ -9,8 +9,8 @@ use crate::{Cursor, EncodingRules};
 use asn1_schema_faults::DecodeError;
 use asn1_values_natives::octets::has_padding;
 
-/// Whether the octets of an item, behind their number, are more than it needs: the first could be left out, or the
-/// item is one of 0 to 127.
+/// Whether an enumeration value in the long form has more octets than needed: the first is redundant, or the value is
+/// in 0 to 127.
 fn is_longer_item(octets: &[u8]) -> bool
     ensures { result ≡ is_longer octets.now }
 {
@@ -20,12 +20,12 @@ fn is_longer_item(octets: &[u8]) -> bool
     }
 }
 
-/// Reads the number of an item (X.696 11), and lends the octets that are this number in two's complement.
+/// Reads an enumeration value (X.696 11), and lends its octets in two's complement.
 ///
 /// # Errors
 ///
 /// `Incomplete` if the octets end early, `ZeroLengthOfLength` if there are none, and `NotValidCanonicalEncoding` if
-/// there are more than needed in the canonical rules.
+/// there are more than needed, in COER.
 #[inline(always)]
 pub fn read_item<'input>(
     cursor: &mut Cursor<'input>,

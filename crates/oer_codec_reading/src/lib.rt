@@ -1,10 +1,10 @@
-//! Readers of the scalar types, character strings (X.696 27), tags (X.696 8.7) and the alternatives that have them
-//! (X.696 20), items of enumerations (X.696 11), presence bitmaps (X.696 16.4), open types (X.696 30) and unknown
-//! additions in the octet encoding rules, basic and canonical, over a cursor of the input.
+//! Readers of OER and COER over a cursor of the input: scalar types, character strings (X.696 27), tags (X.696 8.7)
+//! and alternatives by their tags (X.696 20), enumerated values (X.696 11), presence bitmaps (X.696 16.4), open types
+//! (X.696 30) and unknown additions.
 //!
-//! Each reader answers a value just where an encoding of one stands in front, and takes its octets; it refuses, but
-//! for want of memory, just where none does. Nothing is said of the cursor after a refusal. What a string may hold
-//! are the characters of its type: a constraint on the permitted alphabet is not asked.
+//! Each reader returns a value exactly if the input begins with an encoding of one, and takes its octets. It fails,
+//! other than with `OutOfMemory`, exactly if the input does not. The cursor is unspecified after an error. A string
+//! may hold any characters of its type: a permitted-alphabet constraint is not checked.
 #![tactic(auto)]
 
 pub mod alternatives;

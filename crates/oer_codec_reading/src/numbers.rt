@@ -1,4 +1,4 @@
-//! Whole numbers in octets (X.696 10), and counts (X.696 17).
+//! INTEGER as octets (X.696 10), and quantity fields (X.696 17).
 ghost use Rattle.std.specs.Prelude.{◌≡◌, ◌≤◌, ◌<◌, ◌||◌, not, is_some, length, IfOk, IfErr, IfSome};
 ghost use Rattle.asn1_model.specs.Oer.{unsigned};
 ghost use Rattle.asn1_values_natives.specs.Octets.{own_number};
@@ -11,7 +11,7 @@ use crate::{Cursor, EncodingRules};
 use asn1_schema_faults::DecodeError;
 use asn1_values_natives::octets::has_padding;
 
-/// Whether the first octet of a number could be left out (X.690 8.3.2).
+/// Whether the first octet of a number is redundant (X.690 8.3.2).
 #[inline(always)]
 fn has_spare_octet(signed: bool, octets: &[u8]) -> bool
     ensures { result ≡ has_spare signed octets.now }
@@ -25,8 +25,8 @@ fn has_spare_octet(signed: bool, octets: &[u8]) -> bool
     }
 }
 
-/// Whether a number in these octets is read: in the canonical rules only if none of them could be left out, unless
-/// their number is fixed.
+/// Whether a number in these octets is accepted: in COER only if none of them is redundant, unless their number is
+/// fixed.
 #[inline(always)]
 fn is_taken(rules: EncodingRules, signed: bool, width: Option<usize>, octets: &[u8]) -> bool
     ensures { result ≡ (is_some width || is_basic rules || not (has_spare signed octets.now)) }
@@ -34,13 +34,13 @@ fn is_taken(rules: EncodingRules, signed: bool, width: Option<usize>, octets: &[
     width.is_some() || rules.is_oer() || !has_spare_octet(signed, octets)
 }
 
-/// Reads the octets of a whole number (X.696 10), with a sign or without, in a fixed number of octets or behind it,
-/// and lends them.
+/// Reads the octets of an INTEGER (X.696 10), signed or unsigned, of a fixed width or after a length determinant, and
+/// lends them.
 ///
 /// # Errors
 ///
-/// `Incomplete` if the octets end early, `ZeroLengthOfLength` if there are none, `NotValidCanonicalEncoding` if there
-/// is one more than needed in the canonical rules, and the errors of a length.
+/// `Incomplete` if the octets end early, `ZeroLengthOfLength` if there are none, `NotValidCanonicalEncoding` if the
+/// first one is redundant, in COER, and the errors of a length determinant.
 #[inline(always)]
 pub fn read_number<'input>(
     cursor: &mut Cursor<'input>,
@@ -64,11 +64,11 @@ pub fn read_number<'input>(
     Ok(octets)
 }
 
-/// Reads the count of a list (X.696 17).
+/// Reads the quantity field of a SEQUENCE OF (X.696 17).
 ///
 /// # Errors
 ///
-/// Those of [`read_number`], and `LengthExceedsPlatformWidth` if 64 bits do not hold the count.
+/// Those of [`read_number`], and `LengthExceedsPlatformWidth` if the count does not fit in 64 bits.
 #[inline]
 pub fn read_count(cursor: &mut Cursor<'_>, rules: EncodingRules) -> Result<usize, DecodeError>
     ensures ok { IfOk result (λ n. Stands (freedoms rules) (unsigned n) cursor.old cursor.new) }

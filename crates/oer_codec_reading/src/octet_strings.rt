@@ -12,7 +12,7 @@ use crate::{Cursor, EncodingRules};
 use asn1_schema_constraints::{Bounded, Constraints};
 use asn1_schema_faults::DecodeError;
 
-/// Reads octets of one size, or behind their number if there is not one size alone, and lends them.
+/// Reads octets, after a length determinant unless the size is fixed, and lends them.
 ///
 /// # Errors
 ///
@@ -38,13 +38,12 @@ pub fn read_sized<'input>(
     }
 }
 
-/// Reads a string of octets (X.696 14) under a size constraint, in a type of the program that holds so many, and
-/// lends them.
+/// Reads an OCTET STRING (X.696 14) under a size constraint, for a Rust type that holds `held`, and lends its octets.
 ///
 /// # Errors
 ///
-/// `SizeConstraintNotSatisfied` if the size or the program's type does not admit as many, `Incomplete` if they end
-/// early, and the errors of a length.
+/// `SizeConstraintNotSatisfied` if the constraint or the Rust type does not admit their number, `Incomplete` if they
+/// end early, and the errors of a length determinant.
 #[inline(always)]
 pub fn read_octet_string<'input>(
     cursor: &mut Cursor<'input>,

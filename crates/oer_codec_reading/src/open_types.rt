@@ -1,4 +1,4 @@
-//! Open types (X.696 30), and additions that are passed over by their lengths.
+//! Open types (X.696 30), and unknown additions, skipped by their length determinants.
 ghost use Rattle.std.specs.Prelude.{◌≡◌, ◌⊎◌, [], IsTrue, OnOk, IfOk, IfErr};
 ghost use Rattle.asn1_model.specs.Oer.{counted, octets_behind};
 ghost use Rattle.asn1_values_bits.specs.BitStr.{bits_of};
@@ -12,11 +12,11 @@ use asn1_schema_faults::DecodeError;
 use asn1_values_bits::BitStr;
 use std::mem;
 
-/// Enters an open type (X.696 30): the cursor goes to its octets, and the answer is where those behind it begin.
+/// Enters an open type (X.696 30): the cursor moves to its octets. Returns a cursor to those after it.
 ///
 /// # Errors
 ///
-/// `Incomplete` if the octets end early, and the errors of a length.
+/// `Incomplete` if the octets end early, and the errors of a length determinant.
 #[inline(always)]
 pub fn enter_open_type<'input>(
     cursor: &mut Cursor<'input>,
@@ -30,11 +30,11 @@ pub fn enter_open_type<'input>(
     Ok(mem::replace(cursor, Cursor::new(octets)))
 }
 
-/// Leaves an open type (X.696 30): the cursor goes to the octets behind it.
+/// Leaves an open type (X.696 30): the cursor moves to the octets after it.
 ///
 /// # Errors
 ///
-/// `SurplusOctets` if octets are left in it, in the canonical rules.
+/// `SurplusOctets` if octets are left in the open type, in COER.
 #[inline(always)]
 pub fn leave_open_type<'input>(
     cursor: &mut Cursor<'input>,
@@ -53,11 +53,11 @@ pub fn leave_open_type<'input>(
     Ok(())
 }
 
-/// Passes over unknown additions by their lengths (X.696 16.4), those whose presence bits are set.
+/// Skips the unknown additions whose presence bits are set, by their length determinants (X.696 16.4).
 ///
 /// # Errors
 ///
-/// `Incomplete` if the octets end early, and the errors of a length.
+/// `Incomplete` if the octets end early, and the errors of a length determinant.
 pub fn skip_additions(
     cursor: &mut Cursor<'_>,
     rules: EncodingRules,

@@ -10,10 +10,10 @@ use crate::{Cursor, EncodingRules};
 use asn1_schema_faults::DecodeError;
 use asn1_schema_tags::{Class, Tag};
 
-/// A number of 32 bits with seven bits more is below this.
+/// A number below this fits in 32 bits with seven more bits.
 const LIMIT: u32 = 1 << 25;
 
-/// Reads further groups of seven bits of a tag's number, of which these were read before (X.696 8.7.2.3).
+/// Reads further groups of seven bits of a tag's number, after those in `begun` (X.696 8.7.2.3).
 #[inline(never)]
 fn read_groups(cursor: &mut Cursor<'_>, begun: u32) -> Result<u32, DecodeError>
     ensures ok { IfOk result (λ n. number_behind begun cursor.old ≡ Some (n, cursor.new)) }
@@ -32,13 +32,13 @@ fn read_groups(cursor: &mut Cursor<'_>, begun: u32) -> Result<u32, DecodeError>
     read_groups(cursor, number)
 }
 
-/// Reads a tag (X.696 8.7): two bits of class, and a number below 63 in six bits, else six one bits and the number in
-/// groups of seven bits.
+/// Reads a tag (X.696 8.7): two bits of class, then a number below 63 in six bits, or else six one bits and the
+/// number in groups of seven bits.
 ///
 /// # Errors
 ///
-/// `Incomplete` if the octets end early, `InvalidTagNumberOnChoice` if the number has a leading zero group or 32 bits
-/// do not hold it, and `NotValidCanonicalEncoding` if a number below 63 has the long form in the canonical rules.
+/// `Incomplete` if the octets end early, `InvalidTagNumberOnChoice` if the number has a leading zero group or does
+/// not fit in 32 bits, and `NotValidCanonicalEncoding` if a number below 63 has the long form, in COER.
 #[inline(always)]
 pub fn read_tag(cursor: &mut Cursor<'_>, rules: EncodingRules) -> Result<Tag, DecodeError>
     ensures ok { IfOk result (λ t. Stands (freedoms rules) (tag_form (tag_of t)) cursor.old cursor.new) }
@@ -67,8 +67,8 @@ fn number_of(tag: &Tag) -> u32
     tag.value
 }
 
-/// Goes through the numbers of the tags of a table: 32 bits hold each of them, so a tag with a larger number has no
-/// place in it.
+/// Visits the numbers of the tags in a table: each fits in 32 bits, so a tag with a larger number is not in the
+/// table.
 pub(crate) fn visit_numbers(table: &[Tag])
     ensures { list_all is_in_32_bits (map tag_of table.now) ≡ true }
 {

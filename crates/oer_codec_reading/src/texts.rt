@@ -17,8 +17,8 @@ use std::alloc::Global;
 ///
 /// # Errors
 ///
-/// `SizeConstraintNotSatisfied` if the size does not admit as many, `StringConversionFailed` if the octets are not
-/// UTF-8, `Incomplete` if they end early, the errors of a length, and `OutOfMemory`.
+/// `SizeConstraintNotSatisfied` if the constraint does not admit their number, `StringConversionFailed` if the octets
+/// are not UTF-8, `Incomplete` if they end early, the errors of a length determinant, and `OutOfMemory`.
 pub fn read_utf8_string(
     alloc: Global,
     cursor: &mut Cursor<'_>,

@@ -7,7 +7,7 @@ ghost use Rattle.oer_codec_reading_lengths.specs.Fronts.{freedoms, is_basic, Fro
 use crate::{Cursor, EncodingRules};
 use asn1_schema_faults::DecodeError;
 
-/// Whether an octet is read as a truth value: in the canonical rules only 0x00 and 0xFF (X.696 9).
+/// Whether an octet is accepted as a BOOLEAN: in COER only 0x00 and 0xFF (X.696 9).
 #[inline(always)]
 fn is_taken(rules: EncodingRules, octet: u8) -> bool
     ensures taken { result ≡ true → (octet ≡ 0) ⊎ ((octet ≡ 255) ⊎ (is_basic rules ≡ true)) }
@@ -25,11 +25,11 @@ fn truth_of(octet: u8) -> bool
     octet != 0x00
 }
 
-/// Reads a truth value (X.696 9): zero is false, and in the basic rules any other octet is true.
+/// Reads a BOOLEAN (X.696 9): zero is false, and in OER any other octet is true.
 ///
 /// # Errors
 ///
-/// `Incomplete` if there is no octet, and `InvalidBool` if it is neither 0x00 nor 0xFF in the canonical rules.
+/// `Incomplete` if there is no octet, and `InvalidBool` if it is neither 0x00 nor 0xFF, in COER.
 #[inline(always)]
 pub fn read_boolean(cursor: &mut Cursor<'_>, rules: EncodingRules) -> Result<bool, DecodeError>
     ensures ok { IfOk result (λ b. Front (freedoms rules) Asn1.boolean (Asn1Value.truth b) cursor.old cursor.new) }
@@ -43,7 +43,7 @@ pub fn read_boolean(cursor: &mut Cursor<'_>, rules: EncodingRules) -> Result<boo
     Ok(truth_of(octet))
 }
 
-/// Reads the value of NULL (X.696 15), which has no octets.
+/// Reads a NULL (X.696 15), which has no octets.
 #[inline(always)]
 pub fn read_null(cursor: &mut Cursor<'_>, rules: EncodingRules) -> Result<(), DecodeError>
     ensures ok { OnOk result (Front (freedoms rules) Asn1.null Asn1Value.nothing cursor.old cursor.new) }

@@ -1,4 +1,4 @@
--- What the rules leave to a reader.
+-- What the rules allow a reader to accept.
 use Rattle.std.proofs.Common.{◌≡◌, Bool, true, false, ◌&&◌, not, refl}
 use Rattle.asn1_model.specs.Oer.{longer_length, longer_number, any_truth, empty_bit_string, any_unused_bits}
 use Rattle.oer_codec_reading_lengths.specs.declared.rules.EncodingRules.{EncodingRules}

@@ -1,4 +1,4 @@
--- Parts of forms that stand in front.
+-- Parts of forms at the start of the octets.
 use Rattle.std.proofs.Common.{◌≡◌, ℕ, Bool, true, false, IsTrue, ◌⊎◌, List, [], ◌∷◌, ◌++◌, length, refl, ap, sym, subst, ◌∙◌, append_assoc, arith}
 use Rattle.std.proofs.lemmas.Bool.{false≢true}
 use Rattle.asn1_model.specs.Form.{Reads, exactly, both, varied, only_if}
@@ -7,7 +7,7 @@ use Rattle.asn1_schema_faults.specs.declared.DecodeError.{DecodeError}
 use Rattle.asn1_schema_faults.specs.declared.DecodeError.TheVariants.{AlreadyFailed, OutOfMemory}
 use Rattle.oer_codec_reading_lengths.specs.Fronts.{Stands, NoneStands, Misses}
 
--- Fronts of equal length are equal, and so is what is behind them.
+-- Prefixes of equal length are equal, and so is what follows them.
 pub fronts_equal : (a b r s : List ℕ) → length a ≡ length b → a ++ r ≡ b ++ s → (a ≡ b) × (r ≡ s)
 fronts_equal [] [] r s l e = (refl, e)
 fronts_equal [] (y ∷ b) r s l e = absurd (omega arith)
@@ -19,25 +19,25 @@ fronts_equal (x ∷ a) (y ∷ b) r s l e =
     let u = q.0 in
     (cc, q.1)
 
--- One form is missed where another is, if none of the one stands where none of the other does.
+-- One form is missed if another is, and the first comes nowhere that the other does not.
 pub misses_also : {X Y : Type 0} (free : Freedom → Bool) (f : X → OctetForm) (g : Y → OctetForm) (os ps : List ℕ) (e : DecodeError) → (NoneStands free f os → NoneStands free g ps) → Misses free f os e → Misses free g ps e
 misses_also free f g os ps OutOfMemory h m = tt
 misses_also free f g os ps AlreadyFailed h m = absurd m
 misses_also free f g os ps e h m = h m
 
--- Where none stands, each reason but an earlier refusal is one.
+-- If none comes first, each reason is one, except that an earlier call failed.
 pub none_misses : {X : Type 0} (free : Freedom → Bool) (f : X → OctetForm) (os : List ℕ) (e : DecodeError) → ¬ (e ≡ AlreadyFailed) → NoneStands free f os → Misses free f os e
 none_misses free f os OutOfMemory n h = tt
 none_misses free f os AlreadyFailed n h = absurd (n refl)
 none_misses free f os e n h = h
 
--- Want of memory aside, what is missed does not stand in front.
+-- Apart from `OutOfMemory`, the octets do not begin with what is missed.
 pub missed : {X : Type 0} (free : Freedom → Bool) (f : X → OctetForm) (os : List ℕ) (e : DecodeError) → Misses free f os e → ¬ (e ≡ OutOfMemory) → NoneStands free f os
 missed free f os OutOfMemory m n = absurd (n refl)
 missed free f os AlreadyFailed m n = absurd m
 missed free f os e m n = m
 
--- A reader does not refuse because of an earlier refusal.
+-- A reader does not fail because an earlier call failed.
 pub not_before : {X : Type 0} (free : Freedom → Bool) (f : X → OctetForm) (os : List ℕ) (e : DecodeError) → Misses free f os e → ¬ (e ≡ AlreadyFailed)
 not_before free f os e m h = subst (Misses free f os) h m
 
@@ -67,7 +67,7 @@ module _ (free : Freedom → Bool) where
   unfolding Reads
   varied_front c d f os rest h = (h.2.0, h.2.1, (h.0, h.1, h.2.2))
 
-  -- octets behind a form
+  -- octets after a form
   pub followed_stands : (x : OctetForm) (l os rest : List ℕ) → Stands free x os (l ++ rest) → Stands free (both x (exactly l)) os rest
   unfolding Reads
   followed_stands x l os rest h = (h.0 ++ l, append_assoc h.0 l rest ∙ h.1, (h.0, l, h.2, refl, refl))

@@ -1,4 +1,4 @@
--- What stands in front where a length does, or octets behind their number.
+-- Octets that begin with a length determinant, or with octets after one.
 use Rattle.std.proofs.Common.{◌≡◌, ℕ, ◌+◌, ◌^◌, ◌≤◌, ◌<◌, ◌==◌, leb, ltb, cond, Bool, true, false, ◌&&◌, ◌||◌, ◌⊎◌, inl, inr, Option, Some, None, List, [], ◌∷◌, ◌++◌, length, refl, sym, ap, ◌∙◌, subst, arith, length-append}
 use Rattle.std.proofs.lemmas.Bool.{false≢true, le-leb, lt-ltb, ltb-true, leb-true, eqb-true, eq-eqb, ltb-false, or_cases, and_parts}
 use Rattle.std.proofs.Math.Bool.{or-true}
@@ -19,11 +19,11 @@ use Rattle.oer_codec_reading_lengths.proofs.Freedoms.{longer_length_is_basic, an
 abbrev some_length : ℕ → Option ℕ → OctetForm
 some_length n o = elim o [ None ↦ only_if (ltb n 128) (exactly (n ∷ [])) | Some k ↦ long_length n k ]
 
--- how many octets a length needs behind their number, if one octet does not hold it
+-- how many octets a length needs in the long form, if one octet does not hold it
 abbrev pub shortest : ℕ → Option ℕ
 shortest n = cond (ltb n 128) None (Some (octet_width n))
 
--- a length in several octets stands in front
+-- the octets begin with a length determinant in the long form
 pub record Long (free : Freedom → Bool) (n k : ℕ) (os rest : List ℕ) : Type 0 where
   pub some : 1 ≤ k
   pub most : k ≤ 127
@@ -62,7 +62,7 @@ module _ (free : Freedom → Bool) where
       (varied_stands free longer_length (shortest n) (Some k) (some_length n) os new h.may
       (if_stands free (leb 1 k && leb k 127 && leb (octet_width n) k) (exactly ((128 + k) ∷ digits 256 k n)) os new (and_true _ _ (and_true _ _ (le-leb 1 k h.some) (le-leb k 127 h.most)) (le-leb _ _ h.enough)) (exactly_stands free ((128 + k) ∷ digits 256 k n) os new h.text)))
 
--- ---- the errors of a length
+-- ---- the errors of a length determinant
 
 pub octets_hold : (n k : ℕ) → octet_width n ≤ k → n < 256 ^ k
 octets_hold n k h =
@@ -86,7 +86,7 @@ same_digits k n o rest new a l e h =
     let m = octets_hold n k l in
     (sym (unsigned-digits k n m) ∙ ap unsigned_number f.0, f.1)
 
--- ---- what read_long_length answers
+-- ---- what read_long_length returns
 
 pub few_octets : (r : EncodingRules) (k : ℕ) (w : List ℕ) → 1 ≤ k → length w < k → NoneStands (freedoms r) length_form ((128 + k) ∷ w)
 few_octets r k w s l n rest h =
@@ -133,9 +133,9 @@ read_long r k m o new w s f a e d u l b =
     let t : (128 + k) ∷ (digits 256 k m ++ new) ≡ (128 + k) ∷ w = ap (λ i. (128 + k) ∷ (i ++ new)) g ∙ ap (λ i. (128 + k) ∷ i) d in
     long_stands (freedoms r) m k ((128 + k) ∷ w) new l (record { some = s; most = f; enough = h; text = t; may = elim (or_cases (is_basic r) _ b) [ inl y ↦ inr (longer_length_is_basic r ∙ y) | inr y ↦ inl (may_be_long m k (ltb m 128) refl y) ] })
 
--- ---- one length
+-- ---- one length determinant
 
--- One length at most stands in front.
+-- The octets begin with at most one length determinant.
 pub length_one : (free : Freedom → Bool) (n m : ℕ) (os r s : List ℕ) → Stands free (length_form n) os r → Stands free (length_form m) os s → (n ≡ m) × (r ≡ s)
 length_one free n m os r s x y = go (length_front free n os r x).1 (length_front free m os s y).1
   where
@@ -151,7 +151,7 @@ length_one free n m os r s x y = go (length_front free n os r x).1 (length_front
         let g : n ≡ m = sym (unsigned-digits k n (octets_hold n k a.enough)) ∙ ap unsigned_number f.0 ∙ unsigned-digits j m (octets_hold m j b.enough) in
         (g, f.1)
 
--- ---- octets behind their number
+-- ---- octets after a length determinant
 
 pub each_octet : (os : List ℕ) → AreOctets os → list_all is_octet os ≡ true
 each_octet [] h = refl
@@ -170,7 +170,7 @@ module _ (free : Freedom → Bool) where
   unfolding counted
   counted_front os w rest h = let i = if_front free (list_all is_octet os) _ w rest h in (i.0, followed_front free (length_form (length os)) os w rest i.1)
 
-  -- One list of octets at most stands in front behind its number.
+  -- The octets begin with at most one list of octets after its length determinant.
   pub counted_one : (a b w r s : List ℕ) → Stands free (counted a) w r → Stands free (counted b) w s → (a ≡ b) × (r ≡ s)
   counted_one a b w r s x y =
       let f = counted_front a w r x in
@@ -192,7 +192,7 @@ module _ (free : Freedom → Bool) where
   pub read_counted : (n : ℕ) (os w mid rest : List ℕ) → AreOctets os → Stands free (length_form n) w mid → os ++ rest ≡ mid → length os ≡ n → Stands free (counted os) w rest
   read_counted n os w mid rest a h e l = counted_stands os w rest (each_octet os a) (subst (λ j. Stands free (length_form j) w (os ++ rest)) (sym l) (subst (λ m. Stands free (length_form n) w m) (sym e) h))
 
--- ---- the errors of a length's first octet
+-- ---- the errors of the first octet of a length determinant
 
 pub no_octets : (free : Freedom → Bool) (w : List ℕ) → w ≡ [] → NoneStands free length_form w
 no_octets free w e n rest h = elim (length_front free n w rest h).1 [

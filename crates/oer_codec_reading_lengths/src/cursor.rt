@@ -1,11 +1,11 @@
-//! The octets that are still to be read.
+//! The unread octets.
 ghost use Rattle.std.specs.Prelude.{◌≡◌, ◌-◌, ◌^◌, ◌<◌, take, ◌++◌, ◌∷◌, [], length, IsTrue, ◌↔◌, IfOk, IfErr};
 ghost use Rattle.std.specs.List.{AllByRecursion};
 
 use asn1_schema_faults::{DecodeError, MOST_OCTETS};
 use std::marker::Model;
 
-/// A place in the input: the octets behind it are unread, and lent.
+/// A position in the input. The octets after it are unread, and borrowed.
 #[derive(Drop)]
 pub struct Cursor<'input> {
     unread: &'input [u8],
@@ -24,7 +24,8 @@ impl<'input> Model for Cursor<'input> {
 }
 
 impl<'input> Cursor<'input> {
-    /// Before these octets: an encoding has fewer than 2^60, and of more of them the first 2^60 - 1 alone are read.
+    /// A cursor at the start of the octets. An encoding has fewer than 2^60 octets, so only the first 2^60 - 1 are
+    /// read.
     #[inline(always)]
     pub fn new(input: &'input [u8]) -> Self
         ensures { result ≡ take (2 ^ 60 - 1) input.entry.now }
@@ -43,7 +44,7 @@ impl<'input> Cursor<'input> {
         self.unread
     }
 
-    /// How many octets are unread.
+    /// The number of unread octets.
     #[inline(always)]
     pub fn len(&self) -> usize
         ensures count { result ≡ length self.now }
@@ -52,7 +53,7 @@ impl<'input> Cursor<'input> {
         self.unread.len()
     }
 
-    /// Whether all octets are read.
+    /// Whether all octets have been read.
     #[inline(always)]
     pub fn is_empty(&self) -> bool
         ensures { IsTrue result ↔ (self.now ≡ []) }
@@ -79,7 +80,7 @@ impl<'input> Cursor<'input> {
         }
     }
 
-    /// Takes the first octets, as many as are asked for, and lends them.
+    /// Takes the first `count` octets, and lends them.
     ///
     /// # Errors
     ///

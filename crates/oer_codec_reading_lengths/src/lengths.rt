@@ -1,4 +1,4 @@
-//! Lengths, and octets behind their number (X.696 8.6).
+//! Length determinants, and octets after a length determinant (X.696 8.6).
 ghost use Rattle.std.specs.Prelude.{◌≡◌, ◌+◌, ◌^◌, ◌≤◌, ◌<◌, ◌==◌, ◌&&◌, ◌||◌, ◌∷◌, leb, IfOk, IfErr, IfSome, IfNone};
 ghost use Rattle.asn1_model.specs.Numbers as Numbers;
 ghost use Rattle.asn1_model.specs.Oer.{counted, length_form};
@@ -11,8 +11,8 @@ use asn1_schema_faults::DecodeError;
 use asn1_values_natives::Wide;
 use asn1_values_natives::octets::octet_width;
 
-/// Whether a length in so many octets behind their number is read: in the canonical rules only if they are the fewest
-/// (X.696 8.6.5).
+/// Whether a length in the long form with `count` octets is accepted: in COER only if they are the fewest (X.696
+/// 8.6.5).
 #[inline(always)]
 fn is_taken(rules: EncodingRules, length: usize, count: usize) -> bool
     ensures { result ≡ (is_basic rules || (leb 128 length && (Numbers.octet_width length == count))) }
@@ -20,7 +20,7 @@ fn is_taken(rules: EncodingRules, length: usize, count: usize) -> bool
     rules.is_oer() || length >= 0x80 && octet_width(length as u128) == count
 }
 
-/// The number that octets are, the highest first, if 64 bits hold it.
+/// The unsigned number in octets, most significant first, if it fits in 64 bits.
 #[inline(always)]
 pub fn number_of(octets: &[u8]) -> Option<usize>
     ensures number { IfSome result (λ n. n ≡ unsigned_number octets.now) }
@@ -35,7 +35,7 @@ pub fn number_of(octets: &[u8]) -> Option<usize>
     Some(number as usize)
 }
 
-/// Reads a length in so many octets, behind the octet that tells how many they are (X.696 8.6.5).
+/// Reads the `count` octets of a long-form length determinant, after its first octet (X.696 8.6.5).
 #[inline(never)]
 fn read_long_length(
     cursor: &mut Cursor<'_>,
@@ -57,8 +57,7 @@ fn read_long_length(
     Ok(length)
 }
 
-/// The same, where what the call answers is put into a place of its own: no place is made ready for it where one octet
-/// is the length.
+/// Calls [`read_long_length`] and moves its result, so that the one-octet path of the caller needs no space for it.
 #[inline(always)]
 fn read_further_length(
     cursor: &mut Cursor<'_>,
@@ -74,14 +73,14 @@ fn read_further_length(
     Ok(length)
 }
 
-/// Reads a length (X.696 8.6): one octet below 128, or more behind their number; in the basic rules more of them than
-/// needed are taken.
+/// Reads a length determinant (X.696 8.6): one octet below 128, or the long form. OER accepts more octets than
+/// needed.
 ///
 /// # Errors
 ///
-/// `Incomplete` if the octets end early, `ZeroLengthOfLength` if there are none behind their number,
-/// `LengthExceedsPlatformWidth` if 64 bits do not hold the length, and `NotValidCanonicalEncoding` if it has a shorter
-/// form in the canonical rules.
+/// `Incomplete` if the octets end early, `ZeroLengthOfLength` if the long form has no octets,
+/// `LengthExceedsPlatformWidth` if the length does not fit in 64 bits, and `NotValidCanonicalEncoding` if a shorter
+/// form exists, in COER.
 #[inline(always)]
 pub fn read_length(cursor: &mut Cursor<'_>, rules: EncodingRules) -> Result<usize, DecodeError>
     ensures ok { IfOk result (λ n. Stands (freedoms rules) (length_form n) cursor.old cursor.new) }
@@ -97,7 +96,7 @@ pub fn read_length(cursor: &mut Cursor<'_>, rules: EncodingRules) -> Result<usiz
     read_further_length(cursor, rules, (octet - 0x80) as usize)
 }
 
-/// Reads octets behind their number, and lends them (X.696 8.6 and 14).
+/// Reads a length determinant and the octets that it counts, and lends these (X.696 8.6 and 14).
 ///
 /// # Errors
 ///

@@ -1,7 +1,7 @@
-//! The cursor of a reader of the octet encoding rules (X.696), basic and canonical, and lengths.
+//! The cursor of a decoder of OER and COER (X.696), and length determinants.
 //!
-//! Each reader answers a value just where an encoding of one stands in front, and takes its octets; it refuses just
-//! where none does. After a refusal the cursor stands somewhere behind where it stood.
+//! Each reader returns a value exactly if the input begins with an encoding of one, and takes its octets; it fails
+//! exactly if the input does not. After an error the cursor is at or after its earlier position.
 #![tactic(auto)]
 
 pub mod cursor;

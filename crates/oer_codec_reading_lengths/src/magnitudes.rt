@@ -4,7 +4,7 @@ ghost use Rattle.asn1_values_natives.specs.Octets.{own_number, sign_free, signed
 
 use asn1_values_natives::octets::{has_sign, without_sign};
 
-/// The number that at most eight octets stand for, the highest first, each turned over if it is negative.
+/// The unsigned number in at most eight octets, most significant first, each octet inverted if `negative`.
 #[inline(always)]
 pub fn short_magnitude(negative: bool, octets: &[u8]) -> u64
     requires { length octets.now ≤ 8 }
@@ -17,7 +17,7 @@ pub fn short_magnitude(negative: bool, octets: &[u8]) -> u64
     total
 }
 
-/// A number by its sign: the magnitude, or -1 less it.
+/// A number from its sign and magnitude: the magnitude, or -1 minus it.
 #[inline(always)]
 fn number_by(negative: bool, magnitude: u64) -> i128
     ensures { result ≡ signed_by negative magnitude }
@@ -29,7 +29,7 @@ fn number_by(negative: bool, magnitude: u64) -> i128
     }
 }
 
-/// The number that at most eight octets are, with a sign or without (X.690 8.3.3).
+/// The number in at most eight octets, signed or unsigned (X.690 8.3.3).
 #[inline(always)]
 pub fn short_number(signed: bool, octets: &[u8]) -> i128
     requires { length octets.now ≤ 8 }

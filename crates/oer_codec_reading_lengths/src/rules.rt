@@ -1,18 +1,18 @@
-//! Which octet encoding rules are followed.
+//! The choice between OER and COER.
 ghost use Rattle.std.specs.Prelude.{◌≡◌, not};
 ghost use Rattle.oer_codec_reading_lengths.specs.Fronts.{is_basic};
 
-/// Basic or canonical octet encoding rules (X.696).
+/// Basic or canonical octet encoding rules, OER or COER (X.696).
 #[derive(Clone, Copy, Debug, PartialEq, Eq, PartialOrd, Ord)]
 pub enum EncodingRules {
-    /// The basic rules: a reader takes all forms.
+    /// OER: a decoder accepts all forms.
     Oer,
-    /// The canonical rules: a reader takes the canonical forms alone.
+    /// COER: a decoder accepts only the canonical forms.
     Coer,
 }
 
 impl EncodingRules {
-    /// Whether these are the basic rules.
+    /// Whether these are OER.
     #[inline(always)]
     pub fn is_oer(self) -> bool
         ensures { result ≡ is_basic self }
@@ -23,7 +23,7 @@ impl EncodingRules {
         }
     }
 
-    /// Whether these are the canonical rules.
+    /// Whether these are COER.
     #[inline(always)]
     pub fn is_coer(self) -> bool
         ensures { result ≡ not (is_basic self) }

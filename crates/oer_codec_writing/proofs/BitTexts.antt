@@ -92,7 +92,7 @@ packed_behind [] bs h = refl
 packed_behind (o ∷ os) bs h =
     ap packed (append_assoc (binary 8 o) (octet_bits os) bs) ∙ packed-next o (octet_bits os ++ bs) (h 0) ∙ ap (λ l. o ∷ l) (packed_behind os bs (λ i. h (suc i)))
 
--- whole octets stay as they are in front of padded bits
+-- whole octets before padded bits are unchanged
 whole_in_front : (os : List ℕ) (bs : List Bool) → ((i : ℕ) → get_or os i 0 < 256) → packed (padded (octet_bits os ++ bs)) ≡ os ++ packed (padded bs)
 whole_in_front os bs h =
     let count : missing (length (octet_bits os ++ bs)) ≡ missing (length bs) = omega (arith, length-append (octet_bits os) bs, length-octet_bits os) in
@@ -115,7 +115,7 @@ front_split a b few n h e =
     ap (take n) (ap (λ l. a ++ l) (sym (take-append-drop few b)) ∙ sym (append_assoc a (take few b) (drop few b)))
     ∙ take_at (a ++ take few b) (drop few b) n (omega (arith, e, length-append a (take few b), length-take-le few b h))
 
--- so many whole octets, and some bits of the next one
+-- a number of whole octets, and some bits of the next one
 first_bits : (os : List ℕ) (whole few n : ℕ) → whole < length os → few ≤ 8 → n ≡ whole * 8 + few → take n (octet_bits os) ≡ octet_bits (take whole os) ++ take few (binary 8 (get_or os whole 0))
 first_bits os whole few n h k e =
     let o : ℕ = get_or os whole 0 in
@@ -128,7 +128,7 @@ first_bits os whole few n h k e =
     ∙ front_split (octet_bits front) (binary 8 o ++ rest) few n (omega (arith, k, eight, length-append (binary 8 o) rest)) (omega (arith, e, length-octet_bits front, length-take-le whole os (omega (arith, h))))
     ∙ ap (λ l. octet_bits front ++ l) (take-append-le few (binary 8 o) rest (omega (arith, k, eight)))
 
--- the first bits of an octet, and these with zero bits behind them
+-- the first bits of an octet, followed by zero bits
 high_below : (o few : ℕ) → few < 8 → o < 256 → o / 2 ^ (8 - few) < 2 ^ few
 high_below o few h l =
     let all : few + (8 - few) ≡ 8 = omega arith in

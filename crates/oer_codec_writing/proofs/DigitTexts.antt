@@ -1,4 +1,4 @@
--- The low octets of numbers, and the texts of numbers behind how many octets they have.
+-- The low octets of numbers, and the texts of numbers after their number of octets.
 use Rattle.std.proofs.Common.{◌≡◌, ℕ, zero, suc, ◌+◌, ◌-◌, ◌*◌, ◌/◌, ◌%◌, ◌^◌, ◌<◌, ◌≤◌, ℤ, pos, negsuc, Bool, List, [], ◌∷◌, ◌++◌, length, take, drop, Some, of_z, FitsSigned, refl, ap, subst, sym, ◌∙◌, append_assoc, arith}
 use Rattle.std.specs.Int.{w128, bytes_high_first}
 use Rattle.std.proofs.lemmas.Nat.{pow-add}
@@ -65,7 +65,7 @@ few_signed z b m n h e w =
     let p : plain z ≡ m = sym (ap plain e) ∙ plain-signed_by b m in
     omega (arith, l, signed_octets-plain z, ap width p, w)
 
--- ---- behind how many they are
+-- ---- after the number of octets
 
 pub counted_digits : (k n : ℕ) → k < 128 → written (Oer.counted (digits 256 k n)) 0 ≡ Some (k ∷ digits 256 k n)
 counted_digits k n h = counted_text (digits 256 k n) (k ∷ []) (digits_octets k n) (ap (λ j. written (Oer.length_form j) 0) (length-digits k n) ∙ short_length k h)

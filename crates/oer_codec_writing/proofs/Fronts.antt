@@ -1,4 +1,4 @@
--- What stands in front stays, whatever comes of a write.
+-- What was there before stays, whatever a write does.
 use Rattle.std.proofs.Common.{◌≡◌, ℕ, List, ◌++◌, Option, Some, None}
 use Rattle.asn1_model.specs.Versions.{Begins}
 use Rattle.asn1_values_identifiers.proofs.Begins.{begins_through}

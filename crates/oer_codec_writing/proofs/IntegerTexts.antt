@@ -24,7 +24,7 @@ use Rattle.oer_codec_writing.specs.Writing.{Adds}
 use Rattle.oer_codec_writing.proofs.DigitTexts.{complement_digits}
 use Rattle.oer_codec_writing.proofs.ScalarTexts.{if_true, if_false}
 
--- ---- a width that need not be there
+-- ---- an optional width
 
 pub if_some : (o : Option ℕ) (P : ℕ → Type 0) → ((k : ℕ) → o ≡ Some k → P k) → IfSome o P
 if_some None P f = tt
@@ -34,7 +34,7 @@ pub at_some : (o : Option ℕ) (P : ℕ → Type 0) (k : ℕ) → o ≡ Some k �
 at_some None P k e h = cc
 at_some (Some j) P k e h = let q : j ≡ k = cc in subst P q h
 
--- ---- numbers in so many octets
+-- ---- numbers of a fixed width
 
 plain_small : (z : ℤ) (n : ℕ) → signed_octets z ≤ n → 1 ≤ n → plain z < 256 ^ n
 plain_small z zero h l = absurd (omega arith)

@@ -85,7 +85,7 @@ long_length n h k =
     some_width n zero b h = absurd (omega (arith, b.below))
     some_width n (suc w) b h = omega arith
 
--- ---- octets behind their number
+-- ---- octets after a length determinant
 
 pub counted_text : (os w : List ℕ) → list_all is_octet os ≡ true → written (Oer.length_form (length os)) 0 ≡ Some w → written (Oer.counted os) 0 ≡ Some (w ++ os)
 unfolding written Oer.counted

@@ -24,7 +24,7 @@ if_false false x e = refl
 pub adds_same : (x y : Option (List ℕ)) (old new : List ℕ) → x ≡ y → Adds y old new → Adds x old new
 adds_same x y old new e a = subst (λ z. Adds z old new) (sym e) a
 
--- ---- truth values
+-- ---- BOOLEAN
 
 pub true_text : written (Oer.form boolean (truth true)) 0 ≡ Some (255 ∷ [])
 unfolding written Oer.form
@@ -74,7 +74,7 @@ one_arc [] e = cc
 one_arc (a ∷ []) e = refl
 one_arc (a ∷ b ∷ ns) e = cc
 
--- ---- items
+-- ---- enumeration values
 
 placed : (a b e : Bool) → a ≡ true → (a || (e && b)) ≡ true
 placed true b e h = refl

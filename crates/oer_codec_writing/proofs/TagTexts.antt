@@ -1,4 +1,4 @@
--- The texts of items and of tags, and what their writers added.
+-- The texts of enumeration values and of tags, and what their writers added.
 use Rattle.std.proofs.Common.{◌≡◌, ℕ, ◌+◌, ◌*◌, ◌^◌, ◌<◌, ◌≤◌, ℤ, pos, negsuc, Bool, true, false, cond, ltb, leb, ◌&&◌, List, [], ◌∷◌, ◌++◌, length, Option, Some, None, option_map, refl, ap, sym, ◌∙◌, arith, append_assoc, ◌⊎◌, inl, inr}
 use Rattle.std.proofs.lemmas.Bool.{lt-ltb, le-ltb, le-leb, lt-leb}
 use lib.Signed.{mag, le_z, lt_z}
@@ -20,7 +20,7 @@ Added text old new = option_map (λ w. old ++ w) text ≡ Some new
 pub is_added : (o : Option (List ℕ)) (w old new : List ℕ) → o ≡ Some w → new ≡ old ++ w → Added o old new
 is_added o w old new e h = ap (option_map (λ x. old ++ x)) e ∙ ap Some (sym h)
 
--- ---- items
+-- ---- enumeration values
 
 if_it_is : (t : Bool) (os : List ℕ) → t ≡ true → written {F = Oer.Freedom} {D = Oer.Detail} {A = ℕ} (only_if t (exactly os)) 0 ≡ Some os
 unfolding written
@@ -92,7 +92,7 @@ number_octets v x digits e d = d ∙ ap signed_octets_of e
 pub few_digits : (v x : ℤ) (n : ℕ) (digits : List ℕ) → mag v < 2 ^ 63 → x ≡ v → digits ≡ signed_octets_of x → n ≡ length digits → n ≤ 8
 few_digits v x n digits f e d h = omega (arith, h, ap length (number_octets v x digits e d), length_octets v, few_octets v f)
 
--- a number that is not among 0 to 127
+-- a number outside 0 to 127
 pub is_long : (v x : ℤ) → x ≡ v → (le_z (pos 0) x ≡ false) ⊎ (lt_z x (pos 128) ≡ false) → (n : ℕ) → v ≡ pos n → 128 ≤ n
 is_long v x e (inl h) n d = let a : le_z (pos 0) (pos n) ≡ false = ap (le_z (pos 0)) (sym (e ∙ d)) ∙ h in absurd (not_from_0 a)
   where

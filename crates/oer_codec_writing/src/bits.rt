@@ -1,4 +1,4 @@
-//! Bits (X.696 13).
+//! BIT STRING (X.696 13).
 ghost use Rattle.std.specs.Prelude.{◌≡◌, ◌*◌, ◌≤◌, ◌++◌, length, take, MatchResult, OnErr};
 ghost use Rattle.asn1_model.specs.Form.{written};
 ghost use Rattle.asn1_model.specs.Numbers.{missing, octet_bits, packed};
@@ -17,14 +17,14 @@ use asn1_schema_constraints::{Bounded, Constraints};
 use asn1_schema_faults::EncodeError;
 use asn1_values_bits::{BitStr, free_bits};
 
-/// How many bits are missing to whole octets, as the octet in front of these (X.696 13).
+/// The octet that counts the unused bits of the last octet (X.696 13).
 fn unused_bits(count: usize) -> u8
     ensures { result ≡ missing count }
 {
     free_bits(count) as u8
 }
 
-/// Adds bits as octets, one at a time, where the unused bits of the last one are zero.
+/// Adds bits as octets, one octet at a time. The unused bits of the last octet are zero.
 fn push_by_octets(octets: &mut Vec<u8>, value: BitStr) -> Result<(), EncodeError>
     ensures text { MatchResult result (λ _. octets.new.items ≡ octets.old.items
         ++ packed (padded (bits_of value.entry))) (λ e. e ≡ EncodeError.OutOfMemory) }
@@ -40,8 +40,8 @@ fn push_by_octets(octets: &mut Vec<u8>, value: BitStr) -> Result<(), EncodeError
     Ok(())
 }
 
-/// Adds the first bits of octets, where the unused bits of the last one are zero (X.696 13). Whole octets are copied in
-/// one run.
+/// Adds the first `count` bits of octets. The unused bits of the last octet are zero (X.696 13). Whole octets are
+/// copied in one run.
 fn push_first_bits(octets: &mut Vec<u8>, held: &[u8], count: usize) -> Result<(), EncodeError>
     requires { count ≤ length held.now * 8 }
     ensures text { MatchResult result (λ _. octets.new.items ≡ octets.old.items
@@ -58,7 +58,7 @@ fn push_first_bits(octets: &mut Vec<u8>, held: &[u8], count: usize) -> Result<()
     Ok(())
 }
 
-/// Adds bits as octets, where the unused bits of the last one are zero (X.696 13).
+/// Adds bits as octets. The unused bits of the last octet are zero (X.696 13).
 fn push_bits(octets: &mut Vec<u8>, value: BitStr) -> Result<(), EncodeError>
     ensures text { MatchResult result (λ _. octets.new.items ≡ octets.old.items
         ++ packed (padded (bits_of value.entry))) (λ e. e ≡ EncodeError.OutOfMemory) }
@@ -70,12 +70,12 @@ fn push_bits(octets: &mut Vec<u8>, value: BitStr) -> Result<(), EncodeError>
     }
 }
 
-/// Adds what stands in front of so many bits where their number is not fixed: the length of what follows, and the
-/// number of unused bits (X.696 13).
+/// Adds what precedes `count` bits if the size is not fixed: the length determinant and the number of unused bits
+/// (X.696 13).
 ///
 /// # Errors
 ///
-/// `OutOfMemory`, and no other.
+/// Only `OutOfMemory`.
 #[inline(always)]
 pub fn push_bits_heading(octets: &mut Vec<u8>, count: usize) -> Result<(), EncodeError>
     ensures text { MatchResult result (λ _. Adds (written (bits_heading count) 0) octets.old.items octets.new.items)
@@ -87,7 +87,7 @@ pub fn push_bits_heading(octets: &mut Vec<u8>, count: usize) -> Result<(), Encod
     Ok(())
 }
 
-/// Adds bits, behind a length and the number of unused bits unless there is one size (X.696 13).
+/// Adds bits, after a length determinant and the number of unused bits unless the size is fixed (X.696 13).
 fn push_sized_bits(octets: &mut Vec<u8>, fixed: bool, value: BitStr) -> Result<(), EncodeError>
     ensures text { MatchResult result
         (λ _. Adds (written (bit_string_form fixed (bits_of value.entry)) 0) octets.old.items octets.new.items)
@@ -107,7 +107,7 @@ fn push_sized_bits(octets: &mut Vec<u8>, fixed: bool, value: BitStr) -> Result<(
 ///
 /// # Errors
 ///
-/// `OutOfMemory`; any other only where the value has no encoding in this form.
+/// `OutOfMemory`; any other only if the value has no encoding.
 pub fn push_bit_string(
     octets: &mut Vec<u8>,
     constraints: &Constraints,

@@ -1,4 +1,4 @@
-//! The low octets of numbers, and how many octets numbers have at the fewest.
+//! The low octets of a number, and the fewest octets that encode one.
 ghost use Rattle.std.specs.Prelude.{◌≡◌, ◌≤◌, ◌++◌, MatchResult, OnErr};
 ghost use Rattle.asn1_model.specs.Numbers.{digits, least_octets, signed_octets};
 ghost use Rattle.asn1_model.specs.Versions.{Begins};
@@ -7,7 +7,7 @@ use asn1_schema_faults::EncodeError;
 use asn1_values_natives::Wide;
 use asn1_values_natives::octets::{bit_count, octet_width};
 
-/// Adds the low octets of a number, so many of them, the highest first.
+/// Adds the low `count` octets of a number, most significant first.
 #[inline]
 pub(crate) fn push_digits(
     octets: &mut Vec<u8>,
@@ -29,7 +29,7 @@ pub(crate) fn push_digits(
     Ok(())
 }
 
-/// How many octets of two's complement a number has at the fewest (X.696 10).
+/// The fewest octets that encode a number in two's complement (X.696 10).
 #[inline]
 pub(crate) fn signed_len(number: i128) -> usize
     ensures octets { result ≡ signed_octets number }
@@ -38,7 +38,7 @@ pub(crate) fn signed_len(number: i128) -> usize
     bit_count(Wide::from_i128(number).magnitude) / 8 + 1
 }
 
-/// How many octets a number without a sign has at the fewest, at least one (X.696 10 and 17).
+/// The fewest octets that encode an unsigned number, at least one (X.696 10 and 17).
 #[inline]
 pub(crate) fn natural_len(number: u128) -> usize
     ensures octets { result ≡ least_octets number }

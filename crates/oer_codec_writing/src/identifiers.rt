@@ -11,12 +11,12 @@ use crate::lengths::push_length;
 use asn1_schema_faults::EncodeError;
 use asn1_values_identifiers::{Oid, content_count, push_contents, subidentifiers_of};
 
-/// Adds an OBJECT IDENTIFIER (X.696 21): its contents octets behind their number, without memory of their own. One of a
-/// single arc has no contents.
+/// Adds an OBJECT IDENTIFIER (X.696 21): a length determinant and the contents octets, without a buffer for them. An
+/// identifier of a single arc has no contents.
 ///
 /// # Errors
 ///
-/// `OutOfMemory`; any other only where the value has no encoding in this form.
+/// `OutOfMemory`; any other only if the value has no encoding.
 pub fn push_identifier(octets: &mut Vec<u8>, value: &Oid) -> Result<(), EncodeError>
     ensures text { MatchResult result (λ _. Adds (written (form object_identifier (arcs value.now)) 0) octets.old.items
         octets.new.items) (Refuses (written (form object_identifier (arcs value.now)) 0)) }

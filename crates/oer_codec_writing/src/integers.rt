@@ -1,4 +1,4 @@
-//! Whole numbers (X.696 10).
+//! INTEGER (X.696 10).
 ghost use Rattle.std.specs.Prelude.{◌≡◌, ◌≤◌, false, true, MatchResult, IfSome, OnErr};
 ghost use Rattle.asn1_model.specs.Form.{written};
 ghost use Rattle.asn1_model.specs.Numbers.{is_within, signed_octets};
@@ -16,7 +16,7 @@ use asn1_schema_constraints::{Bounded, Constraints, Extensible, Value};
 use asn1_schema_faults::EncodeError;
 use asn1_values_integers::IntegerType;
 
-/// Adds a number with a sign, in so many octets or in its fewest behind their number (X.696 10).
+/// Adds a signed number, in `width` octets, or in its fewest after a length determinant (X.696 10).
 #[inline]
 fn push_signed(octets: &mut Vec<u8>, width: Option<u8>, number: i128) -> Result<(), EncodeError>
     requires { IfSome width (λ k. (signed_octets number ≤ k) × (k ≤ 16)) }
@@ -38,7 +38,7 @@ fn push_signed(octets: &mut Vec<u8>, width: Option<u8>, number: i128) -> Result<
     }
 }
 
-/// Adds a number that is not negative, in so many octets or in its fewest behind their number (X.696 10).
+/// Adds a number that is not negative, in `width` octets, or in its fewest after a length determinant (X.696 10).
 #[inline(always)]
 fn push_natural(octets: &mut Vec<u8>, width: Option<u8>, number: i128) -> Result<(), EncodeError>
     requires sign { is_below_zero number ≡ false }
@@ -61,7 +61,7 @@ fn push_natural(octets: &mut Vec<u8>, width: Option<u8>, number: i128) -> Result
     }
 }
 
-/// Adds a number within bounds, in the form that they tell (X.696 10).
+/// Adds a number within bounds, in the form that the bounds determine (X.696 10).
 #[inline(always)]
 fn push_bounded(
     octets: &mut Vec<u8>,
@@ -82,8 +82,8 @@ fn push_bounded(
     Ok(())
 }
 
-/// Adds a number of 128 bits under a value constraint, if there is one; one with an extension marker counts for nothing
-/// (X.696 10).
+/// Adds a 128-bit number under a value constraint, if there is one. An extensible constraint does not affect the
+/// encoding (X.696 10).
 #[inline(always)]
 fn push_number(
     octets: &mut Vec<u8>,
@@ -112,12 +112,12 @@ fn push_number(
     Ok(())
 }
 
-/// Adds an INTEGER (X.696 10), of at most 128 bits under a value constraint; bounds with an extension marker count for
-/// nothing.
+/// Adds an INTEGER (X.696 10). Under a value constraint it has at most 128 bits. An extensible constraint does not
+/// affect the encoding.
 ///
 /// # Errors
 ///
-/// `OutOfMemory`; any other only where the value has no encoding in this form.
+/// `OutOfMemory`; any other only if the value has no encoding.
 #[inline(always)]
 pub fn push_integer<I: IntegerType>(
     octets: &mut Vec<u8>,

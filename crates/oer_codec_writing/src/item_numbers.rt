@@ -1,4 +1,4 @@
-//! Items of enumerations (X.696 11).
+//! Enumeration values (X.696 11).
 ghost use Rattle.std.specs.Prelude.{◌≡◌, ◌++◌, Some, option_map, MatchResult, OnErr};
 ghost use Rattle.asn1_model.specs.Form.{written};
 ghost use Rattle.asn1_model.specs.Oer.{item_form};
@@ -7,12 +7,12 @@ ghost use Rattle.asn1_model.specs.Versions.{Begins};
 use asn1_schema_faults::EncodeError;
 use asn1_values_integers::IntegerType;
 
-/// Adds the number of an item (X.696 11): one octet for 0 to 127, else the fewest octets of two's complement behind
-/// 0x80 and how many they are.
+/// Adds an enumeration value (X.696 11): 0 to 127 in one octet, else an octet of 0x80 plus the count, then that count
+/// of octets, the fewest of two's complement.
 ///
 /// # Errors
 ///
-/// `OutOfMemory`, and no other.
+/// Only `OutOfMemory`.
 pub fn push_item(octets: &mut Vec<u8>, number: isize) -> Result<(), EncodeError>
     ensures text { MatchResult result (λ _. option_map (λ w. octets.old.items ++ w) (written (item_form number) 0)
         ≡ Some octets.new.items) (λ e. e ≡ EncodeError.OutOfMemory) }

@@ -1,4 +1,4 @@
-//! Items of enumerations (X.696 11).
+//! Enumerated values (X.696 11).
 ghost use Rattle.std.specs.Prelude.{◌≡◌, MatchResult, OnErr};
 ghost use Rattle.asn1_model.specs.Form.{written};
 ghost use Rattle.asn1_model.specs.Oer.{form};
@@ -11,11 +11,11 @@ use crate::push_item;
 use asn1_schema_faults::EncodeError;
 use asn1_schema_variants::Enumerated;
 
-/// Adds an ENUMERATED by the number of its item (X.696 11).
+/// Adds an ENUMERATED by its enumeration value (X.696 11).
 ///
 /// # Errors
 ///
-/// `OutOfMemory`, and no other.
+/// Only `OutOfMemory`.
 pub fn push_enumerated<T: Enumerated>(octets: &mut Vec<u8>, value: &T) -> Result<(), EncodeError>
     ensures text { MatchResult result (λ _. Adds
         (written (form (enumerated T.roots T.extensible T.additions) (item (T.number value.now))) 0) octets.old.items

@@ -1,4 +1,4 @@
-//! Lengths, counts, and octets behind their number (X.696 8.6 and 17).
+//! Length determinants, counts, and octets after a length determinant (X.696 8.6 and 17).
 ghost use Rattle.std.specs.Prelude.{◌≡◌, ◌<◌, IfSome, IfNone, ◌≤◌, MatchResult, OnErr};
 ghost use Rattle.asn1_model.specs.Form.{only_if, written};
 ghost use Rattle.asn1_model.specs.Numbers.{digits, is_count_within};
@@ -12,7 +12,7 @@ use asn1_schema_constraints::Bounded;
 use asn1_schema_faults::EncodeError;
 use asn1_values_natives::octets::octet_width;
 
-/// A length below 128 as its one octet (X.696 8.6).
+/// A length below 128, as its one octet (X.696 8.6).
 #[inline(always)]
 pub fn short_length(length: usize) -> Option<u8>
     ensures some { IfSome result (λ octet. (octet ≡ length) × (length < 128)) }
@@ -25,7 +25,7 @@ pub fn short_length(length: usize) -> Option<u8>
     }
 }
 
-/// Adds a length (X.696 8.6): below 128 one octet, else the fewest behind their number.
+/// Adds a length determinant (X.696 8.6): one octet below 128, else the fewest octets after their count.
 #[inline(always)]
 pub(crate) fn push_length(octets: &mut Vec<u8>, length: usize) -> Result<(), EncodeError>
     ensures text { MatchResult result
@@ -44,7 +44,7 @@ pub(crate) fn push_length(octets: &mut Vec<u8>, length: usize) -> Result<(), Enc
     Ok(())
 }
 
-/// Adds the low octets of a number behind how many they are (X.696 8.6 and 10).
+/// Adds the low `count` octets of a number, after a length determinant (X.696 8.6 and 10).
 #[inline]
 pub(crate) fn push_counted_digits(
     octets: &mut Vec<u8>,
@@ -62,11 +62,11 @@ pub(crate) fn push_counted_digits(
     Ok(())
 }
 
-/// Adds octets behind their number (X.696 8.6).
+/// Adds octets, after a length determinant (X.696 8.6).
 ///
 /// # Errors
 ///
-/// `OutOfMemory`, and no other.
+/// Only `OutOfMemory`.
 #[inline(always)]
 pub fn push_counted(octets: &mut Vec<u8>, contents: &[u8]) -> Result<(), EncodeError>
     ensures text { MatchResult result
@@ -79,12 +79,12 @@ pub fn push_counted(octets: &mut Vec<u8>, contents: &[u8]) -> Result<(), EncodeE
     Ok(())
 }
 
-/// Adds the count of members of a list or bag (X.696 17 and 19): its fewest octets, at least one, behind their number.
-/// `held` are the numbers of members that the program's type holds.
+/// Adds the quantity field of a SEQUENCE OF or SET OF (X.696 17 and 19): the count in its fewest octets, at least
+/// one, after a length determinant. `held` are the counts that the Rust type can hold.
 ///
 /// # Errors
 ///
-/// `SizeConstraintNotSatisfied` if the type does not hold so many, and `OutOfMemory`.
+/// `SizeConstraintNotSatisfied` if the Rust type cannot hold `count` elements, and `OutOfMemory`.
 pub fn push_count(
     octets: &mut Vec<u8>,
     held: Bounded<usize>,

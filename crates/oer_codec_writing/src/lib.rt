@@ -1,5 +1,4 @@
-//! Writers of the scalar types, of tags and of the items of enumerations in the octet encoding rules (X.696), and how
-//! many octets a preamble has.
+//! Writers of scalar types, tags and enumerated values in OER (X.696), and the length of a preamble.
 #![tactic(auto)]
 
 mod bits;

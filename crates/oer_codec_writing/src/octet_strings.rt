@@ -1,4 +1,4 @@
-//! OCTET STRING, and octets of one size or behind their number (X.696 14 and 27).
+//! OCTET STRING, and octets with or without a length determinant (X.696 14 and 27).
 ghost use Rattle.std.specs.Prelude.{◌≡◌, MatchResult, OnErr};
 ghost use Rattle.asn1_model.specs.Form.{written};
 ghost use Rattle.asn1_model.specs.Oer.{octets_form, form};
@@ -13,7 +13,7 @@ use crate::lengths::push_counted;
 use asn1_schema_constraints::{Bounded, Constraints};
 use asn1_schema_faults::EncodeError;
 
-/// Adds octets, behind their number unless there is one size (X.696 14).
+/// Adds octets, after a length determinant unless the size is fixed (X.696 14).
 #[inline(always)]
 pub(crate) fn push_sized(
     octets: &mut Vec<u8>,
@@ -36,7 +36,7 @@ pub(crate) fn push_sized(
 ///
 /// # Errors
 ///
-/// `OutOfMemory`; any other only where the value has no encoding in this form.
+/// `OutOfMemory`; any other only if the value has no encoding.
 #[inline(always)]
 pub fn push_octet_string(
     octets: &mut Vec<u8>,

@@ -1,4 +1,4 @@
-//! Truth values (X.696 9).
+//! BOOLEAN (X.696 9).
 ghost use Rattle.std.specs.Prelude.{◌≡◌, MatchResult, OnErr, cond};
 ghost use Rattle.asn1_model.specs.Form.{written};
 ghost use Rattle.asn1_model.specs.Oer.{form};
@@ -9,8 +9,8 @@ ghost use Rattle.oer_codec_writing.specs.Writing.{Adds};
 
 use asn1_schema_faults::EncodeError;
 
-/// The octet of a truth value (X.696 9). It is made by arithmetic: a branch without a pattern would be foreseen wrongly
-/// for every second value.
+/// The octet of a BOOLEAN (X.696 9). It is computed without a branch: one on data without a pattern would be
+/// mispredicted for every second value.
 #[inline(always)]
 fn truth_octet(value: bool) -> u8
     ensures { result ≡ cond value 255 0 }
@@ -22,7 +22,7 @@ fn truth_octet(value: bool) -> u8
 ///
 /// # Errors
 ///
-/// `OutOfMemory`, and no other.
+/// Only `OutOfMemory`.
 pub fn push_boolean(octets: &mut Vec<u8>, value: bool) -> Result<(), EncodeError>
     ensures text { MatchResult result (λ _. Adds (written (form boolean (truth value)) 0) octets.old.items
         octets.new.items) (λ e. e ≡ EncodeError.OutOfMemory) }

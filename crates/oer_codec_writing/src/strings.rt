@@ -22,7 +22,7 @@ use asn1_values_alphabets::StaticPermittedAlphabet;
 ///
 /// # Errors
 ///
-/// `OutOfMemory`; any other only where the value has no encoding in this form.
+/// `OutOfMemory`; any other only if the value has no encoding.
 pub fn push_utf8(
     octets: &mut Vec<u8>,
     constraints: &Constraints,
@@ -44,7 +44,7 @@ pub fn push_utf8(
     Ok(())
 }
 
-/// Adds the characters as octets, one for each: in one run where the string keeps them so.
+/// Adds the characters, one octet each: in one copy if the string stores them so.
 #[inline(always)]
 fn push_narrow<S: StaticPermittedAlphabet>(
     octets: &mut Vec<u8>,
@@ -66,7 +66,7 @@ fn push_narrow<S: StaticPermittedAlphabet>(
     Ok(())
 }
 
-/// Adds the characters as octets, two for each, the highest first.
+/// Adds the characters, two octets each, most significant first.
 fn push_wide<S: StaticPermittedAlphabet>(octets: &mut Vec<u8>, value: &S) -> Result<(), EncodeError>
     ensures text { MatchResult result (λ _. octets.new.items ≡ octets.old.items
         ++ flat_map (digits 256 2) (S.characters value.now)) (λ e. e ≡ EncodeError.OutOfMemory) }
@@ -81,7 +81,7 @@ fn push_wide<S: StaticPermittedAlphabet>(octets: &mut Vec<u8>, value: &S) -> Res
     Ok(())
 }
 
-/// Adds the octets of a string in which each character has one, behind their number unless there is one size.
+/// Adds a string of one octet per character, after a length determinant unless the size is fixed.
 #[inline(always)]
 fn push_narrow_string<S: StaticPermittedAlphabet>(
     octets: &mut Vec<u8>,
@@ -103,7 +103,7 @@ fn push_narrow_string<S: StaticPermittedAlphabet>(
     Ok(())
 }
 
-/// Adds the octets of a string in which each character has two, behind their number unless there is one size.
+/// Adds a string of two octets per character, after a length determinant unless the size is fixed.
 fn push_wide_string<S: StaticPermittedAlphabet>(
     octets: &mut Vec<u8>,
     fixed: bool,
@@ -126,11 +126,11 @@ fn push_wide_string<S: StaticPermittedAlphabet>(
     Ok(())
 }
 
-/// Adds a character string of a kind with an alphabet of its own (X.696 27).
+/// Adds a restricted character string other than UTF8String (X.696 27).
 ///
 /// # Errors
 ///
-/// `OutOfMemory`; any other only where the value has no encoding in this form.
+/// `OutOfMemory`; any other only if the value has no encoding.
 #[inline(always)]
 pub fn push_characters<S: StaticPermittedAlphabet>(
     octets: &mut Vec<u8>,

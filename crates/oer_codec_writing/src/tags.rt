@@ -9,10 +9,10 @@ use asn1_schema_faults::EncodeError;
 use asn1_schema_tags::{Class, Tag};
 use asn1_values_identifiers::push_groups;
 
-/// The number that a tag in the long form has in place of its own in the first octet.
+/// The low six bits of the first octet of a tag in the long form, in place of its number.
 const LONG: u8 = 63;
 
-/// The two bits of a class, in front of six zero bits.
+/// The class in bits 8 and 7; the other six bits are zero.
 fn class_bits(class: Class) -> u8
     ensures { result ≡ class_number class * 64 }
 {
@@ -24,12 +24,12 @@ fn class_bits(class: Class) -> u8
     }
 }
 
-/// Adds a tag (X.696 8.7): two bits of class, and a number below 63 in six bits, else six one bits and the number in
-/// groups of seven bits.
+/// Adds a tag (X.696 8.7): two bits of class, then a number below 63 in six bits, or else six one bits and the number
+/// in groups of seven bits.
 ///
 /// # Errors
 ///
-/// `OutOfMemory`, and no other.
+/// Only `OutOfMemory`.
 pub fn push_tag(octets: &mut Vec<u8>, tag: Tag) -> Result<(), EncodeError>
     ensures text { MatchResult result
         (λ _. option_map (λ w. octets.old.items ++ w) (written (tag_form (tag_of tag)) 0) ≡ Some octets.new.items)

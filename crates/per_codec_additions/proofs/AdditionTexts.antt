@@ -17,7 +17,7 @@ use Rattle.per_codec_additions.specs.Additions.{as_open_types}
 use Rattle.per_codec_additions.specs.Slots.{is_there}
 use Rattle.per_codec_additions.specs.declared.slots.Slot.{Slot}
 
--- ---- behind a normally small length
+-- ---- after a normally small length
 
 few : (n : ℕ) → 1 ≤ n → n ≤ 64 → Per.is_from_1_to_64 n ≡ true
 few n a b = ap (λ t. t && leb n 64) (le-leb 1 n a) ∙ le-leb n 64 b
@@ -61,7 +61,7 @@ flags_of al [] = refl
 flags_of al (None ∷ slots) = ap (λ us. exactly (false ∷ []) ∷ us) (flags_of al slots)
 flags_of al (Some w ∷ slots) = ap (λ us. exactly (true ∷ []) ∷ us) (flags_of al slots)
 
--- the bits of those that are there, one behind the other
+-- the bits of those that are present, in sequence
 abbrev pub Present : Bool → List (Option (List Bool)) → Packed → Packed → Type 0
 Present al slots old new = Adds (text_at (joined (present_ones (as_open_types al slots))) (place old)) old new
 

@@ -1,4 +1,4 @@
--- Additions that are kept.
+-- Additions that are stored.
 use Rattle.std.proofs.Common.{◌≡◌, ℕ, zero, suc, ◌+◌, ◌-◌, ◌*◌, ◌^◌, ◌<◌, ◌≤◌, max, Bool, true, false, List, [], ◌∷◌, ◌++◌, length, length-append, map, take, drop, slice_range, get_or, replicate, Option, Some, None, refl, ap, subst, sym, ◌∙◌, arith}
 use mir.Val.{bool_byte}
 use Rattle.std.proofs.Math.Nat.{pow-suc}
@@ -50,7 +50,7 @@ module _ (bytes : List ℕ) (n : ℕ) (w : List Bool) (octets : bytes ≡ packed
   some : 0 < length bytes → w ≡ [] → ⊥
   some h e = let nothing : bytes ≡ [] = octets ∙ ap (λ v. packed (padded v)) e in omega (arith, h, ap length nothing)
 
-  -- behind others that are shared
+  -- after others in the shared buffer
   module _ (was shared : List ℕ) (from to : ℕ) (e : shared ≡ was ++ bytes) (first : from ≡ length was) (past : to ≡ length shared) where
     last : slice_range shared from to ≡ bytes
     last =
@@ -68,7 +68,7 @@ module _ (bytes : List ℕ) (n : ℕ) (w : List Bool) (octets : bytes ≡ packed
       is = ap (λ l. Some (first_bits_of_octets n l)) last ∙ ap Some bits_are;
     }
 
-  -- in place, in front of zero octets: at least one of these is kept
+  -- in place, before zero octets: at least one of these is stored
   module _ (shared zeros front : List ℕ) (count : ℕ) (e : front ≡ bytes) (zero_first : take 1 zeros ≡ 0 ∷ []) where
     abbrev stored : List ℕ
     stored = front ++ drop (length bytes) zeros
@@ -104,7 +104,7 @@ module _ (bytes : List ℕ) (n : ℕ) (w : List Bool) (octets : bytes ≡ packed
               is = ap (λ l. Some (first_bits_of_octets n l)) octets_are ∙ ap Some bits_are;
             }
 
--- ---- more octets that are shared
+-- ---- more octets in the shared buffer
 
 module _ (shared more : List ℕ) where
   range_kept : (from to : ℕ) → from ≤ to → to ≤ length shared → slice_range (shared ++ more) from to ≡ slice_range shared from to
@@ -134,7 +134,7 @@ module _ (shared more : List ℕ) where
   all_still [] h = tt
   all_still (s ∷ ss) h = (still s h.0, all_still ss h.1)
 
--- ---- one addition more
+-- ---- one more addition
 
 one_behind : (shared : List ℕ) (ss : List Slot) (s : Slot) → EachIsSlotOf shared ss → IsSlotOf shared s → EachIsSlotOf shared (ss ++ s ∷ [])
 one_behind shared [] s h k = (k, tt)

@@ -1,4 +1,4 @@
-//! Additions of sequences and sets (X.691 19.7 to 19.9).
+//! Extension additions of sequences and sets (X.691 19.7 to 19.9).
 ghost use Rattle.std.specs.Prelude.{◌≡◌, ◌≤◌, length, map, MatchResult};
 ghost use Rattle.asn1_model.specs.Form.{joined, present_ones};
 ghost use Rattle.asn1_model.specs.Numbers.{binary};
@@ -15,12 +15,12 @@ use per_codec_limits::Variant;
 use per_codec_packing::Packing;
 use per_codec_writing::{Units, push_counted};
 
-/// Adds units behind a normally small length: for up to 64 of them this is a bit that is not set and six bits, else a
-/// bit that is set and a length determinant (X.691 11.9.3.4).
+/// Adds units after a normally small length: for up to 64 units a zero bit and six bits, else a one bit and a length
+/// determinant (X.691 11.9.3.4).
 ///
 /// # Errors
 ///
-/// `OutOfMemory`, and no other.
+/// Only `OutOfMemory`.
 pub fn push_normally_few<U: Units>(
     output: &mut Packing,
     variant: Variant,
@@ -41,7 +41,8 @@ pub fn push_normally_few<U: Units>(
     Ok(())
 }
 
-/// The number whose binary digits tell for each addition whether it is there, the first one highest (X.691 19.8).
+/// The number whose binary digits are the presence bits of the additions, the first one most significant (X.691
+/// 19.8).
 fn presence_number(slots: &[Slot]) -> u128
     requires { length slots.now ≤ 64 }
     ensures { binary (length slots.now) result ≡ map is_there slots.now }
@@ -53,8 +54,7 @@ fn presence_number(slots: &[Slot]) -> u128
     number
 }
 
-/// Adds for each addition a bit that tells whether it is there, those of 64 additions at a time (X.691 19.8). The only
-/// error is want of memory.
+/// Adds the presence bits of the additions, 64 at a time (X.691 19.8). The only error is `OutOfMemory`.
 fn push_presence_bits(output: &mut Packing, slots: &[Slot]) -> Result<(), EncodeError>
     ensures { MatchResult result
         (λ _. output.new ≡ plus output.old (as_text (map is_there slots.now)))
@@ -69,7 +69,7 @@ fn push_presence_bits(output: &mut Packing, slots: &[Slot]) -> Result<(), Encode
     Ok(())
 }
 
-/// Additions as the bits that tell whether they are there (X.691 19.8).
+/// Additions as units: their presence bits (X.691 19.8).
 #[derive(Drop)]
 struct PresenceBits<'a> {
     slots: &'a [Slot],
@@ -88,8 +88,8 @@ impl Units for PresenceBits<'_> {
     }
 }
 
-/// Adds for each addition a bit that tells whether it is there, behind their normally small number (X.691 19.7 and
-/// 19.8), without memory of their own. The only error is want of memory.
+/// Adds the presence bits of the additions after a normally small length (X.691 19.7 and 19.8), without a buffer for
+/// them. The only error is `OutOfMemory`.
 fn push_presence(output: &mut Packing, variant: Variant, slots: &[Slot]) -> Result<(), EncodeError>
     ensures { MatchResult result (λ _. Adds
         (text_at (normally_few (is_aligned variant) (bit_units (map is_there slots.now))) (place output.old))
@@ -100,7 +100,7 @@ fn push_presence(output: &mut Packing, variant: Variant, slots: &[Slot]) -> Resu
     Ok(())
 }
 
-/// Adds each addition that is there as an open type (X.691 19.9). The only error is want of memory.
+/// Adds each addition that is present as an open type (X.691 19.9). The only error is `OutOfMemory`.
 fn push_present(
     output: &mut Packing,
     variant: Variant,
@@ -119,12 +119,12 @@ fn push_present(
     Ok(())
 }
 
-/// Adds the additions of a sequence or set: their number, which of them are there, and these as open types (X.691 19.7
-/// to 19.9).
+/// Adds the extension additions of a sequence or set: their number, their presence bits, and those that are present
+/// as open types (X.691 19.7 to 19.9).
 ///
 /// # Errors
 ///
-/// `OutOfMemory`, and no other.
+/// Only `OutOfMemory`.
 pub fn push_additions(
     output: &mut Packing,
     variant: Variant,

@@ -1,5 +1,5 @@
-//! Extension additions in the packed encoding rules (X.691 19.7 to 19.9): what is kept of them until their sequence or
-//! set ends, and how they are then written.
+//! Extension additions in PER (X.691 19.7 to 19.9): how they are stored until their sequence or set ends, and how
+//! they are then written.
 #![tactic(auto)]
 
 mod additions;

@@ -1,4 +1,4 @@
-//! Additions that are kept until their sequence or set ends (X.691 19.7 to 19.9).
+//! Extension additions that are stored until their sequence or set ends (X.691 19.7 to 19.9).
 ghost use Rattle.std.specs.Prelude.{◌≡◌, ◌++◌, ◌∷◌, [], List, Bool, ℕ, None, Some, IfOk, IfErr, OnOk, OnErr};
 ghost use Rattle.std.specs.Prelude.{MatchOption};
 ghost use Rattle.asn1_model.specs.Form.{exactly, is_any_present};
@@ -16,32 +16,32 @@ use per_codec_writing::push_counted_octets;
 use std::alloc::{AllocError, Global};
 use std::marker::Model;
 
-// How many octets are kept in place at most.
+// The most octets that are stored in place.
 const PLACE_OCTETS: usize = 16;
 
-/// Additions that are kept until their sequence or set ends: the bits of each that is there. Few octets stand in place,
-/// those of longer additions one behind the other in memory that they share.
+/// Additions that are stored until their sequence or set ends: the bits of each that is present. Few octets are
+/// stored in place, those of longer additions in sequence in a shared buffer.
 #[derive(Drop)]
 pub struct Slots {
     pub(crate) slots: Vec<Slot>,
     // The octets of the longer additions.
     pub(crate) shared: Vec<u8>,
-    // Whether an addition is there.
+    // Whether an addition is present.
     is_any_present: bool,
 }
 
-/// How an addition is kept: by the octets of its complete encoding (X.691 11.1), and how many bits it has.
+/// How an addition is stored: the octets of its complete encoding (X.691 11.1), and its number of bits.
 #[derive(Clone, Copy)]
 pub(crate) enum Slot {
-    /// It is not there.
+    /// It is absent.
     Absent,
-    /// So many of these octets.
+    /// The first `count` of these octets.
     InPlace {
         octets: [u8; PLACE_OCTETS],
         count: usize,
         bits: usize,
     },
-    /// The octets from one place up to another of those that additions share.
+    /// The octets between two positions of the shared buffer.
     Shared {
         from: usize,
         to: usize,
@@ -60,7 +60,7 @@ impl Model for Slots {
     ghost invariant = { λ s. AreSlots s.shared.items s.slots.items s.is_any_present };
 }
 
-/// Keeps an addition that is there, by its bits: in place where it has few, else behind the octets that are shared.
+/// Stores an addition that is present, by its bits: in place if they are few, else at the end of the shared buffer.
 #[inline(always)]
 fn keep(shared: &mut Vec<u8>, contents: &BitBuffer) -> Result<Slot, AllocError>
     ensures grown { (more : List ℕ) × (shared.new.items ≡ shared.old.items ++ more) }
@@ -87,11 +87,11 @@ fn keep(shared: &mut Vec<u8>, contents: &BitBuffer) -> Result<Slot, AllocError>
 }
 
 impl Slots {
-    /// No additions, and room for so many.
+    /// No additions, and capacity for `count` of them.
     ///
     /// # Errors
     ///
-    /// Want of memory.
+    /// `AllocError` if memory ran out.
     pub fn with_capacity(alloc: Global, count: usize) -> Result<Self, AllocError>
         ensures { IfOk result (λ slots. slots ≡ []) }
     {
@@ -103,7 +103,7 @@ impl Slots {
         })
     }
 
-    /// Whether an addition is there.
+    /// Whether an addition is present.
     #[inline(always)]
     pub fn is_any_present(&self) -> bool
         ensures { result ≡ is_any_present self.now }
@@ -111,11 +111,11 @@ impl Slots {
         self.is_any_present
     }
 
-    /// Keeps the place of an addition that is not there.
+    /// Stores that the next addition is absent.
     ///
     /// # Errors
     ///
-    /// Want of memory; nothing is changed then.
+    /// `AllocError` if memory ran out. Nothing changes then.
     #[inline(always)]
     pub fn push_absent(&mut self) -> Result<(), AllocError>
         ensures ok { OnOk result (self.new ≡ self.old ++ None ∷ []) }
@@ -125,11 +125,11 @@ impl Slots {
         Ok(())
     }
 
-    /// Keeps an addition that is there, by its bits: none of their memory is kept.
+    /// Stores the bits of an addition that is present. They are copied.
     ///
     /// # Errors
     ///
-    /// Want of memory; nothing is changed then.
+    /// `AllocError` if memory ran out. Nothing changes then.
     #[inline(always)]
     pub fn push_present(&mut self, contents: &BitBuffer) -> Result<(), AllocError>
         ensures ok { OnOk result (self.new ≡ self.old ++ Some contents.now ∷ []) }
@@ -143,7 +143,7 @@ impl Slots {
 }
 
 impl Slot {
-    /// Whether it is there.
+    /// Whether it is present.
     #[inline(always)]
     pub(crate) fn is_present(&self) -> bool
         ensures { result ≡ is_there self.now }
@@ -154,7 +154,7 @@ impl Slot {
         }
     }
 
-    /// The octets of its complete encoding (X.691 11.1), if it is there, in place or from those that are shared.
+    /// The octets of its complete encoding (X.691 11.1), in place or from the shared buffer, if it is present.
     #[inline(always)]
     fn octets<'a>(&'a self, shared: &'a [u8]) -> Option<&'a [u8]>
         requires { IsSlotOf shared.now self.now }
@@ -168,7 +168,7 @@ impl Slot {
         }
     }
 
-    /// Adds the addition as an open type, if it is there (X.691 19.9). The only error is want of memory.
+    /// Adds the addition as an open type, if it is present (X.691 19.9). The only error is `OutOfMemory`.
     #[inline]
     pub(crate) fn push(
         &self,

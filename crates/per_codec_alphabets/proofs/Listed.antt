@@ -16,7 +16,7 @@ use Rattle.per_codec_alphabets.specs.Codes.{run_of, runs_of, singles, SameCharac
 use Rattle.per_codec_alphabets.specs.Listed.{each_of, all_of, begin_from, AreFew, HasSome}
 use Rattle.per_codec_alphabets.specs.declared.runs.CharacterRun.{CharacterRun}
 
--- ---- numbers one behind the other
+-- ---- consecutive numbers
 pub counted_end : (a n : ℕ) → range_with_len a (suc n) ≡ range_with_len a n ++ (a + n) ∷ []
 counted_end a zero = ap (λ d. d ∷ []) (omega arith)
 counted_end a (suc n) =
@@ -50,19 +50,19 @@ counted_ascends a (suc n) l h f =
     first d g (inl p) = omega arith
     first d g (inr p) = let m = g p in omega (arith, m)
 
--- ---- one character more
+-- ---- one more character
 all_end : (rs : List Run) (r : Run) → all_of (rs ++ r ∷ []) ≡ all_of rs ++ each_of r
 all_end [] r = append-nil (each_of r)
 all_end (s ∷ rs) r = ap (λ l. each_of s ++ l) (all_end rs r) ∙ sym (append_assoc (each_of s) (all_of rs) (each_of r))
 
--- a run of its own
+-- as a run of one
 pub one_single : (xs : List CharacterRun) (s : CharacterRun) (c : ℕ) → s.first ≡ c → s.last ≡ c → all_of (runs_of (xs ++ s ∷ [])) ≡ all_of (runs_of xs) ++ c ∷ []
 one_single xs s c f g =
     let one : s.last + 1 - s.first ≡ 1 = omega arith in
     let e : each_of (run_of s) ≡ c ∷ [] = ap (λ n. range_with_len s.first n) one ∙ ap (λ d. d ∷ []) f in
     ap all_of (runs_behind xs (s ∷ [])) ∙ all_end (runs_of xs) (run_of s) ∙ ap (λ l. all_of (runs_of xs) ++ l) e
 
--- behind the last of a run
+-- after the last of a run
 pub one_longer : (xs : List CharacterRun) (r s : CharacterRun) (c : ℕ) → r.last + 1 ≡ c → r.first ≤ r.last → s.first ≡ r.first → s.last ≡ c → all_of (runs_of (xs ++ s ∷ [])) ≡ all_of (runs_of (xs ++ r ∷ [])) ++ c ∷ []
 one_longer xs r s c e l f g =
     let many : s.last + 1 - s.first ≡ suc (r.last + 1 - r.first) = omega arith in
@@ -90,7 +90,7 @@ largest_front [] d ys = refl
 largest_front (x ∷ []) d ys = refl
 largest_front (x ∷ y ∷ xs) d ys = largest_front (y ∷ xs) d ys
 
--- the last of a run that has a character
+-- the last character of a run that is not empty
 last_one : (a b : ℕ) → a ≤ b → largest (singles (range_with_len a (b + 1 - a))) ≡ b
 last_one a b l =
     let n : b + 1 - a ≡ suc (b - a) = omega arith in
@@ -109,7 +109,7 @@ largest_all (r ∷ s ∷ rs) h =
     ∙ sym (largest_front (each_of (run_of r)) s.first (range_with_len (s.first + 1) (s.last - s.first) ++ all_of (runs_of rs)))
     ∙ ap (λ l. largest (singles (each_of (run_of r) ++ l))) (sym e)
 
--- the place of a character behind numbers one behind the other
+-- the index of a character after consecutive numbers
 place_counted : (c a n : ℕ) (l : List ℕ) → place_of c (singles (range_with_len a n ++ l)) ≡ cond (leb a c && ltb c (a + n)) (Some (c - a)) (option_map (λ j. n + j) (place_of c (singles l)))
 place_counted c a zero l = go (leb a c) (ltb c (a + 0)) refl refl
   where
@@ -198,7 +198,7 @@ count_in_all d (r ∷ rs) h = step (leb r.first d) (leb d r.last) refl refl (sub
     step true false e f i k = behind (k (omega (arith, i)))
     step false y e f i k = behind (k (omega (arith, i)))
 
--- runs in another order that are apart have the same characters in ascending order
+-- disjoint runs in another order have the same characters in ascending order
 pub put_apart : (rs ss : List CharacterRun) → IsPermutation rs ss → All HasSome ss → begin_from 0 (runs_of ss) ≡ true → all_of (runs_of ss) ≡ sorted (all_of (runs_of rs))
 put_apart rs ss p h b =
     let up = (all_ascend 0 ss h b).0 in
@@ -242,9 +242,9 @@ few_sorted test cs rs k =
     let f = filter_long test cs in
     omega (arith, m, n, s, f)
 
--- ---- runs in the first places of an array
+-- ---- runs in the first positions of an array
 
--- a character behind the last of them
+-- a character after the last of them
 pub end_longer : (rs : List CharacterRun) (n c : ℕ) (d s : CharacterRun) → 0 < n → n ≤ length rs → All HasSome (take n rs) → (get_or rs (n - 1) d).last + 1 ≡ c → s.first ≡ (get_or rs (n - 1) d).first → s.last ≡ c → all_of (runs_of (take n (slice_set rs (n - 1) s))) ≡ all_of (runs_of (take n rs)) ++ c ∷ []
 end_longer rs n c d s some within h follows f g =
     let m : ℕ = n - 1 in
@@ -258,7 +258,7 @@ end_longer rs n c d s some within h follows f g =
     let has : HasSome r = subst HasSome (get_or-take n rs m d below) (All-get_or HasSome (take n rs) m d (omega (arith, long, below)) h) in
     ap (λ l. all_of (runs_of l)) x ∙ one_longer (take m rs) r s c follows has f g ∙ ap (λ l. all_of (runs_of l) ++ c ∷ []) (sym y)
 
--- a run of one character behind them
+-- a run of one character after them
 pub end_single : (rs : List CharacterRun) (n c : ℕ) (s : CharacterRun) → n < length rs → s.first ≡ c → s.last ≡ c → all_of (runs_of (take (n + 1) (slice_set rs n s))) ≡ all_of (runs_of (take n rs)) ++ c ∷ []
 end_single rs n c s h f g = ap (λ l. all_of (runs_of l)) (take_more_set rs n s h) ∙ one_single (take n rs) s c f g
 

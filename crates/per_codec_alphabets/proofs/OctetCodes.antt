@@ -1,4 +1,4 @@
--- Characters that are octets, of which each is its own code.
+-- Characters that are octets, each its own code.
 use Rattle.std.proofs.Common.{◌≡◌, ℕ, ◌+◌, ◌-◌, ◌<◌, ◌^◌, leb, ltb, Bool, true, false, cond, ◌&&◌, ◌||◌, List, [], ◌∷◌, length, map, Option, Some, None, option_map, refl, ap, sym, ◌∙◌, arith}
 use Rattle.std.specs.Prelude.{is_some, not}
 use Rattle.std.proofs.lemmas.Bool.{and_parts, leb-true, ltb-true, lt-ltb, le-leb}
@@ -15,7 +15,7 @@ use Rattle.asn1_schema_constraints.specs.declared.extensions.PermittedAlphabet.{
 use Rattle.asn1_schema_constraints.specs.declared.parts.Size.{Size}
 use Rattle.per_codec_alphabets.specs.Octets.{have_octet_codes, is_encoded_as_octets, alphabet_counts}
 
--- Two characters tell the kinds whose characters are octets that are their own codes.
+-- Two characters determine the kinds whose characters are octets that are their own codes.
 pub by_two : (k : StringKind) → (is_among (characters_of k) 65 && not (is_among (characters_of k) 128)) ≡ have_octet_codes k
 unfolding Numbers.places_up_to
 by_two numeric = refl
@@ -117,7 +117,7 @@ of_any_size : (al : Bool) (has_padding : Counts → Bool) (us : List Per.BitForm
 unfolding Per.sized Per.with_extension_bit Per.sized_root
 of_any_size al has_padding us = ap (λ t. only_if t (only_if t (Per.counted al us))) (any_held (length us))
 
--- ---- all that is asked
+-- ---- all conditions
 all_characters : (k : StringKind) (a : Option (Extensible PermittedAlphabet)) → not (alphabet_counts a) ≡ true → permitted k (alphabet_of a) ≡ characters_of k
 all_characters k None e = refl
 all_characters k (Some c) e = go (is_some c.extensible) e
@@ -158,7 +158,7 @@ asked al k z a e =
 pub has_codes : (al : Bool) (k : StringKind) (z : Option (Extensible Size)) (a : Option (Extensible PermittedAlphabet)) → is_encoded_as_octets al k z a ≡ true → is_of_octets k ≡ false
 has_codes al k z a e = without k (asked al k z a e).codes
 
--- Characters of the kind are encoded as the octets that they are, behind their number.
+-- Characters of the kind are encoded as octets, after a length determinant.
 pub as_octets : (al : Bool) (k : StringKind) (z : Option (Extensible Size)) (a : Option (Extensible PermittedAlphabet)) (cs : List ℕ) → is_encoded_as_octets al k z a ≡ true → list_all (is_among (characters_of k)) cs ≡ true → Per.characters al (sizes_of z) any_count (permitted k (alphabet_of a)) cs ≡ Per.counted_octets al cs
 unfolding Per.characters Per.counted_octets
 as_octets al k z a cs e h =

@@ -11,7 +11,7 @@ use Rattle.per_codec_alphabets.specs.Listed.{each_of, all_of, HasSome}
 use Rattle.per_codec_alphabets.specs.declared.runs.CharacterRun.{CharacterRun}
 use Rattle.per_codec_alphabets.proofs.Listed.{same_in_order}
 
--- what one of several runs has they have
+-- what one of several runs has, all of them have
 pub among_at : (rs : List CharacterRun) (i c : ℕ) (d : CharacterRun) → i < length rs → (get_or rs i d).first ≤ c → c ≤ (get_or rs i d).last → is_among (runs_of rs) c ≡ true
 among_at [] i c d l p q = absurd (omega arith)
 among_at (r ∷ rs) zero c d l p q = rw (le-leb r.first c p, le-leb c r.last q) refl
@@ -36,7 +36,7 @@ single_kept k r cs some e h =
     has_some zero d l = some
     has_some (suc j) d l = absurd (omega arith)
 
--- one number more of those that stand one behind the other
+-- one more of consecutive numbers
 pub each_more : (cs : List ℕ) (a i : ℕ) → ((j : ℕ) → j < i → get_or cs j 0 ≡ a + j) → get_or cs i 0 ≡ a + i → (j : ℕ) → j < i + 1 → get_or cs j 0 ≡ a + j
 each_more cs a i h e j l = go (ltb j i) refl
   where

@@ -1,4 +1,4 @@
--- Places among runs.
+-- Indices among runs.
 use Rattle.std.proofs.Common.{◌≡◌, ℕ, zero, suc, ◌+◌, ◌-◌, ◌^◌, ◌<◌, ◌≤◌, leb, ltb, Bool, true, false, cond, ◌&&◌, List, [], ◌∷◌, ◌++◌, length, filter, take, get_or, Option, Some, None, option_map, refl, ap, sym, ◌∙◌, append_assoc, arith}
 use Rattle.std.proofs.lemmas.Bool.{leb-true, leb-false, lt-ltb, le-ltb}
 use Rattle.std.proofs.lemmas.List.{take_more}
@@ -6,7 +6,7 @@ use Rattle.asn1_model.specs.Strings.{Run, run, how_many, largest, place_of, is_i
 use Rattle.per_codec_alphabets.specs.Codes.{run_of, runs_of, singles, character_at, Coded, code_of, SameCharacters}
 use Rattle.per_codec_alphabets.specs.declared.runs.CharacterRun.{CharacterRun}
 
--- ---- places
+-- ---- indices
 some_same : {X : Type 0} {x y : X} → Some x ≡ Some y → x ≡ y
 some_same e = cc
 
@@ -14,7 +14,7 @@ pub more_map : (a b : ℕ) (p : Option ℕ) → option_map (λ j. a + j) (option
 more_map a b None = refl
 more_map a b (Some j) = ap (λ n. Some n) (omega arith)
 
--- The character at a place is the one that has it.
+-- The character at an index is the one that has it.
 pub character_at-place : (c i : ℕ) (rs : List Run) → place_of c rs ≡ Some i → character_at rs i ≡ Some c
 character_at-place c i [] e = cc
 character_at-place c i (r ∷ rs) e = go (leb r.first c) (leb c r.last) refl refl (place_of c rs) (λ j f. character_at-place c j rs f) e
@@ -37,7 +37,7 @@ character_at-place c i (r ∷ rs) e = go (leb r.first c) (leb c r.last) refl ref
     go true false p q o k f = behind o k f
     go false y p q o k f = behind o k f
 
--- The character of a code is its number, or stands at that place.
+-- The character of a code is its number, or is at that index.
 pub of_number : (a : Coded) (c k : ℕ) → ltb (largest a.runs) (2 ^ a.code_bits) ≡ true → code_of a c ≡ Some k → Some k ≡ Some c
 of_number a c k t e = go (place_of c a.runs) (ltb (largest a.runs) (2 ^ a.code_bits)) t e
   where
@@ -101,7 +101,7 @@ pub runs_behind : (xs : List CharacterRun) (ys : List CharacterRun) → runs_of 
 runs_behind [] ys = refl
 runs_behind (x ∷ xs) ys = ap (λ rs. run_of x ∷ rs) (runs_behind xs ys)
 
--- A run and the character behind it are one run.
+-- A run and the character after it are one run.
 pub joined : (xs : List CharacterRun) (r s : CharacterRun) (c : ℕ) → r.last + 1 ≡ c → r.first ≤ c → s.first ≡ r.first → s.last ≡ c → SameCharacters (runs_of (xs ++ s ∷ [])) (runs_of (xs ++ r ∷ []) ++ run c c ∷ [])
 joined xs r s c e l f g =
     let x : runs_of (xs ++ s ∷ []) ≡ runs_of xs ++ run r.first (r.last + 1) ∷ [] = runs_behind xs (s ∷ []) ∙ ap (λ a. runs_of xs ++ run a s.last ∷ []) f ∙ ap (λ b. runs_of xs ++ run r.first b ∷ []) (g ∙ sym e) in
@@ -113,7 +113,7 @@ joined xs r s c e l f g =
       places = λ d. place_joined r.first r.last d (runs_of xs) m;
     })
 
--- Beside the others it is a run of its own.
+-- After the others it is a run of one.
 pub beside : (xs : List CharacterRun) (s : CharacterRun) (c : ℕ) → s.first ≡ c → s.last ≡ c → SameCharacters (runs_of (xs ++ s ∷ [])) (runs_of xs ++ run c c ∷ [])
 beside xs s c f g =
     let x : runs_of (xs ++ s ∷ []) ≡ runs_of xs ++ run c c ∷ [] = runs_behind xs (s ∷ []) ∙ ap (λ a. runs_of xs ++ run a s.last ∷ []) f ∙ ap (λ b. runs_of xs ++ run c b ∷ []) g in
@@ -132,7 +132,7 @@ largest_end [] r = refl
 largest_end (q ∷ []) r = refl
 largest_end (q ∷ s ∷ rs) r = largest_end (s ∷ rs) r
 
--- A place among the first runs, or behind all of them.
+-- An index among the first runs, or after all of them.
 abbrev or_behind : ℕ → Option ℕ → Option ℕ → Option ℕ
 or_behind n (Some i) q = Some i
 or_behind n None q = option_map (λ j. n + j) q

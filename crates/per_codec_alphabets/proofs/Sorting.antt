@@ -68,7 +68,7 @@ sorted_left test cs = same_ascending (filter test (sorted cs)) (sorted (filter t
     back : (d : ℕ) → Contains cs d × (test d ≡ true) → Contains (filter test (sorted cs)) d
     back d p = left_has test (sorted cs) d p.1 (order_has cs d p.0)
 
--- ---- sorted, and each once
+-- ---- sorted, without duplicates
 increasing_ascends : (cs : List ℕ) → IsStrictlyIncreasing cs → are_ascending ltb cs ≡ true
 increasing_ascends [] h = refl
 increasing_ascends (c ∷ []) h = refl

@@ -1,4 +1,4 @@
--- What an effective permitted alphabet of the program holds.
+-- What an effective permitted alphabet stores.
 use Rattle.std.specs.Prelude.{◌≡◌, ◌<◌, ◌≤◌, ◌^◌, ℕ, Bool, ltb, List, Option}
 use Rattle.asn1_model.specs.Schema.{StringKind}
 use Rattle.asn1_model.specs.Strings.{Run, how_many, largest, permitted}
@@ -9,14 +9,14 @@ use Rattle.per_codec_alphabets.specs.Codes.{runs_of}
 use Rattle.per_codec_alphabets.specs.declared.alphabet.Runs.{Runs}
 use Rattle.per_codec_alphabets.specs.declared.alphabet.Runs.TheVariants.{Own, Single, InPlace, Apart}
 
--- The runs, of a type or left of these.
+-- The runs, of a type or under a constraint.
 abbrev pub held_runs : Runs → List Run
 held_runs (Own rs) = runs_of rs.now
 held_runs (Single rs) = runs_of rs
 held_runs (InPlace rs) = runs_of rs
 held_runs (Apart rs) = runs_of rs.items
 
--- The characters that a constraint leaves of a kind of string (X.680 51.7).
+-- The characters that a constraint leaves in a kind of string (X.680 51.7).
 abbrev pub permitted_by : StringKind → Option (Extensible PermittedAlphabet) → List Run
 permitted_by k constraint = permitted k (alphabet_of constraint)
 

@@ -1,4 +1,4 @@
-//! The characters that a constraint leaves of a type of strings, and their codes.
+//! Effective permitted alphabets, and the codes of their characters.
 ghost use Rattle.std.specs.Prelude.{◌≡◌, ◌≢◌, ◌^◌, ◌<◌, ◌≤◌, ◌-◌, ℕ, ltb, Some, None, IfOk, IfSome, nat_lt};
 ghost use Rattle.asn1_model.specs.Numbers.{width as bit_width};
 ghost use Rattle.asn1_model.specs.Per.{character_bits, raised};
@@ -18,23 +18,24 @@ use per_codec_limits::Variant;
 use std::alloc::{AllocError, Global};
 use std::marker::Model;
 
-/// Runs of characters: those of a type, or those that a constraint leaves of them.
+/// Runs of characters: those of a type, or of an effective permitted alphabet.
 #[derive(Debug, Drop)]
 enum Runs {
     /// Those of a type.
     Own(&'static [CharacterRun]),
-    /// The one that a constraint leaves.
+    /// A single run under a constraint.
     Single([CharacterRun; 1]),
-    /// Those that a constraint leaves, if they are few.
+    /// Few runs under a constraint.
     InPlace(FewRuns),
-    /// Others that a constraint leaves.
+    /// Other runs under a constraint.
     Apart(Vec<CharacterRun>),
 }
 
-/// The characters that a permitted alphabet leaves of a type of strings (the effective permitted alphabet, X.691 30.5),
+/// The effective permitted alphabet of a string type (X.691 30.5): the characters that its permitted alphabet admits,
 /// and their codes.
 ///
-/// A code is the character's own number if the largest of them fits in the bits, else its place among them.
+/// A code is the character's number if the largest one fits in the bits of a code, else the character's index in the
+/// alphabet.
 #[derive(Debug, Drop)]
 pub struct EffectiveAlphabet {
     runs: Runs,
@@ -58,13 +59,13 @@ impl Model for EffectiveAlphabet {
 impl EffectiveAlphabet {
     /// The characters of the type `S` under a permitted alphabet, if there is one and it has no extension marker.
     ///
-    /// In the aligned variant a code takes 1, 2, 4, 8 or 16 bits, or none (X.691 30.5.2). Memory is taken only under a
-    /// constraint that counts and lists its characters in more than eight runs, or one of them twice: once, and again
-    /// to put characters that it does not list in ascending order into that.
+    /// In the aligned variant a code has 1, 2, 4, 8 or 16 bits, or none (X.691 30.5.2). It allocates only under a
+    /// constraint without an extension marker that lists its characters in more than eight runs, or one of them
+    /// twice: once, and a second time if the characters are not in ascending order.
     ///
     /// # Errors
     ///
-    /// Want of memory.
+    /// `AllocError` if memory ran out.
     #[inline(always)]
     pub fn new<S: StaticPermittedAlphabet>(
         alloc: Global,
@@ -84,7 +85,7 @@ impl EffectiveAlphabet {
         })
     }
 
-    /// The bits that a code takes, at most 64.
+    /// The number of bits of a code, at most 64.
     #[inline(always)]
     pub fn width(&self) -> u32
         ensures bits { result ≡ self.now.code_bits }
@@ -93,7 +94,7 @@ impl EffectiveAlphabet {
         self.width
     }
 
-    /// Whether the code of each character is its own number (X.691 30.5.4).
+    /// Whether the code of each character is its number (X.691 30.5.4).
     #[inline(always)]
     pub fn is_by_number(&self) -> bool
         ensures { result ≡ ltb (largest self.now.runs) (2 ^ self.now.code_bits) }
@@ -101,7 +102,7 @@ impl EffectiveAlphabet {
         self.is_by_number
     }
 
-    /// The characters and their codes as one run, if they are kept as one.
+    /// The characters and their codes as one run, if they are stored as one.
     #[inline(always)]
     pub fn single_run(&self) -> Option<CodedRun>
         ensures codes { IfSome result (λ run. (c : ℕ) → code_of self.now c ≡ code_in run c) }
@@ -117,7 +118,7 @@ impl EffectiveAlphabet {
         })
     }
 
-    /// The code of a character, if it is one of them (X.691 30.5.4).
+    /// The code of a character, if it is in the alphabet (X.691 30.5.4).
     #[inline(always)]
     pub fn code(&self, character: u32) -> Option<u64>
         ensures { result ≡ code_of self.now character }
@@ -130,7 +131,7 @@ impl EffectiveAlphabet {
         })
     }
 
-    /// The character that has this code, if there is one.
+    /// The character with this code, if there is one.
     #[inline(always)]
     pub fn character(&self, code: u32) -> Option<u32>
         ensures found { IfSome result (λ character. code_of self.now character ≡ Some code) }
@@ -144,7 +145,7 @@ impl EffectiveAlphabet {
         }
     }
 
-    /// The only character that may have this code.
+    /// The only character that can have this code.
     #[inline(always)]
     fn candidate(&self, code: u32) -> Option<u32>
         ensures { (character : ℕ) → code_of self.now character ≡ Some code → result ≡ Some character }
@@ -200,7 +201,7 @@ fn permitted_runs<S: StaticPermittedAlphabet>(
     }
 }
 
-/// The bits that hold a number, none for 0.
+/// The number of bits that hold a number, none for 0.
 #[inline(always)]
 fn bits_of(number: u64) -> u32
     ensures width { result ≡ bit_width number }
@@ -209,7 +210,7 @@ fn bits_of(number: u64) -> u32
     64 - number.leading_zeros()
 }
 
-/// The next of 0, 1, 2, 4, 8 and 16.
+/// Rounds up to 0, 1, 2, 4, 8 or 16.
 #[inline(always)]
 fn raised_bits(bits: u32) -> u32
     ensures raised { result ≡ raised bits }
@@ -223,7 +224,7 @@ fn raised_bits(bits: u32) -> u32
     }
 }
 
-/// The bits of a code among so many characters (X.691 30.5.2).
+/// The number of bits of a code for these characters (X.691 30.5.2).
 #[inline(always)]
 fn bits_of_codes(runs: &[CharacterRun], variant: Variant) -> u32
     requires { how_many (runs_of runs.now) < 2 ^ 64 }

@@ -1,4 +1,4 @@
-//! A few runs of characters, which take no memory of their own.
+//! A few runs of characters, without an allocation.
 ghost use Rattle.std.specs.Prelude.{◌≡◌, ◌<◌, ◌^◌, ◌++◌, ◌∷◌, [], true, IfSome, IsTrue};
 ghost use Rattle.std.specs.List.{All};
 ghost use Rattle.std.specs.List.Sorted.{IsPermutation};
@@ -10,7 +10,7 @@ use crate::runs::CharacterRun;
 use asn1_values_alphabets::StaticPermittedAlphabet;
 use std::marker::Model;
 
-/// How many runs are kept in place.
+/// The number of runs that are stored in place.
 const PLACES: usize = 8;
 
 /// Up to eight runs of characters in place, each of at least one character.
@@ -33,8 +33,8 @@ impl Model for FewRuns {
 }
 
 impl FewRuns {
-    /// Those of the characters that a type of strings has, in ascending order, each once (X.691 30.5.2): if they are
-    /// listed in at most eight runs, whatever the order of these, and none of them twice.
+    /// Those of the characters that a string type has, in ascending order, without duplicates (X.691 30.5.2): if they
+    /// are listed in at most eight runs, in any order, and none of them twice.
     pub fn kept<S: StaticPermittedAlphabet>(characters: &[u32]) -> Option<Self>
         ensures few { IfSome result (λ runs. how_many (runs_of runs) < 2 ^ 64) }
         ensures characters { IfSome result (λ runs. AreKept S.kind characters.now (runs_of runs)) }
@@ -62,7 +62,7 @@ impl FewRuns {
         }
     }
 
-    /// Adds a character behind the others, to the last run if it follows that; whether there was room.
+    /// Adds a character after the others, to the last run if it is the next one. Returns whether there was room.
     fn push_character(&mut self, character: u32) -> bool
         ensures { IsTrue result → all_of (runs_of self.new) ≡ all_of (runs_of self.old) ++ character ∷ [] }
     {
@@ -87,7 +87,7 @@ impl FewRuns {
         true
     }
 
-    /// Those of the characters that a type of strings has, in the order given, if there is room for their runs.
+    /// Those of the characters that a string type has, in the given order, if there is room for their runs.
     fn listed<S: StaticPermittedAlphabet>(characters: &[u32]) -> Option<Self>
         ensures { IfSome result (λ runs. all_of (runs_of runs) ≡ kept S.kind characters.now) }
     {
@@ -102,7 +102,7 @@ impl FewRuns {
         Some(runs)
     }
 
-    /// The same runs in ascending order, unless two of them share a character.
+    /// The same runs in ascending order, unless two of them overlap.
     fn in_order(self) -> Option<Self>
         ensures { IfSome result (λ runs. SameCharacters (runs_of runs) (singles (sorted (all_of (runs_of self))))) }
     {
@@ -127,7 +127,7 @@ impl FewRuns {
     }
 }
 
-/// Whether each run begins behind the one before it.
+/// Whether each run begins after the end of the previous one.
 fn are_apart(runs: &[CharacterRun]) -> bool
     ensures { result ≡ begin_from 0 (runs_of runs.now) }
 {

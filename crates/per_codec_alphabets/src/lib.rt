@@ -1,5 +1,4 @@
-//! The characters that a constraint leaves of a type of strings, and their codes in the packed encoding rules (X.691
-//! 30.5).
+//! Effective permitted alphabets of string types, and the codes of their characters in PER (X.691 30.5).
 #![tactic(auto)]
 
 mod alphabet;

@@ -1,4 +1,4 @@
-//! Strings that are encoded as the octets that their characters are.
+//! Strings that are encoded as the octets of their characters.
 ghost use Rattle.std.specs.Prelude.{◌≡◌};
 ghost use Rattle.per_codec_alphabets.specs.Octets.{have_octet_codes as are_own_codes, alphabet_counts as counts};
 ghost use Rattle.per_codec_alphabets.specs.Octets.{is_encoded_as_octets as as_octets};
@@ -8,8 +8,8 @@ use asn1_schema_constraints::{Constraints, Extensible, PermittedAlphabet};
 use asn1_values_alphabets::StaticPermittedAlphabet;
 use per_codec_limits::Variant;
 
-/// Whether each character of a type of strings has one octet as its code in the aligned variant: its own number, where
-/// no constraint counts (X.691 30.5.2 and 30.5.4).
+/// Whether each character of a string type has one octet as its code in the aligned variant, its number, if no
+/// constraint is PER-visible (X.691 30.5.2 and 30.5.4).
 #[inline(always)]
 fn have_octet_codes<S: StaticPermittedAlphabet>() -> bool
     ensures { result ≡ are_own_codes S.kind }
@@ -17,7 +17,7 @@ fn have_octet_codes<S: StaticPermittedAlphabet>() -> bool
     S::contains_char(65) && !S::contains_char(0x80)
 }
 
-/// Whether a permitted alphabet counts: one with an extension marker does not.
+/// Whether a permitted alphabet is PER-visible: one with an extension marker is not.
 #[inline(always)]
 fn alphabet_counts(alphabet: Option<Extensible<PermittedAlphabet>>) -> bool
     ensures { result ≡ counts alphabet.entry }
@@ -28,10 +28,10 @@ fn alphabet_counts(alphabet: Option<Extensible<PermittedAlphabet>>) -> bool
     }
 }
 
-/// Whether the variant is the aligned one, the type `S` has such codes, there is no size constraint, and no permitted
-/// alphabet counts: then a string is encoded as the octets that its characters are, behind their number in the general
-/// form (X.691 30.5). Some other strings are encoded so too, as VisibleString (FROM ("A".."Z" | "a".."z")); this does
-/// not tell them.
+/// Whether the variant is the aligned one, each character of the type `S` has its number as a code of one octet,
+/// there is no size constraint, and no permitted alphabet is PER-visible. A string is then encoded as the octets of
+/// its characters after a general length determinant (X.691 30.5). Some other strings are encoded so too, as
+/// VisibleString (FROM ("A".."Z" | "a".."z")); this function does not recognize them.
 #[inline(always)]
 pub fn is_encoded_as_octets<S: StaticPermittedAlphabet>(
     variant: Variant,

@@ -1,4 +1,4 @@
-//! Runs of characters in the order of their places.
+//! Runs of characters, in the order of their indices.
 ghost use Rattle.std.specs.Prelude.{◌≡◌, ◌<◌, ◌^◌, ◌+◌, ◌-◌, ◌++◌, ◌∷◌, [], IfOk, OnOk, Some, None, cond, nat_lt};
 ghost use Rattle.asn1_model.specs.Strings.{characters_of, how_many, largest, place_of, sorted, is_in_run};
 ghost use Rattle.asn1_model.specs.Strings.{is_of_octets as holds_octets};
@@ -9,24 +9,24 @@ ghost use Rattle.per_codec_alphabets.specs.Codes.{SameCharacters};
 use asn1_values_alphabets::StaticPermittedAlphabet;
 use std::alloc::{AllocError, Global};
 
-/// The characters from one number to another.
+/// Characters with consecutive numbers.
 #[derive(Clone, Copy, Debug, PartialEq, Eq)]
 pub struct CharacterRun {
-    /// The first of them.
+    /// The first character.
     pub first: u32,
-    /// The last of them.
+    /// The last character.
     pub last: u32,
 }
 
 impl CharacterRun {
-    /// How many characters the run has.
+    /// The number of characters in the run.
     fn count(self) -> u64
         ensures { result ≡ self.last + 1 - self.first }
     {
         (u64::from(self.last) + 1).saturating_sub(u64::from(self.first))
     }
 
-    /// The character at a place of the run, counted from 0.
+    /// The character at an index of the run, from 0.
     fn character(self, place: u64) -> Option<u32>
         ensures { result ≡ cond (nat_lt place (self.last + 1 - self.first)) (Some (self.first + place)) None }
     {
@@ -37,7 +37,7 @@ impl CharacterRun {
         }
     }
 
-    /// Whether the character is one of the run.
+    /// Whether the character is in the run.
     fn contains(self, character: u32) -> bool
         ensures { result ≡ is_in_run character (run_of self) }
     {
@@ -107,7 +107,7 @@ const OCTETS: [CharacterRun; 1] = [CharacterRun {
     last: 0xFF,
 }];
 
-/// The characters of a type of strings (X.680 41 and 43).
+/// The characters of a string type (X.680 41 and 43).
 #[inline(always)]
 pub fn own_runs<S: StaticPermittedAlphabet>() -> &'static [CharacterRun]
     ensures { runs_of result.now ≡ characters_of S.kind }
@@ -130,14 +130,15 @@ pub fn own_runs<S: StaticPermittedAlphabet>() -> &'static [CharacterRun]
     &NUMERIC
 }
 
-/// Whether the characters of a type of strings have no fixed width, so that a value holds octets (X.691 30).
+/// Whether a string type is not a known-multiplier one: its characters have no fixed width, so that a value holds
+/// octets (X.691 30).
 pub fn is_of_octets<S: StaticPermittedAlphabet>() -> bool
     ensures { result ≡ holds_octets S.kind }
 {
     S::contains_char(0x80) && !S::contains_char(0x100)
 }
 
-/// How many characters there are.
+/// The number of characters.
 #[inline(always)]
 pub fn count(runs: &[CharacterRun]) -> u64
     requires { how_many (runs_of runs.now) < 2 ^ 64 }
@@ -150,7 +151,7 @@ pub fn count(runs: &[CharacterRun]) -> u64
     count
 }
 
-/// The largest of the characters, in the order given the last one.
+/// The largest character, the last one in the given order.
 #[inline(always)]
 pub fn last_character(runs: &[CharacterRun]) -> u32
     ensures { result ≡ largest (runs_of runs.now) }
@@ -161,7 +162,7 @@ pub fn last_character(runs: &[CharacterRun]) -> u32
     }
 }
 
-/// The place of a character, counted from 0.
+/// The index of a character, from 0.
 #[inline(always)]
 pub fn place_among(runs: &[CharacterRun], character: u32) -> Option<u64>
     requires { how_many (runs_of runs.now) < 2 ^ 64 }
@@ -177,7 +178,7 @@ pub fn place_among(runs: &[CharacterRun], character: u32) -> Option<u64>
     None
 }
 
-/// The character at a place, counted from 0.
+/// The character at an index, from 0.
 #[inline(always)]
 pub fn character_at(runs: &[CharacterRun], place: u64) -> Option<u32>
     ensures { result ≡ nth_character (runs_of runs.now) place }
@@ -192,7 +193,7 @@ pub fn character_at(runs: &[CharacterRun], place: u64) -> Option<u32>
     None
 }
 
-/// Adds a character behind the others, to the last run if it follows that.
+/// Adds a character after the others, to the last run if it is the next one.
 fn push_character(runs: &mut Vec<CharacterRun>, character: u32) -> Result<(), AllocError>
     ensures { OnOk result (HasOneMore (runs_of runs.old.items) character (runs_of runs.new.items)) }
 {
@@ -216,7 +217,7 @@ fn push_character(runs: &mut Vec<CharacterRun>, character: u32) -> Result<(), Al
     Ok(())
 }
 
-/// Those of the characters that a type of strings has, in the order given.
+/// Those of the characters that a string type has, in the given order.
 fn listed_runs<S: StaticPermittedAlphabet>(
     alloc: Global,
     characters: &[u32],
@@ -234,7 +235,7 @@ fn listed_runs<S: StaticPermittedAlphabet>(
     Ok(runs)
 }
 
-/// Those of the characters that a type of strings has, put in ascending order, each once.
+/// Those of the characters that a string type has, sorted in ascending order, without duplicates.
 fn sorted_runs<S: StaticPermittedAlphabet>(
     alloc: Global,
     characters: &[u32],
@@ -248,12 +249,12 @@ fn sorted_runs<S: StaticPermittedAlphabet>(
     listed_runs::<S>(alloc, ascending.as_slice())
 }
 
-/// Those of the characters that a type of strings has, in ascending order, each once (X.691 30.5.2). Where they are
-/// listed so, no copy of them is made.
+/// Those of the characters that a string type has, in ascending order, without duplicates (X.691 30.5.2). If they are
+/// listed so, they are not copied.
 ///
 /// # Errors
 ///
-/// Want of memory.
+/// `AllocError` if memory ran out.
 pub fn kept_runs<S: StaticPermittedAlphabet>(
     alloc: Global,
     characters: &[u32],

@@ -1,4 +1,4 @@
-//! Characters that are one run.
+//! Characters in a single run.
 ghost use Rattle.std.specs.Prelude.{◌≡◌, ◌≤◌, ℕ, ◌∷◌, [], Some, IfSome, IsTrue};
 ghost use Rattle.asn1_model.specs.Strings.{characters_of, is_among};
 ghost use Rattle.per_codec_alphabets.specs.Codes.{AreKept, code_in, run_of};
@@ -7,19 +7,19 @@ ghost use Rattle.per_codec_alphabets.specs.Listed.{each_of};
 use crate::runs::{CharacterRun, own_runs};
 use asn1_values_alphabets::StaticPermittedAlphabet;
 
-/// One run of characters with their codes, each of which is its character's number less `base`.
+/// One run of characters with their codes: a code is the character's number minus `base`.
 #[derive(Clone, Copy, Debug, PartialEq, Eq)]
 pub struct CodedRun {
-    /// The first of them.
+    /// The first character.
     pub first: u32,
-    /// The last of them.
+    /// The last character.
     pub last: u32,
-    /// What a code leaves out of its character's number.
+    /// The number that is subtracted from a character to get its code.
     pub base: u32,
 }
 
 impl CodedRun {
-    /// The code of a character, if it is one of them.
+    /// The code of a character, if it is in the run.
     #[inline(always)]
     pub fn code(self, character: u32) -> Option<u32>
         ensures { result ≡ code_in self character }
@@ -31,7 +31,7 @@ impl CodedRun {
         }
     }
 
-    /// The character that has this code, if there is one.
+    /// The character with this code, if there is one.
     #[inline(always)]
     pub fn character(self, code: u32) -> Option<u32>
         requires { self.base ≤ self.first }
@@ -48,7 +48,7 @@ impl CodedRun {
     }
 }
 
-/// The run that characters are, if each is the next one behind the one before it.
+/// The run of the characters, if each is one more than the previous one.
 #[inline(always)]
 fn run_of_all(characters: &[u32]) -> Option<CharacterRun>
     ensures each { IfSome result (λ run. characters.now ≡ each_of (run_of run)) }
@@ -68,7 +68,7 @@ fn run_of_all(characters: &[u32]) -> Option<CharacterRun>
     })
 }
 
-/// Whether a type of strings has all characters of a run, as its own runs tell.
+/// Whether a string type has all characters of a run within one of its runs.
 #[inline(always)]
 fn has_run<S: StaticPermittedAlphabet>(run: CharacterRun) -> bool
     ensures { IsTrue result → (c : ℕ) → run.first ≤ c → c ≤ run.last → IsTrue (is_among (characters_of S.kind) c) }
@@ -81,7 +81,7 @@ fn has_run<S: StaticPermittedAlphabet>(run: CharacterRun) -> bool
     false
 }
 
-/// The run of these characters, if they are listed as one that a type of strings has within one of its own.
+/// The run of these characters, if they are listed as one and it lies within a run of the string type.
 #[inline(always)]
 pub fn single_run<S: StaticPermittedAlphabet>(characters: &[u32]) -> Option<CharacterRun>
     ensures { IfSome result (λ run. AreKept S.kind characters.now (run_of run ∷ [])) }

@@ -1,4 +1,4 @@
--- Additions that begin, come and end, in the bits and the frames of an encoder.
+-- Additions that begin, continue and end, in the bits and the frames of an encoder.
 use Rattle.std.proofs.Common.{◌≡◌, ℕ, zero, suc, ◌-◌, ◌<◌, Bool, true, false, cond, List, [], ◌∷◌, ◌++◌, length, reverse, Option, Some, None, option_map, refl, ap, subst, sym, ◌∙◌, arith}
 use Rattle.std.proofs.lemmas.List.{append-nil}
 use Rattle.asn1_schema_presented.specs.Records.{additions_begin, addition, addition_ends}
@@ -55,10 +55,10 @@ module _ (fs rest : List Frame) (f : Frame) (e : Bool) (due given : ℕ) (start 
       go true zero n os ms t = absurd (omega (arith, n refl))
       go true (suc due) n os ms t = refl
 
--- ---- each is there or not
+-- ---- each is present or not
 
 module _ (below : Packed → State → Type 0) (due given : ℕ) (start end : Place) (slots : List (Option (List Bool))) (o : Packed) (s : State) (h : IsAdded below due given start end slots o s) where
-  -- the same with so many due, and with these
+  -- the same with this number due, and with these
   abbrev pub turned : ℕ → List (Option (List Bool)) → State
   turned n others = (h.inner, added n h.presence_bits h.root others h.outer.0 ∷ h.outer.1)
 
@@ -123,7 +123,7 @@ module _ (fs rest : List Frame) (f : Frame) (ad : Additions) (o : Packed) (a : f
   pub none_due : (al present : Bool) → ad.due ≡ 0 → (s : State) → Holds (reverse fs) o s → run al (addition present) s ≡ None
   none_due al present n s q = let h = top s q in ap (run al (addition present)) (h.is ∙ ap (λ k. then_state s h k ad.slots) n)
 
--- the additions behind the next one, by their parts
+-- the additions after the next one, by their parts
 next_is : {here : Bool} {x y : Additions} → Next here x y → y ≡ kept (x.due - 1) x.given x.start x.end y.slots
 next_is {here} {x} {y} n =
     ap (λ k. kept k y.given y.start y.end y.slots) n.counts
@@ -139,7 +139,7 @@ pub does_addition : (present : Bool) (fs gs hs : List Frame) (o outer p : Packed
 does_addition present fs gs hs o outer p e c i n x al =
     does_open fs c.around (Added c.old) c.old o c.before refl gs hs c.new.slots outer p present e (λ z. absurd (omega (arith, z, c.next.one))) (c.next.slots ∙ ap (λ b. cond b c.old.slots (c.old.slots ++ None ∷ [])) e) i n (c.after ∙ ap (λ x. c.around ++ Added x ∷ []) (next_is c.next)) x al
 
--- ---- one that is there ends
+-- ---- one that is present ends
 
 module _ (fs mid rest : List Frame) (f g : Frame) (ad : Additions) (outer o : Packed) (a : fs ≡ mid ++ f ∷ []) (b : f ≡ OpenType outer) where
   pub does_end_addition : (gs : List Frame) (v : List (Option (List Bool))) (p : Packed) (contents : List Bool) → mid ≡ rest ++ g ∷ [] → g ≡ Added ad → p ≡ outer → (o.placed ≡ true → plain o.text ≡ Some contents) → v ≡ ad.slots ++ Some contents ∷ [] → gs ≡ rest ++ Added (kept ad.due ad.given ad.start ad.end v) ∷ [] → (al : Bool) → Does al addition_ends fs o gs p
@@ -155,7 +155,7 @@ module _ (fs mid rest : List Frame) (f g : Frame) (ad : Additions) (outer o : Pa
             put_back rest gs (Added (kept ad.due ad.given ad.start ad.end v)) p (ends_with contents) y (subst (λ l. IsAdded (λ q t. Holds (reverse rest) q t) ad.due ad.given ad.start ad.end v l (ends_with contents)) (sym e) (then_open mid rest g ad outer c d k.0 h ad.due slots v j)),
           )
 
-  -- nothing but an addition ends so
+  -- only an addition ends like this
   abbrev pub IsNotAdded : List Frame → Type 0
   IsNotAdded (Added x ∷ gs) = ⊥
   IsNotAdded gs = Unit {0}

@@ -1,4 +1,4 @@
--- Bags that begin, go on and end, in the texts and the frames of an encoder.
+-- Bags that begin, continue and end, in the texts and the frames of an encoder.
 use Rattle.std.proofs.Common.{◌≡◌, ℕ, Bool, false, List, [], ◌∷◌, ◌++◌, reverse, Some, None, Box, Global, Result, Ok, Err, MatchResult, refl, ap, subst, sym, ◌∙◌}
 use Rattle.asn1_model.specs.Per
 use Rattle.asn1_model.specs.Schema.{Size, Counts}
@@ -25,7 +25,7 @@ use Rattle.per_codec_encoder.proofs.Scopes.{at_end, appended, on_top, put_back}
 
 -- ---- a bag begins
 
--- what holds with a bag holds with the box of it
+-- what holds for a bag holds for its box
 boxed_holds : (boxed : Box BagFrame Global) (b : BagFrame) → boxed.value ≡ b → (fs : List Frame) (o : Packed) (s outer : State) → s ≡ (o.text, bag_of b outer.0 ∷ outer.1) → o.placed ≡ false → Holds fs b.outer outer → Holds (Bag boxed ∷ fs) o s
 boxed_holds boxed b v fs o s outer x y z = (outer, subst (λ (w : BagFrame). s ≡ (o.text, bag_of w outer.0 ∷ outer.1)) (sym v) x, y, subst (λ (w : BagFrame). Holds fs w.outer outer) (sym v) z)
 
@@ -133,7 +133,7 @@ module _ (al : Bool) (fs rest : List Frame) (f : Frame) (boxed : Box BagFrame Gl
     pub cannot_end_bag : (e : EncodeError) → Refuses (text_at (form_with bag) (place bag.outer)) e → Cannot al ends fs o e
     cannot_end_bag e r = cannot_end e none_due (subst (λ (b : BagFrame). Refuses (text_at (form_with b) (place b.outer)) e) v r)
 
--- ---- a further member, whatever is around the bag
+-- ---- a further member, whatever encloses the bag
 
 pub member_of_bag_asked : (al : Bool) (f : Frame) (boxed : Box BagFrame Global) (o : Packed) (y : f ≡ Bag boxed) (g : Frame) (p : Packed) (next : Box BagFrame Global) (more : Bool) (r : Result (Unit {0}) EncodeError) → g ≡ Bag next → MatchResult r (λ _. GoesOnInBag more boxed.value o next.value p) (λ e. NoFurther more boxed.value o e) → MatchResult r (λ _. (fs : List Frame) → Does al (further more) (fs ++ f ∷ []) o (fs ++ g ∷ []) p) (λ e. (fs : List Frame) → Cannot al (further more) (fs ++ f ∷ []) o e)
 member_of_bag_asked al f boxed o y g p next more (Ok x) c m = λ fs. does_further_bag al (fs ++ f ∷ []) fs f boxed o refl y (fs ++ g ∷ []) p next more m (ap (λ k. fs ++ k ∷ []) c)

@@ -32,7 +32,7 @@ runs_chain al (r ∷ rs) a b h = go (λ m f. runs_chain al rs m b f) (run al r a
 all_of : (al : Bool) (s : Schema) (v : Value) (os : Text) (k : List Scope) → runs al (presents s v) (os, k) ≡ option_and_then {U = State} (λ w. Some (os ++ w, k)) (text_at (Per.form al s v) (position (os, k)))
 all_of al s v os k = ap (λ l. runs al l (os, k)) (sym (append-nil (presents s v))) ∙ every_type s al v os k []
 
--- the records of a value are a chain exactly from what is held to the same with the value's text behind it
+-- the records of a value are a chain exactly from what is held to that with the value's text appended
 pub added : (al : Bool) (s : Schema) (v : Value) (os : Text) (k : List Scope) (new : State) → Chain (Step al) (presents s v) (os, k) new ↔ ((w : Text) × (text_at (Per.form al s v) (position (os, k)) ≡ Some w) × (new ≡ (os ++ w, k)))
 added al s v os k new = (λ c. go (text_at (Per.form al s v) (position (os, k))) refl (sym (all_of al s v os k) ∙ chain_runs al (presents s v) (os, k) new c), λ t. runs_chain al (presents s v) (os, k) new (all_of al s v os k ∙ ap (option_and_then (λ w. Some (os ++ w, k))) t.1 ∙ ap Some (sym t.2)))
   where

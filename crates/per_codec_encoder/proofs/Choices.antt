@@ -1,4 +1,4 @@
--- Choices: an alternative of the root behind its place, an added one as an open type.
+-- Choices: an alternative of the root after its index, an added one as an open type.
 use Rattle.std.proofs.Common.{◌≡◌, ℕ, zero, suc, ◌-◌, arith, Bool, true, false, List, [], ◌∷◌, ◌++◌, length, Option, Some, None, option_map, option_and_then, refl, ap, sym, ◌∙◌, append_assoc}
 use Rattle.asn1_model.specs.Value.{Value, chosen}
 use Rattle.asn1_model.specs.Schema.{choice, Alternatives, no_alternative, alternative as or}
@@ -24,7 +24,7 @@ abbrev pub EachAlternative : Alternatives → Type 0
 EachAlternative no_alternative = Unit {0}
 EachAlternative (or t s others) = Bridges s × EachAlternative others
 
--- the alternative at a place, in the root
+-- the alternative with an index, in the root
 in_root : (al : Bool) (others : Alternatives) → EachAlternative others → (i : ℕ) (v : Value) (os : Text) (k : List Scope) (rest : List Record) → runs al (chosen_records others i v ++ rest) (os, alternative ∷ k) ≡ option_and_then (λ w. runs al rest (os ++ w, k)) (text_at (Per.alternative_form al others i v) (position (os, k)))
 unfolding chosen_records Per.alternative_form text_at
 in_root al no_alternative h i v os k rest = refl
@@ -50,7 +50,7 @@ opened_up al (or t s others) h zero v front k rest =
         ∙ one_text al (text_at (Per.open_type al (exactly w)) (position (front, k))) front k rest
 opened_up al (or t s others) h (suc i) v front k rest = opened_up al others h.1 i v front k rest
 
--- behind what tells the alternative
+-- after what selects the alternative
 told_apart : (al : Bool) (x y z : Per.BitForm) (g : Text → State) (os : Text) (k : List Scope) (rs rest : List Record) → ((w : Text) → runs al rs (g w) ≡ option_and_then (λ u. runs al rest ((os ++ w) ++ u, k)) (text_at z (position (os ++ w, k)))) → option_and_then (λ m. runs al rs m) (option_map g (text_at (both x y) (position (os, k)))) ≡ option_and_then (λ w. runs al rest (os ++ w, k)) (text_at (both x (both y z)) (position (os, k)))
 unfolding text_at
 told_apart al x y z g os k rs rest h =

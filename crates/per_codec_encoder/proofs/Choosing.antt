@@ -17,7 +17,7 @@ use Rattle.per_codec_encoder.specs.declared.frame.Frame.TheVariants.{OpenType, A
 use Rattle.per_codec_encoder.specs.Holding.{Holds, Does, Cannot}
 use Rattle.per_codec_encoder.proofs.Scopes.{at_end, appended, put_back}
 
--- what stands behind a place
+-- what follows an index
 abbrev then_in : Bool → State → Text → State
 then_in false s w = (s.0 ++ w, alternative ∷ s.1)
 then_in true s w = ([], open_type (s.0 ++ w) ∷ s.1)

@@ -1,4 +1,4 @@
--- Ends of what is open, in the bits and the frames of an encoder.
+-- Ends of frames, in the bits and the frames of an encoder.
 use Rattle.std.proofs.Common.{◌≡◌, ℕ, zero, suc, ◌+◌, ◌-◌, ◌<◌, ◌≤◌, Bool, true, false, cond, List, [], ◌∷◌, ◌++◌, length, take, reverse, Option, Some, None, option_map, option_and_then, refl, ap, subst, sym, ◌∙◌, arith, append_assoc, length-append}
 use Rattle.std.proofs.lemmas.List.{append-nil}
 use Rattle.asn1_model.specs.Form.{exactly, is_any_present}
@@ -43,7 +43,7 @@ does_end_alternative fs rest f a b al o = record { after = λ s h. go s (on_top 
     go : (s : State) → Holds (Alternative ∷ reverse rest) o s → (t : State) × (run al ends s ≡ Some t) × Holds (reverse rest) o t
     go s h = (h.0, ap (run al ends) h.1, h.2)
 
--- ---- something is due of what is innermost
+-- ---- something is due in the innermost frame
 
 pub cannot_end_components : (fs rest : List Frame) (f : Frame) (e : Bool) (due given : ℕ) (start : Place) → fs ≡ rest ++ f ∷ [] → f ≡ Components e due given start → (e ≡ false → 0 < due) → (al : Bool) (o : Packed) (s : State) → Holds (reverse fs) o s → run al ends s ≡ None
 cannot_end_components fs rest f e due given start a b n al o s q = let h = on_top fs rest f (Components e due given start) o s a b q in ap (run al ends) h.is ∙ go e due n h.inner h.presence_bits h.outer
@@ -92,7 +92,7 @@ module _ (al : Bool) (fs rest : List Frame) (f : Frame) (ad : Additions) (o cut 
   cut_is : (s : State) (h : Open s) → cut ≡ instead (h.front ++ (as_text (preamble true h.presence_bits) ++ h.root)) o
   cut_is s h = c ∙ ap (λ t. instead t o) (head_shown _ ad.due ad.given ad.start ad.end ad.slots o s h)
 
-  -- the extension bit stands before the end of the root
+  -- the extension bit is before the end of the root
   pub bit_within : AreSound fs o → ad.start.bits < length (solid cut.text)
   bit_within q =
       let h = top q.state q.holds in
@@ -104,7 +104,7 @@ module _ (al : Bool) (fs rest : List Frame) (f : Frame) (ad : Additions) (o cut 
       ap (run al ends) (h.is ∙ ap (λ k. let l : State = (h.inner, added k h.presence_bits h.root ad.slots h.outer.0 ∷ h.outer.1) in l) n)
       ∙ ap (λ q. adds_text (extended_text al h.presence_bits h.root ad.slots q) h.outer) (at_end (reverse rest) (instead h.front o) h.outer h.under)
 
-  -- a text behind what stood in front of the sequence
+  -- a text after what precedes the sequence
   behind_front : (s : State) (h : Open s) (p : Packed) (w : Text) → p ≡ instead (h.front ++ w) o → (let z : State = (h.outer.0 ++ w, h.outer.1) in Holds (reverse rest) p z)
   behind_front s h p w e = subst (λ l. Holds (reverse rest) l (h.outer.0 ++ w, h.outer.1)) (sym e) (appended (reverse rest) (instead h.front o) h.outer w h.under)
 
@@ -122,7 +122,7 @@ module _ (al : Bool) (fs rest : List Frame) (f : Frame) (ad : Additions) (o cut 
           not_there : (ms : List Bool) (root : Text) (slots : List (Option (List Bool))) (q : Option ℕ) → is_any_present slots ≡ false → extended_text al ms root slots q ≡ Some (as_text (false ∷ ms) ++ root)
           not_there ms root slots q e = ap (λ t. cond t (option_map (λ w. as_text (true ∷ ms) ++ (root ++ w)) (text_at (Per.additions al (as_open_types al slots)) (on (on q (as_text (true ∷ ms))) root))) (Some (as_text (false ∷ ms) ++ root))) e
 
-  -- the text in front with the extension bit set
+  -- the text before, with the extension bit set
   abbrev extended : Packed
   extended = record { text = with_bit ad.start.bits true cut.text; placed = cut.placed }
 
@@ -181,13 +181,13 @@ module _ (al : Bool) (fs rest : List Frame) (f : Frame) (ad : Additions) (o cut 
       let one : ad.due ≡ suc (ad.due - 1) = omega (arith, n) in
       ap (run al ends) (h.is ∙ ap (λ k. let l : State = (h.inner, added k h.presence_bits h.root ad.slots h.outer.0 ∷ h.outer.1) in l) one)
 
--- the end of the root is a place in the text
+-- the end of the root is a position in the text
 pub root_ends : (fs rest : List Frame) (f : Frame) (ad : Additions) (o : Packed) → fs ≡ rest ++ f ∷ [] → f ≡ Added ad → AreSound fs o → (ad.end.bits + ad.end.paddings ≤ length o.text) × (length (solid (take (ad.end.bits + ad.end.paddings) o.text)) ≡ ad.end.bits)
 root_ends fs rest f ad o a b q =
     let h = on_top fs rest f (Added ad) o q.state a b q.holds in
     (omega (arith, length-added _ ad.due ad.given ad.start ad.end ad.slots o q.state h), ap (λ t. length (solid t)) (head_shown _ ad.due ad.given ad.start ad.end ad.slots o q.state h) ∙ h.end_bits)
 
--- the extension bit is set in front of the additions
+-- the extension bit is set before the additions
 pub behind_bit_set : (x : Per.BitForm) (old extended new : Packed) (i : ℕ) → extended ≡ record { text = with_bit i true old.text; placed = old.placed } → Adds (text_at x (place extended)) extended new → Adds (text_at x (place old)) (record { text = with_bit i true old.text; placed = old.placed }) new
 behind_bit_set x old extended new i e a =
     let n : place extended ≡ place old = ap (λ p. place p) e ∙ ap (λ k. cond old.placed (Some k) None) (as_long i old.text) in

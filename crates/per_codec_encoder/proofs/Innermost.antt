@@ -1,4 +1,4 @@
--- The innermost frame, changed in its place.
+-- The innermost frame, changed in place.
 use Rattle.std.proofs.Common.{◌≡◌, Bool, List, [], ◌∷◌, ◌++◌, reverse, Option, Some, None, option_copied, option_to_list, MatchOption, Bor, Result, Ok, Err, MatchResult, refl, ap, subst, sym, ◌∙◌}
 use Rattle.std.proofs.lemmas.List.{same_from_push}
 use Rattle.asn1_schema_faults.specs.declared.EncodeError.{EncodeError}
@@ -17,7 +17,7 @@ module _ (al : Bool) (x : Record) (outer : List Frame) (f g : Frame) (o p : Pack
   within (Ok u) m = m outer
   within (Err e) m = m outer
 
-  -- what was done to the innermost, whatever is around it, was done to all
+  -- what was done to the innermost frame, whatever encloses it, was done to all
   pub done_within : (r q : Result (Unit {0}) EncodeError) (fs gs : List Frame) (l : Packed) → q ≡ r → fs ≡ outer ++ f ∷ [] → gs ≡ outer ++ g ∷ [] → l ≡ p → MatchResult r (λ _. (ks : List Frame) → Does al x (ks ++ f ∷ []) o (ks ++ g ∷ []) p) (λ e. (ks : List Frame) → Cannot al x (ks ++ f ∷ []) o e) → MatchResult q (λ _. Does al x fs o gs l) (Cannot al x fs o)
   done_within r q fs gs l a b c d m =
       let m = within r m in
@@ -29,7 +29,7 @@ module _ (al : Bool) (x : Record) (outer : List Frame) (f g : Frame) (o p : Pack
 pub around_is : (fs rest : List Frame) (f g : Frame) → fs ≡ rest ++ f ∷ [] → f ≡ g → fs ≡ rest ++ g ∷ []
 around_is fs rest f g a b = a ∙ ap (λ x. rest ++ x ∷ []) b
 
--- what ends the innermost, whatever is around it, leaves what is around it
+-- what ends the innermost frame, whatever encloses it, leaves what encloses it
 module _ (al : Bool) (fs rest : List Frame) (f g : Frame) (o p : Packed) (a : fs ≡ rest ++ f ∷ []) (b : f ≡ g) where
   pub ended_within : (r : Result (Unit {0}) EncodeError) → MatchResult r (λ _. (ks : List Frame) → Does al ends (ks ++ g ∷ []) o ks p) (λ e. (ks : List Frame) → Cannot al ends (ks ++ g ∷ []) o e) → MatchResult r (λ _. Does al ends fs o rest p) (Cannot al ends fs o)
   ended_within (Ok u) m = subst (λ k. Does al ends k o rest p) (sym (around_is fs rest f g a b)) (m rest)
@@ -39,13 +39,13 @@ module _ (al : Bool) (fs rest : List Frame) (f g : Frame) (o p : Packed) (a : fs
   ended_unless_full (Ok u) m = subst (λ k. Does al ends k o rest p) (sym (around_is fs rest f g a b)) (m rest)
   ended_unless_full (Err e) m = subst (Cannot al ends fs o) (sym m) tt
 
--- ---- what is innermost
+-- ---- the innermost frame
 
 pub innermost_shown : (fs outer : List Frame) (t : Option Frame) (r : Option (Bor Frame)) → (t ≡ None → outer ≡ []) → outer ++ option_to_list t ≡ fs → option_copied r ≡ t → MatchOption r (fs ≡ []) (λ x. (around : List Frame) × (fs ≡ around ++ x.now ∷ []))
 innermost_shown fs outer t None n a e = sym a ∙ ap (λ (u : Option Frame). outer ++ option_to_list u) (sym e) ∙ ap (λ l. l ++ []) (n (sym e))
 innermost_shown fs outer t (Some x) n a e = (outer, sym a ∙ ap (λ (u : Option Frame). outer ++ option_to_list u) (sym e))
 
--- ---- another in the place of the innermost
+-- ---- another frame in place of the innermost
 
 nothing_in_front : (xs ys : List Frame) → xs ++ ys ≡ [] → xs ≡ []
 nothing_in_front [] ys e = refl
@@ -62,12 +62,12 @@ pub replaced_within : (outer around : List Frame) (t : Option Frame) (old new : 
 replaced_within outer around None old new n e = absurd (one_there around old (sym e ∙ ap (λ l. l ++ []) (n refl)))
 replaced_within outer around (Some f) old new n e = ap (λ l. l ++ new ∷ []) (same_from_push outer around f old e).0
 
--- what is around the innermost
+-- what encloses the innermost frame
 pub around_left : (outer around : List Frame) (t : Option Frame) (left : Frame) → (t ≡ None → outer ≡ []) → outer ++ option_to_list t ≡ around ++ left ∷ [] → outer ≡ around
 around_left outer around None left n e = absurd (one_there around left (sym e ∙ ap (λ l. l ++ []) (n refl)))
 around_left outer around (Some f) left n e = (same_from_push outer around f left e).0
 
--- where nothing is open, no member comes
+-- if nothing is open, no member comes
 pub no_member : (al : Bool) (fs outer : List Frame) (t : Option Frame) (o : Packed) (more : Bool) → outer ++ option_to_list t ≡ fs → t ≡ None → outer ≡ [] → (s : State) → Holds (reverse fs) o s → run al (further more) s ≡ None
 no_member al fs outer t o more a e n s h =
     let b : [] ≡ fs = sym (ap (λ l. l ++ []) n) ∙ sym (ap (λ (u : Option Frame). outer ++ option_to_list u) e) ∙ a in

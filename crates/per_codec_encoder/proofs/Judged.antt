@@ -1,4 +1,4 @@
--- Whether so many members have a heading, which is known without it.
+-- Whether a number of members has a heading, which is known without it.
 use Rattle.std.proofs.Common.{◌≡◌, ℕ, ◌+◌, ◌-◌, ◌*◌, ◌/◌, ◌<◌, ◌≤◌, ltb, leb, Bool, true, false, cond, ◌&&◌, ◌||◌, [], ◌∷◌, replicate, Option, Some, None, option_map, refl, ap, sym, subst, ◌∙◌, inl, inr, arith}
 use Rattle.std.specs.Prelude.{min, ◌^◌}
 use Rattle.std.proofs.lemmas.Bool.{ltb-true, ltb-false, le-leb, leb-true, and_parts, cases_lt}
@@ -31,7 +31,7 @@ unmapped : {X Y : Type 0} (f : X → Y) (o : Option X) (y : Y) → option_map f 
 unmapped f None y e = cc
 unmapped f (Some x) y e = (x, refl)
 
--- a text that stands at this position
+-- a text at this position
 at_place : (q : Option ℕ) → (o : Packed) × (place o ≡ q)
 at_place None = (record { text = []; placed = false }, refl)
 at_place (Some k) = (record { text = replicate k padding; placed = true }, ap (λ n. Some n) (length-replicate k padding))
@@ -108,7 +108,8 @@ extensible_there false false root outside r o h q = cc
 extensible_there true true root outside r o h q = mapped (λ (h : Heading). let g : Heading = record { text = bit false ∷ h.text; due = h.due; determinants = h.determinants } in g) (root (moved q 1)) (r refl (moved q 1))
 extensible_there true false root outside r o h q = mapped (λ (h : Heading). let g : Heading = record { text = bit true ∷ h.text; due = h.due; determinants = h.determinants } in g) (outside (moved q 1)) (o (moved q 1))
 
--- So many members have a heading where the program's type holds them, and they are in the root of the size or this is extensible.
+-- A number of members has a heading if the Rust type holds it, and it is in the root of the size or the size is
+-- extensible.
 pub heading_there : (al : Bool) (z : Size) (h : Counts) (n : ℕ) (q : Option ℕ) → true ≡ (is_count_within h n && (z.extensible || is_count_within z.counts n)) → IsThere (list_heading al z h n q)
 heading_there al z h n q w =
     let p = and_parts (is_count_within h n) (z.extensible || is_count_within z.counts n) (sym w) in
@@ -125,6 +126,6 @@ none_extensible true true b root outside q w = cc
 pub admitted : (z : Size) (b : Bounded ℕ) (n : ℕ) (t : Bool) → n < 2 ^ 64 → t ≡ admits z (counts_of b) n → t ≡ (is_count_within (members_of b) n && (z.extensible || is_count_within z.counts n))
 admitted z b n t l e = e ∙ ap (λ x. x && (z.extensible || is_count_within z.counts n)) (sym (members_counted b n l))
 
--- And no others have one.
+-- No other number has one.
 pub no_heading : (al : Bool) (z : Size) (h : Counts) (n : ℕ) (q : Option ℕ) → false ≡ (is_count_within h n && (z.extensible || is_count_within z.counts n)) → list_heading al z h n q ≡ None
 no_heading al z h n q w = none_extensible (is_count_within h n) z.extensible (is_count_within z.counts n) _ _ q (sym w)

@@ -1,4 +1,4 @@
--- Lists: a count in front of all members, or length determinants between them.
+-- Lists: a count before all members, or length determinants between them.
 use Rattle.std.proofs.Common.{◌≡◌, ℕ, zero, suc, ◌+◌, Bool, true, false, List, ◌∷◌, ◌++◌, length, take, drop, Option, Some, None, option_map, option_and_then, refl, ap, sym, ◌∙◌, append_assoc, arith}
 use Rattle.std.proofs.lemmas.List.{append-nil}
 use Rattle.asn1_model.specs.Value.{Value, members as in_list, Values, no_more, member, each}
@@ -29,7 +29,7 @@ module _ (al : Bool) (s : Schema) (h : (v : Value) → BridgesAt al s v) where
   abbrev forms : Values → List Per.BitForm
   forms vs = each (λ v. Per.form al s v) vs
 
-  -- from where so many are due before these length determinants, their texts are added
+  -- with `n` members due before these length determinants, their texts are added
   abbrev Adds : Values → ℕ → LengthDeterminants → Type 0
   Adds vs n hs = n + left hs ≡ member_count vs → (os : Text) (k : List Scope) (rest : List Record) → runs al (calls vs ++ rest) (os, members n hs ∷ k) ≡ option_and_then (λ w. runs al rest (os ++ w, k)) (text_at (form_due al n hs (forms vs)) (position (os, k)))
 
@@ -58,7 +58,7 @@ module _ (al : Bool) (s : Schema) (h : (v : Value) → BridgesAt al s v) where
       one_member v vs n (Some g) (l n (Some g)) (omega arith) os k rest
       ∙ ap (option_and_then (λ w. runs al rest (os ++ w, k))) (sym (both_assoc (Per.form al s v) (joined (take n (forms vs))) (Per.fragments al g.0 (drop n (forms vs))) (position (os, k))))
 
-  -- where a heading stands in front
+  -- after a heading
   behind_heading : (vs : Values) → Later vs → (os : Text) (k : List Scope) (rest : List Record) (o : Option Heading) → AllSound (member_count vs) o → option_and_then (λ m. runs al (calls vs ++ rest) m) (headed os k o) ≡ option_and_then (λ w. runs al rest (os ++ w, k)) (by_heading al (forms vs) (position (os, k)) o)
   behind_heading vs l os k rest None c = refl
   behind_heading vs l os k rest (Some g) c =
@@ -118,7 +118,7 @@ list_leads al z held us =
     if_leads al (is_count_within held (length us)) _ (length us) us _
     (extensible_leads al z.extensible (is_count_within z.counts (length us)) (λ q. sized_count al z.counts z.counts.high false (length us) q) (λ q. general al (length us) q) (length us) us (Per.sized_root al z.counts z.counts.high (λ c. false) us) (Per.counted al us) (count_leads al z.counts z.counts.high (λ c. false) us) (general_leads al us))
 
--- units of a size have the text of their heading, and of what is due behind it
+-- units under a size constraint have the text of their heading, and of what is due after it
 pub list_text : (al : Bool) (z : Size) (held : Counts) (us : List Per.BitForm) (p : Option ℕ) → text_at (Per.sized al z held (λ c. false) us) p ≡ by_heading al us p (list_heading al z held (length us) p)
 list_text al z held us p = (list_leads al z held us).text p
 

@@ -20,7 +20,7 @@ some_padded b bs = ap (option_map (λ d. (b ∷ bs) ++ d)) (padding_written ((8 
 of_bits : (l : List Bool) → octets_of (as_text l, []) ≡ option_map packed (written (Per.padded l) 0)
 of_bits l = ap (option_and_then (λ w. option_map packed (written (Per.padded w) 0))) (plain_text l)
 
--- one zero octet in place of no bits
+-- one zero octet if there are no bits
 pub of_none : (l : List Bool) (os : List ℕ) → l ≡ [] → os ≡ 0 ∷ [] → octets_of (as_text l, []) ≡ Some os
 unfolding Per.padded written
 of_none l os e f = of_bits l ∙ ap (λ x. option_map packed (written (Per.padded x) 0)) e ∙ one ∙ ap Some (sym f)

@@ -1,4 +1,4 @@
--- Sequences and lists that begin and go on, in the texts and the frames of an encoder.
+-- Sequences and lists that begin and continue, in the texts and the frames of an encoder.
 use Rattle.std.proofs.Common.{◌≡◌, ℕ, suc, ◌+◌, ◌-◌, ◌^◌, ◌<◌, Bool, true, false, cond, not, ltb, List, [], ◌∷◌, ◌++◌, length, replicate, reverse, Some, None, Result, Ok, Err, MatchResult, refl, ap, subst, sym, ◌∙◌, arith, append_assoc, length-append}
 use mir.Val.{bool_byte}
 use mathlib.Core.Bool.{beq}
@@ -130,7 +130,7 @@ module _ (fs rest : List Frame) (f : Frame) (e : Bool) (due given : ℕ) (start 
 
 -- ---- lists
 
--- a list that the program's type holds has the heading of its size
+-- a list that the Rust type holds has the heading of its size
 pub held_heads : (al : Bool) (o p : Packed) (z : Size) (h : Counts) (n : ℕ) (d : Due) → is_count_within h n ≡ true → Heads (heading al z false n (place o)) o d p → Heads (list_heading al z h n (place o)) o d p
 held_heads al o p z h n d e x = record { text = x.text; is = ap (λ b. cond b (heading al z false n (place o)) None) e ∙ x.is; added = x.added }
 
@@ -195,7 +195,7 @@ differ_false : (x : Bool) → not (beq false x) ≡ true → x ≡ true
 differ_false true h = refl
 differ_false false h = cc
 
--- a member that is due comes, in front of any further length determinant
+-- a member that is due comes before any further length determinant
 pub due_comes : (al more : Bool) (d next : Due) (o : Packed) → more ≡ true → 0 < d.units → next.units ≡ d.units - 1 → next.behind ≡ d.behind → GoesOnInList al more d o next o
 due_comes al false d next o e some less same = cc e
 due_comes al true d next o e some less same = record {

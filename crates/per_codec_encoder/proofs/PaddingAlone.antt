@@ -1,4 +1,5 @@
--- In the forms of PER nothing but padding depends on the position, so that a text without a position tells the text at each.
+-- In the forms of PER only padding depends on the position, so a text at an unknown position determines the text at
+-- each.
 use Rattle.std.proofs.Common.{◌≡◌, ℕ, ℤ, zero, suc, ◌-◌, ◌==◌, leb, ltb, Bool, true, false, cond, not, ◌&&◌, ◌||◌, List, [], ◌∷◌, ◌++◌, length, map, flat_map, take, drop, Option, Some, None, option_map, option_and_then, refl, ap, sym, ◌∙◌}
 use Rattle.std.proofs.lemmas.List.{append-nil}
 use Rattle.asn1_model.specs.Value.{Value, truth, nothing, number, item, bit_list, octet_list, text, arcs, members, bag, fields, chosen, Values, no_more, member, each, Parts, end, absent, present}
@@ -15,7 +16,7 @@ use Rattle.per_codec_packing.proofs.Formed.{chain_same, none_behind, in_turn, bi
 use Rattle.per_codec_packing.proofs.Forms.{as_form-append, form_of_bits}
 use Rattle.per_codec_encoder.proofs.StepAdditions.{by_presence, own}
 
--- a form whose text without a position tells it at each
+-- a form whose text at an unknown position determines it at each
 pub record PaddingAlone (x : Per.BitForm) : Type 0 where
   pub at : (q : Option ℕ) → text_at x q ≡ option_and_then (λ t. text_at (as_form t) q) (text_at x None)
 
@@ -103,7 +104,7 @@ pub each_padding : (f : Value → Per.BitForm) → ((v : Value) → PaddingAlone
 each_padding f h no_more = tt
 each_padding f h (member v vs) = (h v, each_padding f h vs)
 
--- ---- numbers and lengths
+-- ---- numbers and length determinants
 
 at_octet_padding : (al : Bool) {x : Per.BitForm} → PaddingAlone x → PaddingAlone (Per.at_octet al x)
 unfolding Per.at_octet

@@ -1,4 +1,4 @@
--- What the texts and the frames of an encoder stand for.
+-- What the texts and the frames of an encoder represent.
 use Rattle.std.proofs.Common.{◌≡◌, ℕ, ◌+◌, Bool, true, false, cond, List, [], ◌∷◌, ◌++◌, length, take, drop, replicate, reverse, Option, Some, None, refl, ap, subst, sym, ◌∙◌, arith, append_assoc, length-append}
 use Rattle.std.proofs.lemmas.List.{reverse-append, take_at, drop_at, length-replicate}
 use Rattle.per_codec_packing.specs.Texts.{Text, bit, as_text, moved}
@@ -24,7 +24,7 @@ pub length-preamble : (e : Bool) (ms : List Bool) → length (as_text (preamble 
 length-preamble true ms = omega (arith, length-text ms)
 length-preamble false ms = omega (arith, length-text ms)
 
--- ---- what is shown is what they stand for
+-- ---- what is shown is what they represent
 
 same_open : (e : Bool) (due : ℕ) (i j : Text) (m n : List Bool) (t u : State) → i ≡ j → m ≡ n → t ≡ u → (let l : State = (i, components e due m t.0 ∷ t.1) in l) ≡ (j, components e due n u.0 ∷ u.1)
 same_open e due i j m n t u a b c =
@@ -129,7 +129,7 @@ shown_is (Members d ∷ fs) o s h = ap (λ (t : State). let l : State = (t.0, me
 first_at_end : (o : Packed) → o.placed ≡ true → Some (0 + length o.text) ≡ place o
 first_at_end o h = let n : 0 + length o.text ≡ length o.text = omega arith in ap (λ (k : ℕ). Some k) n ∙ ap (λ b. cond b (Some (length o.text)) None) (sym h)
 
--- a text behind another, whose place is known or not
+-- a text after another, whose position is known or not
 moved_on : (q : Option ℕ) (b : Bool) (a c m n k : ℕ) → moved q a ≡ cond b (Some c) None → c + m + n ≡ k → moved (moved q (a + m)) n ≡ cond b (Some k) None
 moved_on None true a c m n k h e = cc
 moved_on None false a c m n k h e = refl
@@ -155,7 +155,7 @@ at_end (Bag b ∷ fs) o s h = ap position h.1 ∙ ap (λ b. cond b (Some (length
 at_end (Alternative ∷ fs) o s h = ap position h.1 ∙ at_end fs o h.0 h.2
 at_end (Members d ∷ fs) o s h = ap position h.1 ∙ at_end fs o h.0 h.2
 
--- ---- a text behind the one that stands there
+-- ---- a text after the one that is there
 
 pub appended : (fs : List Frame) (o : Packed) (s : State) (w : Text) → Holds fs o s → Holds fs (plus o w) (s.0 ++ w, s.1)
 appended [] o s w h = (h.0, ap (λ (t : State). let l : State = (t.0 ++ w, t.1) in l) h.1)
@@ -203,7 +203,7 @@ on_top fs rest f g o s a b h = subst (λ x. Holds (x ∷ reverse rest) o s) b (s
 pub put_back : (rest gs : List Frame) (g : Frame) (o : Packed) (s : State) → gs ≡ rest ++ g ∷ [] → Holds (g ∷ reverse rest) o s → Holds (reverse gs) o s
 put_back rest gs g o s a h = subst (λ l. Holds l o s) (sym (turned rest gs g a)) h
 
--- ---- where nothing is open, the text is that of the message
+-- ---- if nothing is open, the text is that of the message
 
 pub nothing_open : (fs : List Frame) (o : Packed) (s : State) → Holds fs o s → s.1 ≡ [] → (o.placed ≡ true) × (s ≡ (o.text, []))
 nothing_open [] o s h e = h

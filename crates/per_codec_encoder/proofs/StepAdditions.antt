@@ -1,4 +1,4 @@
--- Additions: each is an open type behind the bitmap, and its own bits stand alone.
+-- Additions: each is an open type after the bitmap, and its bits are kept apart.
 use Rattle.std.proofs.Common.{◌≡◌, ℕ, suc, ◌+◌, ltb, take, drop, arith, Bool, true, false, cond, List, [], ◌∷◌, ◌++◌, length, map, flat_map, Option, Some, None, option_map, option_and_then, refl, ap, sym, ◌∙◌, append_assoc}
 use Rattle.std.proofs.lemmas.List.{append-nil}
 use Rattle.std.proofs.lemmas.Bool.{lt-ltb}
@@ -20,7 +20,7 @@ use Rattle.per_codec_packing.proofs.Formed.{chain_same, none_behind, in_turn, kn
 use Rattle.per_codec_encoder.proofs.Bridge.{one_text}
 use Rattle.per_codec_encoder.proofs.StepSequences.{EachBridges, noted_by, spelled_by, root, presence_bits_count, preamble_place, plain_sequences}
 
--- the texts of the additions, each from position 0 on, where all that are there have one
+-- the texts of the additions, each from position 0, if all that are present have one
 unfoldable texts_of : Bool → Components → Parts → Option (List (Option (List Bool)))
 texts_of al no_component end = Some []
 texts_of al (component t o s cs) (present v ps) = option_and_then (λ w. option_map (λ us. Some w ∷ us) (texts_of al cs ps)) (written (Per.spelled o s v (Per.form al s v)) 0)
@@ -29,7 +29,7 @@ texts_of al cs ps = None
 
 -- ---- the records keep these texts
 
--- the rest of the additions, behind those that are there
+-- the rest of the additions, after those that were given
 abbrev Rest : Bool → Components → Type 0
 Rest al cs = (qs : Parts) (ms : List Bool) (r : Text) (slots : List (Option (List Bool))) (front : Text) (k : List Scope) (rest : List Record) → runs al (added_records cs qs ++ rest) ([], added (component_count cs) ms r slots front ∷ k) ≡ option_and_then (λ us. option_and_then (λ w. runs al rest (front ++ w, k)) (extended_text al ms r (slots ++ us) (position (front, k)))) (texts_of al cs qs)
 
@@ -102,7 +102,7 @@ record Alike (al : Bool) (xs : List (Option Per.BitForm)) (us : List (Option (Li
   bits : map Per.flag xs ≡ map Per.flag (as_forms al us)
   text : (q : Option ℕ) → text_at (joined (present_ones xs)) q ≡ text_at (joined (present_ones (as_forms al us))) q
 
--- where an addition has no text, neither have all of them
+-- if an addition has no text, all of them together have none
 record Lost (xs : List (Option Per.BitForm)) : Type 0 where
   any : is_any_present xs ≡ true
   text : (q : Option ℕ) → text_at (joined (present_ones xs)) q ≡ None

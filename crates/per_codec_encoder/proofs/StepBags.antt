@@ -21,7 +21,7 @@ use Rattle.per_codec_encoder.proofs.Lists.{length-each, list_text}
 
 -- ---- the records keep the texts
 
--- the text of each member, where all have one
+-- the text of each member, if all have one
 abbrev all_texts : List Per.BitForm → Option (List Text)
 all_texts [] = Some []
 all_texts (x ∷ xs) = option_and_then (λ t. option_map (λ ts. t ∷ ts) (all_texts xs)) (text_at x None)
@@ -274,7 +274,7 @@ module _ (al : Bool) (z : Size) (held : Counts) (q : Option ℕ) where
       twice [] = refl
       twice (y ∷ ys) = ap (λ l. as_form y.text ∷ l) (twice ys)
 
-  -- where the size is refused
+  -- if the size is refused
   unsized : (xs : List Per.BitForm) → list_heading al z held (length xs) q ≡ None → text_at (ordered xs) q ≡ None
   unfolding text_at Per.in_any_order
   unsized xs e = go (ascending complete_bits (stands_before Per.bit_less) xs) (ascending-count complete_bits (stands_before Per.bit_less) xs)

@@ -1,4 +1,4 @@
--- Components in front of which presence bits stand: each text stands where the preamble has its place.
+-- Components after presence bits: each text is after the space of the preamble.
 use Rattle.std.proofs.Common.{◌≡◌, ℕ, suc, ◌+◌, Bool, true, false, cond, List, [], ◌∷◌, ◌++◌, length, Option, Some, None, option_map, option_and_then, refl, ap, sym, ◌∙◌, append_assoc, length-append, arith}
 use Rattle.std.proofs.lemmas.List.{append-nil}
 use Rattle.asn1_model.specs.Value.{Value, fields, Parts, end, absent, present}
@@ -14,7 +14,7 @@ use Rattle.per_codec_encoder.specs.Steps.{Scope, components, extension_bit_width
 use Rattle.per_codec_encoder.specs.Ties.{BridgesAt, Bridges}
 use Rattle.per_codec_packing.proofs.Formed.{chain_same, none_behind, two_texts, moved_twice, behind, length-text}
 
--- ---- what the normal form leaves out
+-- ---- what the normal form omits
 
 abbrev pub noted_by : Bool → Bool → List Record
 noted_by d g = cond d (is_default ∷ []) (cond g (is_empty ∷ []) [])
@@ -46,7 +46,7 @@ presence_bits_count (component t o s cs) (present v ps) = unless_count (is_requi
 presence_bits_count (component t o s cs) (absent ps) = unless_count (is_required o) false (presence_bits cs ps) (optional_count cs) (presence_bits_count cs ps)
 presence_bits_count (component t o s cs) end = unless_count (is_required o) false (presence_bits cs end) (optional_count cs) (presence_bits_count cs end)
 
--- a component that is there, and those behind it
+-- a component that is present, and those after it
 abbrev pub Root : Bool → Bool → Components → Type 0
 Root al e cs = (ps : Parts) (ms : List Bool) (front os : Text) (k : List Scope) (rs more : List Record) → runs al (root_records cs ps rs ++ more) (os, components e (optional_count cs) ms front ∷ k) ≡ option_and_then (λ w. runs al (rs ++ more) (os ++ w, components e 0 (ms ++ presence_bits cs ps) front ∷ k)) (text_at (Per.component_forms al cs ps) (position (os, components e (optional_count cs) ms front ∷ k)))
 
@@ -65,7 +65,7 @@ it_and_others al e cs s v h others d g ps ms front os k rs more =
     p : Option ℕ
     p = position (os, top)
 
--- a presence bit stands where it was due
+-- a presence bit is where it was due
 one_bit : (e : Bool) (n : ℕ) (ms : List Bool) (b : Bool) (front os : Text) (k : List Scope) → position (os, components e n (ms ++ b ∷ []) front ∷ k) ≡ position (os, components e (suc n) ms front ∷ k)
 one_bit e n ms b front os k =
     let l = length-append ms (b ∷ []) in
@@ -100,13 +100,13 @@ root al e (component t o s cs) h end ms front os k rs more = refl
 
 -- ---- without an extension bit
 
--- the root begins behind the preamble
+-- the root begins after the preamble
 pub preamble_place : (e : Bool) (n : ℕ) (os : Text) (k : List Scope) (t : Text) → extension_bit_width e + n ≡ length t → position ([], components e n [] os ∷ k) ≡ on (position (os, k)) t
 preamble_place e n os k t h =
     let m : length os + (extension_bit_width e + 0 + n) + 0 ≡ length os + length t = omega arith in
     moved_twice (offset k) (length os + (extension_bit_width e + 0 + n)) 0 ∙ ap (moved (offset k)) m ∙ sym (moved_twice (offset k) (length os) (length t))
 
--- the end puts the presence bits in front of the root's bits
+-- the end puts the presence bits before the root's bits
 closed_off : (al : Bool) (cs : Components) → EachBridges cs → (ps : Parts) (os : Text) (k : List Scope) (rest : List Record) → runs al (root_records cs ps (ends ∷ []) ++ rest) ([], components false (optional_count cs) [] os ∷ k) ≡ option_and_then (λ w. runs al rest (os ++ w, k)) (text_at (both (exactly (presence_bits cs ps)) (Per.component_forms al cs ps)) (position (os, k)))
 unfolding text_at Per.sequence_form
 closed_off al cs h ps os k rest =

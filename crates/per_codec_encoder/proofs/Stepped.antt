@@ -21,7 +21,7 @@ use Rattle.per_codec_encoder.specs.Holding.{shown, Holds, AreSound, Does, Cannot
 use Rattle.per_codec_encoder.specs.Stepping.{Written, Puts}
 use Rattle.per_codec_encoder.proofs.Scopes.{shown_is, appended, at_end, nothing_open}
 
--- what the bits and the frames stand for
+-- what the bits and the frames represent
 abbrev pub now : List Frame → Packed → State
 now fs o = shown (reverse fs) o
 
@@ -60,7 +60,7 @@ is_refused al r fs o f w e q h c = subst (λ (v : Written). Refused Puts r v e) 
     go CallOutOfPlace c = no_step r _ _ (c (now fs o) h)
     go AlreadyFailed c = absurd c
 
--- what is refused so is not what an earlier refusal answers
+-- what is refused like this is not refused for an earlier error
 pub never_after : {Q : Type 0} (al : Bool) (r : Record) (fs : List Frame) (o : Packed) (x : EncodeError) (q : Result (Unit {0}) EncodeError) → IsErrAnd q (λ y. y ≡ x) → Cannot al r fs o x → q ≡ Err AlreadyFailed → Q
 never_after al r fs o x (Ok v) h c e = cc
 never_after al r fs o x (Err y) h c e = let k : y ≡ AlreadyFailed = cc in absurd (subst (Cannot al r fs o) (sym h ∙ k) c)
@@ -108,7 +108,7 @@ nothing_added v w e f = let h : w.failed ≡ false = sym (ap (λ (u : Written). 
 
 -- ---- the message is taken
 
--- what the octets tell of the bits
+-- what the octets say of the bits
 abbrev pub Told : List Bool → Result (Vec ℕ Global) EncodeError → Type 0
 Told l r = MatchResult r (λ octets. octets_of (as_text l, []) ≡ Some octets.items) (λ e. (e ≡ OutOfMemory) × (l ≡ []))
 
@@ -119,7 +119,7 @@ taken_out fs o l al f w (Ok v) e s q h = λ g k.
     let b = nothing_open (reverse fs) o (now fs o) (s (ap (λ (u : Written). u.failed) e ∙ g)) (ap (λ (t : State). t.1) a ∙ k) in
     ap octets_of (sym a ∙ b.1) ∙ ap (option_and_then (λ w. option_map packed (written (Per.padded w) 0))) (q b.0 ∙ sym (plain_text l)) ∙ h
 
--- a text of no bits is none
+-- a text without bits is none
 no_text : (t : Text) → plain t ≡ Some [] → t ≡ []
 no_text [] e = refl
 no_text (bit b ∷ t) e = go (plain t) e
@@ -129,7 +129,7 @@ no_text (bit b ∷ t) e = go (plain t) e
     go (Some l) e = cc
 no_text (padding ∷ t) e = cc
 
--- memory is taken for a message of no bits alone
+-- memory is allocated only for a message without bits
 pub none_taken_out : (fs : List Frame) (o : Packed) (l : List Bool) (al f : Bool) (w : Written) (r : Result (Vec ℕ Global) EncodeError) → made fs o al f ≡ w → (f ≡ false → Sound fs o) → (o.placed ≡ true → plain o.text ≡ Some l) → Told l r → OnErr r (w.failed ≡ false → w.state.1 ≡ [] → w.state.0 ≡ [])
 none_taken_out fs o l al f w (Ok v) e s q h = tt
 none_taken_out fs o l al f w (Err x) e s q h = λ g k.

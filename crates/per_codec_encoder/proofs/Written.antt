@@ -1,4 +1,4 @@
--- What a writer holds behind the records of a value.
+-- What a writer holds after the records of a value.
 use Rattle.std.proofs.Common.{◌≡◌, ℕ, Bool, true, false, cond, List, [], ◌∷◌, Option, Some, None, option_map, option_and_then, refl, ap, sym, subst, ◌∙◌, arith}
 use Rattle.asn1_model.specs.Schema.{Schema}
 use Rattle.asn1_model.specs.Value.{Value, depth}
@@ -23,7 +23,7 @@ use Rattle.per_codec_encoder.proofs.Chains.{added}
 as_it_is : (al : Bool) (s : Schema) (v : Value) → normal s v ≡ v → canonical_bits al s v ≡ written (Per.form al s v) 0
 as_it_is al s v e = ap (λ u. written (Per.form al s u) 0) e
 
--- a text at the beginning is made of bits
+-- a text at the start consists of bits
 to_bits : (x : Per.BitForm) (w : Text) → text_at x (Some 0) ≡ Some w → (l : List Bool) × (written x 0 ≡ Some l) × (w ≡ as_text l)
 to_bits x w e = go (written x 0) refl (sym (known x 0) ∙ e)
   where
@@ -43,7 +43,7 @@ chain_by_bits al s v l e h = (added al s v [] [] (as_text l, [])).1 (as_text l, 
 at_its_depth : (schema : ℕ → Schema) (v : Value) → IsValue schema v → Fits (schema (depth v)) v
 at_its_depth schema v h = h.fits (depth v) (omega arith)
 
--- bits are told by the state
+-- the state determines the bits
 same_bits : (l m : List Bool) → ◌≡◌ {A = State} (as_text l, []) (as_text m, []) → l ≡ m
 same_bits l m e =
     let f : Some l ≡ Some m = sym (plain_text l) ∙ ap (λ (s : State). plain s.0) e ∙ plain_text m in

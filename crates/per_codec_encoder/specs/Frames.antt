@@ -1,4 +1,4 @@
--- The frames of an encoder, and how the additions of the innermost go on.
+-- The frames of an encoder, and how the additions of the innermost one change.
 use Rattle.std.specs.Prelude.{◌≡◌, ◌-◌, ◌<◌, Bool, true, false, cond, List, [], ◌∷◌, ◌++◌, Option, Some, None}
 use Rattle.per_codec_encoder.specs.declared.frame.Additions.{Additions}
 use Rattle.per_codec_encoder.specs.declared.frame.Frame.{Frame}
@@ -15,12 +15,12 @@ is_written_at_end (Members d) = false
 is_written_at_end (Bag b) = true
 is_written_at_end Alternative = false
 
--- An open type, if there is one, is open within others: the text in front of it is given.
+-- An open type, if there is one, is inside the others: the text before it is given.
 abbrev pub enclosed : Option Packed → List Frame → List Frame
 enclosed None fs = fs
 enclosed (Some o) fs = fs ++ OpenType o ∷ []
 
--- The additions behind the next one: one fewer is due, and one that is not there has its place.
+-- The additions after the next one: one fewer is due, and an absent one has its slot.
 pub record Next (here : Bool) (a b : Additions) : Type 0 where
   pub one : 0 < a.due
   pub counts : b.due ≡ a.due - 1
@@ -29,7 +29,7 @@ pub record Next (here : Bool) (a b : Additions) : Type 0 where
   pub end : b.end ≡ a.end
   pub slots : b.slots ≡ cond here a.slots (a.slots ++ None ∷ [])
 
--- The additions with the bits of one more, which is there.
+-- The additions with the bits of one more, which is present.
 pub record Keeps (contents : List Bool) (a b : Additions) : Type 0 where
   pub counts : b.due ≡ a.due
   pub given : b.given ≡ a.given
@@ -46,7 +46,7 @@ pub record CountsAddition (here : Bool) (fs gs : List Frame) : Type 0 where
   pub next : Next here old new
   pub after : gs ≡ around ++ Added new ∷ []
 
--- The bits of an addition of the innermost sequence are kept.
+-- The bits of an addition of the innermost sequence are stored.
 pub record KeepsAddition (contents : List Bool) (fs gs : List Frame) : Type 0 where
   pub around : List Frame
   pub old : Additions

@@ -1,5 +1,5 @@
--- How a list goes on, in the bits of an encoder: its members, and the length determinants between them (X.691 11.9.3.8
--- and 20).
+-- How a list continues, in the bits of an encoder: its members, and the length determinants between them (X.691
+-- 11.9.3.8 and 20).
 use Rattle.std.specs.Prelude.{◌≡◌, Bool, List, ◌∷◌, ◌++◌, Some, None}
 use Rattle.asn1_schema_faults.specs.declared.EncodeError.{EncodeError}
 use Rattle.asn1_schema_faults.specs.declared.EncodeError.TheVariants.{OutOfMemory, SizeConstraintNotSatisfied}
@@ -10,8 +10,7 @@ use Rattle.per_codec_writing.specs.Headings.{determinants_of}
 use Rattle.per_codec_writing.specs.declared.lengths.Due.{Due}
 use Rattle.per_codec_encoder.specs.Steps.{Scope, members, position, goes_on_in, counted_on}
 
--- Where a member or the end comes next, the length determinant stands in front of it, if one is to come, and behind it
--- so many are due.
+-- If a member or the end comes next, a length determinant precedes it, if one is to come, and `next` is due after it.
 pub record GoesOn (al : Bool) (d : Due) (old : Packed) (next : Due) (new : Packed) : Type 0 where
   pub text : Text
   pub added : new ≡ plus old text
@@ -20,7 +19,7 @@ pub record GoesOn (al : Bool) (d : Due) (old : Packed) (next : Due) (new : Packe
       (os ++ text) k b
   pub ready : next.units ≡ 0 → next.behind ≡ None
 
--- Where a member or the end comes next in a list, the text and what is due are those behind this step.
+-- If a member or the end comes next in a list, the text and what is due are those after this step.
 pub record GoesOnInList (al more : Bool) (d : Due) (old : Packed) (next : Due) (new : Packed) : Type 0 where
   pub text : Text
   pub added : new ≡ plus old text
@@ -28,7 +27,7 @@ pub record GoesOnInList (al more : Bool) (d : Due) (old : Packed) (next : Due) (
       → goes_on_in al d.units (determinants_of d.behind) os k more ≡ Some
       (os ++ text, members next.units (determinants_of next.behind) ∷ k)
 
--- Why nothing comes next in a list: memory was refused, or there is no step. No size is judged then.
+-- Why nothing comes next in a list: memory ran out, or there is no step. No size is checked then.
 abbrev pub NoMember : Bool → Bool → Due → Packed → EncodeError → Type 0
 NoMember al more d old OutOfMemory = Unit {0}
 NoMember al more d old SizeConstraintNotSatisfied = ⊥

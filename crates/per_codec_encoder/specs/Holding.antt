@@ -1,5 +1,5 @@
--- How the texts and the frames of an encoder stand for what a writer holds. The frames are given the innermost first.
--- The text is that of the innermost message, open type or member of a bag.
+-- How the texts and the frames of an encoder represent what a writer holds. The innermost frame comes first. The text
+-- is that of the innermost message, open type or member of a bag.
 use Rattle.std.specs.Prelude.{◌≡◌, ℕ, ◌+◌, ◌^◌, ◌<◌, Bool, true, false, List, [], ◌∷◌, ◌++◌, length, take, drop}
 use Rattle.std.specs.Prelude.{replicate, reverse, Option, Some, None}
 use Rattle.asn1_schema_faults.specs.declared.EncodeError.{EncodeError}
@@ -17,11 +17,11 @@ use Rattle.per_codec_writing.specs.Headings.{determinants_of}
 use Rattle.per_codec_encoder.specs.Bags.{bag_of}
 use Rattle.asn1_schema_finding.specs.PresenceBits.{preamble}
 
--- How long the text in front of a place is.
+-- The length of the text before a position.
 abbrev pub at : Place → ℕ
 at p = p.bits + p.paddings
 
--- A text at the place of another.
+-- A text at the position of another.
 abbrev pub instead : Text → Packed → Packed
 instead t o = record { text = t; placed = o.placed }
 
@@ -53,8 +53,7 @@ shown (Alternative ∷ fs) o =
     let below = shown fs o in
     (below.0, alternative ∷ below.1)
 
--- The text is that in front of an open sequence, its preamble, in which the bits that are due are not set, and what
--- stands behind it.
+-- The text is that before an open sequence, its preamble, in which the bits that are due are zero, and what follows.
 pub record IsOpen (below : Packed → State → Type 0) (e : Bool) (due given : ℕ) (start : Place) (o : Packed)
     (s : State) : Type 0 where
   pub front : Text
@@ -69,8 +68,7 @@ pub record IsOpen (below : Packed → State → Type 0) (e : Bool) (due given : 
   pub under : below (instead front o) outer
   pub is : s ≡ (inner, components e due presence_bits outer.0 ∷ outer.1)
 
--- The text is that in front of a sequence behind its root, its preamble, of which no bit is due, its root, and what
--- stands behind it.
+-- The text is that before a sequence after its root, its preamble, with no bit due, its root, and what follows.
 pub record IsAdded (below : Packed → State → Type 0) (due given : ℕ) (start end : Place)
     (slots : List (Option (List Bool))) (o : Packed) (s : State) : Type 0 where
   pub front : Text
@@ -87,7 +85,7 @@ pub record IsAdded (below : Packed → State → Type 0) (due given : ℕ) (star
   pub under : below (instead front o) outer
   pub is : s ≡ (inner, added due presence_bits root slots outer.0 ∷ outer.1)
 
--- The text and the frames stand for a state.
+-- The text and the frames represent a state.
 abbrev pub Holds : List Frame → Packed → State → Type 0
 Holds [] o s = (o.placed ≡ true) × (s ≡ (o.text, []))
 Holds (Components e due given start ∷ fs) o s = IsOpen (λ p t. Holds fs p t) e due given start o s
@@ -100,7 +98,7 @@ Holds (Bag b ∷ fs) o s = (outer : State) × (s ≡ (o.text, bag_of b.value out
     × Holds fs b.value.outer outer
 Holds (Alternative ∷ fs) o s = (outer : State) × (s ≡ (outer.0, alternative ∷ outer.1)) × Holds fs o outer
 
--- The text and the frames, of which the innermost is the last, stand for some state.
+-- The text and the frames, the innermost last, represent some state.
 pub record AreSound (fs : List Frame) (o : Packed) : Type 0 where
   pub state : State
   pub holds : Holds (reverse fs) o state
@@ -109,7 +107,7 @@ pub record AreSound (fs : List Frame) (o : Packed) : Type 0 where
 pub record Does (al : Bool) (r : Record) (fs : List Frame) (o : Packed) (gs : List Frame) (p : Packed) : Type 0 where
   pub after : (s : State) → Holds (reverse fs) o s → (t : State) × (run al r s ≡ Some t) × Holds (reverse gs) p t
 
--- Why a record was refused: memory was, or there is no step.
+-- Why a record was refused: memory ran out, or there is no step.
 abbrev pub Cannot : Bool → Record → List Frame → Packed → EncodeError → Type 0
 Cannot al r fs o OutOfMemory = Unit {0}
 Cannot al r fs o AlreadyFailed = ⊥

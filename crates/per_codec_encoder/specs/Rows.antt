@@ -1,4 +1,4 @@
--- Rows: what the records of some values come to, worked out by hand from the rules and computed here from the
+-- Rows: the encodings of the records of some values, worked out by hand from the rules and computed here from the
 -- definitions.
 use Rattle.std.specs.Prelude.{◌≡◌, ℕ, ℤ, pos, negsuc, Bool, true, false, List, [], ◌∷◌, ◌++◌, Some, None}
 use Rattle.std.specs.Prelude.{option_and_then, replicate}
@@ -8,7 +8,7 @@ use Rattle.per_codec_packing.specs.Texts.{padding, as_text}
 use Rattle.per_codec_encoder.specs.Steps.{components, members, bag_members, run, runs}
 use Rattle.per_codec_encoder.specs.Ties.{octets_of}
 
--- what a row says: the octets of the records from nothing on
+-- what a row says: the octets of the records, starting from nothing
 abbrev pub Packs : Bool → List call.Record → List ℕ → Type 0
 Packs al rs w = option_and_then octets_of (runs al rs ([], [])) ≡ Some w
 
@@ -42,7 +42,7 @@ two_lists =
     (7 ∷ 8 ∷ 9 ∷ []) ∷ call.further false ∷ call.ends
     ∷ octet 0xAB ∷ call.ends ∷ []
 
--- SEQUENCE {a INTEGER (0..65535) OPTIONAL, b BOOLEAN OPTIONAL} with a alone
+-- SEQUENCE {a INTEGER (0..65535) OPTIONAL, b BOOLEAN OPTIONAL} with only a
 abbrev pub optional_word : List call.Record
 optional_word = call.sequence_begins false 2 ∷ call.presence_bit true ∷ word 0x1234 ∷ call.presence_bit false
     ∷ call.ends ∷ []
@@ -66,8 +66,8 @@ abbrev pub bag_of_three : List call.Record
 bag_of_three = call.bag_begins any_size any_count 3 ∷ call.further true ∷ whole (pos 256) ∷ call.further true ∷ whole
     (negsuc 0) ∷ call.further true ∷ whole (pos 1) ∷ call.further false ∷ call.ends ∷ []
 
--- SEQUENCE {a BOOLEAN, b SET (SIZE (1..2)) OF SEQUENCE {c BOOLEAN, d INTEGER (0..65535)}}: the members change places,
--- and each is padded at its own
+-- SEQUENCE {a BOOLEAN, b SET (SIZE (1..2)) OF SEQUENCE {c BOOLEAN, d INTEGER (0..65535)}}: the members change order,
+-- and each is padded at its own position
 abbrev pub bag_behind_bit : List call.Record
 bag_behind_bit =
     call.sequence_begins false 0 ∷ call.flag true ∷ call.bag_begins (sizes 1 2) any_count 2
@@ -109,11 +109,11 @@ OctetRows =
     × Packs false root_alternative (0x40 ∷ 0x40 ∷ 0x40 ∷ [])
     × Packs true root_alternative (0x40 ∷ 0x01 ∷ 0x01 ∷ [])
 
--- the bits of a length determinant, padded in front where it stands behind a bit
+-- the bits of a length determinant, padded before it if it follows a bit
 abbrev pub closing_of_one : List Bool
 closing_of_one = replicate 7 false ++ true ∷ []
 
--- states behind one record: length determinants of fragments, sizes, and what is refused
+-- states after one record: length determinants of fragments, sizes, and refusals
 abbrev pub StateRows : Type 0
 StateRows =
     (run false (call.list_begins any_size any_count 3) ([], []) ≡ Some

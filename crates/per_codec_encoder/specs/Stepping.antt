@@ -16,14 +16,14 @@ abbrev pub rules_of : Bool → CodecKind
 rules_of true = Aper
 rules_of false = Uper
 
--- What an encoder holds: what a writer does, whether it writes the aligned variant, and whether an earlier call was
--- refused.
+-- What an encoder holds: what a writer holds, whether it writes the aligned variant, and whether an earlier call
+-- failed.
 pub record Written : Type 0 where
   pub state : State
   pub aligned : Bool
   pub failed : Bool
 
--- A record is written: no call was refused, the variant stays, and the writer takes the step.
+-- A record is written: no call has failed, the variant stays, and the writer takes the step.
 abbrev pub Puts : Written → Record → Written → Type 0
 Puts a r b = (a.failed ≡ false) × (b.failed ≡ false) × (b.aligned ≡ a.aligned)
     × (run a.aligned r a.state ≡ Some b.state)

@@ -1,5 +1,5 @@
--- What a writer of the packed encoding rules (X.691) holds: the text of the innermost open scope, and the open scopes.
--- Each record changes them. What is written depends on how many bits stand in front of it in its message or open type.
+-- What a writer of PER (X.691) holds: the text of the innermost open scope, and the open scopes. Each record changes
+-- them. What is written depends on the number of bits before it in its message or open type.
 use Rattle.std.specs.Prelude.{◌≡◌, ℕ, zero, suc, ◌+◌, ◌-◌, Bool, true, false, cond, List, [], ◌∷◌}
 use Rattle.std.specs.Prelude.{◌++◌, length, map, Option, Some, None, option_map, option_and_then}
 use Rattle.asn1_model.specs.Value.{truth, number, item, bit_list, octet_list, text, arcs}
@@ -17,19 +17,19 @@ use Rattle.asn1_schema_presented.specs.Records.{choice_begins, ends}
 
 -- An open scope.
 pub data Scope : Type 0 where
-  -- a sequence, set or group: whether it has an extension bit, how many presence bits are due, those that are
-  -- there, and the text in front of it
+  -- a sequence, set or group: whether it has an extension bit, how many presence bits are due, those that were given,
+  -- and the text before it
   components : Bool → ℕ → List Bool → Text → Scope
-  -- behind the root of such a type with an extension bit: how many additions are due, the presence bits, the root's
-  -- text, each addition's bits, and the text in front of the sequence
+  -- after the root of such a type with an extension bit: how many additions are due, the presence bits, the root's
+  -- text, each addition's bits, and the text before the sequence
   added : ℕ → List Bool → Text → List (Option (List Bool)) → Text → Scope
-  -- an addition, or an added alternative: its bits stand alone, and the text in front is this
+  -- an addition, or an added alternative: its bits are kept apart, and this is the text before it
   open_type : Text → Scope
   -- a list: how many members are due before the next length determinant or the end, and the length
   -- determinants to come
   members : ℕ → LengthDeterminants → Scope
-  -- a bag: its size, the counts that the program's type holds, how many members are due, the text of each that stands
-  -- before the open one, if one is open, and the text in front of the bag
+  -- a bag: its size, the counts that the Rust type holds, how many members are due, the text of each member before
+  -- the open one, if one is open, and the text before the bag
   bag_members : Size → Counts → ℕ → Option (List Text) → Text → Scope
   -- an alternative of the root
   alternative : Scope
@@ -39,12 +39,12 @@ State = Text × List Scope
 
 -- ---- positions
 
--- The width of the extension bit, where there is one.
+-- The width of the extension bit, if there is one.
 abbrev pub extension_bit_width : Bool → ℕ
 extension_bit_width e = cond e 1 0
 
--- How many bits stand in front of those of the innermost open scope, in its message or open type, where this is known:
--- a preamble has its place before it is written.
+-- The number of bits before those of the innermost open scope, in its message or open type, if it is known: a
+-- preamble takes its space before it is written.
 abbrev pub offset : List Scope → Option ℕ
 offset [] = Some 0
 offset (components e n ms front ∷ k) = moved (offset k) (length front + (extension_bit_width e + length ms + n))
@@ -54,7 +54,7 @@ offset (members n hs ∷ k) = offset k
 offset (bag_members z h n ts front ∷ k) = None
 offset (alternative ∷ k) = offset k
 
--- The position: how many bits stand there since the beginning of the message or open type.
+-- The position: the number of bits since the start of the message or open type.
 abbrev pub position : State → Option ℕ
 position s = on (offset s.1) s.0
 
@@ -62,7 +62,7 @@ position s = on (offset s.1) s.0
 abbrev pub adds_text : Option Text → State → Option State
 adds_text o s = option_map (λ w. (s.0 ++ w, s.1)) o
 
--- A form's text at the position where it comes to stand.
+-- A form's text at its position.
 abbrev pub adds_form : Per.BitForm → State → Option State
 adds_form x s = adds_text (text_at x (position s)) s
 
@@ -78,21 +78,21 @@ presence_told b os k = None
 
 -- ---- lists (X.691 20)
 
--- How a list of n members begins, at a position, if the size and the program's type allow so many.
+-- How a list of `n` members begins, at a position, if the size and the Rust type allow that many.
 abbrev pub list_heading : Bool → Size → Counts → ℕ → Option ℕ → Option Heading
 list_heading al z held n q = cond (is_count_within held n) (heading al z false n q) None
 
--- The members are due behind their heading.
+-- The members are due after their heading.
 abbrev pub headed : Text → List Scope → Option Heading → Option State
 headed os k o = option_map (λ (h : Heading). (os ++ h.text, members h.due h.determinants ∷ k)) o
 
--- A further member, or the end, where no length determinant stands in between.
+-- A further member, or the end, with no length determinant in between.
 abbrev pub counted_on : ℕ → LengthDeterminants → Text → List Scope → Bool → Option State
 counted_on (suc n) hs os k true = Some (os, members n hs ∷ k)
 counted_on zero None os k false = Some (os, members zero None ∷ k)
 counted_on n hs os k b = None
 
--- Where none is due before the next length determinant, this stands in front.
+-- If none is due before the next length determinant, that comes first.
 abbrev pub goes_on_in : Bool → ℕ → LengthDeterminants → Text → List Scope → Bool → Option State
 goes_on_in al zero (Some h) os k b =
     option_and_then (λ (g : Heading). counted_on g.due g.determinants (os ++ g.text) k b)
@@ -101,23 +101,23 @@ goes_on_in al n hs os k b = counted_on n hs os k b
 
 -- ---- bags (X.691 22)
 
--- The text of each member of a bag, the open one behind the others.
+-- The text of each member of a bag, the open one last.
 abbrev pub with_open : Option (List Text) → Text → List Text
 with_open None os = []
 with_open (Some ts) os = ts ++ os ∷ []
 
--- A bag is judged at its beginning, and all of it written at its end.
+-- A bag is checked at its start, and all of it is written at its end.
 abbrev pub bag_opened : Size → Counts → ℕ → State → Option Heading → Option State
 bag_opened z h n s o = option_map (λ (g : Heading). ([], bag_members z h n None s.0 ∷ s.1)) o
 
--- A member of a bag stands alone until the end, which puts them in their order.
+-- The members of a bag are kept apart until the end, which puts them in order.
 abbrev pub counted_in : Size → Counts → ℕ → Option (List Text) → Text → Text → List Scope → Bool → Option State
 counted_in z h zero ts front os k true = None
 counted_in z h zero ts front os k false = Some (os, bag_members z h zero ts front ∷ k)
 counted_in z h (suc n) ts front os k true = Some ([], bag_members z h n (Some (with_open ts os)) front ∷ k)
 counted_in z h (suc n) ts front os k false = None
 
--- The end of a bag puts its members in the ascending order of their complete encodings: its form is that of the
+-- The end of a bag puts its members in ascending order of their complete encodings: its form is that of the
 -- definitions, around their texts.
 abbrev pub closed_bag : Bool → Size → Counts → ℕ → List Text → Text → List Scope → Option State
 closed_bag al z h zero ts front k = adds_form (Per.in_any_order (map as_form ts) (Per.sized al z h (λ c. false)))
@@ -132,7 +132,7 @@ goes_on al b os k = None
 
 -- ---- the end of a sequence, set or group, and additions (X.691 19)
 
--- The presence bits stand in front of the root.
+-- The presence bits precede the root.
 abbrev pub closed : Bool → ℕ → List Bool → Text → Text → List Scope → Option State
 closed false zero ms front os k = Some (front ++ (as_text ms ++ os), k)
 closed e n ms front os k = None
@@ -141,7 +141,7 @@ closed e n ms front os k = None
 abbrev pub opened : Bool → Option (List Bool) → Option Per.BitForm
 opened al o = option_map (λ w. Per.open_type al (exactly w)) o
 
--- The extension bit tells whether an addition is there; if one is, they stand behind the root (X.691 19.1 and 19.7 to
+-- The extension bit says whether an addition is present; if one is, they follow the root (X.691 19.1 and 19.7 to
 -- 19.9).
 abbrev pub extended_text : Bool → List Bool → Text → List (Option (List Bool)) → Option ℕ → Option Text
 extended_text al ms root slots q =
@@ -154,7 +154,7 @@ abbrev pub closed_added : Bool → ℕ → List Bool → Text → List (Option (
 closed_added al zero ms root slots front k = adds_text (extended_text al ms root slots (position (front, k))) (front, k)
 closed_added al n ms root slots front k = None
 
--- Behind the root components of a type with an extension bit come the additions.
+-- After the root components of a type with an extension bit come the additions.
 abbrev pub rooted : Bool → ℕ → List Bool → Text → Text → List Scope → ℕ → Option State
 rooted true zero ms front os k n = Some ([], added n ms os [] front ∷ k)
 rooted e due ms front os k n = None
@@ -173,7 +173,7 @@ abbrev pub adds : Bool → Text → List Scope → Option State
 adds b os (added n ms root slots front ∷ k) = next_addition n ms root slots front os k b
 adds b os k = None
 
--- An addition's bits are kept for the end.
+-- An addition's bits are stored for the end.
 abbrev pub added_one : Text → List Scope → Option State
 added_one os (open_type front ∷ added n ms root slots before ∷ k) = option_map
     (λ w. (front, added n ms root (slots ++ Some w ∷ []) before ∷ k)) (plain os)
@@ -181,7 +181,7 @@ added_one os k = None
 
 -- ---- choices, and the end of any type
 
--- An alternative of the root stands behind its place, an added one as an open type, which only an extensible type
+-- An alternative of the root follows its choice index, an added one as an open type, which only an extensible type
 -- has (X.691 23).
 abbrev pub chosen_on : Bool → Bool → ℕ → Bool → ℕ → State → Option State
 chosen_on al e n false i s = option_map (λ w. (s.0 ++ w, alternative ∷ s.1))
@@ -226,7 +226,7 @@ run al (choice_begins roots e others plus i) s = chosen_on al e (length roots) p
 run al ends s = ended al s.0 s.1
 run al r s = None
 
--- The relation of a writer: what is held before a record, and behind it.
+-- The relation of a writer: what is held before a record, and after it.
 abbrev pub Step : Bool → State → Record → State → Type 0
 Step al a r b = run al r a ≡ Some b
 

@@ -1,4 +1,4 @@
--- The bridge: the records of a value add its canonical bits, and are refused just where it has none.
+-- The bridge: the records of a value add its canonical bits, and are refused exactly if it has none.
 use Rattle.std.specs.Prelude.{◌≡◌, ◌↔◌, ℕ, Bool, List, [], ◌++◌, Option, Some, None, option_map, option_and_then}
 use Rattle.asn1_model.specs.Schema.{Schema}
 use Rattle.asn1_model.specs.Value.{Value}
@@ -12,7 +12,7 @@ use Rattle.asn1_schema_presented.specs.Chains.{Chain}
 use Rattle.per_codec_packing.specs.Texts.{Text, as_text, plain, text_at, as_form}
 use Rattle.per_codec_encoder.specs.Steps.{Scope, State, Step, position, runs}
 
--- in each state, whatever comes behind
+-- in each state, whatever follows
 abbrev pub BridgesAt : Bool → Schema → Value → Type 0
 BridgesAt al s v = (os : Text) (k : List Scope) (rest : List Record)
     → runs al (presents s v ++ rest) (os, k) ≡ option_and_then (λ w. runs al rest (os ++ w, k))
@@ -26,20 +26,20 @@ Bridges s = (al : Bool) (v : Value) → BridgesAt al s v
 abbrev pub EveryTypeBridges : Type 0
 EveryTypeBridges = (s : Schema) → Bridges s
 
--- The text of a value at a known position is that of the definitions, bit by bit; and that without a position tells it
--- at each.
+-- The text of a value at a known position is that of the definitions, bit by bit. The text at an unknown position
+-- determines it at each position.
 abbrev pub TextsAreWritten : Type 0
 TextsAreWritten = (al : Bool) (s : Schema) (v : Value) (p : ℕ)
     → (text_at (Per.form al s v) (Some p) ≡ option_map as_text (written (Per.form al s v) p))
     × (written (Per.form al s v) p ≡ option_and_then (λ t. written (as_form t) p) (text_at (Per.form al s v) None))
 
--- a chain of steps by them is just that
+-- a chain of steps by them does exactly that
 abbrev pub ChainsAddTheTexts : Type 0
 ChainsAddTheTexts = (al : Bool) (s : Schema) (v : Value) (os : Text) (k : List Scope) (new : State)
     → Chain (Step al) (presents s v) (os, k) new
     ↔ ((w : Text) × (text_at (Per.form al s v) (position (os, k)) ≡ Some w) × (new ≡ (os ++ w, k)))
 
--- the bits of the state behind a whole value, padded to octets (X.691 11.1)
+-- the bits of the state after a whole value, padded to octets (X.691 11.1)
 abbrev pub octets_of : State → Option (List ℕ)
 octets_of s = option_and_then (λ w. option_map packed (written (Per.padded w) 0)) (plain s.0)
 

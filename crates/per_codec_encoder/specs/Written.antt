@@ -1,4 +1,4 @@
--- What a writer holds behind the records of a value, in whatever depth its type is unfolded: the canonical bits.
+-- What a writer holds after the records of a value, at whatever depth its type is unfolded: the canonical bits.
 use Rattle.std.specs.Prelude.{◌≡◌, ◌↔◌, ℕ, Bool, cond, List, [], ◌∷◌, Option, Some, None, option_and_then}
 use Rattle.asn1_model.specs.Schema.{Schema}
 use Rattle.asn1_model.specs.Value.{Value}
@@ -17,25 +17,25 @@ use Rattle.per_codec_packing.specs.Texts.{as_text}
 use Rattle.per_codec_encoder.specs.Steps.{State, Step}
 use Rattle.per_codec_encoder.specs.Ties.{octets_of}
 
--- The canonical bits of a value from the beginning of a message on, before it is padded.
+-- The canonical bits of a value from the start of a message, before it is padded.
 abbrev pub canonical_bits : Bool → Schema → Value → Option (List Bool)
 canonical_bits al s v = written (Per.form al s (normal s v)) 0
 
--- From nothing the records of a value lead just to its bits, with no scope open.
+-- From nothing, the records of a value lead exactly to its bits, with no open scope.
 abbrev pub WrittenByRecords : Type 0
 WrittenByRecords = (al : Bool) (schema : ℕ → Schema) (v : Value) (new : State) → IsValue schema v
     → Writes (Step al) schema v ([], []) new
     ↔ ((w : List Bool) × (new ≡ (as_text w, []))
     × ((n : ℕ) → Fits (schema n) v → canonical_bits al (schema n) v ≡ Some w))
 
--- They are refused for another reason than memory just where the value has no bits.
+-- They are refused, other than for memory, exactly if the value has no bits.
 abbrev pub RefusedByRecords : Type 0
 RefusedByRecords = (al : Bool) (schema : ℕ → Schema) (v : Value) (x : EncodeError) → IsValue schema v
     → ¬ (x ≡ OutOfMemory) → CannotWrite (Step al) schema v ([], []) x
     ↔ ((n : ℕ) → Fits (schema n) v → canonical_bits al (schema n) v ≡ None)
 
--- A writer by its variant and by what it holds: where it takes a record, so goes the step, and where it is ready it
--- takes each record behind which a state stands.
+-- A writer, by its variant and what it holds: if it takes a record, that is a step, and if it is ready, it takes each
+-- record after which there is a state.
 pub record IsWriter {S : Type 0} (step : S → Record → S → Type 0) (aligned : S → Bool) (held : S → State)
     (Ready : S → Type 0) : Type 0 where
   pub takes : (a : S) (r : Record) (b : S) → step a r b
@@ -47,15 +47,15 @@ pub record IsWriter {S : Type 0} (step : S → Record → S → Type 0) (aligned
 abbrev pub packed_rules : Bool → List Rules
 packed_rules al = cond al aper uper ∷ cond al aper_strict uper_strict ∷ []
 
--- Such a writer that held nothing holds the canonical encoding of the value, once it is padded to octets, but for
--- the bound on their length.
+-- A writer that held nothing holds the canonical encoding of the value, once it is padded to octets; the bound on
+-- their length is not checked.
 abbrev pub WritesTheOctets : {S : Type 0} → (S → Record → S → Type 0) → (S → Bool) → (S → State) → Type 0
 WritesTheOctets {S} step aligned held = (schema : ℕ → Schema) (v : Value) (old new : S) → IsValue schema v
     → held old ≡ ([], []) → Writes step schema v old new
     → ((held new).1 ≡ [])
     × IsWrittenIn (packed_rules (aligned old)) schema v (option_and_then of_moderate_length (octets_of (held new)))
 
--- It refuses a value for another reason than memory only where that has no encoding.
+-- It refuses a value, other than for memory, only if that has no encoding.
 abbrev pub RefusesOnlyNone : {S : Type 0} → (S → Record → S → Type 0) → (S → Bool) → (S → State) → (S → Type 0) → Type 0
 RefusesOnlyNone {S} step aligned held Ready = (schema : ℕ → Schema) (v : Value) (old : S) (x : EncodeError)
     → IsValue schema v → Ready old → held old ≡ ([], []) → ¬ (x ≡ OutOfMemory) → CannotWrite step schema v old x

@@ -1,4 +1,4 @@
-//! Additions of sequences and sets, which are kept until these end.
+//! Extension additions of sequences and sets, which are stored until these end.
 ghost use Rattle.std.specs.Prelude.{◌≡◌, ◌⊎◌, Bool, MatchResult};
 ghost use Rattle.asn1_schema_presented.specs.Records.{additions_begin, addition, addition_ends};
 ghost use Rattle.per_codec_encoder.specs.Frames.{Next};
@@ -13,12 +13,12 @@ use per_codec_packing::Packing;
 use std::alloc::Global;
 use std::mem;
 
-/// Behind the root of a sequence or set with an extension bit come so many additions (X.691 19.7).
+/// Begins the `count` extension additions, after the root of a sequence or set with an extension bit (X.691 19.7).
 ///
 /// # Errors
 ///
-/// `CallOutOfPlace` where no sequence or set with an extension bit is innermost, or a presence bit of it is due;
-/// `OutOfMemory`.
+/// `CallOutOfPlace` if the innermost frame is not a sequence or set with an extension bit, or a presence bit of it is
+/// due; `OutOfMemory`.
 pub(crate) fn open_additions(
     output: &Packing,
     frames: &mut Nested,
@@ -55,7 +55,7 @@ pub(crate) fn open_additions(
     Ok(())
 }
 
-/// Counts the next addition, and keeps the place of one that is not there.
+/// Counts the next addition, and stores that it is absent if it is.
 #[inline(always)]
 pub(crate) fn count_addition(additions: &mut Additions, present: bool) -> Result<(), EncodeError>
     ensures { MatchResult result (λ _. Next present additions.old additions.new)
@@ -72,11 +72,11 @@ pub(crate) fn count_addition(additions: &mut Additions, present: bool) -> Result
     Ok(())
 }
 
-/// Whether the next addition is there. The bits of one that is there stand alone until it ends (X.691 11.2 and 19.9).
+/// Begins the next addition if it is present. Its bits are kept apart until it ends (X.691 11.2 and 19.9).
 ///
 /// # Errors
 ///
-/// `CallOutOfPlace` where no addition is due of what is innermost; `OutOfMemory`.
+/// `CallOutOfPlace` if no addition is due in the innermost frame; `OutOfMemory`.
 #[inline]
 pub(crate) fn encode_addition(
     output: &mut Packing,
@@ -95,11 +95,11 @@ pub(crate) fn encode_addition(
     Ok(())
 }
 
-/// An addition ends, and its bits are kept.
+/// Ends an addition, and stores its bits.
 ///
 /// # Errors
 ///
-/// `CallOutOfPlace` where no addition is innermost; `OutOfMemory`.
+/// `CallOutOfPlace` if the innermost frame is not an addition; `OutOfMemory`.
 pub(crate) fn end_addition(output: &mut Packing, frames: &mut Frames) -> Result<(), EncodeError>
     ensures { MatchResult result (λ _. (al : Bool) → Does al addition_ends frames.old output.old frames.new output.new)
         (λ e. (al : Bool) → Cannot al addition_ends frames.old output.old e) }

@@ -14,12 +14,12 @@ use per_codec_packing::Packing;
 use per_codec_writing::push_place;
 use std::alloc::Global;
 
-/// Begins an alternative of a choice with so many in its root: one of these stands behind its place, an added one
-/// behind its place as an open type (X.691 23).
+/// Begins an alternative of a choice with `roots` root alternatives: it follows its choice index, an added one as an
+/// open type (X.691 23).
 ///
 /// # Errors
 ///
-/// `ValueConstraintNotSatisfied` where the choice has no such place; `OutOfMemory`.
+/// `ValueConstraintNotSatisfied` if the choice has no such alternative; `OutOfMemory`.
 #[inline(always)]
 pub(crate) fn begin_alternative(
     output: &mut Packing,

@@ -1,4 +1,4 @@
-//! Bags, whose members are kept until they end.
+//! Bags, whose members are stored until they end.
 ghost use Rattle.std.specs.Prelude.{◌≡◌, Bool, MatchResult, IfOk};
 ghost use Rattle.asn1_schema_presented.specs.Records.{bag_begins};
 ghost use Rattle.asn1_schema_constraints.specs.Bounds.{members_of};
@@ -21,13 +21,13 @@ use per_codec_writing::push_bag;
 use std::alloc::{AllocError, Global};
 use std::mem;
 
-/// Begins a bag (X.691 22) of so many members, if the size and the program's type allow so many. Its number of members
-/// is judged here, and written at its end.
+/// Begins a bag (X.691 22) of `count` members, if the size and the Rust type allow that many. The count is checked
+/// here, and written at the end of the bag.
 ///
 /// # Errors
 ///
-/// `SizeConstraintNotSatisfied` where the type does not hold so many, or a size without an extension marker does not
-/// admit them; `OutOfMemory`.
+/// `SizeConstraintNotSatisfied` if the Rust type does not hold that many members, or a size without an extension
+/// marker does not admit them; `OutOfMemory`.
 pub(crate) fn begin_bag(
     output: &mut Packing,
     frames: &mut Frames,
@@ -56,11 +56,11 @@ pub(crate) fn begin_bag(
     Ok(())
 }
 
-/// Whether a further member of a bag comes: as many come as were told, and each begins a text of its own.
+/// Begins a further member of a bag if `more`, else expects none to be due. Each member begins a new text.
 ///
 /// # Errors
 ///
-/// `CallOutOfPlace` where more or fewer come; `OutOfMemory`.
+/// `CallOutOfPlace` if there are more or fewer members than due; `OutOfMemory`.
 pub(crate) fn next_of_bag(
     output: &mut Packing,
     bag: &mut Bag,
@@ -85,7 +85,7 @@ pub(crate) fn next_of_bag(
     Ok(())
 }
 
-/// The members in front of the open one, and this behind them, if one is open.
+/// The members before the open one, and the open one last, if one is open.
 fn all_members(members: Option<Texts>, last: &Packing, alloc: Global) -> Result<Texts, AllocError>
     ensures { IfOk result (λ all. all ≡ with_open members last.now.text) }
 {
@@ -96,8 +96,8 @@ fn all_members(members: Option<Texts>, last: &Packing, alloc: Global) -> Result<
     Ok(all)
 }
 
-/// Ends a bag of which no member is due: behind what stands in front of it stand its members, in their order, behind
-/// their number (X.691 22).
+/// Ends a bag, if no member is due: adds its length determinant and its members in order, after what precedes the bag
+/// (X.691 22).
 pub(crate) fn end_bag(
     output: &mut Packing,
     bag: Bag,

@@ -35,7 +35,7 @@ use std::alloc::Global;
 use std::marker::Model;
 use std::mem;
 
-/// Writes values in the canonical packed encoding rules (X.691), unaligned or aligned, into one buffer.
+/// Encodes values in canonical PER (X.691), unaligned or aligned, into one buffer.
 #[derive(Drop)]
 pub struct Encoder {
     output: Packing,
@@ -63,7 +63,7 @@ impl Model for Encoder {
     ghost invariant = { λ e. e.failed ≡ false → Holds (reverse e.frames) e.output (shown (reverse e.frames) e.output) };
 }
 
-/// The octets of a message: its bits, padded with zero bits to whole octets, and one zero octet in place of no bits
+/// The octets of a message: its bits padded with zero bits to whole octets, or one zero octet if there are no bits
 /// (X.691 11.1).
 #[inline(always)]
 fn message(bits: BitBuffer) -> Result<Vec<u8>, EncodeError>
@@ -79,7 +79,7 @@ fn message(bits: BitBuffer) -> Result<Vec<u8>, EncodeError>
 }
 
 impl Encoder {
-    /// An encoder that holds nothing. It takes no memory before it is handed something.
+    /// An empty encoder. It does not allocate before the first call.
     pub fn new(alloc: Global, options: EncoderOptions) -> Self
         ensures { result ≡ record { state = ([], []); aligned = is_aligned (variant_of options); failed = false } }
     {
@@ -92,7 +92,7 @@ impl Encoder {
         }
     }
 
-    /// An encoder that holds nothing, and writes into the room of these octets, which are cleared.
+    /// An empty encoder that clears the buffer of `output` and reuses it.
     #[inline(always)]
     pub fn new_with_output(alloc: Global, options: EncoderOptions, output: Vec<u8>) -> Self
         ensures { result ≡ record { state = ([], []); aligned = is_aligned (variant_of options); failed = false } }
@@ -106,12 +106,12 @@ impl Encoder {
         }
     }
 
-    /// Takes the octets of the message (X.691 11.1), at least one, and leaves nothing. Only the one octet of a message
-    /// of no bits may take memory.
+    /// Takes the octets of the message (X.691 11.1), at least one, and leaves nothing. Only the one octet of a
+    /// message without bits may need an allocation.
     ///
     /// # Errors
     ///
-    /// `OutOfMemory`, where that octet has no room.
+    /// `OutOfMemory` if that octet cannot be allocated.
     #[inline(always)]
     pub fn output(&mut self) -> Result<Vec<u8>, EncodeError>
         ensures octets { IfOk result (λ octets. self.old.failed ≡ false → self.old.state.1 ≡ []
@@ -125,7 +125,7 @@ impl Encoder {
         message(bits)
     }
 
-    /// The octets of the message (X.691 11.1), at least one, as `output` takes them. What is open is let go first.
+    /// Takes the octets of the message (X.691 11.1), at least one, as `output` does, after it drops what is open.
     ///
     /// # Errors
     ///
@@ -143,7 +143,8 @@ impl Encoder {
     }
 }
 
-// One call: `AlreadyFailed` after a refusal, else what is written of its record, and after a refusal no more.
+// One call: `AlreadyFailed` if an earlier call failed, else what its record writes. After an error the encoder has
+// failed.
 macro_rules! record {
     ($encoder:ident, $written:expr) => {{
         begin_record(&mut $encoder.failed)?;

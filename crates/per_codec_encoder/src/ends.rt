@@ -1,4 +1,4 @@
-//! Ends of what is open.
+//! Ends of frames.
 ghost use Rattle.std.specs.Prelude.{◌≡◌, ◌<◌, ◌++◌, ◌∷◌, [], Bool, List, true, false, length, cond, IfOk, IfErr};
 ghost use Rattle.std.specs.Prelude.{MatchResult};
 ghost use Rattle.asn1_model.specs.Form.{is_any_present};
@@ -23,8 +23,8 @@ use per_codec_writing::push_open_type;
 use std::alloc::Global;
 use std::mem;
 
-/// Sets the extension bit at a place and adds the additions, if one is there (X.691 19.1 and 19.7 to 19.9). The
-/// only error is want of memory.
+/// Sets the extension bit and adds the additions, if one is present (X.691 19.1 and 19.7 to 19.9). The only error is
+/// `OutOfMemory`.
 fn push_extension(
     output: &mut Packing,
     variant: Variant,
@@ -47,8 +47,8 @@ fn push_extension(
     Ok(())
 }
 
-/// Ends a sequence or set behind its root, of which no addition is due: behind its root stand its additions, if one is
-/// there, and its extension bit is then set (X.691 19.1 and 19.7 to 19.9).
+/// Ends a sequence or set after its root, if no addition is due: if one is present, the additions follow the root,
+/// and the extension bit is set (X.691 19.1 and 19.7 to 19.9).
 #[inline(always)]
 fn end_additions(
     output: &mut Packing,
@@ -69,8 +69,8 @@ fn end_additions(
     Ok(())
 }
 
-/// Ends an open type: its bits stand behind their number of octets, and these behind what stands in front of it (X.691
-/// 11.2). The only error is want of memory.
+/// Ends an open type: appends its length determinant and its octets to what precedes it (X.691 11.2). The only error
+/// is `OutOfMemory`.
 #[inline(always)]
 fn end_open_type(output: &mut Packing, outer: Packing, variant: Variant) -> Result<(), EncodeError>
     ensures { MatchResult result (λ _. (around : List Frame)
@@ -82,7 +82,7 @@ fn end_open_type(output: &mut Packing, outer: Packing, variant: Variant) -> Resu
     Ok(())
 }
 
-/// Whether nothing of a frame is due, and nothing is written at its end.
+/// Whether nothing is due in a frame, and nothing is written at its end.
 #[inline(always)]
 pub(crate) fn is_complete(frame: &Frame) -> bool
     ensures complete { result ≡ true → (al : Bool) (fs : List Frame) (o : Packed)
@@ -112,7 +112,7 @@ pub(crate) fn is_complete(frame: &Frame) -> bool
     }
 }
 
-/// Ends what is innermost, as `end_scope` does.
+/// Ends the innermost frame, as `end_scope` does.
 fn end_taken(
     output: &mut Packing,
     frames: &mut Frames,
@@ -144,12 +144,12 @@ fn end_taken(
     }
 }
 
-/// Ends what is innermost: a sequence, set or group of which nothing is due (X.691 19), a list with all its members and
+/// Ends the innermost frame: a sequence, set or group with nothing due (X.691 19), a list with all its members and
 /// length determinants (X.691 20), a bag (X.691 22), an open type (X.691 11.2) or an alternative (X.691 23).
 ///
 /// # Errors
 ///
-/// `CallOutOfPlace` where nothing is open, or something of what is innermost is due; `OutOfMemory`.
+/// `CallOutOfPlace` if nothing is open, or something is due in the innermost frame; `OutOfMemory`.
 #[inline(always)]
 pub(crate) fn end_scope(
     output: &mut Packing,

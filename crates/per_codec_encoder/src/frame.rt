@@ -1,4 +1,4 @@
-//! What may be open.
+//! What may be open: the frames.
 ghost use Rattle.std.specs.Prelude.{◌≡◌, ◌+◌, length};
 ghost use Rattle.per_codec_packing.specs.Packed.{solid};
 
@@ -7,17 +7,17 @@ use per_codec_additions::Slots;
 use per_codec_packing::{Packing, Texts};
 use per_codec_writing::Due;
 
-/// A place in a text.
+/// A position in a text.
 #[derive(Clone, Copy, PartialEq, Eq)]
 pub(crate) struct Place {
-    /// How many bits stand in front.
+    /// The number of bits before it.
     pub bits: usize,
-    /// How many times padding that is left open stands in front.
+    /// The number of open paddings before it.
     pub paddings: usize,
 }
 
 impl Place {
-    /// The place behind a text.
+    /// The position after a text.
     pub(crate) fn end_of(text: &Packing) -> Self
         ensures bits { result.bits ≡ length (solid text.now.text) }
         ensures all { result.bits + result.paddings ≡ length text.now.text }
@@ -32,58 +32,58 @@ impl Place {
 /// What is open.
 #[derive(Drop)]
 pub(crate) enum Frame {
-    /// A sequence, a set or a group of additions.
+    /// A sequence, a set or an extension addition group.
     Components {
         /// Whether it has an extension bit.
         extensible: bool,
-        /// How many presence bits are due.
+        /// The number of presence bits still due.
         due: usize,
-        /// How many were given.
+        /// The number of presence bits given.
         given: usize,
-        /// Where its preamble begins.
+        /// The start of its preamble.
         start: Place,
     },
-    /// A sequence or a set behind its root.
+    /// A sequence or a set after its root.
     Added(Additions),
-    /// An addition or an added alternative, whose bits stand alone.
+    /// An addition or an added alternative, whose bits are kept apart.
     OpenType {
-        /// What stands in front of it.
+        /// What precedes it.
         outer: Packing,
     },
     /// A list, and what is due of its members.
     Members(Due),
-    /// A bag, whose members are kept until it ends. It stands apart, as it is larger than the others.
+    /// A bag, whose members are stored until it ends. It is boxed because it is larger than the others.
     Bag(Box<Bag>),
-    /// An alternative of the root.
+    /// A root alternative of a choice.
     Alternative,
 }
 
-/// The additions of a sequence or a set, which are kept until it ends.
+/// The extension additions of a sequence or a set, which are stored until it ends.
 #[derive(Drop)]
 pub(crate) struct Additions {
-    /// How many are due.
+    /// The number of additions still due.
     pub due: usize,
-    /// How many presence bits the preamble has.
+    /// The number of presence bits in the preamble.
     pub given: usize,
-    /// Where the preamble begins.
+    /// The start of the preamble.
     pub start: Place,
-    /// Where the root ends.
+    /// The end of the root.
     pub end: Place,
-    /// Those that were told: the bits of each that is there.
+    /// The additions so far: the bits of each that is present.
     pub slots: Slots,
 }
 
-/// A bag. Each of its members stands alone until the bag ends, which puts them in their order (X.691 22).
+/// A bag. Its members are kept apart until the bag ends, which orders them (X.691 22).
 #[derive(Drop)]
 pub(crate) struct Bag {
-    /// What stands in front of it.
+    /// What precedes it.
     pub outer: Packing,
-    /// How many members its size constraint admits.
+    /// The counts that its size constraint admits.
     pub sizes: Sizes,
-    /// How many members the program's type holds.
+    /// The counts that the Rust type holds.
     pub held: Bounded<usize>,
-    /// How many are due.
+    /// The number of members still due.
     pub due: usize,
-    /// The members in front of the open one, if one is open.
+    /// The members before the open one; `None` if no member is open.
     pub members: Option<Texts>,
 }

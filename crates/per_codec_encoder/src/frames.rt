@@ -1,4 +1,4 @@
-//! What is open, from the outermost on.
+//! The open frames, outermost first.
 ghost use Rattle.std.specs.Prelude.{◌≡◌, ◌++◌, ◌∷◌, [], Bool, None, true, false, OnOk, IfErr, MatchResult};
 ghost use Rattle.std.specs.Prelude.{option_to_list};
 ghost use Rattle.asn1_schema_presented.specs.Records.{addition, addition_ends, additions_begin, ends, further};
@@ -21,14 +21,13 @@ use std::alloc::{AllocError, Global};
 use std::marker::Model;
 use std::mem;
 
-/// What is open, from the outermost on. An open type that is innermost of all stands apart until something opens within
-/// it.
+/// The open frames, outermost first. An open type that is innermost is stored apart until something opens in it.
 #[derive(Drop)]
 pub(crate) struct Frames {
-    // What stands in front of the open type that is innermost, if one is.
+    // What precedes the innermost open type, if that is the innermost frame.
     enclosing: Option<Packing>,
     nested: Nested,
-    // Memory of the bits of an open type that has ended, for the next one.
+    // The buffer of an open type that has ended, for the next one.
     room: Vec<u8>,
 }
 
@@ -42,7 +41,7 @@ impl Model for Frames {
     ghost view = { λ f. enclosed f.enclosing f.nested };
 }
 
-/// Moves an open type that is innermost to the other frames.
+/// Moves an innermost open type to the other frames.
 #[inline(always)]
 fn settle(enclosing: &mut Option<Packing>, nested: &mut Nested) -> Result<(), AllocError>
     ensures none { OnOk result (enclosing.new ≡ None) }
@@ -58,7 +57,7 @@ fn settle(enclosing: &mut Option<Packing>, nested: &mut Nested) -> Result<(), Al
 }
 
 impl Frames {
-    /// Nothing is open. It takes no memory.
+    /// No open frames. It does not allocate.
     pub(crate) fn new(alloc: Global) -> Self
         ensures { result ≡ [] }
     {
@@ -69,7 +68,7 @@ impl Frames {
         }
     }
 
-    /// Leaves nothing open.
+    /// Closes all frames.
     #[inline(always)]
     pub(crate) fn clear(&mut self)
         ensures { self.new ≡ [] }
@@ -80,14 +79,14 @@ impl Frames {
         self.nested.clear();
     }
 
-    /// Lets all go that is open.
+    /// Drops all frames.
     #[inline(always)]
     pub(crate) fn let_go(self) {
         let Frames { nested, .. } = self;
         nested.let_go();
     }
 
-    /// Opens a frame within what is innermost, which is let go where memory is refused.
+    /// Opens a frame inside the innermost one. That one is dropped if an allocation fails.
     #[inline(always)]
     pub(crate) fn push(&mut self, frame: Frame) -> Result<(), AllocError>
         ensures items { OnOk result (self.new ≡ self.old ++ frame ∷ []) }
@@ -97,12 +96,11 @@ impl Frames {
         Ok(())
     }
 
-    /// Opens an open type, whose bits stand alone, in room that an earlier one has left: what stands in front of it is
-    /// kept.
+    /// Opens an open type, whose bits are kept apart, in the buffer of an earlier one. What precedes it is stored.
     ///
     /// # Errors
     ///
-    /// Want of memory.
+    /// `AllocError` if memory ran out.
     #[inline(always)]
     pub(crate) fn open_type(
         &mut self,
@@ -118,7 +116,7 @@ impl Frames {
         Ok(())
     }
 
-    /// Takes what is innermost, if something is open.
+    /// Takes the innermost frame, if there is one.
     #[inline(always)]
     pub(crate) fn pop(&mut self) -> Option<Frame>
         ensures items { self.old ≡ self.new ++ option_to_list result }
@@ -133,7 +131,7 @@ impl Frames {
         }
     }
 
-    /// Ends what is innermost, if nothing of it is due and nothing is written at its end, and tells whether it did.
+    /// Ends the innermost frame, if nothing is due in it and nothing is written at its end. Returns whether it did.
     #[inline(always)]
     pub(crate) fn end_complete(&mut self) -> bool
         ensures ended { result ≡ true → (al : Bool) (o : Packed) → Does al ends self.old o self.new o }
@@ -145,12 +143,13 @@ impl Frames {
         self.nested.end_complete()
     }
 
-    /// Behind the root of the innermost sequence or set with an extension bit come so many additions (X.691 19.7).
+    /// Begins the `count` extension additions, after the root of the innermost sequence or set with an extension bit
+    /// (X.691 19.7).
     ///
     /// # Errors
     ///
-    /// `CallOutOfPlace` where no sequence or set with an extension bit is innermost, or a presence bit of it is due;
-    /// `OutOfMemory`.
+    /// `CallOutOfPlace` if the innermost frame is not a sequence or set with an extension bit, or a presence bit of
+    /// it is due; `OutOfMemory`.
     #[inline(always)]
     pub(crate) fn begin_additions(
         &mut self,
@@ -168,12 +167,12 @@ impl Frames {
         open_additions(output, &mut self.nested, alloc, count)
     }
 
-    /// Whether the next component is there, of those of the innermost sequence, set or group that may be absent (X.691
-    /// 19.2 and 19.3): its bit tells.
+    /// Sets the presence bit of the next component of the innermost sequence, set or group that may be absent (X.691
+    /// 19.2 and 19.3).
     ///
     /// # Errors
     ///
-    /// `CallOutOfPlace` where no sequence, set or group is innermost of which a presence bit is due.
+    /// `CallOutOfPlace` if the innermost frame is not a sequence, set or group with a presence bit due.
     #[inline(always)]
     pub(crate) fn encode_presence_bit(
         &mut self,
@@ -191,11 +190,12 @@ impl Frames {
         set_presence_bit(output, &mut self.nested, present)
     }
 
-    /// Whether a further member of the innermost list or bag comes: as many come as were told.
+    /// Begins a further member of the innermost list or bag if `more`, else expects none to be due.
     ///
     /// # Errors
     ///
-    /// `CallOutOfPlace` where no list or bag is innermost, or more or fewer members come than were told; `OutOfMemory`.
+    /// `CallOutOfPlace` if the innermost frame is not a list or bag, or there are more or fewer members than due;
+    /// `OutOfMemory`.
     #[inline(always)]
     pub(crate) fn encode_further(
         &mut self,
@@ -214,11 +214,12 @@ impl Frames {
         next_member(output, &mut self.nested, alloc, variant, more)
     }
 
-    /// Keeps the bits of an addition of the innermost sequence or set. Their memory is room for the next open type.
+    /// Stores the bits of an addition of the innermost sequence or set. Their buffer is reused for the next open
+    /// type.
     ///
     /// # Errors
     ///
-    /// `CallOutOfPlace` where no such type is innermost; `OutOfMemory`.
+    /// `CallOutOfPlace` if the innermost frame takes no addition; `OutOfMemory`.
     #[inline(always)]
     pub(crate) fn keep_addition(&mut self, contents: BitBuffer) -> Result<(), EncodeError>
         ensures ok { OnOk result (KeepsAddition contents self.old self.new) }
@@ -237,7 +238,7 @@ impl Frames {
     ///
     /// # Errors
     ///
-    /// `CallOutOfPlace` where no such type is innermost, or no addition of it is due; `OutOfMemory`.
+    /// `CallOutOfPlace` if the innermost frame takes no addition, or none is due; `OutOfMemory`.
     #[inline(always)]
     pub(crate) fn next_addition(&mut self, present: bool) -> Result<(), EncodeError>
         ensures ok { OnOk result (CountsAddition present self.old self.new) }

@@ -1,6 +1,5 @@
-//! The encoder of the packed encoding rules (X.691), unaligned and aligned, and what is open in it: sequences, sets
-//! and groups, lists, bags, additions and alternatives. What a writer of these rules holds from record to record
-//! (`step_laws`).
+//! The encoder of PER (X.691), unaligned and aligned, and the open parts of a value: sequences, sets, extension
+//! addition groups, SEQUENCE OF, SET OF, additions and alternatives. `step_laws` states the laws of its calls.
 #![tactic(auto)]
 
 mod additions;

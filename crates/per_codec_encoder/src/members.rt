@@ -1,4 +1,5 @@
-//! Lists, whose members stand behind their number, or in fragments behind length determinants (X.691 11.9 and 20).
+//! Lists, whose members follow a length determinant, or are in fragments after length determinants (X.691 11.9 and
+//! 20).
 ghost use Rattle.std.specs.Prelude.{◌≡◌, IfOk, MatchResult};
 ghost use Rattle.asn1_schema_presented.specs.Records.{list_begins};
 ghost use Rattle.asn1_schema_constraints.specs.Bounds.{members_of};
@@ -17,12 +18,12 @@ use per_codec_limits::Variant;
 use per_codec_packing::Packing;
 use per_codec_writing::{Due, push_heading, push_length_determinant};
 
-/// Begins a list with what stands in front of its members (X.691 20), if the size and the program's type allow so many.
+/// Begins a list with what precedes its members (X.691 20), if the size and the Rust type allow `count` of them.
 ///
 /// # Errors
 ///
-/// `SizeConstraintNotSatisfied` where the type does not hold so many, or a size without an extension marker does not
-/// admit them; `OutOfMemory`.
+/// `SizeConstraintNotSatisfied` if the Rust type does not hold that many members, or a size without an extension
+/// marker does not admit them; `OutOfMemory`.
 pub(crate) fn begin_members(
     output: &mut Packing,
     frames: &mut Frames,
@@ -43,8 +44,8 @@ pub(crate) fn begin_members(
     Ok(())
 }
 
-/// Adds a further length determinant of a list, in front of so many members (X.691 11.9.3.8). Few lists come to one.
-/// The only error is want of memory.
+/// Adds a further length determinant of a list with `count` members left (X.691 11.9.3.8). Few lists need one. The
+/// only error is `OutOfMemory`.
 #[cold]
 fn push_further_length_determinant(
     output: &mut Packing,
@@ -59,8 +60,8 @@ fn push_further_length_determinant(
     push_length_determinant(output, variant, count)
 }
 
-/// Adds the length determinant that stands in front of the next member or the end, if one does (X.691 11.9.3.8). The
-/// only error is want of memory.
+/// Adds the length determinant before the next member or the end, if one is due (X.691 11.9.3.8). The only error is
+/// `OutOfMemory`.
 #[inline(always)]
 fn push_next_length_determinant(
     output: &mut Packing,
@@ -79,12 +80,12 @@ fn push_next_length_determinant(
     }
 }
 
-/// Whether a further member of a list comes: as many come as were told, each fragment of them behind its length
+/// Begins a further member of a list if `more`, else expects none to be due. Each fragment follows its length
 /// determinant (X.691 11.9.3.8).
 ///
 /// # Errors
 ///
-/// `CallOutOfPlace` where more or fewer come; `OutOfMemory`.
+/// `CallOutOfPlace` if there are more or fewer members than due; `OutOfMemory`.
 #[inline(always)]
 pub(crate) fn next_of_list(
     output: &mut Packing,

@@ -1,4 +1,4 @@
-//! What is open but for an open type innermost of all, from the outermost on.
+//! The open frames, outermost first, except an innermost open type.
 ghost use Rattle.std.specs.Prelude.{◌≡◌, ◌++◌, ◌∷◌, [], Bool, List, MatchOption, OnOk, IfErr, true, false};
 ghost use Rattle.std.specs.Prelude.{option_to_list};
 ghost use Rattle.asn1_schema_presented.specs.Records.{addition, addition_ends, ends};
@@ -17,8 +17,8 @@ use std::alloc::{AllocError, Global};
 use std::marker::Model;
 use std::mem;
 
-/// What is open, from the outermost on. The innermost stands apart from those around it, so that no memory is taken
-/// before one is opened within another.
+/// The open frames, outermost first. The innermost one is stored apart, so that nothing is allocated before a frame
+/// opens in another.
 #[derive(Drop)]
 pub(crate) struct Nested {
     pub(crate) innermost: Option<Frame>,
@@ -37,7 +37,7 @@ impl Model for Nested {
 }
 
 impl Nested {
-    /// Nothing is open. It takes no memory before something is opened within another.
+    /// No open frames. It does not allocate before a frame opens in another.
     pub(crate) fn new(alloc: Global) -> Self
         ensures { result ≡ [] }
     {
@@ -47,7 +47,7 @@ impl Nested {
         }
     }
 
-    /// Leaves nothing open.
+    /// Closes all frames.
     #[inline(always)]
     pub(crate) fn clear(&mut self)
         ensures { self.new ≡ [] }
@@ -60,14 +60,14 @@ impl Nested {
         }
     }
 
-    /// Lets all go that is open.
+    /// Drops all frames.
     #[inline(always)]
     pub(crate) fn let_go(self) {
         let Nested { innermost, outer } = self;
         let_go(innermost, outer);
     }
 
-    /// Opens a frame within what is innermost, which is let go where memory is refused.
+    /// Opens a frame inside the innermost one. That one is dropped if an allocation fails.
     #[inline(always)]
     pub(crate) fn push(&mut self, frame: Frame) -> Result<(), AllocError>
         ensures items { OnOk result (self.new ≡ self.old ++ frame ∷ []) }
@@ -82,7 +82,7 @@ impl Nested {
         Ok(())
     }
 
-    /// Takes what is innermost, if something is open.
+    /// Takes the innermost frame, if there is one.
     #[inline]
     pub(crate) fn pop(&mut self) -> Option<Frame>
         ensures items { self.old ≡ self.new ++ option_to_list result }
@@ -94,7 +94,7 @@ impl Nested {
         mem::replace(&mut self.innermost, self.outer.pop())
     }
 
-    /// Lets go what is innermost.
+    /// Drops the innermost frame.
     #[inline(always)]
     fn leave(&mut self)
         ensures { (around : List Frame) (left : Frame) → self.old ≡ around ++ left ∷ [] → self.new ≡ around }
@@ -106,7 +106,7 @@ impl Nested {
         self.innermost = self.outer.pop();
     }
 
-    /// Ends what is innermost, if nothing of it is due and nothing is written at its end, and tells whether it did.
+    /// Ends the innermost frame, if nothing is due in it and nothing is written at its end. Returns whether it did.
     #[inline(always)]
     pub(crate) fn end_complete(&mut self) -> bool
         ensures ended { result ≡ true → (al : Bool) (o : Packed) → Does al ends self.old o self.new o }
@@ -122,7 +122,7 @@ impl Nested {
         true
     }
 
-    /// What is innermost, if something is open.
+    /// The innermost frame, if there is one.
     #[inline(always)]
     pub(crate) fn innermost(&self) -> Option<&Frame>
         ensures { MatchOption result (self.now ≡ [])
@@ -131,7 +131,7 @@ impl Nested {
         self.innermost.as_ref()
     }
 
-    /// Puts another in the place of what is innermost.
+    /// Replaces the innermost frame.
     #[inline(always)]
     pub(crate) fn replace(&mut self, frame: Frame)
         ensures within { (around : List Frame) (replaced : Frame) → self.old ≡ around ++ replaced ∷ []
@@ -141,11 +141,11 @@ impl Nested {
         self.innermost = Some(frame);
     }
 
-    /// Keeps the bits of an addition of the innermost sequence or set.
+    /// Stores the bits of an addition of the innermost sequence or set.
     ///
     /// # Errors
     ///
-    /// `CallOutOfPlace` where no such type is innermost; `OutOfMemory`.
+    /// `CallOutOfPlace` if the innermost frame takes no addition; `OutOfMemory`.
     #[inline(always)]
     pub(crate) fn keep_addition(&mut self, contents: &BitBuffer) -> Result<(), EncodeError>
         ensures ok { OnOk result (KeepsAddition contents.now self.old self.new) }
@@ -163,7 +163,7 @@ impl Nested {
     ///
     /// # Errors
     ///
-    /// `CallOutOfPlace` where no such type is innermost, or no addition of it is due; `OutOfMemory`.
+    /// `CallOutOfPlace` if the innermost frame takes no addition, or none is due; `OutOfMemory`.
     #[inline(always)]
     pub(crate) fn next_addition(&mut self, present: bool) -> Result<(), EncodeError>
         ensures ok { OnOk result (CountsAddition present self.old self.new) }

@@ -3,7 +3,7 @@ ghost use Rattle.std.specs.Prelude.{◌≡◌};
 
 use per_codec_limits::Variant;
 
-/// How values are written: in which variant of the packed encoding rules.
+/// Options of an encoder: the variant of PER.
 #[derive(Clone, Copy, Debug)]
 pub struct EncoderOptions {
     variant: Variant,

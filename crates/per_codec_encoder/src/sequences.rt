@@ -1,4 +1,4 @@
-//! Sequences, sets and groups, with the places of their preambles, and members of lists and bags.
+//! Sequences, sets and groups, with the positions of their preambles, and members of lists and bags.
 ghost use Rattle.std.specs.Prelude.{◌≡◌, Bool, List, [], ◌∷◌, ◌++◌, ◌+◌, ◌≤◌, ◌^◌, cond, MatchOption, MatchResult};
 ghost use Rattle.asn1_schema_presented.specs.Records.{sequence_begins, presence_bit, further};
 ghost use Rattle.per_codec_encoder.specs.declared.frame.Frame.{Frame};
@@ -15,7 +15,7 @@ use per_codec_limits::Variant;
 use per_codec_packing::Packing;
 use std::alloc::Global;
 
-/// Where the components of a sequence begin whose preamble begins at a bit, if 64 bits hold that place.
+/// The position after a preamble that begins at a bit, if it fits in 64 bits.
 fn preamble_end(start: usize, extensible: bool, optional: usize) -> Option<usize>
     ensures { MatchOption result (2 ^ 64 ≤ start + (cond extensible 1 0 + optional))
         (λ end. end ≡ start + (cond extensible 1 0 + optional)) }
@@ -25,11 +25,11 @@ fn preamble_end(start: usize, extensible: bool, optional: usize) -> Option<usize
         .checked_add(usize::from(extensible))
 }
 
-/// Begins a sequence, a set or a group of additions, with its preamble (X.691 19.1 to 19.3), in which no bit is set.
+/// Begins a sequence, a set or an extension addition group with its preamble (X.691 19.1 to 19.3), all bits zero.
 ///
 /// # Errors
 ///
-/// `OutOfMemory`, and no other.
+/// Only `OutOfMemory`.
 #[inline]
 pub(crate) fn begin_components(
     output: &mut Packing,
@@ -55,11 +55,11 @@ pub(crate) fn begin_components(
     Ok(())
 }
 
-/// Whether the next component is there, of those that may be absent (X.691 19.2 and 19.3): its bit tells.
+/// Sets the presence bit of the next component that may be absent (X.691 19.2 and 19.3).
 ///
 /// # Errors
 ///
-/// `CallOutOfPlace` where no sequence, set or group is innermost of which a presence bit is due.
+/// `CallOutOfPlace` if the innermost frame is not a sequence, set or group with a presence bit due.
 #[inline(always)]
 pub(crate) fn set_presence_bit(
     output: &mut Packing,
@@ -92,7 +92,7 @@ pub(crate) fn set_presence_bit(
     Ok(())
 }
 
-/// Whether a further member of a list or a bag comes, which is innermost.
+/// Begins a further member of the innermost frame, a list or bag, if `more`, else expects none to be due.
 #[inline(always)]
 fn next_of_frame(
     output: &mut Packing,
@@ -115,11 +115,12 @@ fn next_of_frame(
     }
 }
 
-/// Whether a further member of a list or a bag comes: as many come as were told.
+/// Begins a further member of a list or bag if `more`, else expects none to be due.
 ///
 /// # Errors
 ///
-/// `CallOutOfPlace` where no list or bag is innermost, or more or fewer members come than were told; `OutOfMemory`.
+/// `CallOutOfPlace` if the innermost frame is not a list or bag, or there are more or fewer members than due;
+/// `OutOfMemory`.
 #[inline(always)]
 pub(crate) fn next_member(
     output: &mut Packing,

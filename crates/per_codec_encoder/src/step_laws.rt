@@ -1,5 +1,6 @@
-//! What a writer of the packed encoding rules (X.691), aligned or not, holds from record to record, and that the
-//! records of a value add just its canonical bits. Each function does nothing: its contract is a law.
+//! Laws of the writer of PER (X.691), aligned or not: its state after each record, and that the records of a value
+//! add exactly its canonical bits. A record is one call of an encoder, with its value. The functions do nothing: each
+//! contract is a law.
 
 ghost use Rattle.std.specs.Prelude.{Bool};
 ghost use Rattle.asn1_schema_presented.specs.Records.{Record};
@@ -9,63 +10,63 @@ ghost use Rattle.per_codec_encoder.specs.Ties.{ChainsAddTheTexts, EveryTypeBridg
 ghost use Rattle.per_codec_encoder.specs.Written.{IsWriter, RefusedByRecords, RefusesOnlyNone, WritesTheOctets};
 ghost use Rattle.per_codec_encoder.specs.Written.{WrittenByRecords};
 
-/// The records of each value of each type add its text to that which is there, and are refused where it has none.
+/// The records of each value of each type append the value's text. They are refused if it has none.
 pub fn every_type_bridges()
     ensures { EveryTypeBridges }
 {}
 
-/// A text at a known position is the bits that are written there, and one at an unknown position tells those at each.
+/// A text at a known position is the bits that are written there; one at an unknown position determines those at each
+/// position.
 pub fn texts_are_written()
     ensures { TextsAreWritten }
 {}
 
-/// A chain of steps by the records of a value leads just from what is held to the same with the text of the value
-/// behind it.
+/// The records of a value lead from a state exactly to the state with the value's text appended.
 pub fn chains_add_the_texts()
     ensures { ChainsAddTheTexts }
 {}
 
-/// The records of a value, from nothing on and padded to octets, are its message, and are refused where it has none
-/// (X.691 11.1).
+/// The records of a value, from the empty state and padded to octets, are its message. They are refused if it has
+/// none (X.691 11.1).
 pub fn messages_are_theirs()
     ensures { MessagesAreTheirs }
 {}
 
-/// From nothing the records of a value lead just to its bits, in whatever depth its type is unfolded.
+/// From the empty state, the records of a value lead exactly to its bits, at whatever depth its type is unfolded.
 pub fn written_by_records()
     ensures { WrittenByRecords }
 {}
 
-/// The records of a value are refused for another reason than memory just where it has no bits.
+/// The records of a value are refused, other than for memory, exactly if it has no bits.
 pub fn refused_by_records()
     ensures { RefusedByRecords }
 {}
 
-/// What takes records, and holds what a writer does.
+/// Something that takes records, and has the state of a writer.
 pub trait Writer {
-    /// How what there is before a record and behind it go together.
+    /// The steps: how a record relates what is before and after it.
     ghost step: { Self → Record → Self → Type 0 };
 
     /// Whether it writes the aligned variant.
     ghost aligned: { Self → Bool };
 
-    /// What is held.
+    /// Its state.
     ghost held: { Self → State };
 
     /// No record was refused.
     ghost ready: { Self → Type 0 };
 
-    /// The steps are those of a writer, and none of them is missing.
+    /// The steps are exactly those of a writer.
     ghost is_writer: { IsWriter step aligned held ready };
 }
 
-/// A writer that held nothing holds the canonical encoding of a value behind its records, once it is padded to
+/// From the empty state, a writer has the canonical encoding of a value after its records, once it is padded to
 /// octets (X.691 11.1).
 pub fn writes_the_octets<W: Writer>()
     ensures { WritesTheOctets W.step W.aligned W.held }
 {}
 
-/// A writer refuses a value for another reason than memory only where that has no canonical encoding.
+/// A writer refuses a value, other than for memory, only if that has no canonical encoding.
 pub fn refuses_only_none<W: Writer>()
     ensures { RefusesOnlyNone W.step W.aligned W.held W.ready }
 {}
@@ -75,7 +76,7 @@ pub fn octet_rows()
     ensures { OctetRows }
 {}
 
-/// The states behind some records: counts, length determinants of fragments, gaps, and what is refused.
+/// The states after some records: counts, length determinants of fragments, padding, and refusals.
 pub fn state_rows()
     ensures { StateRows }
 {}

@@ -1,4 +1,5 @@
--- Sequences with an extension bit, as a reader finds them: what a bitmap tells, of the type's own additions and of unknown ones.
+-- Sequences with an extension bit, as a reader finds them: what a bitmap says of the type's additions and of unknown
+-- ones.
 use Rattle.std.proofs.Common.{◌≡◌, ◌⊎◌, inl, inr, ℕ, suc, not, Bool, true, false, cond, IsTrue, List, [], ◌∷◌, ◌++◌, length, drop, map, Option, Some, None, refl, ap, sym, ◌∙◌, subst}
 use Rattle.std.proofs.lemmas.List.{append-nil}
 use Rattle.asn1_model.specs.Value.{Parts, end, absent, present}
@@ -33,7 +34,7 @@ module _ (free : Per.Freedom → Bool) (al : Bool) where
   told_of : (b : Bitmap) (xs all : Forms) → covered_by (λ os. Per.counted_octets al os) b xs ≡ Some all → Told xs all
   told_of b xs all e = bitmaps.told_of free (λ os. Per.counted_octets al os) (λ os ps. counted_octets_alike free al os ps) b xs all e
 
-  -- ---- texts one behind the other
+  -- ---- texts in sequence
   append_join : (xs : Forms) (ys : List Per.BitForm) → (start mid rest : Place) → Front free (joined (present_ones xs)) start mid → Front free (joined ys) mid rest → Front free (joined (present_ones xs ++ ys)) start rest
   append_join [] ys start mid rest f g = subst (λ l. Front free (joined ys) l rest) (of_nothing free start mid f) g
   append_join (None ∷ xs) ys start mid rest f g = append_join xs ys start mid rest f g
@@ -49,7 +50,7 @@ module _ (free : Per.Freedom → Bool) (al : Bool) where
       let r = append_split xs ys q.0 rest q.2 in
       (r.0, join free x (joined (present_ones xs)) start q.0 r.0 q.1 r.1, r.2)
 
-  -- ---- a bitmap of which a bit is set, or none
+  -- ---- a bitmap with a bit set, or none
   shown_in : (t : Bool) (x : Per.BitForm) (start rest : Place) → (t ≡ true) ⊎ IsTrue (free Per.empty_bitmap) → Front free x start rest → Front free (cond t x (varied Per.empty_bitmap false (λ e. only_if e x))) start rest
   shown_in true x start rest d f = f
   shown_in false x start rest (inl e) f = cc
@@ -70,7 +71,7 @@ module _ (free : Per.Freedom → Bool) (al : Bool) where
   abbrev shown : Forms → Per.BitForm
   shown xs = Per.normally_few al (map Per.flag xs)
 
-  -- what a reader finds of such a form
+  -- what a reader finds for such a form
   abbrev Without : List Bool → Per.BitForm → Forms → Place → Place → Type 0
   Without ms y xs start rest = (mid : Place) × (is_any_present xs ≡ false) × Front free (exactly (false ∷ ms)) start mid × Front free y mid rest
 

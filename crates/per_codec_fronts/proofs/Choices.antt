@@ -1,4 +1,4 @@
--- Choices, as a reader finds them: an alternative by its place.
+-- Choices, as a reader finds them: an alternative by its index.
 use Rattle.std.proofs.Common.{◌≡◌, ℕ, zero, suc, ◌<◌, ◌-◌, Bool, true, false, List, [], ◌∷◌, length, refl, ap, sym, ◌∙◌, subst, arith}
 use Rattle.std.proofs.lemmas.Bool.{lt-ltb, and_parts}
 use Rattle.asn1_model.specs.Value.{Value, chosen, same}
@@ -30,7 +30,7 @@ EachFinds al free others = EachAlternative (λ s. Finds al free s) others
 abbrev EachShows : Bool → (Per.Freedom → Bool) → Alternatives → Type 0
 EachShows al free others = EachAlternative (λ s. Shows al free s) others
 
--- another value that is the same up to the order of bags, so itself where no alternative has one
+-- another value that is equal up to the order in SET OF, so itself if no alternative has a SET OF
 abbrev LikeChosen : Alternatives → Value → Value → Type 0
 LikeChosen others v w = (same v w ≡ true) × (are_no_bags others ≡ true → w ≡ v)
 

@@ -1,4 +1,4 @@
--- Fronts of forms put together, and what is noted behind a component.
+-- Compositions of forms at the start of the bits, and what is noted after a component.
 use Rattle.std.proofs.Common.{◌≡◌, ◌⊎◌, inl, inr, ◌↔◌, ℕ, ◌+◌, Bool, true, false, cond, IsTrue, List, [], ◌∷◌, ◌++◌, length, Option, Some, None, refl, ap, sym, ◌∙◌, subst, append_assoc, length-append, arith}
 use Rattle.asn1_model.specs.Value.{Value}
 use Rattle.asn1_model.specs.Schema.{Presence, Schema}
@@ -14,19 +14,19 @@ use Rattle.per_codec_fronts.specs.Ties.{Bridges}
 use Rattle.asn1_schema_finding.proofs.Alike.{Like, like_itself, noted_by, noted_same}
 use Rattle.per_codec_fronts.proofs.Next.{place_same, state_same}
 
--- the records of a value are found where the bits have its form
+-- the records of a value are found if the bits have its form
 abbrev pub Finds : Bool → (Per.Freedom → Bool) → Schema → Type 0
 Finds al free s = (v : Value) (a b : State) → Chain (Takes al free) (presents s v) a b → Found free (Per.form al s v) a b
 
--- and bits of its form show the records of one that is like it
+-- and if bits have its form, the records are found of a value like it
 abbrev pub Shows : Bool → (Per.Freedom → Bool) → Schema → Type 0
 Shows al free s = (v : Value) (a b : State) → Found free (Per.form al s v) a b → (w : Value) × Like s v w × Chain (Takes al free) (presents s w) a b
 
--- where both go by the very value
+-- if both are about the very value
 pub by_itself : (al : Bool) (free : Per.Freedom → Bool) (s : Schema) → ((v : Value) → Bridges al free s v) → Finds al free s × Shows al free s
 by_itself al free s h = (λ v a b c. (h v a b).0 c, λ v a b f. (v, like_itself s v, (h v a b).1 f))
 
--- the form that goes with what is noted behind a component
+-- the form that belongs to what is noted after a component
 abbrev pub spelled_by : Bool → Bool → Per.BitForm → Per.BitForm
 spelled_by d g x = cond d (varied Per.default_spelled_out false (λ b. only_if b x)) (cond g (varied Per.empty_group false (λ b. only_if b x)) x)
 
@@ -95,7 +95,7 @@ module _ (free : Per.Freedom → Bool) where
   if_in true x a b e f = f
   if_in false x a b e f = cc
 
-  -- what a freedom alone lets through
+  -- what only a freedom allows
   pub let_through : (c : Per.Freedom) (e : Bool) (x : Per.BitForm) (p : ℕ) (w : List Bool) → ((e ≡ false) ⊎ IsTrue (free c)) → Reads free (only_if e x) p w → IsTrue (free c) × Reads free x p w
   unfolding Reads
   let_through c true x p w (inl d) r = cc
@@ -120,7 +120,7 @@ module _ (free : Per.Freedom → Bool) where
     pub from_scopes : (rs : List Record) (a b : State) (k : List Scope) → a.1 ≡ k → Chain Step rs a b → Chain Step rs (a.0, k) b
     from_scopes rs a b k e c = from_state rs a b a.0 k (state_same a (a.0, k) refl e) c
 
-    -- ---- what is noted behind a component
+    -- ---- what is noted after a component
     pub noted_in : (d g : Bool) (x : Per.BitForm) (a m b : State) → Found free x a m → Chain Step (noted_by d g) m b → Found free (spelled_by d g x) a b
     unfolding Reads
     noted_in true g x a m b f c = subst (λ s. Found free (spelled_by true g x) a s) (sym (c.2 ∙ c.1.1)) (record { text = f.0.text; has_form = (true, inr c.1.0, f.0.has_form); in_front = f.0.in_front; moved = f.0.moved }, f.1)
@@ -139,7 +139,7 @@ module _ (free : Per.Freedom → Bool) where
         ((record { text = f.0.text; has_form = t.1; in_front = f.0.in_front; moved = f.0.moved }, f.1), (b, (t.0, refl), refl))
     noted_out false false x a b f = (f, refl)
 
-    -- a component that is there, and what is noted behind it
+    -- a component that is present, and what is noted after it
     pub there_in : (s : Schema) (v : Value) → Finds al free s → (d g : Bool) (a b : State) → Chain Step (presents s v ++ noted_by d g) a b → Found free (spelled_by d g (Per.form al s v)) a b
     there_in s v h d g a b c =
         let q = chain_split Step (presents s v) (noted_by d g) a b c in

@@ -1,4 +1,4 @@
--- Lists and bags, as a reader finds them: members behind their number, or in fragments, each behind its length determinant.
+-- Lists and bags, as a reader finds them: members after a count, or in fragments, each after its length determinant.
 use Rattle.std.proofs.Common.{◌≡◌, ◌⊎◌, inl, inr, ◌≤◌, ℕ, zero, suc, ◌+◌, ◌-◌, ◌*◌, not, ltb, leb, ◌&&◌, Bool, true, false, cond, IsTrue, List, [], ◌∷◌, ◌++◌, length, take, drop, replicate, Option, Some, None, refl, ap, sym, ◌∙◌, subst, append_assoc, arith}
 use Rattle.std.proofs.lemmas.List.{append-nil}
 use Rattle.std.proofs.lemmas.Bool.{and_parts, and_from, leb-true, le-leb}
@@ -32,7 +32,7 @@ each_long : {X : Type 0} (f : Value → X) (vs : Values) → length (each f vs) 
 each_long f no_more = refl
 each_long f (member v vs) = ap suc (each_long f vs)
 
--- a length determinant is not asked for where none of its members is due
+-- a length determinant is read only if some of its members are due
 abbrev Ready : ℕ → Option Tally → Type 0
 Ready zero (Some t) = ⊥
 Ready n hs = Unit {0}
@@ -153,7 +153,7 @@ module _ (free : Per.Freedom → Bool) (al : Bool) where
     is_more no_more = false
     is_more (member v vs) = true
 
-    -- the records behind whether a further member comes
+    -- the records after whether a further member comes
     abbrev tail : Values → List Record
     tail no_more = ends ∷ []
     tail (member v vs) = presents s v ++ calls vs
@@ -197,7 +197,7 @@ module _ (free : Per.Freedom → Bool) (al : Bool) where
     members_in : Finds al free s → (vs : Values) (d : ℕ) (hs : Option Tally) (m b : State) (k : List Scope) → m.1 ≡ members d hs ∷ k → Chain (Step free al) (calls vs) m b → Rest d hs (forms vs) m.0 b.0 × (b.1 ≡ k)
     members_in h vs d hs m b k e c = goes_in h vs d hs m.0 k b (from_scopes free al (calls vs) m b (members d hs ∷ k) e c)
 
-    -- as many members, that are like these
+    -- this number of members, which are like these
     abbrev Likes : Values → Values → Type 0
     Likes vs ws = LikeMembers s vs ws × (member_count ws ≡ member_count vs)
 
@@ -251,7 +251,7 @@ module _ (free : Per.Freedom → Bool) (al : Bool) where
     goes_out h no_more d hs a k b r e = from_out h no_more tt d hs a k b r e
     goes_out h (member v vs) d hs a k b r e = from_out h (member v vs) (λ d hs. goes_out h vs d hs) d hs a k b r e
 
-  -- ---- what stands in front of members
+  -- ---- what precedes members
   abbrev Start : Size → Counts → Bool → Tally
   Start z h out = record { size = z; held = h; outside = out; sizes = [] }
 
@@ -271,7 +271,7 @@ module _ (free : Per.Freedom → Bool) (al : Bool) where
       by_variant true = refl
       by_variant false = refl
 
-  -- what is read of a list behind the extension bit of its size
+  -- what is read of a list after the extension bit of its size
   abbrev counts_form : Size → Bool → Option ℕ → List Per.BitForm → Per.BitForm
   counts_form z out high us = cond out (Per.counted al us) (Per.sized_root al z.counts high (λ c. false) us)
 

@@ -1,4 +1,4 @@
--- The records of a value in front of octets, and the padding of a message behind them.
+-- The records of a value at the start of octets, and the padding of a message after them.
 use Rattle.std.proofs.Common.{◌≡◌, ◌≤◌, ℕ, ◌+◌, ◌*◌, Bool, true, false, IsTrue, List, [], ◌++◌, length, take, drop, refl, ap, sym, ◌∙◌, subst, append_assoc, length-append, arith}
 use Rattle.std.proofs.lemmas.List.{append_cancel_right, length-take, take-append-drop}
 use Rattle.std.proofs.lemmas.Grind.{flat_map-append}
@@ -24,7 +24,7 @@ use Rattle.per_codec_fronts.proofs.Whole.{records_read, forms_show}
 octets_long : (os : List ℕ) → length (octet_bits os) ≡ 8 * length os
 octets_long os = let e = joined_long (λ c. false) [] os 0 refl in omega (arith, e)
 
--- bits behind whole octets of these are octets of them
+-- bits after whole octets of these are octets of them
 behind_octets : (os : List ℕ) (k : ℕ) (t u : List Bool) → length t ≡ 8 * k → t ++ u ≡ octet_bits os → (length (take k os) ≡ k) × (u ≡ octet_bits (drop k os))
 behind_octets os k t u h e =
     let a = octets_long os in
@@ -38,7 +38,7 @@ behind_octets os k t u h e =
     (m, sym (drop-append_seam t u) ∙ ap (drop (length t)) (e ∙ sym parts) ∙ ap (λ i. drop i (octet_bits (take k os) ++ octet_bits (drop k os))) (sym l) ∙ drop-append_seam (octet_bits (take k os)) (octet_bits (drop k os)))
 
 module _ (al : Bool) (free : Per.Freedom → Bool) (other : IsTrue (free Per.other_bitmap)) where
-  -- a message in front has records that are found
+  -- if a message comes first, records are found
   pub message_out : (s : Schema) (v : Value) (w rest : List ℕ) → IsTrue (is_lawful s) → Reads free (Per.message al s v) 0 (octet_bits w) → (u : Value) × (same v u ≡ true) × FoundFirst al free s u w rest
   unfolding Per.message Per.complete Reads
   message_out s v w rest l r =
@@ -52,7 +52,7 @@ module _ (al : Bool) (free : Per.Freedom → Bool) (other : IsTrue (free Per.oth
   fits : (s : Schema) (v : Value) (a b : State) → Chain (Takes al free) (presents s v) a b → Fits s v
   fits s v a b c = records_fit _ _ (λ a b m. m) s v a b c
 
-  -- one place stands behind the records of whichever value is found
+  -- one position follows the records of whichever value is found
   pub padded : (s : Schema) (u v : Value) (w rest : List ℕ) (left : Place) → IsTrue (is_lawful s) → Reads free (Per.message al s v) 0 (octet_bits w) → Chain (Takes al free) (presents s u) ((0, octet_bits (w ++ rest)), []) (left, []) → Front free (completion left.0) left (8 * length w, octet_bits rest)
   padded s u v w rest left l r c =
       let t = message_out s v w rest l r in
@@ -62,7 +62,7 @@ module _ (al : Bool) (free : Per.Freedom → Bool) (other : IsTrue (free Per.oth
       subst (λ (p : Place). Front free (completion p.0) p (8 * length w, octet_bits rest)) (ap (λ (b : State). b.0) e.1) x.2
 
   module _ (order : IsTrue (free Per.other_order)) where
-    -- records that are found are of a message in front
+    -- records that are found belong to a message that comes first
     pub message_in : (s : Schema) (v : Value) (w rest : List ℕ) → FoundFirst al free s v w rest → Reads free (Per.message al s v) 0 (octet_bits w)
     unfolding Per.message Per.complete Reads
     message_in s v w rest r =
@@ -73,7 +73,7 @@ module _ (al : Bool) (free : Per.Freedom → Bool) (other : IsTrue (free Per.oth
         let all : f.text ++ g.text ≡ octet_bits w = append_cancel_right (f.text ++ g.text) (octet_bits w) (octet_bits rest) both in
         (f.text, f.has_form, subst (λ l. Reads free (Per.padded f.text) 0 l) all (padded_in free f.text g.text left.0 f.moved g.has_form))
 
-    -- where a message ends, an octet does
+    -- a message ends at an octet boundary
     pub ends_at_octet : (s : Schema) (v : Value) (os : List ℕ) (left after : Place) → Chain (Takes al free) (presents s v) ((0, octet_bits os), []) (left, []) → Front free (completion left.0) left after → (w : List ℕ) × (rest : List ℕ) × (w ++ rest ≡ os) × (after ≡ (8 * length w, octet_bits rest))
     unfolding Per.complete Reads
     ends_at_octet s v os left after c g =

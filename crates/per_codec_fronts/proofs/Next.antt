@@ -1,4 +1,4 @@
--- Of the records that answer a question one at most is next.
+-- Among the records that answer the same question at most one is next.
 use Rattle.std.proofs.Common.{◌≡◌, inl, inr, ◌≤◌, ℕ, ℤ, zero, suc, ◌+◌, ◌-◌, ◌*◌, not, ltb, Bool, true, false, cond, List, [], ◌∷◌, ◌++◌, length, map, drop, Option, Some, None, refl, ap, sym, ◌∙◌, subst, arith}
 use Rattle.std.proofs.lemmas.List.{append_cancel_left}
 use Rattle.std.proofs.lemmas.Bool.{and_parts, leb-true}
@@ -54,7 +54,7 @@ units_of : (bs : List Bool) → map Per.flag (map (λ b. flagged b) bs) ≡ Per.
 units_of bs = flag_units (map (λ b. flagged b) bs) ∙ ap (λ l. Per.bit_units l) (flags_back bs)
 
 module _ (free : Per.Freedom → Bool) where
-  -- fronts of forms that agree
+  -- prefixes of forms that agree
   pub same_fronts : {x y : Per.BitForm} {P : Type 0} → Alike free x y P → (a b c : Place) → Front free x a b → Front free y a c → P × (b ≡ c)
   same_fronts h a b c f g =
       let q = h.fronts a.0 f.text g.text b.1 c.1 f.has_form g.has_form (f.in_front ∙ sym g.in_front) in

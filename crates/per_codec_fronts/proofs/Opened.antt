@@ -1,4 +1,4 @@
--- Complete encodings and open types, as a reader finds them: the value's bits, their padding, and octets behind.
+-- Complete encodings and open types, as a reader finds them: the value's bits, their padding, and octets after them.
 use Rattle.std.proofs.Common.{◌≡◌, ℕ, zero, suc, ◌+◌, ◌*◌, Bool, List, [], ◌∷◌, ◌++◌, length, map, refl, ap, sym, ◌∙◌, subst, append_assoc, arith}
 use Rattle.asn1_model.specs.Numbers.{binary, octet_bits, packed, by_eights}
 use Rattle.asn1_model.specs.Form.{exactly, only_if, Reads}
@@ -16,7 +16,7 @@ octets_as_units [] = refl
 octets_as_units (o ∷ os) = ap (λ l. exactly (binary 8 o) ∷ l) (octets_as_units os)
 
 module _ (free : Per.Freedom → Bool) where
-  -- the padding of a value's bits stands behind them
+  -- the padding of a value's bits comes after them
   pub padded_in : (u padding : List Bool) (n : ℕ) → 0 + length u ≡ n → Reads free (completion n) n padding → Reads free (Per.padded u) 0 (u ++ padding)
   unfolding Per.padded Reads
   padded_in [] padding zero e r = r

@@ -68,11 +68,11 @@ module _ (free : Per.Freedom → Bool) (al : Bool) where
   strings k z l h v = none free al
 
   -- ---- components
-  -- what is read of root components: these presence bits, bits of this form, and then the records behind them
+  -- what is read of root components: these presence bits, bits of this form, and then the records after them
   abbrev RootRead : List Bool → Per.BitForm → List Record → Option Bool → List Bool → Place → List Scope → State → Type 0
   RootRead bs y rs x ms start k b = (mid : Place) × (more : List Bool) × (ms ≡ bs ++ more) × Front free y start mid × Chain (Step free al) rs (mid, components x more ∷ k) b
 
-  -- a chain that reads so, from any place and presence bits on
+  -- a chain that reads this, from any position and presence bits
   abbrev Goes : List Bool → Per.BitForm → List Record → List Record → Option Bool → List Scope → State → Type 0
   Goes bs y rs tail x k b = (ms : List Bool) (start : Place) → Chain (Step free al) tail (start, components x ms ∷ k) b → RootRead bs y rs x ms start k b
 

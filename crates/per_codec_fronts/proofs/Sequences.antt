@@ -1,4 +1,4 @@
--- Sequences, sets and groups, as a reader finds them: the preamble and the root, and additions behind a bitmap.
+-- Sequences, sets and groups, as a reader finds them: the preamble and the root, and additions after a bitmap.
 use Rattle.std.proofs.Common.{◌≡◌, ℕ, Bool, true, false, cond, List, [], ◌∷◌, ◌++◌, map, Option, Some, None, option_map, refl, ap, sym, ◌∙◌, subst}
 use Rattle.std.proofs.lemmas.List.{append-nil}
 use Rattle.asn1_model.specs.Value.{Value, Parts, end, absent, present}
@@ -68,7 +68,7 @@ module _ (free : Per.Freedom → Bool) (al : Bool) where
       begun_out false cs h ps (ends ∷ []) a b None q.0 b.0 refl q.1 q.2 (b, state_same b (b.0, a.1) refl f.1, refl)
 
   -- ---- additions
-  -- what is read of additions: those that these bits tell of, and unknown ones
+  -- what is read of additions: those of these bits, and unknown ones
   abbrev pub AddRead : Option (List (Option Per.BitForm)) → List Bool → List Bool → Place → List Scope → State → Type 0
   AddRead o ms us start k b = (xs : List (Option Per.BitForm)) × (mid : Place) × (o ≡ Some xs) × (map (λ a. is_some a) xs ≡ ms) × Front free (joined (present_ones xs)) start mid × Skips al free us mid b.0 × (b.1 ≡ k)
 
@@ -84,7 +84,7 @@ module _ (free : Per.Freedom → Bool) (al : Bool) where
   abbrev Its : Schema → Value → Bool → Bool → List Record
   Its s v d g = presents s v ++ (addition_ends ∷ noted_by d g)
 
-  -- an addition that is there, from its first bit to the last behind it
+  -- an addition that is present, from its first bit to the last one after it
   one_in : (s : Schema) (v : Value) → Finds al free s → (d g : Bool) (start : Place) (ms us : List Bool) (k : List Scope) (m n : State) → Opens al free start (added ms us ∷ k) m → Chain (Step free al) (Its s v d g) m n → Found free (Opening s v d g) (start, added ms us ∷ k) n
   one_in s v h d g start ms us k m n opens c =
       let os : List ℕ = opens.0 in
@@ -160,7 +160,7 @@ module _ (free : Per.Freedom → Bool) (al : Bool) where
       let t = map_parts o (λ xs. x ∷ xs) r.0 r.2 in
       (t.0, t.1, sym (ap (λ xs. map (λ a. is_some a) xs) t.2 ∙ r.3), r.1, subst (λ xs. Front free (joined (present_ones xs)) start r.1) (sym t.2) r.4, r.5, r.6)
 
-  -- unless it is required, an addition may be left out
+  -- unless it is required, an addition may be absent
   unless_required : (q : Bool) (o : Option (List (Option Per.BitForm))) (xs : List (Option Per.BitForm)) → cond q None o ≡ Some xs → (q ≡ false) × (o ≡ Some xs)
   unless_required true o xs e = cc
   unless_required false o xs e = (refl, e)

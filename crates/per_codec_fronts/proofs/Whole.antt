@@ -1,4 +1,5 @@
--- The laws of all types: the records of a value are found where the bits have its form, and bits of its form show those of one like it.
+-- The laws of all types: the records of a value are found if the bits have its form, and if bits have its form, those
+-- of a value like it.
 use Rattle.std.proofs.Common.{◌≡◌, ℕ, suc, Bool, Option, Some, None, true, false, IsTrue, List, [], ◌∷◌, length, refl, ap, subst}
 use Rattle.std.proofs.lemmas.Bool.{and_parts}
 use Rattle.asn1_model.specs.Value.{Value, fields, Parts, end, absent, present, same}
@@ -25,7 +26,7 @@ use Rattle.per_codec_fronts.proofs.Choices.{choice_finds, choice_shows}
 
 module _ (al : Bool) (free : Per.Freedom → Bool) (other : IsTrue (free Per.other_bitmap)) where
   -- ---- SEQUENCE and SET
-  -- records of components behind a first one, and the form of a value of them
+  -- records of components after a first one, and the form of a value of them
   abbrev Parted : Components → Bool → Components → Parts → Parts → State → State → Type 0
   Parted cs e adds ps qs m b = Chain (Step free al) (root_records cs ps (behind_root e adds (added_records adds qs))) m b
 

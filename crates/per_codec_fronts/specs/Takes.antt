@@ -1,6 +1,5 @@
--- What a reader of the packed encoding rules (X.691) holds: where it stands in the innermost message or open type, the
--- bits that are left of that, and the open scopes. Each record takes bits in front, of a form that the reader's
--- freedoms allow at that position.
+-- What a reader of PER (X.691) holds: its position in the innermost message or open type, the bits left in it, and
+-- the open scopes. Each record takes bits at the start, of a form that the reader's freedoms allow at that position.
 use Rattle.std.specs.Prelude.{◌≡◌, ◌⊎◌, ℕ, zero, suc, ◌+◌, ◌-◌, ◌*◌, ltb, leb, ◌&&◌, Bool, true, false, IsTrue, List}
 use Rattle.std.specs.Prelude.{[], ◌∷◌, ◌++◌, length, drop, map, replicate, Option, Some, None, option_map}
 use Rattle.asn1_model.specs.Value.{truth, nothing, number, item, bit_list, octet_list, text, arcs}
@@ -19,13 +18,13 @@ use Rattle.asn1_schema_presented.specs.Records.{additions_begin, addition, addit
 use Rattle.asn1_schema_finding.specs.PresenceBits.{preamble_bits, first_bits, is_any_set}
 use Rattle.per_codec_fronts.specs.Sizes.{extension_bit, told_highest}
 
--- How many bits stand in front since the beginning of the message or open type, and the bits that are left of it.
+-- The number of bits since the start of the message or open type, and the bits left in it.
 abbrev pub Place : Type 0
 Place = ℕ × List Bool
 
--- A list in fragments: its size, the counts that the program's type holds, the extension bit of the size, and how many
--- times 16384 members each fragment so far has (X.691 11.9.3.8). The number of members is judged at the end, where it
--- is known.
+-- A list in fragments: its size, the counts that the Rust type holds, the extension bit of the size, and the
+-- multiples of 16384 members of the fragments so far (X.691 11.9.3.8). The number of members is checked at the end,
+-- where it is known.
 pub record Tally : Type 0 where
   pub size : Size
   pub held : Counts
@@ -36,12 +35,12 @@ pub record Tally : Type 0 where
 pub data Scope : Type 0 where
   -- a sequence, set or group: its extension bit, if it has one, and the presence bits that are still to come
   components : Option Bool → List Bool → Scope
-  -- behind the root of such a type with an extension bit: the presence bits of its additions still to come, and of
-  -- unknown ones behind all of them
+  -- after the root of such a type with an extension bit: the presence bits of its additions still to come, and those
+  -- of unknown ones after them
   added : List Bool → List Bool → Scope
-  -- an addition, or an added alternative: its bits stand alone, and this is the place behind it
+  -- an addition, or an added alternative: only its bits are read, and this is the position after it
   open_type : Place → Scope
-  -- a list or bag: how many members are due, and what is known of it if a length determinant stands behind these
+  -- a list or bag: how many members are due, and what is known of it if a length determinant follows them
   members : ℕ → Option Tally → Scope
   -- an alternative of the root
   alternative : Scope
@@ -49,30 +48,31 @@ pub data Scope : Type 0 where
 abbrev pub State : Type 0
 State = Place × List Scope
 
--- Some bits in front have the form at their position, and the others are left.
+-- The bits begin with the form at their position, and the others are left.
 pub record Front (free : Per.Freedom → Bool) (x : Per.BitForm) (a b : Place) : Type 0 where
   pub text : List Bool
   pub has_form : Reads free x a.0 text
   pub in_front : text ++ b.1 ≡ a.1
   pub moved : a.0 + length text ≡ b.0
 
--- The same from one state to the next, in the same scopes.
+-- The same from one state to the next, with the same scopes.
 abbrev pub Found : (Per.Freedom → Bool) → Per.BitForm → State → State → Type 0
 Found free x a b = Front free x a.0 b.0 × (b.1 ≡ a.1)
 
 -- ---- lists and bags (X.691 20 and 22)
 
--- A count in the root of a size, or behind an extension bit that is set: only a reader with the freedom takes one of
--- the root there.
+-- A count in the root of a size, or after an extension bit of 1: only a reader with the freedom accepts one of the
+-- root there.
 abbrev pub InPlace : (Per.Freedom → Bool) → Bool → Bool → Type 0
 InPlace free false t = t ≡ true
 InPlace free true t = (t ≡ false) ⊎ IsTrue (free Per.root_told_outside)
 
--- So many members may there be: the program's type holds the count, and it is where the extension bit says.
+-- This number of members is allowed: the Rust type holds the count, and it is in or outside the root as the extension
+-- bit says.
 abbrev pub Admits : (Per.Freedom → Bool) → Size → Counts → Bool → ℕ → Type 0
 Admits free z h out n = (is_count_within h n ≡ true) × InPlace free out (is_count_within z.counts n)
 
--- How many members there are in fragments of these sizes, and so many behind them.
+-- The number of members in fragments of these sizes, and a number of members after them.
 abbrev pub in_all : List ℕ → ℕ → ℕ
 in_all [] n = n
 in_all (m ∷ ms) n = m * 16384 + in_all ms n
@@ -86,37 +86,37 @@ NextFragment al free t a b due hs =
     (m : ℕ) × ((leb 1 m && leb m 4) ≡ true) × Front free (Per.at_octet al (exactly (true ∷ true ∷ binary 6 m))) a b
     × (due ≡ m * 16384) × (hs ≡ Some (with_fragment m t))
 
--- The length behind all fragments, by which all members are counted (X.691 11.9.3.5 to 11.9.3.8).
+-- The length determinant after all fragments, with which all members are counted (X.691 11.9.3.5 to 11.9.3.8).
 abbrev pub LastLength : Bool → (Per.Freedom → Bool) → Tally → Place → Place → ℕ → Option Tally → Type 0
 LastLength al free t a b due hs =
     Admits free t.size t.held t.outside (in_all t.sizes due)
     × ((t.sizes ≡ Per.largest_first (in_all t.sizes due)) ⊎ IsTrue (free Per.other_fragments))
     × Front free (Per.short_length al due) a b × (hs ≡ None)
 
--- Either: so many members are due behind it, and then a length determinant where something is known of the list.
+-- Either: a number of members is due after it, and then a length determinant if something is known of the list.
 abbrev pub NextDeterminant : Bool → (Per.Freedom → Bool) → Tally → Place → Place → ℕ → Option Tally → Type 0
 NextDeterminant al free t a b due hs = NextFragment al free t a b due hs ⊎ LastLength al free t a b due hs
 
--- A list whose members stand behind their first length determinant (X.691 11.9).
+-- A list whose members follow their first length determinant (X.691 11.9).
 abbrev pub Headed : Bool → (Per.Freedom → Bool) → Size → Counts → Bool → Place → List Scope → State → Type 0
 Headed al free z h out a k b =
     (due : ℕ) × (hs : Option Tally)
     × NextDeterminant al free (record { size = z; held = h; outside = out; sizes = [] }) a b.0 due hs
     × (b.1 ≡ members due hs ∷ k)
 
--- A list whose members stand behind their number, which the bounds of its size tell (X.691 11.9.4.1).
+-- A list whose members follow a count that the bounds of its size determine (X.691 11.9.4.1).
 abbrev pub Numbered : Bool → (Per.Freedom → Bool) → Size → Counts → ℕ → Place → List Scope → State → Type 0
 Numbered al free z h high a k b =
     (n : ℕ) × Admits free z h false n × Front free (Per.constrained al (high - z.counts.low) (n - z.counts.low)) a b.0
     × (b.1 ≡ members n None ∷ k)
 
--- Behind their number where a highest count tells its form, else behind their first length determinant.
+-- After a count if an upper bound determines its form, else after a first length determinant.
 abbrev pub Counted : Bool → (Per.Freedom → Bool) → Size → Counts → Bool → Option ℕ → Place → List Scope → State → Type 0
 Counted al free z h out None a k b = Headed al free z h out a k b
 Counted al free z h out (Some high) a k b = Numbered al free z h high a k b
 
--- What stands in front of members. The record's own count is one that the program's type holds; that it is the true one
--- is known at the end.
+-- What precedes members. The record's count is one that the Rust type holds; that it is the right one is known at the
+-- end.
 abbrev pub ListBegins : Bool → (Per.Freedom → Bool) → Size → Counts → ℕ → State → State → Type 0
 ListBegins al free z h n a b =
     (is_count_within h n ≡ true) × (out : Bool) × (mid : Place) × Front free (extension_bit z.extensible out) a.0 mid
@@ -128,7 +128,7 @@ MemberDue v (suc n) hs a k b = (v ≡ true) × (b ≡ (a, members n hs ∷ k))
 MemberDue v zero None a k b = (v ≡ false) × (b ≡ (a, members zero None ∷ k))
 MemberDue v zero (Some t) a k b = ⊥
 
--- Whether members are still to come, behind the next length determinant where none is due before it.
+-- Whether members are still to come, after the next length determinant if none is due before it.
 abbrev pub NextMember : Bool → (Per.Freedom → Bool) → Bool → Place → List Scope → State → Type 0
 NextMember al free v a (members zero (Some t) ∷ k) b =
     (due : ℕ) × (hs : Option Tally) × (mid : Place) × NextDeterminant al free t a mid due hs
@@ -138,7 +138,7 @@ NextMember al free v a k b = ⊥
 
 -- ---- components (X.691 19 and 21)
 
--- The extension bit, if there is one, and so many presence bits (X.691 19.1 to 19.3).
+-- The extension bit, if there is one, and a number of presence bits (X.691 19.1 to 19.3).
 abbrev pub Begins : (Per.Freedom → Bool) → Bool → ℕ → State → State → Type 0
 Begins free e n a b =
     (x : Option Bool) × (ms : List Bool) × (is_some x ≡ e) × (length ms ≡ n)
@@ -151,9 +151,8 @@ NextPresenceBit v a k b = ⊥
 
 -- ---- additions
 
--- Behind the root components: where the extension bit is not set no addition is there, and where it is set a bitmap
--- tells which are. Those past its width are absent, and what stands past the type's own is unknown (X.691 19.7 and
--- 19.8).
+-- After the root components: if the extension bit is 0, no addition is present, and if it is 1, a bitmap says which
+-- are. Additions past its width are absent, and those past the type's additions are unknown (X.691 19.7 and 19.8).
 abbrev pub AdditionsBegin : Bool → (Per.Freedom → Bool) → ℕ → Place → List Scope → State → Type 0
 AdditionsBegin al free n a (components (Some false) [] ∷ k) b = b ≡ (a, added (first_bits n []) [] ∷ k)
 AdditionsBegin al free n a (components (Some true) [] ∷ k) b =
@@ -161,25 +160,24 @@ AdditionsBegin al free n a (components (Some true) [] ∷ k) b =
     × Front free (Per.normally_few al (Per.bit_units bs)) a b.0 × (b.1 ≡ added (first_bits n bs) (drop n bs) ∷ k)
 AdditionsBegin al free n a k b = ⊥
 
--- An open type begins: its octets stand behind their number, and positions are counted from their beginning (X.691
--- 11.2).
+-- An open type begins: its octets follow a length determinant, and positions are counted from its start (X.691 11.2).
 abbrev pub Opens : Bool → (Per.Freedom → Bool) → Place → List Scope → State → Type 0
 Opens al free a k b =
     (os : List ℕ) × (rest : Place) × Front free (Per.counted_octets al os) a rest
     × (b ≡ ((0, octet_bits os), open_type rest ∷ k))
 
--- The padding of so many bits in a complete encoding (X.691 11.1).
+-- The padding after a number of bits in a complete encoding (X.691 11.1).
 abbrev pub completion : ℕ → Per.BitForm
 completion zero = exactly (replicate 8 false)
 completion (suc n) = Per.padding (missing (suc n))
 
--- It ends: the value's bits are padded, and nothing is left behind them, or the reader takes octets there.
+-- It ends: the value's bits are padded, and nothing is left after them, or the reader accepts octets there.
 abbrev pub Closes : (Per.Freedom → Bool) → Place → Place → List Scope → State → Type 0
 Closes free a rest k b =
     (mid : Place) × (more : List ℕ) × Front free (completion a.0) a mid × (list_all is_octet more ≡ true)
     × (mid.1 ≡ octet_bits more) × ((more ≡ []) ⊎ IsTrue (free Per.octets_behind)) × (b ≡ (rest, k))
 
--- Whether the next addition is there.
+-- Whether the next addition is present.
 abbrev pub NextAddition : Bool → (Per.Freedom → Bool) → Bool → Place → List Scope → State → Type 0
 NextAddition al free v a (added (false ∷ ms) us ∷ k) b = (v ≡ false) × (b ≡ (a, added ms us ∷ k))
 NextAddition al free v a (added (true ∷ ms) us ∷ k) b = (v ≡ true) × Opens al free a (added ms us ∷ k) b
@@ -193,7 +191,7 @@ AdditionEnds free a k b = ⊥
 abbrev pub unknown_forms : Bool → List (Option (List ℕ)) → List (Option Per.BitForm)
 unknown_forms al xs = map (option_map (λ os. Per.counted_octets al os)) xs
 
--- Unknown additions are passed over by their lengths.
+-- Unknown additions are skipped by their length determinants.
 abbrev pub Skips : Bool → (Per.Freedom → Bool) → List Bool → Place → Place → Type 0
 Skips al free us a b =
     (xs : List (Option (List ℕ))) × (map (λ a. is_some a) (unknown_forms al xs) ≡ us)
@@ -201,7 +199,7 @@ Skips al free us a b =
 
 -- ---- choices (X.691 23)
 
--- The place of one of so many alternatives of the root, or of an added one, which is an open type.
+-- The choice index of a root alternative, or of an added one, which is an open type.
 abbrev pub Chooses : Bool → (Per.Freedom → Bool) → ℕ → Bool → ℕ → Bool → ℕ → State → State → Type 0
 Chooses al free roots e others false i a b =
     (ltb i roots ≡ true) × Front free (both (Per.extension_bit_of e false) (Per.constrained al (roots - 1) i)) a.0 b.0

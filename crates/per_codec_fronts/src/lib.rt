@@ -1,58 +1,58 @@
-//! What a reader of the packed encoding rules (X.691) holds from record to record, and that it finds the records of a
-//! value exactly where the bits in front are of its form. Each function does nothing; its contract is a law.
+//! Laws of the reader of PER (X.691): its state after each record, and that it finds the records of a value exactly
+//! if the bits begin with its form. A record is one call of a decoder, with its result. A freedom is a departure from
+//! the canonical encoding that a reader accepts. The functions do nothing: each contract is a law.
 #![tactic(auto)]
 
 ghost use Rattle.per_codec_fronts.specs.Ties.{CountHeld, EachBridges, EndsAtOctet, FindsEncodings, FormsShow};
 ghost use Rattle.per_codec_fronts.specs.Ties.{PaddedMessages};
 ghost use Rattle.per_codec_fronts.specs.Ties.{OneTaken, RecordsFit, RecordsRead};
 
-/// Of the records that answer a question one at most is next, and one state stands after it, whatever the reader's
-/// freedoms are.
+/// Among the records that answer the same question at most one is next, and one state follows it, whatever the
+/// reader's freedoms are.
 pub fn one_record_is_next()
     ensures { OneTaken }
 {}
 
-/// A list begins with a number of members that the program's type holds.
+/// A list begins with a number of members that the Rust type holds.
 pub fn counts_are_held()
     ensures { CountHeld }
 {}
 
-/// Where the records of a value of any type are next, the bits in front have its form (X.691 11 to 30) at their
-/// position.
+/// If the records of a value of any type are next, the bits begin with its form (X.691 11 to 30) at their position.
 pub fn records_are_read()
     ensures { RecordsRead }
 {}
 
-/// Where the bits in front have the form of a value at their position, the records of one that is the same up to the
-/// order of bags are next.
+/// If the bits begin with the form of a value at their position, then the records are next of a value that is equal
+/// up to the order of the members of SET OF.
 pub fn forms_are_found()
     ensures { FormsShow }
 {}
 
-/// The records of a value are next exactly where the bits in front have its form at their position, for each lawful
-/// type without SET OF.
+/// The records of a value are next exactly if the bits begin with its form at their position, for each lawful type
+/// without SET OF.
 pub fn records_are_the_form()
     ensures { EachBridges }
 {}
 
-/// The records that a reader finds are those of a value that has the form of its type.
+/// The records that a reader finds belong to a value that has the form of its type.
 pub fn records_fit()
     ensures { RecordsFit }
 {}
 
-/// The padding of a message behind the records of a value ends where an octet does.
+/// The padding of a message after the records of a value ends at an octet boundary.
 pub fn messages_end_at_octets()
     ensures { EndsAtOctet }
 {}
 
-/// Where a message of a lawful type stands in front, it is padded behind the records of whichever value is found.
+/// If the octets begin with a message of a lawful type, it is padded after the records of whichever value is found.
 pub fn messages_are_padded()
     ensures { PaddedMessages }
 {}
 
-/// The records of a value, and behind them the padding of a message, are found in front of octets nowhere but in an
-/// encoding of it, by UPER and APER, for a lenient and for a strict reader; and in each encoding of a value of a lawful
-/// type, up to the order of bags.
+/// The records of a value, and the padding of a message after them, are found at the start of octets only if these
+/// begin with an encoding of it, in UPER and APER, for a lenient and for a strict reader. In each encoding of a value
+/// of a lawful type they are found, up to the order of the members of SET OF.
 pub fn encodings_are_found()
     ensures { FindsEncodings }
 {}

@@ -1,4 +1,4 @@
-//! Which bounds of a size tell the form of a number of units (X.691 11.9.4.1).
+//! The upper bounds of a size that determine the form of a length determinant (X.691 11.9.4.1).
 ghost use Rattle.std.specs.Prelude.{◌≡◌, ◌<◌, IfSome};
 ghost use Rattle.asn1_schema_constraints.specs.Bounds.{upper};
 ghost use Rattle.per_codec_limits.specs.Counts.{below_long_count};
@@ -6,7 +6,7 @@ ghost use Rattle.per_codec_limits.specs.Counts.{below_long_count};
 use crate::LONG_COUNT;
 use asn1_schema_constraints::Bounded;
 
-/// The highest number of units within the root of a size, if it tells the form of their number: it is below 65536
+/// The upper bound of the root of a size, if it determines the form of the length determinant: it is below 65536
 /// (X.691 11.9.4.1).
 #[inline(always)]
 pub fn told_highest(root: Bounded<usize>) -> Option<usize>

@@ -1,13 +1,12 @@
-//! Where padding stands in front of units behind a constrained number, in the aligned variant (X.691 16, 17 and 30).
+//! Where padding precedes units after a constrained number, in the aligned variant (X.691 16, 17 and 30).
 ghost use Rattle.std.specs.Prelude.{◌≡◌};
 ghost use Rattle.asn1_model.specs.Per;
 ghost use Rattle.asn1_schema_constraints.specs.Bounds.{counts_of};
 
 use asn1_schema_constraints::Bounded;
 
-/// Whether padding stands in front of so many units of a string whose size has this root, each of so many bits: none
-/// stands in front of no bits, nor of a string of a fixed size of at most 16 bits (X.691 16.9 to 16.11 and 17.6 to
-/// 17.8).
+/// Whether padding precedes `count` units of `unit` bits each, in a string whose size has this root. None precedes
+/// zero bits, nor a string of a fixed size of at most 16 bits (X.691 16.9 to 16.11 and 17.6 to 17.8).
 #[inline(always)]
 pub fn string_has_padding(root: Bounded<usize>, unit: u32, count: usize) -> bool
     ensures { result ≡ Per.string_has_padding unit count (counts_of root) }
@@ -21,8 +20,8 @@ pub fn string_has_padding(root: Bounded<usize>, unit: u32, count: usize) -> bool
     count > 0 && unit > 0 && !is_short
 }
 
-/// Whether padding stands in front of so many characters, each of so many bits: as in front of a string, but not where
-/// as many as there may be have fewer than 16 bits (X.691 30.5.6 and 30.5.7).
+/// Whether padding precedes `count` characters of `unit` bits each: as for a string, but never if the most characters
+/// of the root have fewer than 16 bits (X.691 30.5.6 and 30.5.7).
 #[inline(always)]
 pub fn characters_have_padding(root: Bounded<usize>, unit: u32, count: usize) -> bool
     ensures { result ≡ Per.characters_have_padding unit count (counts_of root) }

@@ -1,4 +1,4 @@
--- Texts that are added, one behind the other.
+-- Texts that are added in sequence.
 use Rattle.std.proofs.Common.{◌≡◌, ℕ, ◌==◌, Bool, true, false, cond, List, ◌∷◌, ◌++◌, length, replicate, Option, Some, None, option_map, option_and_then, refl, ap, subst, sym, ◌∙◌, append_assoc, length-append, eq-eqb}
 use Rattle.std.proofs.lemmas.List.{length-replicate}
 use Rattle.asn1_model.specs.Numbers.{missing}
@@ -18,12 +18,12 @@ pub added : (o : Option Text) (old new : Packed) → Adds o old new → (w : Tex
 added None old new a = cc
 added (Some w) old new a = (w, refl, cc)
 
--- ---- one text behind another
+-- ---- one text after another
 
 pub plus_both : (p : Packed) (a b : Text) → plus (plus p a) b ≡ plus p (a ++ b)
 plus_both p a b = ap (λ t. let q : Packed = record { text = t; placed = p.placed } in q) (append_assoc p.text a b)
 
--- the position behind what is added
+-- the position after what is added
 pub place_plus : (p : Packed) (w : Text) → place (plus p w) ≡ on (place p) w
 place_plus p w = go p.placed
   where
@@ -46,12 +46,12 @@ adds_both x y old mid new a b =
     (both_text x y (place old) p.0 q.0 p.1 (ap (λ k. text_at y k) (sym (behind old mid p.0 p.2)) ∙ q.1))
     (sym q.2 ∙ ap (λ l. plus l q.0) (sym p.2) ∙ plus_both old p.0 q.0)
 
--- no text of the first is none of both
+-- if the first has no text, both together have none
 pub none_first : (x y : Per.BitForm) (q : Option ℕ) → text_at x q ≡ None → text_at (both x y) q ≡ None
 unfolding text_at
 none_first x y q e = ap (λ o. option_and_then (λ c. option_map (λ d. c ++ d) (text_at y (on q c))) o) e
 
--- .. and so is none of the second
+-- .. and so if the second has none
 pub none_second : (x y : Per.BitForm) (old mid : Packed) → Adds (text_at x (place old)) old mid → text_at y (place mid) ≡ None → text_at (both x y) (place old) ≡ None
 unfolding text_at
 none_second x y old mid a e =

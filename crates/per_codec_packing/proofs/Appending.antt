@@ -7,11 +7,11 @@ use Rattle.per_codec_packing.specs.Spread.{spread, Ascend}
 use Rattle.per_codec_packing.proofs.Adding.{adds_form_bits, adds_forms, adds_form_padding}
 use Rattle.per_codec_packing.proofs.Spread.{goes_up, none_left}
 
--- the text of the bits from one on comes behind what is old
+-- the text of the bits from one on follows what was there
 abbrev pub Comes : List Bool → List ℕ → ℕ → Packed → Packed → Type 0
 Comes bits paddings from old new = Adds (text_at (as_form (spread from (drop from bits) paddings)) (place old)) old new
 
--- what is left to do behind some places
+-- what is left to do after some positions
 pub record IsAdded (bits : List Bool) (paddings : List ℕ) (from done : ℕ) (old now : Packed) : Type 0 where
   pub ascend : Ascend from (drop done paddings) (length bits)
   pub rest : (new : Packed) → Comes bits (drop done paddings) from now new → Comes bits paddings 0 old new
@@ -20,7 +20,7 @@ module _ (bits : List Bool) (from f : ℕ) (fs : List ℕ) (a : Ascend from (f �
   pub next_within : f ≤ length bits
   next_within = goes_up f (length bits) fs a.1
 
-  -- the bits up to the next place, padding there, and what comes behind
+  -- the bits up to the next position, padding there, and what follows
   piece : (w : List Bool) (old mid padded new : Packed) → w ≡ drop from (take f bits) → mid ≡ plus old (as_text w) → padded ≡ plus mid (padding_at (place mid)) → Comes bits fs f padded new → Comes bits (f ∷ fs) from old new
   piece w old mid padded new e g h k =
       let reach : f ≡ from + (f - from) = omega (arith, a.0) in

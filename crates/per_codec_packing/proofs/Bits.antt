@@ -12,7 +12,7 @@ pub solid-bits : (l : List Bool) → solid (as_text l) ≡ l
 solid-bits [] = refl
 solid-bits (b ∷ l) = ap (λ m. b ∷ m) (solid-bits l)
 
--- a bit of a text that is bits alone, of such bits in front, and of what stands behind a text
+-- a bit of a text that is bits alone, of such bits at the start, and of what follows a text
 pub changed_bits : (i : ℕ) (b : Bool) (l : List Bool) → with_bit i b (as_text l) ≡ as_text (set l i b)
 changed_bits zero b [] = refl
 changed_bits (suc i) b [] = refl

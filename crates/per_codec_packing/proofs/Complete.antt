@@ -11,7 +11,7 @@ use Rattle.per_codec_packing.specs.Packed.{Packed, Adds, place, solid}
 use Rattle.per_codec_packing.proofs.Adding.{added}
 use Rattle.per_codec_packing.proofs.Bits.{solid-bits}
 
--- the bits of a text behind nothing
+-- the bits of a text after nothing
 pub bits_at_start : (o : Option (List Bool)) (w : Text) → option_map as_text o ≡ Some w → o ≡ Some (solid w)
 bits_at_start None w e = cc
 bits_at_start (Some l) w e = let f : as_text l ≡ w = cc in ap Some (sym (solid-bits l) ∙ ap solid f)
@@ -42,7 +42,7 @@ zeros : written (Per.padded []) 0 ≡ Some (padded [] ++ octet_bits (0 ∷ []))
 unfolding written Per.padded
 zeros = refl
 
--- one zero octet in place of no bits
+-- one zero octet if there are no bits
 pub of_none : (x : Per.BitForm) (l : List Bool) (os all : List ℕ) → written x 0 ≡ Some l → l ≡ [] → octet_bits os ≡ padded l → all ≡ os ++ 0 ∷ [] → written (Per.complete x) 0 ≡ Some (octet_bits all)
 of_none x l os all e n b f =
     completed x l e ∙ ap (λ m. written (Per.padded m) 0) n ∙ zeros

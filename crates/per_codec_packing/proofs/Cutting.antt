@@ -1,4 +1,4 @@
--- A text that ends sooner.
+-- A text that is truncated.
 use Rattle.std.proofs.Common.{◌≡◌, ℕ, zero, suc, ◌+◌, ◌-◌, ◌≤◌, Bool, List, [], ◌∷◌, ◌++◌, length, take, drop, inl, inr, refl, ap, subst, sym, ◌∙◌, arith, length-append}
 use Rattle.std.proofs.lemmas.Bool.{cases_lt}
 use Rattle.std.proofs.lemmas.List.{length-drop, length-take, length-take-le, take-append-le, take-take, take-map, drop-take}
@@ -20,14 +20,14 @@ length-spread from bits (f ∷ fs) a =
     let i = length-spread f (drop n bits) fs (behind from f bits fs a) in
     omega (arith, length-append (as_text (take n bits)) (padding ∷ spread f (drop n bits) fs), length-text (take n bits), length-take-le n bits h, length-drop n bits, i, h)
 
--- ---- a front of it
+-- ---- a prefix of it
 
 solid-short : (t : Text) → length (solid t) ≤ length t
 solid-short [] = omega arith
 solid-short (bit b ∷ t) = let h = solid-short t in omega arith
 solid-short (padding ∷ t) = let h = solid-short t in omega arith
 
--- bits in front, and what stands behind them
+-- bits at the start, and what follows them
 module _ (n : ℕ) (bits : List Bool) (h : n ≤ length bits) (t : Text) where
   first : Text
   first = as_text (take n bits)
@@ -50,7 +50,7 @@ module _ (n : ℕ) (bits : List Bool) (h : n ≤ length bits) (t : Text) where
 bits_front : (m : ℕ) (bits : List Bool) → take m (as_text bits) ≡ as_text (take m bits)
 bits_front m bits = take-map (λ b. bit b) m bits
 
--- a front of bits alone, by the count of its bits
+-- a prefix of bits alone, by the count of its bits
 no_padding : (from m : ℕ) (bits : List Bool) (fs : List ℕ) → Ascend from fs (from + length bits) → length (solid (take m (spread from bits fs))) ≡ m → take m (spread from bits fs) ≡ as_text (take m bits)
 no_padding from m bits [] a e = bits_front m bits
 no_padding from m bits (f ∷ fs) a e = elim (cases_lt (f - from) m) [
@@ -117,7 +117,7 @@ cut from b (suc f) bits (g ∷ gs) a l e = elim (cases_lt (g - from) (b + suc f)
       }
 ]
 
--- ---- what is kept
+-- ---- what is stored
 
 no_more : (k : ℕ) → (let l : List ℕ = [] in take k l) ≡ []
 no_more zero = refl

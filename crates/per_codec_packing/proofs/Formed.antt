@@ -1,4 +1,4 @@
--- Texts one behind the other.
+-- Texts in sequence.
 use Rattle.std.proofs.Common.{◌≡◌, ℕ, suc, ◌+◌, Bool, List, [], ◌∷◌, ◌++◌, length, Option, Some, None, option_map, option_and_then, refl, ap, sym, ◌∙◌, append_assoc, length-append, arith}
 use Rattle.asn1_model.specs.Form.{exactly, refused, both, placed, varied, within, written}
 use Rattle.asn1_model.specs.Per
@@ -12,12 +12,12 @@ pub none_behind : {X Y : Type 0} (o : Option X) → option_and_then {U = Y} (λ 
 none_behind None = refl
 none_behind (Some x) = refl
 
--- a step behind a step
+-- a step after a step
 pub in_turn : {X Y Z : Type 0} (o : Option X) (f : X → Option Y) (g : Y → Option Z) → option_and_then g (option_and_then f o) ≡ option_and_then (λ x. option_and_then g (f x)) o
 in_turn None f g = refl
 in_turn (Some x) f g = refl
 
--- two texts, one behind the other
+-- two texts in sequence
 pub two_texts : {S : Type 0} (o : Option Text) (q : Text → Option Text) (os : Text) (f : Text → Option S) → option_and_then (λ a. option_and_then (λ b. f ((os ++ a) ++ b)) (q a)) o ≡ option_and_then (λ w. f (os ++ w)) (option_and_then (λ a. option_map (λ b. a ++ b) (q a)) o)
 two_texts None q os f = refl
 two_texts (Some a) q os f = go (q a)
@@ -32,7 +32,7 @@ pub moved_twice : (q : Option ℕ) (a b : ℕ) → moved (moved q a) b ≡ moved
 moved_twice None a b = refl
 moved_twice (Some p) a b = let e : p + a + b ≡ p + (a + b) = omega arith in ap Some e
 
--- the position behind a text
+-- the position after a text
 pub behind : (q : Option ℕ) (os a : Text) → on q (os ++ a) ≡ on (on q os) a
 behind q os a = ap (moved q) (length-append os a) ∙ sym (moved_twice q (length os) (length a))
 
@@ -44,7 +44,7 @@ pub length-text : (l : List Bool) → length (as_text l) ≡ length l
 length-text [] = refl
 length-text (b ∷ l) = ap suc (length-text l)
 
--- three texts, in either grouping
+-- three texts in sequence, in either grouping
 pub both_assoc : (x y z : Per.BitForm) (q : Option ℕ) → text_at (both (both x y) z) q ≡ text_at (both x (both y z)) q
 unfolding text_at
 both_assoc x y z q = outer (text_at x q)
@@ -71,7 +71,7 @@ pub plain_text : (l : List Bool) → plain (as_text l) ≡ Some l
 plain_text [] = refl
 plain_text (b ∷ l) = ap (option_map (λ m. b ∷ m)) (plain_text l)
 
--- where the position is known, the text is that of the definitions
+-- if the position is known, the text is that of the definitions
 pub known : (x : Per.BitForm) (p : ℕ) → text_at x (Some p) ≡ option_map as_text (written x p)
 unfolding text_at written
 known (exactly l) p = refl

@@ -5,7 +5,7 @@ use Rattle.asn1_model.specs.Per
 use Rattle.per_codec_packing.specs.Texts.{Text, bit, padding, as_text, plain, moved, on, text_at, as_form}
 use Rattle.per_codec_packing.proofs.Formed.{chain_same, behind_nothing, both_assoc}
 
--- one text behind another, as forms
+-- one text after another, as forms
 pub as_form-append : (a b : Text) (q : Option ℕ) → text_at (as_form (a ++ b)) q ≡ text_at (both (as_form a) (as_form b)) q
 unfolding text_at
 as_form-append [] b q = same (text_at (as_form b) q) ∙ ap (λ p. option_map (λ c. c) (text_at (as_form b) p)) (behind_nothing q)
@@ -21,14 +21,14 @@ unfolding text_at
 form_of_bits [] q = refl
 form_of_bits (b ∷ l) q = ap (option_map (λ t. bit b ∷ t)) (form_of_bits l (moved q 1))
 
--- where the position is not known, a text stands as it is
+-- if the position is not known, a text is unchanged
 pub own_text : (t : Text) → text_at (as_form t) None ≡ Some t
 unfolding text_at
 own_text [] = refl
 own_text (bit b ∷ t) = ap (option_map (λ u. bit b ∷ u)) (own_text t)
 own_text (padding ∷ t) = ap (option_map (λ u. padding ∷ u)) (own_text t)
 
--- a text in which nothing is left open is its bits
+-- a text without open padding is its bits
 pub text_of_plain : (t : Text) (w : List Bool) → plain t ≡ Some w → t ≡ as_text w
 text_of_plain [] w e = let f : [] ≡ w = cc in ap as_text f
 text_of_plain (bit b ∷ t) w e = go (plain t) e (λ l f. text_of_plain t l f)

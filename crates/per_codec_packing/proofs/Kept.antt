@@ -1,4 +1,4 @@
--- What is kept shows the text.
+-- What is stored shows the text.
 use Rattle.std.proofs.Common.{◌≡◌, ℕ, ◌+◌, ◌-◌, ◌%◌, ◌≤◌, Bool, true, false, cond, List, [], ◌∷◌, ◌++◌, length, take, replicate, set, get_or, Some, None, refl, ap, sym, subst, ◌∙◌, append-nil, length-append, length-set, arith}
 use Rattle.asn1_model.specs.Numbers.{binary, missing, octet_bits}
 use Rattle.per_codec_packing.specs.Texts.{Text, padding, as_text, plain}
@@ -12,7 +12,7 @@ one_octet [] d h = absurd (omega arith)
 one_octet (o ∷ []) d h = sym (append-nil (binary 8 o))
 one_octet (o ∷ p ∷ os) d h = absurd (omega arith)
 
--- bits behind others are all added as one number that has as many digits
+-- bits after others are all added as one number with as many digits
 pub as_number : (bits w new : List Bool) (count n : ℕ) → length w ≤ count → binary count n ≡ take count w → new ≡ bits ++ binary count n → new ≡ bits ++ w
 as_number bits w new count n h e f = f ∙ ap (λ l. bits ++ l) (e ∙ all_taken count w h)
 
@@ -45,7 +45,7 @@ module _ (bits : List Bool) (paddings : List ℕ) (placed : Bool) (h : ArePaddin
     pub is_placed : v.placed ≡ placed
     is_placed = ap (λ (p : Packed). p.placed) (sym is)
 
-    -- there is no text where there are neither bits nor padding, and only there
+    -- there is no text exactly if there are neither bits nor padding
     pub nothing_there : bits ≡ [] → paddings ≡ [] → v.text ≡ []
     nothing_there e f = ap (λ (p : Packed). p.text) (sym is) ∙ ap (λ l. spread 0 l paddings) e ∙ ap (λ l. spread 0 [] l) f
 
@@ -63,7 +63,7 @@ module _ (bits : List Bool) (paddings : List ℕ) (placed : Bool) (h : ArePaddin
         without [] e = refl
         without (f ∷ fs) e = absurd (behind_padding _ _ e)
 
-    -- at a known place there are bits alone
+    -- at a known position there are only bits
     pub text_is : placed ≡ true → v.text ≡ as_text bits
     text_is e = ap (λ (p : Packed). p.text) (sym is) ∙ ap (λ l. spread 0 bits l) (h.known e)
 
@@ -90,7 +90,7 @@ module _ (bits : List Bool) (paddings : List ℕ) (placed : Bool) (h : ArePaddin
     pub padding_added : (new : List Bool) → placed ≡ true → new ≡ bits ++ replicate (missing (length bits)) false → shown new paddings placed ≡ plus v (padding_at (place v))
     padding_added new p e = bits_added (replicate (missing (length bits)) false) new e ∙ ap (λ q. plus v (padding_at q)) (sym (place_is p))
 
-    -- no padding is missing behind whole octets
+    -- after whole octets there is no padding
     pub at_octet : placed ≡ true → length bits % 8 ≡ 0 → v ≡ plus v (padding_at (place v))
     at_octet p e =
         sym (ap (λ t. let q : Packed = record { text = t; placed = v.placed } in q) (append-nil v.text))

@@ -1,4 +1,4 @@
--- Where the place is known, what is added are the bits that are written there.
+-- At a known position, the bits that are written there are added.
 use Rattle.std.proofs.Common.{◌≡◌, Bool, List, ◌++◌, length, Option, Some, None, option_map, refl, ap, sym, ◌∙◌}
 use Rattle.asn1_model.specs.Form.{written}
 use Rattle.asn1_model.specs.Per

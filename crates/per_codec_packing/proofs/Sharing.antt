@@ -1,4 +1,4 @@
--- Texts in memory that grows at its end.
+-- Texts in buffers that grow at the end.
 use Rattle.std.proofs.Common.{◌≡◌, ℕ, zero, suc, ◌+◌, ◌-◌, ◌<◌, ◌≤◌, Bool, List, [], ◌∷◌, ◌++◌, length, take, drop, get_or, refl, ap, subst, sym, ◌∙◌, length-append, arith}
 use Rattle.std.proofs.lemmas.List.{length-map, length-drop, take_all, take-append-le, drop-append-le, drop-take, map-append, get_or-map}
 use Rattle.std.proofs.Math.Seq.{drop-append_seam}
@@ -8,7 +8,7 @@ use Rattle.per_codec_packing.specs.Parts.{cut, text_in, texts_in, IsPart, ArePar
 use Rattle.per_codec_packing.specs.declared.texts.Span.{Span}
 use Rattle.per_codec_packing.specs.declared.texts.Part.{Part}
 
--- ---- what stands in a span
+-- ---- the elements in a span
 
 cut_kept : {X : Type 0} (s : Span) (xs more : List X) → s.from ≤ s.to → s.to ≤ length xs → cut s (xs ++ more) ≡ cut s xs
 cut_kept s xs more a b =
@@ -25,7 +25,7 @@ cut_both s xs a =
     let e : s.to ≡ s.from + (s.to - s.from) = omega arith in
     ap (λ n. drop s.from (take n xs)) e ∙ drop-take s.from (s.to - s.from) xs
 
--- ---- more behind
+-- ---- more at the end
 
 module _ (bits w : List Bool) (paddings v : List ℕ) where
   module _ (p : Part) (h : IsPart bits paddings p) where
@@ -55,7 +55,7 @@ module _ (bits w : List Bool) (paddings v : List ℕ) where
   parts_kept [] h = tt
   parts_kept (p ∷ ps) h = (part_kept p h.0, parts_kept ps h.1)
 
-  -- a part of what came last
+  -- a part of what was added last
   module _ (p : Part) (from : p.bits.from ≡ length bits) (to : p.bits.to ≡ length (bits ++ w)) (first : p.paddings.from ≡ length paddings) (past : p.paddings.to ≡ length (paddings ++ v)) where
     last_text : text_in (bits ++ w) (paddings ++ v) p ≡ spread 0 w v
     last_text = ap (λ l. spread 0 l (cut p.paddings (paddings ++ v))) (cut_last p.bits bits w from to) ∙ ap (λ l. spread 0 w l) (cut_last p.paddings paddings v first past)
@@ -73,7 +73,7 @@ one_behind : (bits : List Bool) (paddings : List ℕ) (ps : List Part) (p : Part
 one_behind bits paddings [] p h k = (k, tt)
 one_behind bits paddings (q ∷ ps) p h k = (h.0, one_behind bits paddings ps p h.1 k)
 
--- ---- what is kept
+-- ---- what is stored
 
 module _ (bits w more : List Bool) (paddings v others : List ℕ) (ps all : List Part) (h : AreParts bits paddings ps) (e : more ≡ bits ++ w) (f : others ≡ paddings ++ v) where
   -- the same parts
@@ -84,7 +84,7 @@ module _ (bits w more : List Bool) (paddings v others : List ℕ) (ps all : List
     pub same_texts : texts_in more others all ≡ texts_in bits paddings ps
     same_texts = ap (λ l. texts_in l others all) e ∙ ap (λ l. texts_in (bits ++ w) l all) f ∙ ap (λ l. texts_in (bits ++ w) (paddings ++ v) l) g ∙ texts_kept bits w paddings v ps h
 
-  -- one part more
+  -- one more part
   module _ (p : Part) (g : all ≡ ps ++ p ∷ []) (from : p.bits.from ≡ length bits) (to : p.bits.to ≡ length more) (first : p.paddings.from ≡ length paddings) (past : p.paddings.to ≡ length others) where
     pub more_parts : Ascend 0 v (length w) → AreParts more others all
     more_parts a =
@@ -108,6 +108,6 @@ part_at bits paddings (q ∷ ps) (suc i) p d h l e = part_at bits paddings ps i 
 pub text_at : (bits : List Bool) (paddings : List ℕ) (ps : List Part) (i : ℕ) (p d : Part) → i < length ps → p ≡ get_or ps i d → spread 0 (cut p.bits bits) (cut p.paddings paddings) ≡ get_or (texts_in bits paddings ps) i []
 text_at bits paddings ps i p d l e = ap (text_in bits paddings) e ∙ sym (get_or-map (text_in bits paddings) ps i d [] l)
 
--- the part of the text at a place
+-- the part of the text at an index
 pub part_of : (bits : List Bool) (paddings : List ℕ) (ps : List Part) (ts : List Text) (i : ℕ) (p : Part) → AreParts bits paddings ps → texts_in bits paddings ps ≡ ts → i < length ts → p ≡ get_or ps i p → IsPart bits paddings p
 part_of bits paddings ps ts i p h is l e = part_at bits paddings ps i p p h (omega (arith, length-map ps (text_in bits paddings), ap length is, l)) e

@@ -1,4 +1,4 @@
--- Bits with padding in between, from a place on.
+-- Bits with padding in between, from a position.
 use Rattle.std.proofs.Common.{◌≡◌, ℕ, zero, suc, ◌+◌, ◌-◌, ◌≤◌, Bool, List, [], ◌∷◌, ◌++◌, length, take, drop, set, inl, inr, refl, ap, sym, ◌∙◌, append_assoc, arith}
 use Rattle.std.proofs.lemmas.Bool.{cases_lt}
 use Rattle.std.proofs.lemmas.List.{length-drop, length-take-le, take-append-drop, take-append-le, drop-append-le, drop-set-lt, drop-set-add, take-set-le}
@@ -9,7 +9,7 @@ use Rattle.per_codec_packing.specs.Packed.{solid, with_bit}
 use Rattle.per_codec_packing.proofs.Bits.{solid-append, solid-bits, changed_bits, changed_front, changed_behind}
 use Rattle.per_codec_packing.specs.Spread.{spread, Ascend}
 
--- ---- places
+-- ---- positions
 
 pub goes_up : (from to : ℕ) (fs : List ℕ) → Ascend from fs to → from ≤ to
 goes_up from to [] a = a
@@ -23,7 +23,7 @@ pub one_place : (from to : ℕ) (fs : List ℕ) → Ascend from fs to → Ascend
 one_place from to [] a = (a, omega arith)
 one_place from to (f ∷ fs) a = (a.0, one_place f to fs a.1)
 
--- ---- bits behind a place
+-- ---- bits after a position
 
 module _ (from f : ℕ) (bits : List Bool) (fs : List ℕ) (a : Ascend from (f ∷ fs) (from + length bits)) where
   pub reaches : f - from ≤ length bits

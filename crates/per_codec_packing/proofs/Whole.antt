@@ -16,7 +16,7 @@ use Rattle.per_codec_packing.proofs.Formed.{as_text-append, known, length-text}
 use Rattle.per_codec_packing.proofs.Forms.{as_form-append, form_of_bits}
 use Rattle.per_codec_packing.proofs.Spread.{behind, none_left, reaches, up_to}
 
--- whole octets have none missing
+-- whole octets need no padding
 none_missing : (n : ℕ) → n % 8 ≡ 0 → missing n ≡ 0
 none_missing n e = omega (arith, e)
 
@@ -26,7 +26,7 @@ behind_padding f t w e h =
     let stays : f + 0 ≡ f = omega arith in
     both_text (placed (λ p. Per.padding (missing p))) (as_form t) (Some f) [] w (padding_text (Some f) ∙ ap Some none) (ap (λ k. text_at (as_form t) (Some k)) stays ∙ h)
 
--- padding behind whole octets adds no bit
+-- padding after whole octets adds no bit
 pub whole_text : (from : ℕ) (bits : List Bool) (fs : List ℕ) → AreWhole fs → Ascend from fs (from + length bits) → text_at (as_form (spread from bits fs)) (Some from) ≡ Some (as_text bits)
 whole_text from bits [] w a = sym (form_of_bits bits (Some from))
 whole_text from bits (f ∷ fs) w a =
@@ -47,7 +47,7 @@ whole_complete bits fs os w a n e b =
     let whole : padded bits ≡ bits = ap (λ k. bits ++ replicate k false) (none_missing (length bits) e) ∙ append-nil bits in
     of_some (as_form t) bits os is n (b ∙ sym whole)
 
--- where they begin at an octet, too
+-- also if they begin at an octet boundary
 pub where_aligned : (bits : List Bool) (fs : List ℕ) (offset : ℕ) (r : Option (Bor (List ℕ))) → AreWhole fs → Ascend 0 fs (length bits) → (bits ≡ [] → ⊥) → IsSome r ↔ ((offset ≡ 0) × (length bits % 8 ≡ 0)) → IfSome r (λ octets. octet_bits octets.now ≡ bits) → IfSome r (λ octets. written (Per.complete (as_form (spread 0 bits fs))) 0 ≡ Some (octet_bits octets.now))
 where_aligned bits fs offset None w a n e b = tt
 where_aligned bits fs offset (Some octets) w a n e b = whole_complete bits fs octets.now w a n (e.0 refl).1 b

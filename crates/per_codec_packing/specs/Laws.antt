@@ -8,6 +8,6 @@ use Rattle.per_codec_packing.specs.Texts.{Text, as_text, text_at, as_form}
 abbrev pub KnownTexts : Type 0
 KnownTexts = (x : Per.BitForm) (p : ℕ) → text_at x (Some p) ≡ option_map as_text (written x p)
 
--- A text as a form is that text again where the position is not known.
+-- A text, taken as a form, is that text again at an unknown position.
 abbrev pub OwnTexts : Type 0
 OwnTexts = (t : Text) → text_at (as_form t) None ≡ Some t

@@ -1,4 +1,4 @@
--- Texts that share memory.
+-- Texts in shared buffers.
 use Rattle.std.specs.Prelude.{ℕ, ◌≤◌, ⊤, Bool, List, [], ◌∷◌, length, map}
 use Rattle.std.specs.List.{slice_range}
 use Rattle.per_codec_packing.specs.Texts.{Text}
@@ -6,11 +6,11 @@ use Rattle.per_codec_packing.specs.Spread.{spread, Ascend}
 use Rattle.per_codec_packing.specs.declared.texts.Span.{Span}
 use Rattle.per_codec_packing.specs.declared.texts.Part.{Part}
 
--- What stands in a span.
+-- The elements in a span.
 abbrev pub cut : {X : Type 0} → Span → List X → List X
 cut s xs = slice_range xs s.from s.to
 
--- The text of a part of all bits, and of all padding, each with the number of the text's own bits in front of it.
+-- The text of a part of all bits and of all paddings. Each padding is the number of the text's bits before it.
 abbrev pub text_in : List Bool → List ℕ → Part → Text
 text_in bits paddings p = spread 0 (cut p.bits bits) (cut p.paddings paddings)
 
@@ -18,7 +18,7 @@ text_in bits paddings p = spread 0 (cut p.bits bits) (cut p.paddings paddings)
 abbrev pub texts_in : List Bool → List ℕ → List Part → List Text
 texts_in bits paddings parts = map (text_in bits paddings) parts
 
--- A part stands within all bits and all padding, and its padding within its bits.
+-- A part lies within all bits and all paddings, and its paddings within its bits.
 pub record IsPart (bits : List Bool) (paddings : List ℕ) (p : Part) : Type 0 where
   pub bits_ordered : p.bits.from ≤ p.bits.to
   pub bits_within : p.bits.to ≤ length bits

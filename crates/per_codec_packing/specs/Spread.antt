@@ -1,19 +1,19 @@
--- How a text is kept: its bits, and how many of them stand in front of each padding that is left open.
+-- How a text is stored: its bits, and the number of bits before each open padding.
 use Rattle.std.specs.Prelude.{◌≡◌, ℕ, ◌-◌, ◌≤◌, Bool, true, List, [], ◌∷◌, ◌++◌, length, take, drop}
 use Rattle.std.specs.Coded.{×_prop, le_prop}
 use Rattle.per_codec_packing.specs.Texts.{Text, padding, as_text}
 use Rattle.per_codec_packing.specs.Packed.{Packed}
 
--- The text of the bits from one on, with padding behind so many.
+-- The text of the bits from one on, with paddings at these positions.
 abbrev pub spread : ℕ → List Bool → List ℕ → Text
 spread from bits [] = as_text bits
 spread from bits (f ∷ fs) = as_text (take (f - from) bits) ++ padding ∷ spread f (drop (f - from) bits) fs
 
--- What the bits, the places of padding and what is known of the place stand for.
+-- What the bits, the positions of padding and the knowledge of the position represent.
 abbrev pub shown : List Bool → List ℕ → Bool → Packed
 shown bits paddings placed = record { text = spread 0 bits paddings; placed = placed }
 
--- The places ascend, from one on and up to another.
+-- The positions ascend, between two bounds.
 abbrev pub Ascend : ℕ → List ℕ → ℕ → Type 0
 Ascend from [] to = from ≤ to
 Ascend from (f ∷ fs) to = (from ≤ f) × Ascend f fs to
@@ -27,7 +27,7 @@ ascend_prop from (f ∷ fs) to = ×_prop le_prop (ascend_prop f fs to)
 abbrev pub AscendIn : List Bool → List ℕ → Type 0
 AscendIn bits paddings = Ascend 0 paddings (length bits)
 
--- Padding is left open within the bits, and where the place is known there is none.
+-- The open padding lies within the bits, and there is none if the position is known.
 pub record ArePaddings (bits : List Bool) (paddings : List ℕ) (placed : Bool) : Type 0 where
   pub ascend : AscendIn bits paddings
   pub known : placed ≡ true → paddings ≡ []

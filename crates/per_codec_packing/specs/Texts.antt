@@ -1,11 +1,11 @@
--- Texts of forms. One whose position is not known leaves open how much padding it has: so does a member of a bag,
--- whose place is known at the bag's end alone.
+-- Texts of forms. A text at an unknown position leaves its padding open: for instance a member of a bag, whose
+-- position is known only at the end of the bag.
 use Rattle.std.specs.Prelude.{ℕ, ◌+◌, Bool, List, [], ◌∷◌, ◌++◌, length, map, Option, Some, None, option_map}
 use Rattle.std.specs.Prelude.{option_and_then}
 use Rattle.asn1_model.specs.Form.{exactly, refused, both, placed, varied, within, written}
 use Rattle.asn1_model.specs.Per
 
--- A bit, or the padding up to the next octet from where it stands.
+-- A bit, or the padding from its position to the next octet boundary.
 pub data Atom : Type 0 where
   bit : Bool → Atom
   padding : Atom
@@ -23,16 +23,16 @@ plain [] = Some []
 plain (bit b ∷ t) = option_map (λ l. b ∷ l) (plain t)
 plain (padding ∷ t) = None
 
--- A position so many bits further on, where it is known.
+-- A position advanced by a number of bits, if it is known.
 abbrev pub moved : Option ℕ → ℕ → Option ℕ
 moved q n = option_map (λ p. p + n) q
 
--- The position behind a text.
+-- The position after a text.
 abbrev pub on : Option ℕ → Text → Option ℕ
 on q t = moved q (length t)
 
--- The canonical text of a form from a position on, if there is one: as the definitions have it where the position is
--- known. In the forms of PER nothing but padding depends on it.
+-- The canonical text of a form from a position, if there is one: that of the definitions, if the position is known.
+-- In the forms of PER only padding depends on the position.
 unfoldable pub text_at : Per.BitForm → Option ℕ → Option Text
 text_at (exactly l) q = Some (as_text l)
 text_at refused q = None

@@ -10,13 +10,13 @@ use crate::packing::Packing;
 use crate::text_view::TextView;
 use std::alloc::AllocError;
 
-/// The complete encoding of a text where it stands alone (X.691 11.1): padded with zero bits to whole octets, and
-/// one zero octet in place of no bits. By these the members of a bag are put in order (X.691 22). It is written in
+/// The complete encoding of a text that stands alone (X.691 11.1): padded with zero bits to whole octets, and one
+/// zero octet if there are no bits. It determines the order of the members of a SET OF (X.691 22). It is written to
 /// `room`, which is cleared first.
 ///
 /// # Errors
 ///
-/// Want of memory.
+/// `AllocError` if memory ran out.
 pub fn complete_in(text: TextView<'_>, room: Vec<u8>) -> Result<Vec<u8>, AllocError>
     ensures { IfOk result (λ octets. written (complete (as_form (text_of text.entry))) 0 ≡ Some
         (octet_bits octets.items)) }

@@ -1,5 +1,5 @@
-//! Texts of the packed encoding rules (X.691): bits, and padding up to octets, which is left open where the position
-//! in a message is not known yet. What such texts are, and how they are put together.
+//! Texts of PER (X.691): bits, and padding to octet boundaries, which is left open while the position in a message is
+//! unknown. What such texts are, and how they are built.
 #![tactic(auto)]
 
 mod completion;

@@ -12,14 +12,14 @@ use asn1_values_bits::{BitBuffer, BitStr, free_bits};
 use std::alloc::{AllocError, Global};
 use std::marker::Model;
 
-/// A text that grows at its end. Where its place is known, it begins with its message or open type and is bits alone.
-/// Where it is not, as that of a member of a bag, padding up to octets (X.691 11.1) is left open until the text is
-/// added to another.
+/// A text that grows at its end. At a known position it starts where its message or open type starts, and is bits
+/// alone. At an unknown position, as in a member of a SET OF, padding to octet boundaries (X.691 11.1) is left open
+/// until the text is added to another.
 #[derive(Drop)]
 pub struct Packing {
-    // The bits, without padding that is left open.
+    // The bits, without open padding.
     bits: BitBuffer,
-    // How many of them stand in front of each padding that is left open.
+    // The number of bits before each open padding.
     paddings: Vec<usize>,
     is_placed: bool,
 }
@@ -37,7 +37,7 @@ impl Model for Packing {
 }
 
 impl Packing {
-    /// No bits, at the beginning of a message or open type. It takes no memory before it is handed something.
+    /// No bits, at the start of a message or open type. It does not allocate before something is added.
     pub fn new(alloc: Global) -> Self
         ensures { result ≡ record { text = []; placed = true } }
     {
@@ -48,7 +48,7 @@ impl Packing {
         }
     }
 
-    /// No bits, at a place that is not known. It takes no memory before it is handed something.
+    /// No bits, at an unknown position. It does not allocate before something is added.
     pub fn unplaced(alloc: Global) -> Self
         ensures { result ≡ record { text = []; placed = false } }
     {
@@ -59,7 +59,7 @@ impl Packing {
         }
     }
 
-    /// No bits, at the beginning of a message or open type, in the room of these octets, which are cleared.
+    /// No bits, at the start of a message or open type. The buffer of `octets` is cleared and reused.
     #[inline(always)]
     pub fn from_octets(octets: Vec<u8>) -> Self
         ensures { result ≡ record { text = []; placed = true } }
@@ -74,7 +74,7 @@ impl Packing {
         }
     }
 
-    /// How many bits there are, without padding that is left open.
+    /// The number of bits, without open padding.
     #[inline]
     pub fn len(&self) -> usize
         ensures bits { result ≡ length (solid self.now.text) }
@@ -83,7 +83,7 @@ impl Packing {
         self.bits.len()
     }
 
-    /// How many times padding is left open.
+    /// The number of open paddings.
     #[inline]
     pub fn padding_count(&self) -> usize
         ensures { length (solid self.now.text) + result ≡ length self.now.text }
@@ -91,8 +91,7 @@ impl Packing {
         self.paddings.len()
     }
 
-    /// Keeps the text in front of a place alone, which has so many bits and so many times padding that is left open. No
-    /// memory is taken.
+    /// Keeps only the first `bits` bits and `paddings` open paddings. It does not allocate.
     pub fn truncate(&mut self, bits: usize, paddings: usize)
         requires within { bits + paddings ≤ length self.old.text }
         requires place { length (solid (take (bits + paddings) self.old.text)) ≡ bits }
@@ -113,7 +112,7 @@ impl Packing {
     ///
     /// # Errors
     ///
-    /// Want of memory; nothing is changed then.
+    /// `AllocError` if memory ran out. Nothing changes then.
     #[inline(always)]
     pub fn push(&mut self, bit: bool) -> Result<(), AllocError>
         ensures ok { OnOk result (self.new ≡ plus self.old (as_text (bit ∷ []))) }
@@ -123,11 +122,11 @@ impl Packing {
         Ok(())
     }
 
-    /// Adds the low `width` bits of a number, the highest first.
+    /// Adds the low `width` bits of a number, most significant first.
     ///
     /// # Errors
     ///
-    /// Want of memory; nothing is changed then.
+    /// `AllocError` if memory ran out. Nothing changes then.
     #[inline(always)]
     pub fn push_bits(&mut self, value: u128, width: u32) -> Result<(), AllocError>
         requires { width ≤ 128 }
@@ -142,7 +141,7 @@ impl Packing {
     ///
     /// # Errors
     ///
-    /// Want of memory; nothing is changed then.
+    /// `AllocError` if memory ran out. Nothing changes then.
     #[inline(always)]
     pub fn extend_from_bytes(&mut self, bytes: &[u8]) -> Result<(), AllocError>
         ensures ok { OnOk result (self.new ≡ plus self.old (as_text (octet_bits bytes.now))) }
@@ -160,7 +159,7 @@ impl Packing {
     ///
     /// # Errors
     ///
-    /// Want of memory; nothing is changed then.
+    /// `AllocError` if memory ran out. Nothing changes then.
     pub fn extend_from_bitslice(&mut self, bits: BitStr<'_>) -> Result<(), AllocError>
         ensures ok { OnOk result (self.new ≡ plus self.old (as_text (bits_of bits.entry))) }
         ensures err { OnErr result (self.new ≡ self.old) }
@@ -169,11 +168,11 @@ impl Packing {
         Ok(())
     }
 
-    /// Adds copies of a bit up to `len` bits, by the count of `len`.
+    /// Adds copies of a bit up to a length of `len` bits, without open padding.
     ///
     /// # Errors
     ///
-    /// Want of memory; nothing is changed then.
+    /// `AllocError` if memory ran out. Nothing changes then.
     pub fn resize(&mut self, len: usize, bit: bool) -> Result<(), AllocError>
         requires { length (solid self.old.text) ≤ len }
         ensures ok { OnOk result (self.new ≡ plus self.old
@@ -184,7 +183,7 @@ impl Packing {
         Ok(())
     }
 
-    /// Changes one of the bits that are there, which are counted as `len` does.
+    /// Changes a bit; the index does not count open padding.
     #[inline]
     pub fn set(&mut self, index: usize, bit: bool)
         requires { index < length (solid self.old.text) }
@@ -193,12 +192,12 @@ impl Packing {
         self.bits.set(index, bit);
     }
 
-    /// Adds padding up to the next octet (X.691 11.1): at most seven zero bits where the place is known, else it is
-    /// left open.
+    /// Adds padding to the next octet boundary (X.691 11.1): at most seven zero bits at a known position, else the
+    /// padding is left open.
     ///
     /// # Errors
     ///
-    /// Want of memory; nothing is changed then.
+    /// `AllocError` if memory ran out. Nothing changes then.
     #[inline(always)]
     pub fn push_padding(&mut self) -> Result<(), AllocError>
         ensures ok { OnOk result (self.new ≡ plus self.old (padding_at (place self.old))) }
@@ -210,7 +209,7 @@ impl Packing {
         self.push_due_padding()
     }
 
-    // Adds padding up to the next octet, as `push_padding` does.
+    // Adds padding to the next octet boundary, as `push_padding` does.
     fn push_due_padding(&mut self) -> Result<(), AllocError>
         ensures ok { OnOk result (self.new ≡ plus self.old (padding_at (place self.old))) }
         ensures err { OnErr result (self.new ≡ self.old) }
@@ -224,11 +223,11 @@ impl Packing {
         Ok(())
     }
 
-    /// Adds a text: padding that it leaves open goes from here up to octets, where the place is known.
+    /// Adds a text. At a known position its open padding is filled to octet boundaries.
     ///
     /// # Errors
     ///
-    /// Want of memory; a part of the text may then be there.
+    /// `AllocError` if memory ran out. A part of the text may then have been added.
     #[inline(always)]
     pub fn append_text(&mut self, text: TextView<'_>) -> Result<(), AllocError>
         ensures { OnOk result (Adds (text_at (as_form (text_of text.entry)) (place self.old)) self.old self.new) }
@@ -240,7 +239,7 @@ impl Packing {
         self.append_pieces(text)
     }
 
-    // Adds a text piece by piece: the bits up to each padding, and this.
+    // Adds a text piece by piece: the bits up to each padding, then the padding.
     fn append_pieces(&mut self, text: TextView<'_>) -> Result<(), AllocError>
         ensures { OnOk result (Adds (text_at (as_form (text_of text.entry)) (place self.old)) self.old self.new) }
     {
@@ -264,7 +263,7 @@ impl Packing {
         }
     }
 
-    /// The bits, without padding that is left open: all there is, where the place is known.
+    /// The bits, without open padding: everything, at a known position.
     pub fn as_bits(&self) -> &BitBuffer
         ensures bits { result.now ≡ solid self.now.text }
         ensures placed { self.now.placed ≡ true → plain self.now.text ≡ Some result.now }
@@ -272,7 +271,7 @@ impl Packing {
         &self.bits
     }
 
-    /// The bits, as `as_bits` shows them.
+    /// The bits, as `as_bits` returns them.
     #[inline(always)]
     pub fn into_bits(self) -> BitBuffer
         ensures bits { result ≡ solid self.text }

@@ -10,17 +10,17 @@ ghost use Rattle.per_codec_packing.specs.Whole.{AreWhole};
 
 use asn1_values_bits::BitStr;
 
-/// A view of a text, in which padding up to octets (X.691 11.1) may be left open.
+/// A view of a text. Its padding to octet boundaries (X.691 11.1) may be open.
 #[derive(Clone, Copy)]
 pub struct TextView<'a> {
     // The bits, without padding.
     pub(crate) bits: BitStr<'a>,
-    // How many of them stand in front of each padding.
+    // The number of bits before each padding.
     pub(crate) paddings: &'a [usize],
     ghost ascend: { AscendIn (bits_of bits) paddings.now } by { ascend_prop 0 paddings.now (length (bits_of bits)) },
 }
 
-/// Whether whole octets stand in front of each padding.
+/// Whether whole octets precede each padding.
 fn are_whole(paddings: &[usize]) -> bool
     ensures { IsTrue result → AreWhole paddings.now }
 {
@@ -35,8 +35,8 @@ fn are_whole(paddings: &[usize]) -> bool
 impl<'a> TextView<'a> {
     ghost use Rattle.per_codec_packing.specs.Viewed.{text_of};
 
-    /// The complete encoding of a text that stands alone (X.691 11.1), where it has whole octets, at least one, and
-    /// none of its padding adds a bit: the octets in which it stands.
+    /// The complete encoding of a text that stands alone (X.691 11.1), lent from the text: if that has whole octets,
+    /// at least one, and none of its padding adds a bit.
     #[inline]
     pub fn complete_octets(&self) -> Option<&'a [u8]>
         ensures { IfSome result (λ octets. written (complete (as_form (text_of self.now))) 0 ≡ Some

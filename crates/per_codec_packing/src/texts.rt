@@ -1,4 +1,4 @@
-//! Texts that share memory.
+//! Texts in shared buffers.
 ghost use Rattle.std.specs.Prelude.{◌≡◌, ◌<◌, ◌++◌, [], ◌∷◌, length, get_or, OnOk, OnErr};
 ghost use Rattle.per_codec_packing.specs.Viewed.{text_of};
 
@@ -8,26 +8,26 @@ use asn1_values_bits::BitBuffer;
 use std::alloc::{AllocError, Global};
 use std::marker::Model;
 
-// From where on and up to where something stands.
+// Start and end of a part of a buffer.
 #[derive(Clone, Copy)]
 struct Span {
     from: usize,
     to: usize,
 }
 
-// Where a text stands.
+// The position of a text in the buffers.
 #[derive(Clone, Copy)]
 struct Part {
     bits: Span,
     paddings: Span,
 }
 
-/// Texts whose places are not known, as those of the members of a bag, one behind the other in memory that they share.
+/// Texts at unknown positions, such as those of the members of a SET OF, in sequence in shared buffers.
 #[derive(Drop)]
 pub struct Texts {
-    // The bits of all, without padding that is left open.
+    // The bits of all texts, without open padding.
     bits: BitBuffer,
-    // How many bits of its text stand in front of each padding that is left open.
+    // For each open padding, the number of bits of its text before it.
     paddings: Vec<usize>,
     parts: Vec<Part>,
 }
@@ -45,7 +45,7 @@ impl Model for Texts {
     ghost invariant = { λ t. AreParts t.bits t.paddings.items t.parts.items };
 }
 
-// Adds padding behind that of earlier texts: mostly there is none.
+// Adds the padding positions of a text to those of earlier texts; mostly there are none.
 #[inline(always)]
 fn push_paddings(all: &mut Vec<usize>, paddings: &[usize]) -> Result<(), AllocError>
     ensures ok { OnOk result (all.new.items ≡ all.old.items ++ paddings.now) }
@@ -59,7 +59,7 @@ fn push_paddings(all: &mut Vec<usize>, paddings: &[usize]) -> Result<(), AllocEr
 }
 
 impl Texts {
-    /// No texts. It takes no memory before it is handed one.
+    /// No texts. It does not allocate before the first text.
     pub fn new(alloc: Global) -> Self
         ensures { result ≡ [] }
     {
@@ -70,18 +70,18 @@ impl Texts {
         }
     }
 
-    /// How many texts there are.
+    /// The number of texts.
     pub fn len(&self) -> usize
         ensures { result ≡ length self.now }
     {
         self.parts.len()
     }
 
-    /// Adds a text behind the others.
+    /// Adds a text after the others.
     ///
     /// # Errors
     ///
-    /// Want of memory; nothing is changed then.
+    /// `AllocError` if memory ran out. Nothing changes then.
     pub fn push(&mut self, text: &Packing) -> Result<(), AllocError>
         ensures ok { OnOk result (self.new ≡ self.old ++ (text.now.text ∷ [])) }
         ensures err { OnErr result (self.new ≡ self.old) }
@@ -105,7 +105,7 @@ impl Texts {
         Ok(())
     }
 
-    /// The text at a place.
+    /// The text at an index.
     pub fn get(&self, index: usize) -> TextView<'_>
         requires { index < length self.now }
         ensures { text_of result ≡ get_or self.now index [] }

@@ -1,4 +1,4 @@
--- What stands in front of the items of a size, piece by piece, and the units behind it.
+-- What precedes the units under a size constraint, piece by piece, and the units after it.
 use Rattle.std.proofs.Common.{◌≡◌, ℕ, ◌*◌, ◌<◌, ◌==◌, ◌&&◌, Bool, true, false, List, [], ◌∷◌, length, Option, Some, None, refl, ap, sym, subst}
 use Rattle.asn1_model.specs.Schema.{Counts, Size}
 use Rattle.asn1_model.specs.Form.{exactly}
@@ -21,7 +21,7 @@ use Rattle.per_codec_reading.proofs.RunFronts.{piece_out, run_out, no_piece}
 use Rattle.per_codec_reading.proofs.ToldFronts.{no_octet, few_bits, told_stands}
 
 module _ (free : Per.Freedom → Bool) (al : Bool) where
-  -- ---- determinants
+  -- ---- length determinants
   pub no_told : (c : Counts) (high : ℕ) (a : Place) → NoneStands free (told_count al c.low high) a → NoneStands free (determinant_form al c (Some high)) a
   no_told c high a n (Constrained k) b f = n k b f
   no_told c high a n (General l) b f = of_refused free a b f
@@ -41,7 +41,7 @@ module _ (free : Per.Freedom → Bool) (al : Bool) where
       let T : Bool → Place → Type 0 = λ t p. Front free (determinant_form al z.counts (told_highest t z.counts.high) h.determinant) p b in
       n h.determinant b (subst (λ t. T t mid) (sym q.0) (subst (λ p. T h.is_outside p) (sym q.1) s.2))
 
-  -- ---- units behind a determinant
+  -- ---- units after a length determinant
   pub no_padding : (w : ℕ) (has_padding : ℕ → Counts → Bool) (c : Counts) (n : ℕ) (padded : Bool) (m : Place) (e : DecodeError) → padded ≡ has_padding n c → Misses free (Per.at_octet (al && padded)) m e → (told : Option ℕ) → MissesRest free (determinant_form al c told (Constrained n)) (units_told al w has_padding c told) m e
   no_padding w has_padding c n padded m e i x None a f = absurd (of_refused free a m f)
   no_padding w has_padding c n padded m e i x (Some high) a f = misses_also free (Per.at_octet (al && padded)) (told_units al w has_padding c high) m a e (λ z. no_octet free al w has_padding c high n a m f (subst (λ t. NoneStands free (Per.at_octet (al && t)) m) i z)) x
@@ -62,14 +62,14 @@ module _ (free : Per.Freedom → Bool) (al : Bool) where
   no_general_units w has_padding c l m e h None a f = h a f
   no_general_units w has_padding c l m e h (Some high) a f = absurd (of_refused free a m f)
 
-  -- units in one run, by what tells their number
+  -- units in one run, by what determines the form of their number
   pub in_one_run : (c : Counts) (told : Option ℕ) (d : LengthDeterminant) (n : ℕ) (a b : Place) → Front free (determinant_form al c told d) a b → InOneRun told n → HoldsOneRun d n
   in_one_run c None (General l) n a b f h = h
   in_one_run c None (Constrained k) n a b f h = tt
   in_one_run c (Some high) (Constrained k) n a b f h = tt
   in_one_run c (Some high) (General l) n a b f h = absurd (of_refused free a b f)
 
-  -- ---- and back: what stands in front of units
+  -- ---- and back: what precedes units
   pub units_headed : (w : ℕ) (has_padding : ℕ → Counts → Bool) (c : Counts) (told : Option ℕ) (us : Units) (a b : Place) → Front free (units_told al w has_padding c told us) a b → NoneStands free (determinant_form al c told) a → ⊥
   units_headed w has_padding c (Some high) us a b f n =
       let i = if_out free (length us.1 == us.0 * w) _ a b f in
@@ -77,7 +77,7 @@ module _ (free : Per.Freedom → Bool) (al : Bool) where
       n (Constrained us.0) s.0 s.1
   units_headed w has_padding c None us a b f n = no_piece free al w a (λ x p g. let o = piece_out free al w x.0 x.1 a p g in n (General x.0) o.1 o.2) us.0 us.1 b (run_out free al w us.0 us.1 a b f)
 
--- the extension bit in front
+-- the extension bit at the start
 pub bit_in_front : (free : Per.Freedom → Bool) (e o : Bool) (a b : Place) → Front free (extension_bit e o) a b → is_outside e a.1 ≡ o
 bit_in_front free false true a b f = absurd (of_refused free a b f)
 bit_in_front free false false a b f = refl

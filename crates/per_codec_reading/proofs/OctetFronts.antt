@@ -1,4 +1,4 @@
--- Octets that stand in front behind their number, as units of eight bits.
+-- Bits that begin with octets after a length determinant, as units of eight bits.
 use Rattle.std.proofs.Common.{◌≡◌, ℕ, zero, suc, ◌*◌, ◌/◌, ◌%◌, ◌==◌, Bool, true, false, List, [], ◌∷◌, ◌++◌, length, replicate, refl, ap, sym, ◌∙◌, subst, arith, length-append, Fits, w8, get_or, append-nil}
 use Rattle.std.proofs.lemmas.Bool.{eqb-true, eq-eqb, and_from, lt-ltb}
 use Rattle.asn1_model.specs.Numbers.{binary, missing, octet_bits, packed}
@@ -36,7 +36,7 @@ octet_pieces [] = refl
 octet_pieces (o ∷ os) = ap (λ us. exactly (binary 8 o) ∷ us) (octet_pieces os)
 
 module _ (free : Per.Freedom → Bool) where
-  -- Units of a width have so many bits.
+  -- Units of a width have this number of bits.
   pub counted_size : (al : Bool) (w n : ℕ) (bs : List Bool) (a b : Place) → Front free (counted_units al w (n, bs)) a b → length bs ≡ n * w
   counted_size al w n bs a b f = eqb-true _ _ (if_out free (length bs == n * w) _ a b f).0
 

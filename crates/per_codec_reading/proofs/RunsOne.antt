@@ -1,4 +1,4 @@
--- One run of units at most stands in front.
+-- The bits begin with at most one run of units.
 use Rattle.std.proofs.Common.{◌≡◌, inl, inr, ℕ, ◌+◌, ◌*◌, Bool, List, [], ◌∷◌, ap, sym, ◌∙◌, subst}
 use Rattle.asn1_model.specs.Per
 use Rattle.per_codec_fronts.specs.Takes.{Place, Front}
@@ -29,7 +29,7 @@ module _ (free : Per.Freedom → Bool) (al : Bool) (w : ℕ) where
             x.count ∙ ap (λ y. y * 16384 + x.rest) s ∙ ap (λ y. f.size * 16384 + y) i ∙ sym f.count
       ]
 
-  -- Units behind their number are equally many.
+  -- Units after a length determinant are equal in number.
   pub counted_one : (us vs : Units) (a b c : Place) → Front free (counted_units al w us) a b → Front free (counted_units al w vs) a c → us.0 ≡ vs.0
   counted_one us vs a b c f g =
       let r = run_out free al w us.0 us.1 a b f in

@@ -1,4 +1,4 @@
--- Strings of octets and of bits, texts and object identifiers that stand in front.
+-- Bits that begin with an OCTET STRING, a BIT STRING, a text or an OBJECT IDENTIFIER.
 use Rattle.std.proofs.Common.{◌≡◌, ◌⊎◌, inl, inr, ℕ, ◌*◌, ◌==◌, Bool, true, false, List, [], ◌∷◌, length, Ok, Err, refl, ap, sym, ◌∙◌, subst, arith}
 use Rattle.std.proofs.lemmas.Bool.{false≢true, eqb-true, eq-eqb, le-leb, and_from}
 use Rattle.asn1_model.specs.Schema.{Counts, Size, Alphabet, bit_string, octet_string, character_string, object_identifier, utf8}

@@ -1,4 +1,4 @@
--- Units behind a number that bounds tell, part by part.
+-- Units after a length determinant that bounds determine, part by part.
 use Rattle.std.proofs.Common.{◌≡◌, ℕ, ◌-◌, ◌*◌, ◌≤◌, ◌<◌, ◌==◌, leb, ◌&&◌, Bool, true, false, List, length, refl, ap, sym, ◌∙◌, subst, arith, length-append, []}
 use Rattle.std.proofs.lemmas.Bool.{leb-true, eqb-true, eq-eqb, and_parts}
 use Rattle.asn1_model.specs.Schema.{Counts}
@@ -44,7 +44,7 @@ module _ (free : Per.Freedom → Bool) where
   no_number al low high a n k b f = n (k - low) b (if_out free (leb low k && leb k high) _ a b f).1
 
   module _ (al : Bool) (w : ℕ) (has_padding : ℕ → Counts → Bool) (c : Counts) (high : ℕ) where
-    -- what stands behind the number
+    -- what follows the length determinant
     behind : (n : ℕ) (us : Units) (a m b : Place) → Front free (told_count al c.low high n) a m → Front free (told_units al w has_padding c high us) a b → (length us.1 ≡ n * w) × Front free (Per.at_octet (al && has_padding n c) (exactly us.1)) m b
     behind n us a m b h f =
         let i = if_out free (length us.1 == us.0 * w) _ a b f in

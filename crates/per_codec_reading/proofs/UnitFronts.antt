@@ -1,4 +1,4 @@
--- Units of one width that stand in front: all of them, and those of their fragments.
+-- Bits that begin with units of one width: all of them, and those of their fragments.
 use Rattle.std.proofs.Common.{◌≡◌, ℕ, zero, suc, ◌+◌, ◌-◌, ◌*◌, ◌≤◌, leb, ◌&&◌, Bool, true, List, [], ◌∷◌, ◌++◌, length, take, drop, refl, ap, sym, ◌∙◌, subst, arith, length-append}
 use Rattle.std.proofs.lemmas.List.{nil_from_length, take-append-drop, take-append-le, drop-append-le, length-drop, length-take-le, take_at, drop_at}
 use Rattle.std.proofs.lemmas.Bool.{leb-true, le-leb, and_parts, and_from}
@@ -46,7 +46,7 @@ first_units w k n xs ys l = ap (take k) (units-append w k n xs ys l) ∙ take_at
 further_units : (w k n : ℕ) (xs ys : List Bool) → length xs ≡ k * w → drop k (units_of w (k + n) (xs ++ ys)) ≡ units_of w n ys
 further_units w k n xs ys l = ap (drop k) (units-append w k n xs ys l) ∙ drop_at (units_of w k xs) (units_of w n ys) k (length-units w k xs)
 
--- ---- fronts
+-- ---- prefixes
 module _ (free : Per.Freedom → Bool) where
   joined_reads : (w n : ℕ) (bs : List Bool) (p : ℕ) → length bs ≡ n * w → Reads free (joined (units_of w n bs)) p bs
   unfolding Reads
@@ -70,7 +70,7 @@ module _ (free : Per.Freedom → Bool) where
       (ap (λ t. t ++ b.1) (sym e) ∙ f.in_front, ap (λ t. a.0 + length t) (sym e) ∙ f.moved)
 
   -- ---- fragments
-  -- units in fragments of so many times 16384 each, and the rest behind a short length
+  -- units in fragments, each a multiple of 16384, and the rest after a short length determinant
   pub record Divided (al : Bool) (w : ℕ) (ms : List ℕ) (n : ℕ) (bs : List Bool) (a b : Place) : Type 0 where
     pub size : length bs ≡ n * w
     pub front : Front free (Per.fragments al ms (units_of w n bs)) a b
@@ -109,7 +109,7 @@ module _ (free : Per.Freedom → Bool) where
         front = if_in free (fits m (length us)) (more al m ms us) a b c (join free _ _ a mid b i.1 (join free _ _ mid next b t r));
       }
 
-  -- a fragment, and what is behind it
+  -- a fragment, and what follows it
   pub record Behind (al : Bool) (w m : ℕ) (ms : List ℕ) (n : ℕ) (bs : List Bool) (a b : Place) : Type 0 where
     pub rest : ℕ
     pub first : List Bool

@@ -1,4 +1,4 @@
--- Lengths, and numbers within a bound.
+-- Length determinants, and numbers within a bound.
 use Rattle.std.specs.Prelude.{ℕ, ◌≤◌, ◌<◌, ◌^◌, leb, ltb, ◌&&◌, Bool, true, [], ◌∷◌}
 use Rattle.asn1_model.specs.Numbers.{binary}
 use Rattle.asn1_model.specs.Form.{exactly, only_if}
@@ -17,11 +17,11 @@ abbrev pub IsLength : Length → Type 0
 IsLength (Short n) = n < 16384
 IsLength (Fragment m) = (1 ≤ m) × (m ≤ 4)
 
--- A number in so many bits that is not above a highest one.
+-- A number in a number of bits that is not above a largest one.
 abbrev pub number_within : ℕ → ℕ → ℕ → BitForm
 number_within bits most n = only_if (leb n most && ltb n (2 ^ bits)) (exactly (binary bits n))
 
--- The same at an octet in the aligned variant.
+-- The same, octet-aligned in the aligned variant.
 abbrev pub aligned_within : Bool → ℕ → ℕ → ℕ → BitForm
 aligned_within al bits most n = at_octet al (number_within bits most n)
 

@@ -1,4 +1,4 @@
-//! The bits that are still to be read.
+//! The unread bits.
 ghost use Rattle.std.specs.Prelude.{◌≡◌, ◌-◌, ◌^◌, ◌<◌, ◌≤◌, take, drop, [], ◌∷◌, length, IsTrue, ◌↔◌, IfOk, IfErr};
 ghost use Rattle.asn1_model.specs.Numbers.{binary, octet_bits};
 ghost use Rattle.asn1_values_bits.specs.BitStr.{bits_of};
@@ -8,8 +8,8 @@ use asn1_schema_faults::{DecodeError, MOST_OCTETS};
 use asn1_values_bits::BitStr;
 use std::marker::Model;
 
-/// A place in a message or in an open type: how many bits stand in front of it, and the bits behind it, which are
-/// unread and lent.
+/// A position in a message or open type: the number of bits before it, and those after it, which are unread and
+/// borrowed.
 #[derive(Drop)]
 pub struct Cursor<'input> {
     position: usize,
@@ -29,7 +29,8 @@ impl<'input> Model for Cursor<'input> {
 }
 
 impl<'input> Cursor<'input> {
-    /// Before these octets: an encoding has fewer than 2^60, and of more of them the first 2^60 - 1 alone are read.
+    /// A cursor at the start of these octets. An encoding has fewer than 2^60 octets, so only the first 2^60 - 1 are
+    /// read.
     pub fn new(input: &'input [u8]) -> Self
         ensures { result ≡ (0, octet_bits (take (2 ^ 60 - 1) input.entry.now)) }
     {
@@ -37,7 +38,7 @@ impl<'input> Cursor<'input> {
         Cursor::from_bits(BitStr::from_slice(&input[..count]))
     }
 
-    /// Before these bits, which are all of a message or of an open type.
+    /// A cursor at the start of these bits, all bits of a message or open type.
     #[inline(always)]
     pub fn from_bits(bits: BitStr<'input>) -> Self
         ensures { result ≡ (0, bits_of bits.entry) }
@@ -49,8 +50,8 @@ impl<'input> Cursor<'input> {
         }
     }
 
-    /// Behind so many of these bits, which are all of a message or of an open type. Where there are fewer, no bit is
-    /// unread.
+    /// A cursor after the first `position` of these bits, all bits of a message or open type. If there are fewer, no
+    /// bit is unread.
     #[inline(always)]
     pub fn behind(bits: BitStr<'input>, position: usize) -> Self
         ensures { result ≡ (position, drop position (bits_of bits.entry)) }
@@ -60,7 +61,7 @@ impl<'input> Cursor<'input> {
         Cursor { position, unread }
     }
 
-    /// How many bits of the message or open type are read.
+    /// The number of bits of the message or open type that have been read.
     #[inline(always)]
     pub fn position(&self) -> usize
         ensures { result ≡ self.now.0 }
@@ -76,7 +77,7 @@ impl<'input> Cursor<'input> {
         self.unread
     }
 
-    /// How many bits are unread.
+    /// The number of unread bits.
     #[inline(always)]
     pub fn len(&self) -> usize
         ensures { result ≡ length self.now.1 }
@@ -84,7 +85,7 @@ impl<'input> Cursor<'input> {
         self.unread.len()
     }
 
-    /// Whether all bits are read.
+    /// Whether all bits have been read.
     #[inline(always)]
     pub fn is_empty(&self) -> bool
         ensures { IsTrue result ↔ (self.now.1 ≡ []) }
@@ -92,7 +93,7 @@ impl<'input> Cursor<'input> {
         self.unread.is_empty()
     }
 
-    /// Takes the first bits, as many as are asked for, and lends them.
+    /// Takes the first `count` bits, and lends them.
     ///
     /// # Errors
     ///
@@ -131,7 +132,7 @@ impl<'input> Cursor<'input> {
         Ok(bit)
     }
 
-    /// Takes the number whose binary digits are the first bits, as many as are asked for and at most 128.
+    /// Takes the first `width` bits, at most 128, as a number.
     ///
     /// # Errors
     ///

@@ -1,4 +1,4 @@
--- Characters that stand in front by their codes (X.691 30.5).
+-- Bits that begin with characters by their codes (X.691 30.5).
 use Rattle.std.proofs.Common.{◌≡◌, ◌⊎◌, inl, inr, ℕ, zero, suc, ◌-◌, ◌*◌, ◌^◌, ◌<◌, ◌≤◌, ◌==◌, ltb, lit<, Bool, true, false, cond, List, [], ◌∷◌, ◌++◌, length, map, take, drop, Option, Some, None, option_map, refl, ap, sym, ◌∙◌, subst, arith, length-append}
 use Rattle.std.specs.Prelude.{flat_map, is_some, unwrap_or}
 use Rattle.std.proofs.lemmas.Bool.{ltb-true, eqb-true, eq-eqb, and_parts, and_from}
@@ -151,7 +151,7 @@ forms : (a : Coded) (rs : List Run) (cs : List ℕ) → SameCharacters a.runs rs
 forms a rs [] s h = refl
 forms a rs (c ∷ cs) s h = let p = and_parts _ _ h in ap (λ x. x ∷ map (Per.character a.code_bits rs) cs) (one_form a rs c s p.0) ∙ ap (λ l. exactly (text_of a c) ∷ l) (forms a rs cs s p.1)
 
--- ---- characters that stand in front have codes
+-- ---- characters that come first have codes
 abbrev HasPlace : List Run → ℕ → ℕ → Type 0
 HasPlace rs c d = is_some (place_of c rs) ≡ true
 
@@ -235,7 +235,7 @@ module _ (free : Per.Freedom → Bool) (al : Bool) (k : StringKind) (z : Size) (
       let d = x.spells in
       t x.told r.0 (record { permitted = d.permitted; coded = d.coded; spelled = r.1 })
 
--- Codes of no characters are refused, or memory is wanting.
+-- Codes of no characters are refused, or memory ran out.
 pub refused_codes : (free : Per.Freedom → Bool) (x : Value → Per.BitForm) (k : StringKind) (a : Coded) (us : Units) (p : Place) (e : DecodeError) → IsFitting a → (Stuck k a us.0 us.1 → NoneStands free x p) → (e ≡ OutOfMemory) ⊎ (IsFitting a → Stuck k a us.0 us.1) → IsFresh e → Misses free x p e
 refused_codes free x k a us p e f h (inl m) n = subst (Misses free x p) (sym m) tt
 refused_codes free x k a us p e f h (inr s) n = none_misses free x p e n (h (s f))

@@ -1,4 +1,4 @@
--- Strings whose characters have no fixed width, as octets behind their number (X.691 30).
+-- Strings whose characters have no fixed width, as octets after a length determinant (X.691 30).
 use Rattle.std.proofs.Common.{◌≡◌, ℕ, leb, ◌&&◌, ◌||◌, Bool, true, false, cond, List, [], ◌∷◌, length, refl, ap, sym, ◌∙◌, subst, arith}
 use Rattle.std.proofs.lemmas.Bool.{ltb-true, le-leb, and_parts, and_from}
 use Rattle.asn1_model.specs.Schema.{Alphabet, Size, StringKind, numeric, printable, visible, ia5, bmp, general, graphic, teletex, utf8, character_string}

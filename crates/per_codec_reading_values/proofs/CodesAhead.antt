@@ -1,4 +1,4 @@
--- Codes in a number, and those behind them.
+-- Codes in a number, and those after them.
 use Rattle.std.proofs.Common.{◌≡◌, ℕ, suc, ◌+◌, ◌-◌, ◌*◌, ◌^◌, ◌<◌, ◌≤◌, Bool, List, ◌++◌, take, drop, ap, sym, ◌∙◌, append_assoc, arith}
 use Rattle.std.proofs.Math.Nat.{mul-le-mul_left}
 use Rattle.std.proofs.Math.Pow.{pow_mono}
@@ -6,14 +6,14 @@ use Rattle.asn1_model.specs.Numbers.{binary}
 use Rattle.asn1_laws_fronts.proofs.PerNumbers.{length-binary}
 use Rattle.per_codec_reading_values.proofs.Steps.{front, split_bits}
 
--- eight codes of eight bits at most are a number of 64 bits
+-- at most eight codes of eight bits are a number of 64 bits
 pub few_bits : (d w n : ℕ) → d ≤ 8 → w ≤ 8 → n < 2 ^ (d * w) → n < 2 ^ 64
 few_bits d w n h k l =
     let m : d * w ≤ d * 8 = mul-le-mul_left d k in
     let p : 2 ^ (d * w) ≤ 2 ^ 64 = pow_mono {i = d * w} {j = 64} (omega (arith, m, h)) in
     omega (arith, l, p)
 
--- a number of the first codes, where none was left in the one before
+-- a number of the first codes, if none was left in the previous one
 pub refilled : (w d c n m : ℕ) (rest behind : List Bool) → c ≡ d * w → binary c n ≡ take c rest → behind ≡ drop c rest → binary (d * w) n ++ behind ≡ binary (0 * w) m ++ rest
 refilled w d c n m rest behind e digits b =
     ap (λ k. binary k n ++ behind) (sym e) ∙ ap (λ l. l ++ behind) digits ∙ ap (λ l. take c rest ++ l) b ∙ split_bits rest c ∙ ap (λ k. binary k m ++ rest) (none w)

@@ -1,4 +1,4 @@
--- Places of a stretch of bits.
+-- Positions in a range of bits.
 use Rattle.std.specs.Prelude.{min}
 use Rattle.std.proofs.Common.{subst, ◌≡◌, ℕ, ◌+◌, ◌≤◌, Bool, inl, inr, List, length, take, drop, refl, ap, sym, ◌∙◌, length-append, arith}
 use Rattle.std.proofs.lemmas.Bool.{cases_lt}
@@ -9,7 +9,7 @@ use Rattle.per_codec_fronts.proofs.Next.{place_same}
 use Rattle.per_codec_reading.specs.Fronts.{Leads}
 use Rattle.per_codec_reading.specs.Runs.{StandsIn}
 
--- behind bits that stand in front
+-- after bits that come first
 pub behind : (w bs : List Bool) (n : ℕ) (b : Place) → Leads w (n, drop n bs) b → (n + length w, drop (n + length w) bs) ≡ b
 behind w bs n b h =
     let e : drop (length w) (drop n bs) ≡ b.1 = ap (drop (length w)) (sym h.0) ∙ drop_at w b.1 (length w) refl in
@@ -29,18 +29,18 @@ moved w bs n p q b l e m h =
     let k : q ≡ n + length w = j ∙ sym e ∙ sym h.1 in
     ap (λ (x : ℕ). let y : Place = (x, drop x bs) in y) k ∙ behind w bs n b h
 
--- the place behind so many of the bits
+-- the position after a number of the bits
 pub stands : (bs : List Bool) (n : ℕ) → n ≤ length bs → StandsIn bs (n, drop n bs)
 stands bs n l = let e = length-take-le n bs l in (take n bs, (take-append-drop n bs, omega (arith, e)))
 
--- as many as there are, and no more than so many
+-- the first elements, at most `n` and at most all of them
 pub take_at_most : (m n : ℕ) (xs : List ℕ) → m ≡ min (length xs) n → take m xs ≡ take n xs
 take_at_most m n xs e = elim (cases_lt n (length xs)) [
   | inl l ↦ let s : m ≡ n = omega arith in ap (λ k. take k xs) s
   | inr g ↦ take_all m xs (omega arith) ∙ sym (take_all n xs g)
 ]
 
--- what stands within as many bits as there are
+-- a position within the number of bits is within the bits
 pub within_count : (bs : List Bool) (n m : ℕ) → (n ≤ m) × (m ≡ length bs) → n ≤ length bs
 within_count bs n m h = subst (λ k. n ≤ k) h.1 h.0
 

@@ -1,4 +1,4 @@
--- Strings that stand in front as the octets that their characters are (X.691 30.5).
+-- Bits that begin with a string encoded as the octets of its characters (X.691 30.5).
 use Rattle.std.proofs.Common.{◌≡◌, ◌⊎◌, inl, inr, ℕ, Bool, true, false, cond, ◌&&◌, List, [], ◌∷◌, length, Option, Some, option_map, refl, ap, sym, ◌∙◌, subst}
 use Rattle.std.specs.Prelude.{not}
 use Rattle.std.proofs.lemmas.Bool.{false≢true}
@@ -25,7 +25,7 @@ use Rattle.per_codec_fronts.proofs.Next.{same_fronts}
 use Rattle.per_codec_reading.specs.Fronts.{NoneStands, IsFresh, Misses}
 use Rattle.per_codec_reading.proofs.Fronts.{none_misses}
 
--- Where one is refused, not all are permitted.
+-- If one is refused, not all are permitted.
 pub not_all : (k : StringKind) (refused : ℕ → InvalidRestrictedString) (cs : List ℕ) (e : InvalidRestrictedString) → option_map refused (first_refused k cs) ≡ Some e → permits_all k cs ≡ false
 not_all k refused [] e h = cc
 not_all k refused (c ∷ cs) e h = go (permits k c) (not_all k refused cs e) h
@@ -65,7 +65,7 @@ module _ (free : Per.Freedom → Bool) (al : Bool) (k : StringKind) (z : Option 
       let same : os ≡ t.0 = (same_fronts free (counted_octets_alike free al os t.0) p c q g t.2).0 in
       false≢true (sym m ∙ ap (permits_all k) same ∙ t.1)
 
-  -- Octets that are not all characters are refused, or memory is wanting.
+  -- Octets that are not all characters are refused, or memory ran out.
   pub refused_octets : (os : List ℕ) (p c : Place) (x : DecodeError) → Front free (Per.counted_octets al os) p c → (x ≡ OutOfMemory) ⊎ (permits_all k os ≡ false) → IsFresh x → Misses free string_form p x
   refused_octets os p c x g (inl m) n = subst (Misses free string_form p) (sym m) tt
   refused_octets os p c x g (inr m) n = none_misses free string_form p x n (no_string os p c m g)

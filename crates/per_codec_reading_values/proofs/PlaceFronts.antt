@@ -1,4 +1,4 @@
--- The places of items and of alternatives that stand in front.
+-- Bits that begin with an enumeration or choice index.
 use Rattle.std.proofs.Common.{◌≡◌, ℕ, zero, suc, ◌-◌, ◌<◌, ◌≤◌, ltb, cond, ℤ, Bool, true, false, List, [], ◌∷◌, length, Option, Some, None, refl, ap, sym, ◌∙◌, subst, arith}
 use Rattle.std.specs.Prelude.{option_map, is_some, MatchOption}
 use Rattle.std.proofs.lemmas.Bool.{ltb-true, lt-ltb, false≢true}
@@ -87,7 +87,7 @@ module _ (free : Per.Freedom → Bool) where
         let h = subst (λ u. Front free (cond u (added_form al others c.place) (root_form al roots c.place)) s.0 b) (sym q.0 ∙ t) s.2 in
         n c.place b (subst (λ p. Front free (root_form al roots c.place) p b) (sym q.1) h)
 
-    -- what a place says
+    -- what an index says
     pub root_told : (roots : ℕ) (e : Bool) (others i : ℕ) (a b : Place) → Front free (place_form al roots e others (record { added = false; place = i })) a b → (i < roots) × Front free (both (Per.extension_bit_of e false) (Per.constrained al (roots - 1) i)) a b
     root_told roots e others i a b f =
         let s = place_out roots e others (record { added = false; place = i }) a b f in
@@ -156,7 +156,7 @@ module _ (free : Per.Freedom → Bool) where
             let x = m t.0 in
             omega (arith, k, l, x)
 
-    -- the same of counts and an extension bit that are known by their equals
+    -- the same for counts and an extension bit that are known by their equals
     pub item_read : (roots adds : List ℤ) (e : Bool) (n : ℕ) (x : Bool) (others : ℕ) (v : ℤ) (c : Chosen) (a b : Place) → n ≡ length roots → x ≡ e → IsPlaced roots e adds v c.added c.place → Front free (place_form al n x others c) a b → Front free (Per.form al (enumerated roots e adds) (item v)) a b
     item_read roots adds e n x others v c a b p q i f = item_stands roots adds e others v c a b i (subst (λ m. Front free (place_form al m e others c) a b) p (subst (λ y. Front free (place_form al n y others c) a b) q f))
 

@@ -1,4 +1,4 @@
--- One character more, from its code.
+-- One more character, from its code.
 use Rattle.std.proofs.Common.{◌≡◌, ℕ, zero, suc, ◌+◌, ◌-◌, ◌*◌, ◌^◌, ◌<◌, ◌≤◌, Bool, true, List, [], ◌∷◌, ◌++◌, length, take, drop, Option, Some, None, refl, ap, subst, sym, ◌∙◌, append_assoc, length-append, length-drop, arith}
 use Rattle.std.specs.Prelude.{flat_map, is_some, unwrap_or}
 use Rattle.std.proofs.lemmas.Bool.{and_parts, and_from}
@@ -27,7 +27,7 @@ split_bits w zero = refl
 split_bits [] (suc n) = refl
 split_bits (b ∷ w) (suc n) = ap (λ l. b ∷ l) (split_bits w n)
 
--- What is spelled so far, and one more.
+-- The characters so far, and one more.
 pub one_spelled : (k : StringKind) (a : Coded) (done now : List ℕ) (c n : ℕ) (w rest left : List Bool) → Spells k a done w → now ≡ done ++ c ∷ [] → permits k c ≡ true → code_of a c ≡ Some n → binary a.code_bits n ≡ take a.code_bits rest → Spells k a now (w ++ take a.code_bits rest)
 one_spelled k a done now c n w rest left s e p f t =
     let b : text_of a c ≡ take a.code_bits rest = ap (λ o. binary a.code_bits (unwrap_or o 0)) f ∙ t in
@@ -37,7 +37,7 @@ one_spelled k a done now c n w rest left s e p f t =
       spelled = spelled_end a done c ∙ ap (λ l. l ++ text_of a c) s.spelled ∙ ap (λ l. w ++ l) b;
     })
 
--- ---- the first of some characters is told by its code
+-- ---- its code determines the first of some characters
 pub front : (x y : List Bool) (n : ℕ) → length x ≡ n → (take n (x ++ y) ≡ x) × (drop n (x ++ y) ≡ y)
 front [] y zero e = (refl, refl)
 front [] y (suc n) e = absurd (omega arith)
@@ -77,7 +77,7 @@ module _ (k : StringKind) (a : Coded) (fit : IsFitting a) (o : Option ℕ) (numb
       none_some : {x : ℕ} → None ≡ Some x → ⊥
       none_some q = cc
 
-  -- What cannot go on cannot begin.
+  -- What cannot continue cannot begin.
   pub stuck_before : (n : ℕ) → Stuck k a n (drop a.code_bits w) → Stuck k a (suc n) w
   stuck_before n h [] l s = absurd (omega arith)
   stuck_before n h (c ∷ cs) l s = let f = first c cs s in h cs (omega arith) f.others
@@ -170,7 +170,7 @@ octet_below a o octet l = subst (λ w. o < 2 ^ w) (sym octet) l
 pub octets_whole : (a : Coded) (os : List ℕ) → a.code_bits ≡ 8 → length (octet_bits os) ≡ length os * a.code_bits
 octets_whole a os octet = subst (λ w. length (octet_bits os) ≡ length os * w) (sym octet) (octet_count os)
 
--- so many codes are so many octets
+-- `count` codes of eight bits are `count` octets
 pub octets_many : (a : Coded) (os : List ℕ) (count : ℕ) (codes : List Bool) → a.code_bits ≡ 8 → octet_bits os ≡ codes → length codes ≡ count * a.code_bits → length os ≡ count
 octets_many a os count codes octet same whole =
     let l : length os * 8 ≡ count * 8 = sym (octet_count os) ∙ ap length same ∙ whole ∙ ap (λ w. count * w) octet in

@@ -7,13 +7,13 @@ use Rattle.asn1_schema_faults.specs.declared.DecodeError.TheVariants.{OutOfMemor
 use Rattle.asn1_values_alphabets.specs.Permitted.{permits_all}
 use Rattle.per_codec_alphabets.specs.Codes.{Coded, code_of, has_code, text_of}
 
--- Permitted characters, whose codes one behind the other are these bits.
+-- Permitted characters whose codes in sequence are these bits.
 pub record Spells (k : StringKind) (a : Coded) (cs : List ℕ) (w : List Bool) : Type 0 where
   pub permitted : permits_all k cs ≡ true
   pub coded : list_all (has_code a) cs ≡ true
   pub spelled : flat_map (text_of a) cs ≡ w
 
--- No so many characters have these codes.
+-- No characters of this number have these codes.
 abbrev pub Stuck : StringKind → Coded → ℕ → List Bool → Type 0
 Stuck k a n w = (cs : List ℕ) → length cs ≡ n → Spells k a cs w → ⊥
 
@@ -21,6 +21,6 @@ Stuck k a n w = (cs : List ℕ) → length cs ≡ n → Spells k a cs w → ⊥
 pub record IsFitting (a : Coded) : Type 0 where
   pub fits : (c code : ℕ) → code_of a c ≡ Some code → code < 2 ^ a.code_bits
 
--- Why characters with these codes are refused: no memory is left, or there are none, where each code fits.
+-- Why characters with these codes are refused: memory ran out, or there are none, if each code fits.
 abbrev pub IsRefused : StringKind → Coded → ℕ → List Bool → DecodeError → Type 0
 IsRefused k a n w e = (e ≡ OutOfMemory) ⊎ (IsFitting a → Stuck k a n w)

@@ -1,4 +1,4 @@
--- Codes that are not read yet.
+-- Unread codes.
 use Rattle.std.specs.Prelude.{ℕ, ◌*◌, Bool, List, ◌++◌}
 use Rattle.asn1_model.specs.Numbers.{binary}
 use Rattle.asn1_values_bits.specs.BitStr.{bits_of}

@@ -35,7 +35,7 @@ fn permitted_character<S: StaticPermittedAlphabet>(
     }
 }
 
-/// The permitted character of one run with this code, if there is one.
+/// The permitted character in a run with this code, if there is one.
 #[inline(always)]
 fn character_in_run<S: StaticPermittedAlphabet>(run: CodedRun, code: u32) -> Option<u32>
     requires { run.base ≤ run.first }
@@ -53,7 +53,7 @@ fn character_in_run<S: StaticPermittedAlphabet>(run: CodedRun, code: u32) -> Opt
     }
 }
 
-/// Whether each octet is the code of a permitted character of one run, where that is the character's own number.
+/// Whether each octet is the code of a permitted character in a run, if codes are the characters' numbers.
 #[inline(always)]
 fn are_in_run<S: StaticPermittedAlphabet>(
     _alphabet: &EffectiveAlphabet,
@@ -76,7 +76,7 @@ fn are_in_run<S: StaticPermittedAlphabet>(
     true
 }
 
-/// Whether each octet is the code of a permitted character, where that is the character's own number.
+/// Whether each octet is the code of a permitted character, if codes are the characters' numbers.
 #[inline(always)]
 fn are_characters<S: StaticPermittedAlphabet>(alphabet: &EffectiveAlphabet, octets: &[u8]) -> bool
     requires octet { alphabet.now.code_bits ≡ 8 }
@@ -96,7 +96,7 @@ fn are_characters<S: StaticPermittedAlphabet>(alphabet: &EffectiveAlphabet, octe
     true
 }
 
-/// The string of the characters whose codes are these octets, which are their own numbers.
+/// The string of the characters with these octets as codes, which are their numbers.
 #[inline(always)]
 fn string_of_octet_codes<S: StaticPermittedAlphabet>(
     alloc: Global,
@@ -120,8 +120,7 @@ fn string_of_octet_codes<S: StaticPermittedAlphabet>(
     Ok(string)
 }
 
-/// The string of so many characters of one run, all of them octets, whose codes stand one behind the other from any bit
-/// on.
+/// The string of `count` characters in a run, all below 256, whose codes are in sequence from any bit on.
 #[inline(always)]
 fn string_in_run<S: StaticPermittedAlphabet>(
     alloc: Global,
@@ -162,7 +161,7 @@ fn string_in_run<S: StaticPermittedAlphabet>(
     Ok(string)
 }
 
-/// The string of so many characters, whose codes stand one behind the other from any bit on.
+/// The string of `count` characters, whose codes are in sequence from any bit on.
 #[inline(always)]
 fn string_of_bits<S: StaticPermittedAlphabet>(
     alloc: Global,
@@ -196,12 +195,12 @@ fn string_of_bits<S: StaticPermittedAlphabet>(
     Ok(string)
 }
 
-/// The string of so many characters, whose codes stand one behind the other. Octets that are the characters themselves,
-/// as mostly in the aligned variant, are copied in one run.
+/// The string of `count` characters, whose codes are in sequence. Octets that are the characters' numbers, as mostly
+/// in the aligned variant, are copied in one run.
 ///
 /// # Errors
 ///
-/// `PermittedAlphabet` if one of the codes stands for no character, and `OutOfMemory`.
+/// `PermittedAlphabet` if one of the codes has no character, and `OutOfMemory`.
 #[inline(always)]
 pub fn string_of<S: StaticPermittedAlphabet>(
     alloc: Global,

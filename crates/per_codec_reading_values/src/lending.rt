@@ -1,4 +1,4 @@
-//! Bits that the input lends.
+//! Bits borrowed from the input.
 ghost use Rattle.std.specs.Prelude.{◌≡◌, ◌+◌, ◌%◌, length, Some, None};
 ghost use Rattle.asn1_values_bits.specs.BitStr.{bits_of, offset_of};
 ghost use Rattle.per_codec_reading.specs.Runs.{bits_in, IsLent, StandsBefore, storage_of};
@@ -6,7 +6,7 @@ ghost use Rattle.per_codec_reading.specs.Runs.{bits_in, IsLent, StandsBefore, st
 use asn1_values_bits::BitStr;
 use per_codec_reading::RunBits;
 
-/// The same bits, of which those that are lent are lent by this input, in which they end at this position.
+/// The same bits. If they are borrowed, they are borrowed from this input, in which they end at `end`.
 #[inline(always)]
 pub(crate) fn lent_by<'input>(
     input: BitStr<'input>,

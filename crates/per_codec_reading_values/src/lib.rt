@@ -1,5 +1,5 @@
-//! Readers of whole numbers, of the places of items and of alternatives, of character strings, of octet strings, and of
-//! stretches of bits, presence bits and open types among them, in the packed encoding rules (X.691).
+//! Readers of PER (X.691) for whole numbers, enumeration and choice indices, character strings, octet strings, and
+//! ranges of bits, such as presence bits and open types.
 #![tactic(auto)]
 
 pub mod bounded;

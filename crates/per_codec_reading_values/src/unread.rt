@@ -1,4 +1,4 @@
-//! Codes of one width, several of which are read at a time.
+//! Codes of one width, read several at a time.
 ghost use Rattle.std.specs.Prelude.{◌≡◌, ◌*◌, ◌<◌, ◌≤◌, ◌^◌, ℕ, length, take, drop};
 ghost use Rattle.asn1_model.specs.Numbers.{binary};
 ghost use Rattle.asn1_values_bits.specs.BitStr.{bits_of};
@@ -6,7 +6,7 @@ ghost use Rattle.per_codec_reading_values.specs.Unread.{code_bits};
 
 use asn1_values_bits::BitStr;
 
-/// Codes that are not read yet: the next ones in a number, the others behind them.
+/// Unread codes: the next ones in a number, the others after them.
 #[derive(Drop)]
 pub(crate) struct UnreadCodes<'a> {
     pub(crate) number: u64,
@@ -15,7 +15,7 @@ pub(crate) struct UnreadCodes<'a> {
 }
 
 impl<'a> UnreadCodes<'a> {
-    /// The codes that stand one behind the other.
+    /// The codes in these bits.
     #[inline(always)]
     pub(crate) fn new(codes: BitStr<'a>) -> Self
         ensures codes { (width : ℕ) → code_bits width result ≡ bits_of codes.entry }
@@ -28,7 +28,7 @@ impl<'a> UnreadCodes<'a> {
         }
     }
 
-    /// The same codes, of which there are `left`, the next one in the number.
+    /// The same codes, `left` of them, with the next one in the number.
     #[inline(always)]
     fn filled(self, width: u32, left: usize) -> Self
         requires narrow { width ≤ 8 }
@@ -51,7 +51,7 @@ impl<'a> UnreadCodes<'a> {
         }
     }
 
-    /// The next code, which stands in the number, and those behind it.
+    /// The next code, which is in the number, and the codes after it.
     #[inline(always)]
     fn split_code(self, width: u32) -> (u32, Self)
         requires narrow { width ≤ 8 }
@@ -72,7 +72,7 @@ impl<'a> UnreadCodes<'a> {
         (code as u32, others)
     }
 
-    /// The next code of so many bits, and those behind it. There are `left` of them.
+    /// The next code, of `width` bits, and those after it. `left` codes are unread.
     #[inline(always)]
     pub(crate) fn next_code(self, width: u32, left: usize) -> (u32, Self)
         requires narrow { width ≤ 8 }

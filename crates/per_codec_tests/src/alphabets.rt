@@ -16,14 +16,13 @@ enum Kind {
     Bmp,
 }
 
-/// A type, the variant, and the characters that are permitted, where there is a constraint, and whether it has an
-/// extension marker.
+/// A string type, the variant, and the permitted characters, if there is a constraint, and whether it is extensible.
 type Alphabet = (Kind, Variant, Option<(&'static [u32], bool)>);
 
 /// Characters and their codes, a character without a code, and a code without a character.
 type Codes = (&'static [(u32, u32)], Option<u32>, Option<u32>);
 
-/// Alphabets, how wide their codes are, and some of these.
+/// Alphabets, the widths of their codes, and some of these.
 const ROWS: [(Alphabet, u32, Codes); 17] = [
     (
         (Kind::Numeric, Variant::Unaligned, None),
@@ -61,7 +60,7 @@ const ROWS: [(Alphabet, u32, Codes); 17] = [
         4,
         (&[(32, 0), (49, 1), (51, 3), (57, 4)], Some(65), Some(5)),
     ),
-    // Codes ascend with the characters, however these are listed.
+    // Codes ascend with the characters, in whatever order these are listed.
     (
         (
             Kind::Visible,
@@ -80,7 +79,7 @@ const ROWS: [(Alphabet, u32, Codes); 17] = [
         3,
         (&[(65, 0), (67, 2), (97, 3), (98, 4)], Some(68), Some(5)),
     ),
-    // Nine characters, no two of which stand side by side, in order and not.
+    // Nine characters, no two of them adjacent, in order and not.
     (
         (
             Kind::Visible,
@@ -99,7 +98,7 @@ const ROWS: [(Alphabet, u32, Codes); 17] = [
         4,
         (&[(48, 0), (56, 4), (65, 5), (71, 8)], Some(49), Some(9)),
     ),
-    // An extension marker makes a constraint count for nothing.
+    // A constraint with an extension marker does not count.
     (
         (Kind::Visible, Variant::Unaligned, Some((&[48, 49], true))),
         7,
@@ -126,7 +125,7 @@ fn alphabet(
     }
 }
 
-/// Whether a character has no code, where there is one here.
+/// Whether a character, if there is one here, has no code.
 fn has_no_code(alphabet: &EffectiveAlphabet, character: Option<u32>) -> bool {
     match character {
         Some(character) => alphabet.code(character).is_none(),
@@ -134,7 +133,7 @@ fn has_no_code(alphabet: &EffectiveAlphabet, character: Option<u32>) -> bool {
     }
 }
 
-/// Whether a code has no character, where there is one here.
+/// Whether a code, if there is one here, has no character.
 fn has_no_character(alphabet: &EffectiveAlphabet, code: Option<u32>) -> bool {
     match code {
         Some(code) => alphabet.character(code).is_none(),
@@ -142,12 +141,12 @@ fn has_no_character(alphabet: &EffectiveAlphabet, code: Option<u32>) -> bool {
     }
 }
 
-/// Whether a character has this code, which stands for it.
+/// Whether a character has this code, and the code this character.
 fn has_code(alphabet: &EffectiveAlphabet, character: u32, code: u32) -> bool {
     alphabet.code(character) == Some(u64::from(code)) && alphabet.character(code) == Some(character)
 }
 
-/// Whether each character has its code, and each code stands for its character.
+/// Whether each character has its code, and each code its character.
 fn has_codes(alphabet: &EffectiveAlphabet, codes: &[(u32, u32)]) -> bool {
     for (character, code) in codes {
         if !has_code(alphabet, *character, *code) {
@@ -157,7 +156,7 @@ fn has_codes(alphabet: &EffectiveAlphabet, codes: &[(u32, u32)]) -> bool {
     true
 }
 
-/// Whether the codes of an alphabet are as wide as this, and these, and those without are without.
+/// Whether an alphabet has codes of this width, these codes, and a character and a code without counterpart.
 fn is_as_said(alphabet: &EffectiveAlphabet, width: u32, (codes, character, code): Codes) -> bool {
     alphabet.width() == width
         && has_codes(alphabet, codes)
@@ -165,7 +164,7 @@ fn is_as_said(alphabet: &EffectiveAlphabet, width: u32, (codes, character, code)
         && has_no_character(alphabet, code)
 }
 
-/// Whether the alphabet of a row is so.
+/// Whether the alphabet of a row is as it says.
 fn is_right(
     alloc: Global,
     (alphabet_of, width, codes): (Alphabet, u32, Codes),

@@ -1,4 +1,4 @@
-//! Texts at known places, and texts that are placed later.
+//! Texts at known positions, and texts that are positioned later.
 use per_codec_packing::{Packing, complete_in};
 use std::alloc::{AllocError, Global};
 use std::test::Fail;
@@ -12,20 +12,20 @@ fn push_member(text: &mut Packing) -> Result<(), AllocError> {
     text.push(true)
 }
 
-/// These at a place that is not known.
+/// These at an unknown position.
 fn member(alloc: Global) -> Result<Packing, AllocError> {
     let mut text = Packing::unplaced(alloc);
     push_member(&mut text)?;
     Ok(text)
 }
 
-/// Adds a bit, and a member behind it.
+/// Adds a bit, and a member after it.
 fn push_within(outer: &mut Packing, inner: &Packing) -> Result<(), AllocError> {
     outer.push(true)?;
     outer.append_text(inner.as_text())
 }
 
-/// The same behind a bit, at a place that is not known.
+/// The same after a bit, at an unknown position.
 fn within_a_member(alloc: Global) -> Result<Packing, AllocError> {
     let inner = member(alloc)?;
     let mut outer = Packing::unplaced(alloc);
@@ -33,7 +33,7 @@ fn within_a_member(alloc: Global) -> Result<Packing, AllocError> {
     Ok(outer)
 }
 
-/// Whether a text behind so many zero bits stands in these octets.
+/// Whether a text after a number of zero bits has these octets.
 fn stands_behind(
     alloc: Global,
     zeros: usize,
@@ -46,7 +46,7 @@ fn stands_behind(
     Ok(text.as_bits().as_bytes() == octets)
 }
 
-/// How many zero bits stand in front, whether there is a member around the member, and the octets.
+/// The number of zero bits before it, whether the member is in another member, and the octets.
 const ROWS: [(usize, bool, &[u8]); 4] = [
     (0, false, &[0x80, 0xAB, 0x80]),
     (3, false, &[0x10, 0xAB, 0x80]),
@@ -54,7 +54,7 @@ const ROWS: [(usize, bool, &[u8]); 4] = [
     (6, true, &[0x03, 0xAB, 0x80]),
 ];
 
-/// Whether a member stands in the octets of its row.
+/// Whether a member has the octets of its row.
 fn is_right(alloc: Global, (zeros, is_nested, octets): (usize, bool, &[u8])) -> Result<bool, Fail> {
     let text = if is_nested {
         within_a_member(alloc)?
@@ -70,7 +70,7 @@ fn completes(alloc: Global, text: &Packing, octets: &[u8]) -> Result<bool, Alloc
     Ok(complete.as_slice() == octets)
 }
 
-/// Whether the complete encodings of a member and of nothing are these.
+/// Whether the complete encodings of a member and of an empty text are these.
 fn are_complete(alloc: Global, of_member: &[u8], of_nothing: &[u8]) -> Result<bool, Fail> {
     let text = member(alloc)?;
     let empty = Packing::unplaced(alloc);

@@ -1,4 +1,4 @@
-//! Parts of encodings as they are written behind so many bits: numbers, lengths, places, and what else stands in no
+//! Parts of encodings after a number of bits: numbers, length determinants, indices, and other parts that are no
 //! message alone (X.691 11).
 use crate::spelled::push_spelled;
 use asn1_schema_faults::EncodeError;
@@ -22,19 +22,19 @@ enum Part {
     Number(u128, u128),
     Small(u64),
     Length(usize),
-    /// The length of a fragment of so many times 16384 units.
+    /// The length determinant of a fragment, by its multiple of 16384 units.
     Fragment(usize),
-    /// The alternative of a root of two.
+    /// An alternative in a root of two.
     Root(usize),
-    /// An added alternative beside a root of two.
+    /// An added alternative, with a root of two.
     Added(usize),
-    /// An open type of no bits.
+    /// An open type without bits.
     OpenType,
-    /// A bitmap of one addition, which is there.
+    /// A bitmap of one addition, which is present.
     Bitmap,
 }
 
-/// A variant, how many set bits stand in front, parts, and the bits that there are then.
+/// A variant, the number of one bits before, parts, and all bits after that.
 type Row = (Variant, usize, &'static [Part], &'static str);
 
 const ROWS: [Row; 23] = [
@@ -74,14 +74,14 @@ const APER: Variant = Variant::Aligned;
 
 const TRUTHS: [Part; 3] = [Part::Truth(true), Part::Truth(false), Part::Truth(true)];
 
-/// A bitmap of one addition, which is there.
+/// A bitmap of one addition, which is present.
 fn bitmap_of_one(alloc: Global) -> Result<BitBuffer, AllocError> {
     let mut bitmap = BitBuffer::new(alloc);
     bitmap.push(true)?;
     Ok(bitmap)
 }
 
-/// Writes a bitmap of one addition, which is there.
+/// Writes a bitmap of one addition, which is present.
 fn push_bitmap_of_one(
     alloc: Global,
     output: &mut Packing,
@@ -112,7 +112,7 @@ fn push_part(
     }
 }
 
-/// Writes parts behind what stands there.
+/// Appends parts.
 fn push_parts(
     alloc: Global,
     output: &mut Packing,
@@ -125,7 +125,7 @@ fn push_parts(
     Ok(())
 }
 
-/// So many set bits and parts behind them, whose place is known from the beginning or is not.
+/// A number of one bits and then parts, at a position that is known from the start or is not.
 fn written(
     alloc: Global,
     (variant, count, parts, _): Row,
@@ -143,7 +143,7 @@ fn written(
     Ok(output)
 }
 
-/// Whether parts stand as their row says.
+/// Whether parts are as their row says.
 fn is_right(alloc: Global, row: Row, is_placed: bool) -> Result<bool, Fail> {
     let mut wanted = BitBuffer::new(alloc);
     push_spelled(&mut wanted, row.3, row.0)?;
@@ -163,7 +163,7 @@ fn parts_behind_bits(rt: HostRuntime) -> Result<(), Fail> {
     Ok(())
 }
 
-/// Whether a number is refused in a span.
+/// Whether a number is refused for a span.
 fn is_outside(alloc: Global, variant: Variant, span: u128, number: u128) -> bool {
     let answer = push_constrained(&mut Packing::new(alloc), variant, span, number);
     answer == Err(EncodeError::ValueConstraintNotSatisfied)

@@ -1,10 +1,10 @@
-//! Bits and octets as the tables spell them.
+//! Bits and octets in the tables' notation.
 use asn1_values_bits::BitBuffer;
 use per_codec_reading::Variant;
 use std::alloc::{AllocError, Global};
 use std::test::Fail;
 
-/// Pads a text of bits to an octet, in the aligned variant.
+/// Pads bits to an octet boundary, in the aligned variant.
 fn pad_to_octet(bits: &mut BitBuffer, variant: Variant) -> Result<(), AllocError> {
     if variant.is_aligned() {
         let whole = bits.as_bytes().len().saturating_mul(8);
@@ -13,7 +13,7 @@ fn pad_to_octet(bits: &mut BitBuffer, variant: Variant) -> Result<(), AllocError
     Ok(())
 }
 
-/// Adds an octet of two hexadecimal digits, or one so many times: `61*16384`.
+/// Adds an octet in two hexadecimal digits, or one repeated, as `61*16384`.
 fn push_octets(bits: &mut BitBuffer, word: &str) -> Result<(), Fail> {
     let (digits, count) = match word.split_once('*') {
         Some((digits, count)) => (digits, count.parse::<usize>()?),
@@ -26,8 +26,8 @@ fn push_octets(bits: &mut BitBuffer, word: &str) -> Result<(), Fail> {
     Ok(())
 }
 
-/// Adds what a text spells: octets in hexadecimal digits, many of one as `61*16384`, bits as `b0110`, and by `|`
-/// padding up to an octet in the aligned variant.
+/// Adds the bits of a text: octets in hexadecimal digits, a repeated one as `61*16384`, bits as `b0110`, and `|` for
+/// padding to an octet boundary in the aligned variant.
 pub fn push_spelled(bits: &mut BitBuffer, text: &str, variant: Variant) -> Result<(), Fail> {
     for word in text.split_whitespace() {
         if word == "|" {
@@ -43,7 +43,7 @@ pub fn push_spelled(bits: &mut BitBuffer, text: &str, variant: Variant) -> Resul
     Ok(())
 }
 
-/// The octets that a text spells, the last of them padded.
+/// The octets of a text, the last one padded.
 pub fn octets(alloc: Global, text: &str) -> Result<Vec<u8>, Fail> {
     let mut bits = BitBuffer::new(alloc);
     push_spelled(&mut bits, text, Variant::Unaligned)?;

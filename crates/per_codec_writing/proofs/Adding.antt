@@ -1,4 +1,4 @@
--- Units one behind the other, and texts that are missing.
+-- Units in sequence, and texts that are missing.
 use Rattle.std.proofs.Common.{◌≡◌, ℕ, Bool, List, [], ◌∷◌, ◌++◌, Option, Some, None, option_map, Result, Ok, Err, refl, ap, subst, sym, ◌∙◌}
 use Rattle.std.specs.Result.{IsErrAnd, MatchResult}
 use Rattle.asn1_model.specs.Form.{joined}
@@ -18,7 +18,7 @@ joined_text (t ∷ ts) p = ap (option_map (λ v. as_text t ++ v)) (joined_text t
 pub adds_joined : (ts : List (List Bool)) (old new : Packed) → new ≡ plus old (as_text (together ts)) → Adds (text_at (joined (forms_of ts)) (place old)) old new
 adds_joined ts old new e = adds_text _ (as_text (together ts)) old new (joined_text ts (place old)) e
 
--- where one text is missing, so is another
+-- if one text is missing, so is another
 pub refuses_also : (o o' : Option Text) (e : EncodeError) → (o ≡ None → o' ≡ None) → Refuses o e → Refuses o' e
 refuses_also o o' OutOfMemory h r = tt
 refuses_also o o' CallOutOfPlace h r = r

@@ -60,7 +60,7 @@ module _ (root outside : Per.BitForm) where
   pub adds_outside : (e within : Bool) (old mid new : Packed) → e ≡ true → within ≡ false → mid ≡ plus old (as_text (not within ∷ [])) → Adds (text_at outside (place mid)) mid new → Adds (text_at (Per.with_extension_bit e within root outside) (place old)) old new
   adds_outside e within old mid new d w m h = adds_same _ _ old new (outside_text e within (place old) d w) (adds_both (exactly (true ∷ [])) outside old mid new (adds_extension_bit true (not within) old mid m (ap not w)) h)
 
--- ---- numbers that the program's type and 128 bits hold
+-- ---- numbers that the Rust type and 128 bits hold
 
 from_is : (low : Option ℤ) (v : ℤ) → option_map_or (λ x. is_at_most x v) low true ≡ is_above is_at_most low v
 from_is None v = refl

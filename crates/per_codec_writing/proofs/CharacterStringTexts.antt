@@ -1,4 +1,4 @@
--- Character strings as units of a size.
+-- Character strings as units under a size constraint.
 use Rattle.std.proofs.Common.{◌≡◌, ℕ, Option, Bool, true, false, ◌&&◌, List, length, map, None, ap, sym, ◌∙◌, arith}
 use Rattle.std.proofs.lemmas.Bool.{le-leb}
 use Rattle.asn1_model.specs.Form.{only_if}
@@ -33,7 +33,7 @@ module _ (al : Bool) (z : Size) (h : Counts) (rs : List Run) (a : Coded) (cs : L
   pub coded_none : (p : Option ℕ) → list_all (has_code a) cs ≡ false → text_at (Per.characters al z h rs cs) p ≡ None
   coded_none p t = ap (λ x. text_at x p) of_width ∙ none_sized (Per.character a.code_bits rs) (has_code a) (λ c e q. no_form a rs c q s e) al z h (Per.characters_have_padding a.code_bits (length cs)) cs t p
 
--- the sizes as a writer has them are y
+-- the sizes of a writer are y
 pub coded_text : (al : Bool) (z y : Size) (h : Counts) (rs : List Run) (a : Coded) (cs : List ℕ) → SameCharacters a.runs rs → a.code_bits ≡ Per.character_bits al rs → (has_padding : Bool) (p : Option ℕ) → list_all (has_code a) cs ≡ true → y ≡ z → has_padding ≡ Per.characters_have_padding a.code_bits (length cs) y.counts → text_at (Per.characters al z h rs cs) p ≡ text_at (Per.sized al y h (λ _. has_padding) (forms_of (texts_of a cs))) p
 coded_text al z y h rs a cs s b has_padding p t d e =
     ap (λ x. text_at (Per.characters al x h rs cs) p) (sym d)

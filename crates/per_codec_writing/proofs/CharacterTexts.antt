@@ -1,4 +1,4 @@
--- The texts of characters, one behind the other.
+-- The texts of characters in sequence.
 use Rattle.std.proofs.Common.{◌≡◌, ℕ, zero, suc, ◌+◌, ◌-◌, ◌^◌, ◌<◌, ◌≤◌, leb, ltb, Bool, true, false, cond, ◌&&◌, ◌||◌, List, [], ◌∷◌, ◌++◌, length, map, take, drop, get_or, slice_range, Option, Some, None, option_map, refl, ap, sym, ◌∙◌, append_assoc, arith}
 use Rattle.std.specs.Prelude.{is_some, unwrap_or}
 use Rattle.std.proofs.lemmas.Bool.{and_parts}
@@ -17,7 +17,7 @@ use Rattle.per_codec_writing.specs.Writing.{Packed, plus}
 use Rattle.per_codec_writing.specs.Units.{together, forms_of}
 use Rattle.per_codec_writing.specs.Characters.{low_bits, texts_of}
 
--- ---- one text more
+-- ---- one more text
 together_end : (ts : List (List Bool)) (t : List Bool) → together (ts ++ t ∷ []) ≡ together ts ++ t
 together_end [] t = nothing t
   where
@@ -94,7 +94,7 @@ all_coded a rs (c ∷ cs) s h =
     let code : ℕ → ℕ = λ i. cond (ltb (largest a.runs) (2 ^ a.code_bits)) c i in
     ap (λ b. b && list_all (has_code a) cs) (ap (λ o. is_some (option_map code o)) (s.places c) ∙ placed code c rs p.0) ∙ all_coded a rs cs s p.1
 
--- ---- codes that are the characters' own numbers
+-- ---- codes that are the characters' numbers
 number_text : (t : Bool) (b c : ℕ) (o : Option ℕ) → t ≡ true → is_some (option_map (λ i. cond t c i) o) ≡ true → binary b c ≡ binary b (unwrap_or (option_map (λ i. cond t c i) o) 0)
 number_text true b c (Some i) e h = refl
 number_text true b c None e h = cc
@@ -106,7 +106,7 @@ number_codes a c t h = sym (number_text (ltb (largest a.runs) (2 ^ a.code_bits))
     whole : (c : ℕ) → c ≡ c - 0
     whole c = omega arith
 
--- codes that are the numbers less one and the same number
+-- codes that are the numbers minus a base
 pub run_codes : (a : Coded) (r : CodedRun) (c : ℕ) → ((d : ℕ) → code_of a d ≡ code_in r d) → has_code a c ≡ true → text_of a c ≡ low_bits r.base a.code_bits c
 run_codes a r c e h = ap (λ o. binary a.code_bits (unwrap_or o 0)) (e c) ∙ ap (binary a.code_bits) (there (leb r.first c && leb c r.last) (c - r.base) (ap is_some (sym (e c)) ∙ h))
   where

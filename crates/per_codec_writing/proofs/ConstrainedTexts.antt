@@ -21,7 +21,7 @@ octets_bits (suc k) n =
     ap (λ l. l ++ flat_map (binary 8) (digits 256 k n)) low ∙ ap (λ l. binary 8 (n / 2 ^ (k * 8)) ++ l) (octets_bits k n)
     ∙ sym (ap (λ w. binary w n) e ∙ binary_split 8 (k * 8) n)
 
--- ---- numbers outside, and numbers of so many bits
+-- ---- numbers outside, and numbers of a number of bits
 
 pub outside : (al : Bool) (span d : ℕ) (p : Option ℕ) → span < d → text_at (Per.constrained al span d) p ≡ None
 unfolding Per.constrained Per.constrained_in
@@ -35,7 +35,7 @@ pub constrained_bits : (al : Bool) (span d : ℕ) (p : Option ℕ) → d ≤ spa
 unfolding Per.constrained
 constrained_bits al span d p h t = in_bits span al span d p h t
 
--- ---- numbers at octets
+-- ---- octet-aligned numbers
 
 large : (most span d : ℕ) (p : Option ℕ) → d ≤ span → 255 ≤ span → text_at (Per.constrained_in (suc most) true span d) p ≡ text_at (cond (span == 255) (Per.at_octet true (exactly (binary 8 d))) (cond (ltb span 65536) (Per.at_octet true (exactly (binary 16 d))) (Per.in_octets_of (λ s c. Per.constrained_in most true s c) true span d (least_octets d)))) p
 unfolding Per.constrained_in text_at
@@ -46,7 +46,7 @@ large most span d p h l = if_true (leb d span) _ p (le-leb _ _ h) ∙ cond_false
     fits false true = refl
     fits false false = refl
 
--- 256 numbers
+-- 256 values
 pub adds_octet : (span d : ℕ) (old mid new : Packed) → d ≤ span → span ≡ 255 → mid ≡ plus old (padding_if true (place old)) → new ≡ plus mid (as_text (binary 8 d)) → Adds (text_at (Per.constrained true span d) (place old)) old new
 unfolding Per.constrained
 adds_octet span d old mid new h s e f =
@@ -54,7 +54,7 @@ adds_octet span d old mid new h s e f =
     (large span span d (place old) h (omega arith) ∙ cond_true (span == 255) _ _ (place old) (eq-eqb _ _ s))
     (adds_bits_at_octet true (binary 8 d) old mid new e f)
 
--- up to 65536 numbers
+-- up to 65536 values
 pub adds_two_octets : (span d : ℕ) (old mid new : Packed) → d ≤ span → 255 < span → span < 65536 → mid ≡ plus old (padding_if true (place old)) → new ≡ plus mid (as_text (binary 16 d)) → Adds (text_at (Per.constrained true span d) (place old)) old new
 unfolding Per.constrained
 adds_two_octets span d old mid new h s t e f =
@@ -62,7 +62,7 @@ adds_two_octets span d old mid new h s t e f =
     (large span span d (place old) h (omega arith) ∙ cond_false (span == 255) _ _ (place old) (ne_eqb _ _ (λ x. omega arith)) ∙ cond_true (ltb span 65536) _ _ (place old) (lt-ltb _ _ t))
     (adds_bits_at_octet true (binary 16 d) old mid new e f)
 
--- more numbers, in their fewest octets behind the number of these
+-- more values, in their fewest octets after their count
 octets_grow : (m n : ℕ) → m ≤ n → octet_width m ≤ octet_width n
 octets_grow m n h = let b = octet_width-octets n in octets-least m (octet_width n) (octet_width m) (octet_width-octets m) (omega (arith, b.below))
 
@@ -72,7 +72,7 @@ at_least_three (suc zero) span b h = absurd (omega (arith, b))
 at_least_three (suc (suc zero)) span b h = absurd (omega (arith, b))
 at_least_three (suc (suc (suc w))) span b h = omega arith
 
--- how many octets there are is a number of 1 to as many as the largest has, at least three and few enough
+-- the count of octets is at most that of the largest number, which has 3 to 16 octets
 pub octets_of_span : (span : ℕ) → 65536 ≤ span → span < 2 ^ 128 → (3 ≤ octet_width span) × (octet_width span ≤ 16)
 octets_of_span span h k = let b = octet_width-octets span in (at_least_three (octet_width span) span b.below h, octets-least span 16 (octet_width span) b k)
 

@@ -1,4 +1,4 @@
--- Members one behind the other.
+-- Members in sequence.
 use Rattle.std.proofs.Common.{◌≡◌, ℕ, ◌+◌, ◌<◌, ◌≤◌, List, [], ◌∷◌, length, get_or, drop, Some, ap, subst, sym, ◌∙◌}
 use Rattle.std.proofs.lemmas.List.{append-nil, drop_more}
 use Rattle.asn1_model.specs.Form.{joined}
@@ -15,13 +15,13 @@ pub none_more : (p : Packed) → Adds (text_at (joined (forms_of [])) (place p))
 unfolding text_at
 none_more p = ap (λ t. Some (record { text = t; placed = p.placed })) (append-nil p.text)
 
--- one member, and those behind it
+-- one member, and those after it
 pub next_added : (ms : List TextView) (i : ℕ) (m : TextView) (old mid new : Packed) → i < length ms → m ≡ get_or ms i m → Adds (text_at (as_form (text_of m)) (place old)) old mid → Adds (text_at (joined (forms_of (drop (i + 1) ms))) (place mid)) mid new → Adds (text_at (joined (forms_of (drop i ms))) (place old)) old new
 next_added ms i m old mid new h e a r =
     let d : m ∷ drop (i + 1) ms ≡ drop i ms = ap (λ x. x ∷ drop (i + 1) ms) e ∙ sym (drop_more ms i m h) in
     subst (λ l. Adds (text_at (joined (forms_of l)) (place old)) old new) d
     (adds_both (as_form (text_of m)) (joined (forms_of (drop (i + 1) ms))) old mid new a r)
 
--- behind the last one
+-- after the last one
 pub at_end : (ms : List TextView) (i : ℕ) (p : Packed) → length ms ≤ i → Adds (text_at (joined (forms_of (drop i ms))) (place p)) p p
 at_end ms i p h = subst (λ l. Adds (text_at (joined (forms_of l)) (place p)) p p) (sym (none_left i ms h)) (none_more p)

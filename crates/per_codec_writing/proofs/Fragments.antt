@@ -1,4 +1,4 @@
--- Units in fragments, the largest first (X.691 11.9.3.8), and octets behind their number.
+-- Units in fragments, the largest first (X.691 11.9.3.8), and octets after a length determinant.
 use Rattle.std.proofs.Common.{◌≡◌, ℕ, suc, ◌-◌, ◌*◌, ◌/◌, ◌%◌, ◌<◌, ◌≤◌, ◌==◌, min, Bool, true, false, cond, not, ◌&&◌, List, [], ◌∷◌, ◌++◌, filter, replicate, inl, inr, refl, ap, sym, ◌∙◌, arith, get_or, Fits}
 use Rattle.std.specs.Int.{w8}
 use Rattle.std.proofs.lemmas.Bool.{cases_lt, lt-ltb, eqb-true}
@@ -13,7 +13,7 @@ use Rattle.per_codec_writing.proofs.PaddingTexts.{adds_same, if_true}
 
 -- ---- how units are divided
 
--- a fragment of so many times 16384, if there is one
+-- a fragment of a multiple of 16384, if there is one
 abbrev unless_zero : ℕ → List ℕ
 unless_zero r = filter (λ m. not (m == 0)) (r ∷ [])
 

@@ -1,4 +1,4 @@
--- Headings of units lead to the forms of these.
+-- Headings of units lead to the forms of the units.
 use Rattle.std.proofs.Common.{◌≡◌, ℕ, zero, suc, ◌+◌, ◌-◌, ◌*◌, ◌≤◌, ltb, leb, Bool, true, false, cond, ◌&&◌, List, [], ◌∷◌, ◌++◌, length, take, drop, slice_range, Option, Some, None, option_map, option_and_then, refl, ap, subst, sym, ◌∙◌, arith, ◌<◌, ◌^◌, unwrap_or}
 use Rattle.std.proofs.lemmas.Bool.{le-leb, leb-true, and_parts}
 use Rattle.std.proofs.lemmas.List.{length-drop, drop-drop, take_all}
@@ -18,18 +18,18 @@ use Rattle.per_codec_writing.specs.declared.lengths.Due.{Due}
 use Rattle.per_codec_writing.proofs.PaddingTexts.{if_true, if_false}
 use Rattle.std.specs.Option.{option_map_or}
 
--- how many units stand behind the next length determinant
+-- how many units follow the next length determinant
 abbrev pub left : LengthDeterminants → ℕ
 left None = 0
 left (Some h) = h.1
 
--- no length determinant stands in front of the next unit
+-- no length determinant precedes the next unit
 abbrev pub Ready : LengthDeterminants → ℕ → Type 0
 Ready None n = Unit {0}
 Ready (Some h) zero = ⊥
 Ready (Some h) (suc n) = Unit {0}
 
--- a heading and what is due behind it
+-- a heading and what is due after it
 abbrev pub by_heading : Bool → List Per.BitForm → Option ℕ → Option Heading → Option Text
 by_heading al us q o = option_and_then (λ (g : Heading). option_map (λ b. g.text ++ b) (text_at (form_due al g.due g.determinants us) (on q g.text))) o
 
@@ -52,7 +52,7 @@ next_text al (m ∷ ms) us p = by_test (leb 1 m && leb m 4 && leb (m * 16384) (l
     by_test false = refl
     by_test true = go (text_at (Per.at_octet al (exactly (true ∷ true ∷ binary 6 m))) p)
 
--- what it counts is all there
+-- all that it counts is there
 pub record Sound (n : ℕ) (g : Heading) : Type 0 where
   pub counts : g.due + left g.determinants ≡ n
   pub ready : Ready g.determinants g.due
@@ -95,7 +95,7 @@ pub general_leads : (al : Bool) (us : List Per.BitForm) → Leads al (λ p. gene
 unfolding text_at Per.counted
 general_leads al us = record { text = λ p. next_text al (Per.largest_first (length us)) us p; sound = λ p. next_sound al (Per.largest_first (length us)) (length us) p }
 
--- a number, the padding behind it, and the units
+-- a number, the padding after it, and the units
 number_text : (al b : Bool) (low high : ℕ) (us : List Per.BitForm) (n : ℕ) (p : Option ℕ) → text_at (both (Per.constrained al (high - low) (n - low)) (Per.at_octet (al && b) (joined us))) p ≡ text_at (both (count_form al low high b n) (joined us)) p
 unfolding Per.at_octet
 number_text true true low high us n p = sym (both_assoc (Per.constrained true (high - low) (n - low)) (placed (λ p. Per.padding (missing p))) (joined us) p)
@@ -148,11 +148,11 @@ extensible_leads al false t f g n us x y h k = if_leads al t f n us x h
 extensible_leads al true true f g n us x y h k = let l = bit_leads al false f n us x h in record { text = l.text; sound = l.sound }
 extensible_leads al true false f g n us x y h k = let l = bit_leads al true g n us y k in record { text = l.text; sound = l.sound }
 
--- units of a size have the text of their heading, and of what is due behind it
+-- units under a size constraint have the text of their heading, and of what is due after it
 pub size_leads : (al : Bool) (z : Size) (has_padding : Bool) (us : List Per.BitForm) → Leads al (heading al z has_padding (length us)) (length us) us (of_size al z has_padding us)
 size_leads al z has_padding us = extensible_leads al z.extensible (is_count_within z.counts (length us)) (λ q. sized_count al z.counts z.counts.high has_padding (length us) q) (λ q. general al (length us) q) (length us) us (Per.sized_root al z.counts z.counts.high (λ _. has_padding) us) (Per.counted al us) (count_leads al z.counts z.counts.high (λ _. has_padding) us) (general_leads al us)
 
--- ---- what a writer adds behind a heading
+-- ---- what a writer adds after a heading
 
 pub heads_added : (al : Bool) (us : List Per.BitForm) (x : Per.BitForm) (o : Option Heading) (d : Due) (old mid new : Packed) → text_at x (place old) ≡ by_heading al us (place old) o → Heads o old d mid → Adds (text_at (form_due al d.units (determinants_of d.behind) us) (place mid)) mid new → Adds (text_at x (place old)) old new
 heads_added al us x o d old mid new e h a =
@@ -173,7 +173,7 @@ size_added al z has_padding us n d old mid new e h a = heads_added al us (of_siz
 pub size_none : (al : Bool) (z : Size) (has_padding : Bool) (us : List Per.BitForm) (n : ℕ) (q : Option ℕ) → n ≡ length us → heading al z has_padding n q ≡ None → text_at (of_size al z has_padding us) q ≡ None
 size_none al z has_padding us n q e h = (size_leads al z has_padding us).text q ∙ ap (by_heading al us q) (subst (λ k. heading al z has_padding k q ≡ None) e h)
 
--- ---- units that are due, and those behind the next length determinant
+-- ---- units that are due, and those after the next length determinant
 
 module _ (al : Bool) (us : List Per.BitForm) (from : ℕ) (d : Due) (w : from ≤ length us) (s : IsDue (length us - from) d) where
   abbrev rest : List Per.BitForm
@@ -217,7 +217,7 @@ pub not_held : (al : Bool) (z : Size) (h : Counts) (has_padding : Bool) (us : Li
 unfolding Per.sized
 not_held al z h has_padding us q e = if_false (is_count_within h (length us)) (of_size al z has_padding us) q e
 
--- no more members than 64 bits count are more than the program's type holds where no bound is given
+-- without a bound, a number of members that fits in 64 bits is not more than the Rust type holds
 pub members_counted : (b : Bounded ℕ) (n : ℕ) → n < 2 ^ 64 → is_count_within (members_of b) n ≡ is_count_within (counts_of b) n
 members_counted b n h = ap (λ t. leb (unwrap_or (lower b) 0) n && t) (go (upper b))
   where

@@ -1,4 +1,4 @@
--- What stands in front of units, in the bits of a writer: their number, or length determinants.
+-- What precedes units, in the bits of a writer: their number, or length determinants.
 use Rattle.std.proofs.Common.{◌≡◌, ℕ, ◌-◌, ◌*◌, ◌/◌, ◌<◌, ◌≤◌, leb, min, Bool, true, false, ◌&&◌, ◌∷◌, Option, Some, None, option_map, Result, Ok, Err, IsErr, IsErrAnd, MatchResult, refl, ap, sym, subst, ◌∙◌, arith}
 use Rattle.std.proofs.lemmas.Bool.{le-leb}
 use Rattle.asn1_model.specs.Schema.{Counts}
@@ -63,7 +63,7 @@ no_padding_behind false x q e = e
 pub count_none : (al : Bool) (low high n : ℕ) (has_padding : Bool) (q : Option ℕ) → text_at (Per.constrained al (high - low) (n - low)) q ≡ None → text_at (count_form al low high has_padding n) q ≡ None
 count_none al low high n has_padding q e = no_padding_behind (has_padding && al) _ q e
 
--- where the highest number is below 65536
+-- if the upper bound is below 65536
 narrow_count : (al : Bool) (c : Counts) (o : Option ℕ) (has_padding : Bool) (n h : ℕ) (q : Option ℕ) → below_long_count o ≡ Some h → sized_count al c o has_padding n q ≡ option_map (λ w. before_all n w) (text_at (count_form al c.low h has_padding n) q)
 narrow_count al c o has_padding n h q e = ap (count_up_to al c.low has_padding n q) e
 
@@ -101,7 +101,7 @@ no_text u t f AlreadyFailed h = h
 pub narrow_none : (al : Bool) (c : Counts) (o : Option ℕ) (has_padding : Bool) (n h low : ℕ) (old : Packed) → below_long_count o ≡ Some h → low ≡ c.low → (e : EncodeError) → Refuses (text_at (count_form al low h has_padding n) (place old)) e → NoHeading (sized_count al c o has_padding n (place old)) e
 narrow_none al c o has_padding n h low old a l e x = refused_so _ _ (λ q. narrow_count al c o has_padding n h (place old) a ∙ ap (option_map (λ w. before_all n w)) q) e (subst (λ j. Refuses (text_at (count_form al j h has_padding n) (place old)) e) l x)
 
--- an error that is handed on
+-- an error that is passed on
 pub raised_on : {T E : Type 0} (P : T → Type 0) (Q : E → Type 0) (x : E) (r : Result T E) → IsErr r → IsErrAnd r (λ y. y ≡ x) → Q x → MatchResult r P Q
 raised_on P Q x (Ok v) a h q = cc
 raised_on P Q x (Err y) a h q = subst Q (sym h) q

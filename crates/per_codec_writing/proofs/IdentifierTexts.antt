@@ -1,4 +1,4 @@
--- The contents octets of identifiers, one subidentifier behind the other, and behind their number.
+-- The contents octets of identifiers: subidentifiers in sequence, after a length determinant.
 use Rattle.std.proofs.Common.{◌≡◌, ℕ, suc, ◌+◌, ◌<◌, Bool, true, List, [], ◌∷◌, ◌++◌, length, flat_map, take, get_or, None, refl, ap, sym, ◌∙◌, append_assoc, add-one}
 use Rattle.std.proofs.lemmas.List.{append-nil}
 use Rattle.std.proofs.lemmas.List.Concat.{flat_map-append}

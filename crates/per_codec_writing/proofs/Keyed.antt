@@ -1,4 +1,4 @@
--- Texts beside their complete encodings, one after another.
+-- Texts with their complete encodings, one after another.
 use Rattle.std.proofs.Common.{◌≡◌, ℕ, ◌+◌, ◌<◌, List, [], ◌∷◌, ◌++◌, length, take, get_or, ap, subst, sym, ◌∙◌}
 use Rattle.std.proofs.lemmas.List.{take_more}
 use Rattle.per_codec_packing.specs.Texts.{Text}

@@ -1,4 +1,4 @@
--- The texts of lengths.
+-- The texts of length determinants.
 use Rattle.std.proofs.Common.{◌≡◌, ℕ, ◌+◌, ◌*◌, ◌^◌, ◌<◌, ◌≤◌, Bool, true, false, ltb, leb, ◌∷◌, ap, sym, ◌∙◌, arith}
 use Rattle.std.proofs.lemmas.Bool.{lt-ltb, le-leb, lt-leb}
 use Rattle.asn1_model.specs.Form.{exactly}
@@ -9,7 +9,7 @@ use Rattle.per_codec_packing.specs.Texts.{as_text, text_at}
 use Rattle.per_codec_writing.specs.Writing.{Packed, Adds, place, plus, padding_if}
 use Rattle.per_codec_writing.proofs.PaddingTexts.{adds_text, if_true, cond_true, cond_false, adds_at_octet, adds_bits_at_octet}
 
--- a number behind two bits that are set, and behind one that is and one that is not, and behind one that is not
+-- a number after two one bits, after a one bit and a zero bit, and after a zero bit
 fragment_bits : (m : ℕ) → m < 64 → binary 8 (192 + m) ≡ true ∷ true ∷ binary 6 m
 fragment_bits m h = sym (binary_join 2 6 3 m h)
 

@@ -1,4 +1,4 @@
--- The texts of truth values and whole numbers.
+-- The texts of BOOLEAN and of whole numbers.
 use Rattle.std.proofs.Common.{◌≡◌, ℕ, ◌+◌, ◌*◌, ◌^◌, ◌<◌, ◌≤◌, ℤ, pos, negsuc, ◌-ℤ◌, ◌≤ℤ◌, Bool, true, false, leb, ltb, ◌&&◌, [], ◌∷◌, Option, Some, None, refl, ap, subst, sym, ◌∙◌, arith, unsigned_abs}
 use Rattle.std.specs.Prelude.{Result, Ok, Err, MatchResult}
 use Rattle.std.proofs.lemmas.Int.{ints}
@@ -35,18 +35,18 @@ refused_so x y Fault.OutOfMemory f h = tt
 refused_so x y Fault.CallOutOfPlace f h = h
 refused_so x y Fault.AlreadyFailed f h = h
 
--- .. behind another text
+-- .. after another text
 pub did_behind : {T : Type 0} (r : Result T EncodeError) (x y : Per.BitForm) (old mid new : Packed) → Adds (text_at x (place old)) old mid → Did r (text_at y (place mid)) mid new → Did r (text_at (both x y) (place old)) old new
 did_behind (Ok t) x y old mid new a d = adds_both x y old mid new a d
 did_behind (Err e) x y old mid new a d = refused_so _ (text_at y (place mid)) e (λ n. none_second x y old mid a n) d
 
--- ---- truth values
+-- ---- BOOLEAN
 
 pub adds_truth : (al b : Bool) (old new : Packed) → new ≡ plus old (as_text (b ∷ [])) → Adds (text_at (Per.form al boolean (truth b)) (place old)) old new
 unfolding text_at Per.form
 adds_truth al b old new e = adds_text _ (as_text (b ∷ [])) old new refl e
 
--- ---- octets behind their number
+-- ---- octets after a length determinant
 
 pub unconstrained_text : (al : Bool) (v : ℤ) (p : Option ℕ) → text_at (Per.unconstrained al v) p ≡ text_at (Per.counted_octets al (complement (signed_octets v) v)) p
 unfolding text_at Per.unconstrained

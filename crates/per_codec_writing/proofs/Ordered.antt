@@ -28,7 +28,7 @@ key x = written (Per.complete x) 0
 abbrev own : Entry → Option (List ℕ)
 own e = Some (octets_of e)
 
--- an entry beside its octets
+-- an entry with its octets
 abbrev Held : Type 0
 Held = List ℕ × Entry
 
@@ -47,7 +47,7 @@ module _ (ts : List Text) where
   abbrev pub form_at : Entry → Per.BitForm
   form_at e = as_form (get_or ts e.index [])
 
-  -- .. and beside its bits
+  -- .. and with its bits
   abbrev turned : Held → List Bool × Per.BitForm
   turned e = (octet_bits e.0, form_at e.1)
 
@@ -76,7 +76,7 @@ module _ (ts : List Text) where
     owned : with_keys own by_octets es ≡ Some held
     keyed : with_keys key by_bits (forms us) ≡ Some (map turned held)
 
-  -- the text at a place, and those behind it
+  -- the text at an index, and those after it
   front : (i : ℕ) (u : Text) (us : List Text) → drop i ts ≡ u ∷ us → (i < length ts) × (get_or ts i [] ≡ u) × (drop (suc i) ts ≡ us)
   front i u us e =
       let l : i < length ts = omega (arith, length-drop i ts, ap length e) in
@@ -146,7 +146,7 @@ within_at ts [] k e d h l q = absurd (omega arith)
 within_at ts (f ∷ es) zero e d h l q = subst (λ (x : Entry). x.index < length ts) (sym q) h.0
 within_at ts (f ∷ es) (suc k) e d h l q = within_at ts es k e d h.1 (omega arith) q
 
--- one view more of the texts of entries
+-- one more view of the texts of entries
 pub next_of : (ts : List Text) (es : List Entry) (vs more : List TextView) (k : ℕ) (e d : Entry) (v : TextView) → k < length es → forms_of vs ≡ map (form_at ts) (take k es) → e ≡ get_or es k d → text_of v ≡ get_or ts e.index [] → more ≡ vs ++ v ∷ [] → forms_of more ≡ map (form_at ts) (take (k + 1) es)
 next_of ts es vs more k e d v l h q t f =
     ap forms_of f ∙ map-append (λ u. as_form (text_of u)) vs (v ∷ [])

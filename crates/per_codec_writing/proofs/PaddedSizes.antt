@@ -1,4 +1,4 @@
--- Padding in front of units of a size, and sizes without a constraint.
+-- Padding before units under a size constraint, and sizes without a constraint.
 use Rattle.std.proofs.Common.{◌≡◌, ℕ, ◌-◌, ltb, Bool, true, cond, ◌&&◌, List, length, Option, Some, None, refl, ap, arith}
 use Rattle.std.proofs.lemmas.Bool.{le-leb}
 use Rattle.asn1_model.specs.Form.{only_if, both, joined}
@@ -6,7 +6,7 @@ use Rattle.asn1_model.specs.Numbers.{is_count_within}
 use Rattle.asn1_model.specs.Schema.{Size, Counts}
 use Rattle.asn1_model.specs.Per
 
--- ---- padding is told for these counts alone
+-- ---- there is padding for these counts only
 
 root_padded : (al : Bool) (c : Counts) (o : Option ℕ) (has_padding has_padding' : Counts → Bool) (us : List Per.BitForm) → has_padding c ≡ has_padding' c → Per.sized_root al c o has_padding us ≡ Per.sized_root al c o has_padding' us
 unfolding Per.sized_root

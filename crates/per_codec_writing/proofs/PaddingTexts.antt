@@ -1,4 +1,4 @@
--- What is added by parts is the text of the whole: padding, conditions, and one form behind another.
+-- What is added in parts is the text of the whole: padding, conditions, and one form after another.
 use Rattle.std.proofs.Common.{◌≡◌, ℕ, Bool, true, false, cond, List, Option, None, refl, ap, subst, ◌∙◌}
 use Rattle.std.proofs.lemmas.List.{append-nil}
 use Rattle.asn1_model.specs.Numbers.{missing}
@@ -33,7 +33,7 @@ cond_false false x y q e = refl
 pub plus_nothing : (p : Packed) → plus p (padding_if false (place p)) ≡ p
 plus_nothing p = ap (λ t. let q : Packed = record { text = t; placed = p.placed } in q) (append-nil p.text)
 
--- a form that stands at an octet, behind padding up to there
+-- an octet-aligned form, after padding
 pub adds_at_octet : (al : Bool) (x : Per.BitForm) (old mid new : Packed) → mid ≡ plus old (padding_if al (place old)) → Adds (text_at x (place mid)) mid new → Adds (text_at (Per.at_octet al x) (place old)) old new
 unfolding Per.at_octet
 adds_at_octet false x old mid new e a = subst (λ m. Adds (text_at x (place m)) m new) (e ∙ plus_nothing old) a
@@ -44,6 +44,6 @@ unfolding Per.at_octet
 none_at_octet false x old mid e a = subst (λ m. text_at x (place m) ≡ None) (e ∙ plus_nothing old) a
 none_at_octet true x old mid e a = none_second (placed (λ p. Per.padding (missing p))) x old mid (adds_padding old mid e) a
 
--- these bits, at an octet
+-- these bits, octet-aligned
 pub adds_bits_at_octet : (al : Bool) (bits : List Bool) (old mid new : Packed) → mid ≡ plus old (padding_if al (place old)) → new ≡ plus mid (as_text bits) → Adds (text_at (Per.at_octet al (exactly bits)) (place old)) old new
 adds_bits_at_octet al bits old mid new e h = adds_at_octet al (exactly bits) old mid new e (adds_bits bits mid new h)

@@ -1,4 +1,4 @@
--- The texts of places.
+-- The texts of enumeration and choice indices.
 use Rattle.std.proofs.Common.{◌≡◌, ℕ, ◌-◌, ℤ, Bool, true, false, not, List, [], ◌∷◌, length, Option, Some, None, refl, ap, sym, ◌∙◌}
 use Rattle.std.specs.Prelude.{Result, MatchOption, is_some}
 use Rattle.std.proofs.lemmas.List.{append-nil}
@@ -27,7 +27,7 @@ unfolding text_at
 adds_extension_bit false m old new h e = cc
 adds_extension_bit true m old new h e = ap Some (sym e)
 
--- ---- places
+-- ---- indices
 
 pub turned_false : (b : Bool) → not b ≡ true → b ≡ false
 turned_false true h = sym h
@@ -69,7 +69,7 @@ did_item r al e ext added n roots others v i old new a b h d =
     did_same r _ (text_at (place_form al n ext added i) (place old)) old new
     (item_text al e added roots others v i (place old) h ∙ ap (λ m. text_at (place_form al m e added i) (place old)) (sym a) ∙ ap (λ x. text_at (place_form al n x added i) (place old)) (sym b)) d
 
--- a table is there just where there is an extension bit
+-- there is a table exactly if there is an extension bit
 pub is_extensible : {X : Type 0} (o : Option X) (e : Bool) (P : X → Type 0) → MatchOption o (e ≡ false) (λ x. (e ≡ true) × P x) → is_some o ≡ e
 is_extensible None e P h = sym h
 is_extensible (Some x) e P h = sym h.0

@@ -1,4 +1,4 @@
--- Units of which one has no text have none together.
+-- Units have no text together if one of them has none.
 use Rattle.std.proofs.Common.{◌≡◌, ℕ, zero, suc, ◌*◌, leb, ltb, Bool, true, false, cond, ◌&&◌, List, [], ◌∷◌, ◌++◌, length, map, take, drop, Option, Some, None, option_map, refl, ap, sym, ◌∙◌}
 use Rattle.std.specs.Prelude.{option_and_then}
 use Rattle.std.proofs.lemmas.List.{take-map, drop-map}

@@ -11,7 +11,7 @@ use Rattle.per_codec_packing.specs.Texts.{text_at}
 use Rattle.per_codec_writing.proofs.PaddingTexts.{if_true}
 use Rattle.per_codec_writing.proofs.PaddedSizes.{sized_padded, any_number}
 
--- the sizes as a writer has them are y
+-- the sizes of a writer are y
 pub bit_string_text : (al : Bool) (z y : Size) (h : Counts) (bs : List Bool) (b : Bool) (p : Option ℕ) → y ≡ z → b ≡ Per.string_has_padding 1 (length bs) y.counts → text_at (Per.form al (bit_string z h) (bit_list bs)) p ≡ text_at (Per.sized al y h (λ c. b) (Per.bit_units bs)) p
 unfolding Per.form
 bit_string_text al z y h bs b p s e =

@@ -1,4 +1,4 @@
--- Octets, bits and other units of known texts, one behind the other.
+-- Octets, bits and other units of known texts, in sequence.
 use Rattle.std.proofs.Common.{◌≡◌, ℕ, ◌-◌, ◌≤◌, Bool, List, [], ◌∷◌, ◌++◌, length, map, flat_map, take, drop, slice_range, refl, ap, subst, sym, ◌∙◌, arith}
 use Rattle.std.proofs.lemmas.List.{take-map, drop-map}
 use Rattle.std.proofs.lemmas.List.Concat.{flat_map-append}
@@ -40,7 +40,7 @@ forms_of_bits : (bs : List Bool) → forms_of (map (λ b. b ∷ []) bs) ≡ Per.
 forms_of_bits [] = refl
 forms_of_bits (b ∷ bs) = ap (λ us. exactly (b ∷ []) ∷ us) (forms_of_bits bs)
 
--- ---- those from one place up to another
+-- ---- those from one index up to another
 
 pub range_added : (ts : List (List Bool)) (i j : ℕ) (old new : Packed) → new ≡ plus old (as_text (together (slice_range ts i j))) → Adds (text_at (joined (slice_range (forms_of ts) i j)) (place old)) old new
 range_added ts i j old new e = subst (λ us. Adds (text_at (joined us) (place old)) old new) (sym (range-map (λ t. exactly t) ts i j)) (adds_joined (slice_range ts i j) old new e)

@@ -3,10 +3,10 @@ use Rattle.std.specs.Prelude.{ℕ, ◌-◌, Bool, List, map}
 use Rattle.asn1_model.specs.Numbers.{binary}
 use Rattle.per_codec_alphabets.specs.Codes.{Coded, text_of}
 
--- The code of each character in bits.
+-- The bits of each character's code.
 abbrev pub texts_of : Coded → List ℕ → List (List Bool)
 texts_of a cs = map (text_of a) cs
 
--- The low bits of a number less `base`.
+-- The low bits of a number minus `base`.
 abbrev pub low_bits : ℕ → ℕ → ℕ → List Bool
 low_bits base bits n = binary bits (n - base)

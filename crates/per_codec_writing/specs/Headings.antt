@@ -1,5 +1,5 @@
--- What stands in front of the units of a string, a list or a bag: the extension bit, their number and padding, or the
--- length determinants of fragments of them (X.691 11.9, 16, 17, 20, 22 and 30).
+-- What precedes the units of a string, a list or a bag: the extension bit, their number and padding, or the length
+-- determinants of fragments of them (X.691 11.9, 16, 17, 20, 22 and 30).
 use Rattle.std.specs.Prelude.{◌≡◌, ℕ, ◌+◌, ◌-◌, ◌*◌, leb, Bool, true, false, cond, ◌&&◌, List, [], ◌∷◌, take, drop}
 use Rattle.std.specs.Prelude.{Option, Some, None, option_map}
 use Rattle.asn1_model.specs.Schema.{Counts, Size}
@@ -13,23 +13,23 @@ use Rattle.per_codec_packing.specs.Texts.{Text, bit, moved, text_at}
 use Rattle.per_codec_packing.specs.Packed.{Packed, plus}
 use Rattle.per_codec_writing.specs.declared.lengths.Due.{Due}
 
--- The length determinants that are still to come: how many times 16384 units each fragment has, and how many units
--- stand behind the first of these determinants (X.691 11.9.3.8). There is none where the units do not stand in
--- fragments, nor behind the last determinant where they do.
+-- The length determinants still to come: the multiples of 16384 units of the fragments, and the number of units after
+-- the first of these determinants (X.691 11.9.3.8). There are none if the units are not in fragments, nor after the
+-- last determinant if they are.
 abbrev pub LengthDeterminants : Type 0
 LengthDeterminants = Option (List ℕ × ℕ)
 
--- What stands in front of units: its text, how many units are due behind it, and the length determinants to come.
+-- What precedes units: its text, the number of units due after it, and the length determinants to come.
 pub record Heading : Type 0 where
   pub text : Text
   pub due : ℕ
   pub determinants : LengthDeterminants
 
--- A number that stands in front of all its units.
+-- A number that precedes all its units.
 abbrev pub before_all : ℕ → Text → Heading
 before_all n w = record { text = w; due = n; determinants = None }
 
--- The next length determinant of n units in fragments, at a position: that of a fragment, or the closing one (X.691
+-- The next length determinant of `n` units in fragments, at a position: that of a fragment, or the closing one (X.691
 -- 11.9.3.5 to 11.9.3.8).
 abbrev pub next_determinant : Bool → List ℕ → ℕ → Option ℕ → Option Heading
 next_determinant al [] n q = option_map (λ w. before_all n w) (text_at (Per.short_length al n) q)
@@ -38,82 +38,83 @@ next_determinant al (m ∷ ms) n q =
     (text_at (only_if (leb 1 m && leb m 4 && leb (m * 16384) n) (Per.at_octet al (exactly (true ∷ true ∷ binary 6 m))))
     q)
 
--- The first length determinant of n units in the general form, the largest fragments first.
+-- The first general length determinant of `n` units, the largest fragments first.
 abbrev pub general : Bool → ℕ → Option ℕ → Option Heading
 general al n q = next_determinant al (Per.largest_first n) n q
 
--- A form, and padding behind it, where there is some (X.691 11.1).
+-- A form, and padding after it, if there is any (X.691 11.1).
 abbrev pub padding_behind : Bool → Per.BitForm → Per.BitForm
 padding_behind false x = x
 padding_behind true x = both x (placed (λ p. Per.padding (missing p)))
 
--- The number of n units of low to high, and the padding behind it.
+-- The number of `n` units of `low` to `high`, and the padding after it.
 abbrev pub count_form : Bool → ℕ → ℕ → Bool → ℕ → Per.BitForm
 count_form al low high has_padding n = padding_behind (has_padding && al) (Per.constrained al (high - low) (n - low))
 
--- The number of n units, from the lowest to the highest that tells its form, and the padding behind it, else a length
--- determinant in the general form.
+-- The number of `n` units, by the bounds if the upper one determines its form, and the padding after it, else a
+-- general length determinant.
 abbrev pub count_up_to : Bool → ℕ → Bool → ℕ → Option ℕ → Option ℕ → Option Heading
 count_up_to al low has_padding n q None = general al n q
 count_up_to al low has_padding n q (Some high) =
     option_map (λ w. before_all n w) (text_at (count_form al low high has_padding n) q)
 
--- The number of n units of the root of a size, by its bounds where the highest is below 65536, and the padding behind
+-- The number of `n` units of the root of a size, by its bounds if the upper one is below 65536, and the padding after
 -- it, else in the general form (X.691 11.9.4.1, 16.8 to 16.11, 17.5 to 17.8, 20.5, 30.5.6 and 30.5.7).
 abbrev pub sized_count : Bool → Counts → Option ℕ → Bool → ℕ → Option ℕ → Option Heading
 sized_count al c high has_padding n q = count_up_to al c.low has_padding n q (below_long_count high)
 
--- A heading behind a bit.
+-- A heading after a bit.
 abbrev pub behind_bit : Bool → (Option ℕ → Option Heading) → Option ℕ → Option Heading
 behind_bit b f q =
     option_map (λ (h : Heading). record { text = bit b ∷ h.text; due = h.due; determinants = h.determinants })
     (f (moved q 1))
 
--- Within the root or, behind an extension bit, outside (X.691 16.6, 17.3, 20.4 and 30.4).
+-- Within the root or, after an extension bit, outside (X.691 16.6, 17.3, 20.4 and 30.4).
 abbrev pub extensible_count : Bool → Bool → (Option ℕ → Option Heading) → (Option ℕ → Option Heading) → Option ℕ
     → Option Heading
 extensible_count false in_root root outside q = cond in_root (root q) None
 extensible_count true in_root root outside q = cond in_root (behind_bit false root q) (behind_bit true outside q)
 
--- What stands in front of n units of a size, at a position; whether padding stands behind their number, where this is
--- one by the bounds of the root.
+-- What precedes `n` units under a size constraint, at a position, and whether padding follows a number encoded by the
+-- bounds of the root.
 abbrev pub heading : Bool → Size → Bool → ℕ → Option ℕ → Option Heading
 heading al z has_padding n q = extensible_count z.extensible (is_count_within z.counts n)
     (λ q. sized_count al z.counts z.counts.high has_padding n q) (λ q. general al n q) q
 
--- The form of units where so many are due before these length determinants.
+-- The form of units, with a number of them due before these length determinants.
 abbrev pub form_due : Bool → ℕ → LengthDeterminants → List Per.BitForm → Per.BitForm
 form_due al n None us = joined us
 form_due al n (Some h) us = both (joined (take n us)) (Per.fragments al h.0 (drop n us))
 
--- How many units stand behind the next length determinant, if one comes.
+-- The number of units after the next length determinant, if there is one.
 abbrev pub count_behind : Option ℕ → ℕ
 count_behind None = 0
 count_behind (Some n) = n
 
--- The length determinants to come in front of so many units, the largest fragments first (X.691 11.9.3.8).
+-- The length determinants to come for a number of units, the largest fragments first (X.691 11.9.3.8).
 abbrev pub determinants_of : Option ℕ → LengthDeterminants
 determinants_of None = None
 determinants_of (Some n) = Some (Per.largest_first n, n)
 
--- A heading: its text, and what is due behind it.
+-- A heading: its text, and what is due after it.
 abbrev pub heading_of : Text → Due → Heading
 heading_of w d = record { text = w; due = d.units; determinants = determinants_of d.behind }
 
--- There is this heading, and its text stands behind what stood there.
+-- There is this heading, and its text follows what was there.
 pub record Heads (o : Option Heading) (old : Packed) (d : Due) (new : Packed) : Type 0 where
   pub text : Text
   pub is : o ≡ Some (heading_of text d)
   pub added : new ≡ plus old text
 
--- Why there is no heading: memory was refused, or nothing can stand there.
+-- Why there is no heading: memory ran out, or there is none.
 abbrev pub NoHeading : Option Heading → EncodeError → Type 0
 NoHeading o OutOfMemory = Unit {0}
 NoHeading o CallOutOfPlace = ⊥
 NoHeading o AlreadyFailed = ⊥
 NoHeading o e = o ≡ None
 
--- So many units are due in all, and none is due before the next length determinant only where none comes.
+-- There are `n` units due in all. None is due before the next length determinant only if there is no such
+-- determinant.
 pub record IsDue (n : ℕ) (d : Due) : Type 0 where
   pub all : d.units + count_behind d.behind ≡ n
   pub ready : d.units ≡ 0 → d.behind ≡ None

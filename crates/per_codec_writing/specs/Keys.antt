@@ -1,4 +1,4 @@
--- Texts beside their complete encodings.
+-- Texts with their complete encodings.
 use Rattle.std.specs.Prelude.{◌≡◌, ℕ, ⊤, true, List, [], ◌∷◌, ◌++◌, Some}
 use Rattle.asn1_model.specs.Form.{written}
 use Rattle.asn1_model.specs.Numbers.{octet_bits}
@@ -12,7 +12,7 @@ pub record IsKeyed (t : Text) (w : List ℕ) : Type 0 where
   pub octets : list_all is_octet w ≡ true
   pub key : written (complete (as_form t)) 0 ≡ Some (octet_bits w)
 
--- The complete encoding of a text stands behind those of others.
+-- The complete encoding of a text follows those of others.
 pub record AddsKey (t : Text) (old new : List (List ℕ)) : Type 0 where
   pub key : List ℕ
   pub keyed : IsKeyed t key

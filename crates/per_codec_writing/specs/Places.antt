@@ -1,11 +1,10 @@
--- Places of items and alternatives (X.691 14 and 23).
+-- Enumeration and choice indices (X.691 14 and 23).
 use Rattle.std.specs.Prelude.{ℕ, ◌-◌, Bool, true, false, [], ◌∷◌}
 use Rattle.asn1_model.specs.Form.{exactly, refused, both}
 use Rattle.asn1_model.specs.Per
 
--- A place: one among n in the root is a constrained whole number behind the extension bit, one among the added ones a
--- normally small number behind the extension bit that is set, which only an extensible type has (X.691 14.2, 14.3 and
--- 23.5 to 23.8).
+-- An index: one of `n` in the root is a constrained whole number after the extension bit; an added one is a normally
+-- small number after an extension bit of 1, which only an extensible type has (X.691 14.2, 14.3 and 23.5 to 23.8).
 abbrev pub place_form : Bool → ℕ → Bool → Bool → ℕ → Per.BitForm
 place_form al n e false i = both (Per.extension_bit_of e false) (Per.constrained al (n - 1) i)
 place_form al n true true i = both (exactly (true ∷ [])) (Per.normally_small al i)

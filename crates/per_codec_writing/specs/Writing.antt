@@ -1,4 +1,4 @@
--- What a writer did: it added a text behind what stood there, or there is no text, or memory was refused.
+-- What a writer did: it appended a text, or there is no text, or memory ran out.
 use Rattle.std.specs.Prelude.{◌≡◌, ℕ, Bool, true, false, [], Option, None}
 use Rattle.asn1_schema_faults.specs.declared.EncodeError.{EncodeError}
 use Rattle.asn1_schema_faults.specs.declared.EncodeError.TheVariants.{OutOfMemory, CallOutOfPlace, AlreadyFailed}
@@ -6,15 +6,15 @@ use Rattle.per_codec_packing.specs.Texts.{Text}
 use Rattle.per_codec_packing.specs.Packed.{padding_at}
 pub use Rattle.per_codec_packing.specs.Packed.{Packed, Adds, place, plus}
 
--- Why no text was added: memory was refused, or there is none. That a call is out of its place is no reason, nor that
--- an earlier one was refused.
+-- Why no text was added: memory ran out, or there is no text. It is never that a call was out of place or an earlier
+-- one failed.
 abbrev pub Refuses : Option Text → EncodeError → Type 0
 Refuses text OutOfMemory = Unit {0}
 Refuses text CallOutOfPlace = ⊥
 Refuses text AlreadyFailed = ⊥
 Refuses text e = text ≡ None
 
--- The padding up to the next octet from a position on, in the aligned variant (X.691 11.1).
+-- The padding from a position to the next octet boundary, in the aligned variant (X.691 11.1).
 abbrev pub padding_if : Bool → Option ℕ → Text
 padding_if false q = []
 padding_if true q = padding_at q

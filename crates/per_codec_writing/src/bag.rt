@@ -16,13 +16,13 @@ use per_codec_limits::Variant;
 use per_codec_packing::{Packing, Texts};
 use std::alloc::Global;
 
-/// Adds the members of a bag behind their number, in the ascending order of their complete encodings (X.691 22), those
-/// of the same encoding as they stood. `held` are the numbers of members that the program's type holds.
+/// Adds a SET OF: its members after their length determinant, in ascending order of their complete encodings (X.691
+/// 22). Members with the same encoding keep their order. `held` are the counts that the Rust type can hold.
 ///
 /// # Errors
 ///
-/// `SizeConstraintNotSatisfied` where the type does not hold so many, or a size without an extension marker does not
-/// admit them; `OutOfMemory`.
+/// `SizeConstraintNotSatisfied` if the Rust type does not hold that many members, or a size without an extension
+/// marker does not admit them; `OutOfMemory`.
 pub fn push_bag(
     alloc: Global,
     output: &mut Packing,

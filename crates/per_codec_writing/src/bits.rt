@@ -17,12 +17,12 @@ use asn1_values_bits::BitStr;
 use per_codec_limits::{Variant, string_has_padding};
 use per_codec_packing::Packing;
 
-/// Adds a BIT STRING (X.691 16), of which the program's type holds as many bits as `held` tells.
+/// Adds a BIT STRING (X.691 16). `held` are the numbers of bits that the Rust type can hold.
 ///
 /// # Errors
 ///
-/// `SizeConstraintNotSatisfied` where the type does not hold so many bits, or a size without an extension marker does
-/// not admit them.
+/// `SizeConstraintNotSatisfied` if the Rust type does not hold that many bits, or a size without an extension marker
+/// does not admit them; `OutOfMemory`.
 #[inline(always)]
 pub fn push_bit_string(
     output: &mut Packing,

@@ -1,4 +1,4 @@
-//! Truth values (X.691 12).
+//! BOOLEAN (X.691 12).
 ghost use Rattle.std.specs.Prelude.{◌≡◌, MatchResult};
 ghost use Rattle.asn1_model.specs.Per.{form};
 ghost use Rattle.asn1_model.specs.Schema.{boolean};
@@ -11,11 +11,11 @@ use asn1_schema_faults::EncodeError;
 use per_codec_limits::Variant;
 use per_codec_packing::Packing;
 
-/// Adds a BOOLEAN, one bit that is set for true (X.691 12).
+/// Adds a BOOLEAN, one bit, which is 1 for true (X.691 12).
 ///
 /// # Errors
 ///
-/// `OutOfMemory`, and no other.
+/// Only `OutOfMemory`.
 #[inline]
 pub fn push_boolean(output: &mut Packing, variant: Variant, value: bool) -> Result<(), EncodeError>
     ensures { MatchResult result (λ _. Adds

@@ -11,7 +11,7 @@ use asn1_values_alphabets::StaticPermittedAlphabet;
 use per_codec_alphabets::{CodedRun, EffectiveAlphabet};
 use per_codec_packing::Packing;
 
-/// The characters of a string, each by its code among those of an alphabet (X.691 30.5).
+/// The characters of a string, each encoded by its code in an alphabet (X.691 30.5).
 #[derive(Drop)]
 pub struct CharacterUnits<'a, S> {
     /// The alphabet.
@@ -21,7 +21,7 @@ pub struct CharacterUnits<'a, S> {
 }
 
 impl<S: StaticPermittedAlphabet> CharacterUnits<'_, S> {
-    /// Whether each character is one of the alphabet.
+    /// Whether each character is in the alphabet.
     pub fn has_codes(&self) -> bool
         ensures { result ≡ list_all (has_code self.now.alphabet.now) (S.characters self.now.string.now) }
     {
@@ -36,7 +36,7 @@ impl<S: StaticPermittedAlphabet> CharacterUnits<'_, S> {
         true
     }
 
-    /// Whether each character is one of the alphabet, which is one run.
+    /// Whether each character is in the alphabet, which is one run.
     #[inline(always)]
     fn are_in_run(&self, run: CodedRun) -> bool
         requires { (c : ℕ) → code_of self.now.alphabet.now c ≡ code_in run c }
@@ -50,7 +50,8 @@ impl<S: StaticPermittedAlphabet> CharacterUnits<'_, S> {
         true
     }
 
-    /// What codes leave out of the numbers of their characters, if that is the same for all, and an octet.
+    /// The number that is subtracted from each character to get its code, if it is the same for all and fits in an
+    /// octet.
     #[inline(always)]
     pub(crate) fn base(&self) -> Option<u8>
         ensures { IfSome result (λ base. (c : ℕ) → has_code self.now.alphabet.now c ≡ true
@@ -67,7 +68,7 @@ impl<S: StaticPermittedAlphabet> CharacterUnits<'_, S> {
         }
     }
 
-    /// The characters as octets, if they are kept so and codes have at most eight bits.
+    /// The characters as octets, if they are stored so and codes have at most eight bits.
     #[inline(always)]
     pub(crate) fn octets(&self) -> Option<&[u8]>
         ensures characters { IfSome result (λ octets. octets.now ≡ S.characters self.now.string.now) }

@@ -26,7 +26,7 @@ use per_codec_limits::{Variant, characters_have_padding};
 use per_codec_packing::Packing;
 use std::alloc::Global;
 
-/// Adds the octets of a string whose characters have no fixed width, behind their number (X.691 30).
+/// Adds the octets of a string whose characters have no fixed width, after a length determinant (X.691 30).
 fn push_octets<S: StaticPermittedAlphabet>(
     output: &mut Packing,
     variant: Variant,
@@ -49,7 +49,7 @@ fn push_octets<S: StaticPermittedAlphabet>(
     Ok(())
 }
 
-/// Whether a permitted alphabet may leave out characters of a type: one with an extension marker counts for nothing.
+/// Whether a permitted alphabet can exclude characters of a type: one with an extension marker does not count.
 #[inline(always)]
 fn is_narrowed(alphabet: Option<Extensible<PermittedAlphabet>>) -> bool
     ensures { result ≡ false → (k : StringKind) → permitted k (alphabet_of alphabet.entry) ≡ characters_of k }
@@ -60,7 +60,8 @@ fn is_narrowed(alphabet: Option<Extensible<PermittedAlphabet>>) -> bool
     }
 }
 
-/// Whether each character is one of the effective alphabet. All that a string may hold are where none are left out.
+/// Whether each character is in the effective permitted alphabet. If it excludes none, all characters of a string
+/// are.
 #[inline(always)]
 fn have_codes<S: StaticPermittedAlphabet>(
     alphabet: Option<Extensible<PermittedAlphabet>>,
@@ -69,7 +70,7 @@ fn have_codes<S: StaticPermittedAlphabet>(
     requires { SameCharacters units.now.alphabet.now.runs (permitted S.kind (alphabet_of alphabet)) }
     ensures { result ≡ list_all (has_code units.now.alphabet.now) (S.characters units.now.string.now) }
 {
-    // The proof alone needs it: all characters of a string are those of its kind.
+    // Needed by the proof only: all characters of a string are in its type.
     let _count = units.string.char_count();
     if is_narrowed(alphabet) {
         return units.has_codes();
@@ -77,8 +78,8 @@ fn have_codes<S: StaticPermittedAlphabet>(
     true
 }
 
-/// Adds characters whose codes are their numbers less `base`, under a size: where they are octets of the string,
-/// several at a time.
+/// Adds characters whose codes are their numbers minus `base`, under a size. If the string stores them as octets,
+/// several are added at a time.
 #[inline(always)]
 fn push_based<S: StaticPermittedAlphabet>(
     output: &mut Packing,
@@ -111,7 +112,7 @@ fn push_based<S: StaticPermittedAlphabet>(
     push_sized(output, variant, sizes, Bounded::None, has_padding, units)
 }
 
-/// Adds characters that have codes, under a size: where the codes are octets of the string, several at a time.
+/// Adds characters by their codes, under a size. If the string stores them as octets, several are added at a time.
 #[inline(always)]
 fn push_coded<S: StaticPermittedAlphabet>(
     output: &mut Packing,
@@ -135,7 +136,7 @@ fn push_coded<S: StaticPermittedAlphabet>(
     push_sized(output, variant, sizes, Bounded::None, has_padding, units)
 }
 
-/// Adds the characters of a string by their codes, behind their number (X.691 30.5).
+/// Adds the characters of a string by their codes, after a length determinant (X.691 30.5).
 #[inline(always)]
 fn push_codes<S: StaticPermittedAlphabet>(
     output: &mut Packing,
@@ -167,12 +168,12 @@ fn push_codes<S: StaticPermittedAlphabet>(
     Ok(())
 }
 
-/// Adds a character string of a kind with an alphabet of its own (X.691 30).
+/// Adds a restricted character string other than UTF8String (X.691 30).
 ///
 /// # Errors
 ///
 /// `AlphabetConstraintNotSatisfied` if the constraint does not permit one of the characters,
-/// `SizeConstraintNotSatisfied` if the size does not admit as many, and `OutOfMemory`.
+/// `SizeConstraintNotSatisfied` if the size does not admit their number, and `OutOfMemory`.
 #[inline(always)]
 pub fn push_characters<S: StaticPermittedAlphabet>(
     output: &mut Packing,
@@ -190,7 +191,7 @@ pub fn push_characters<S: StaticPermittedAlphabet>(
         (alphabet_of constraints.now.permitted_alphabet) any_count) (text (S.characters value.now)))
         (place output.old))) }
 {
-    // The proof alone needs it: all characters of a string are those of its kind.
+    // Needed by the proof only: all characters of a string are in its type.
     let _count = value.char_count();
     if is_of_octets::<S>() {
         push_octets(output, variant, alloc, value)?;

@@ -10,8 +10,8 @@ use asn1_values_natives::octets::{bit_count, octet_width};
 use per_codec_limits::{LONG_SPAN, Variant};
 use per_codec_packing::Packing;
 
-/// Adds a number of 0 to `span` in its fewest octets, which stand at an octet behind their number, itself a constrained
-/// whole number (X.691 11.5.7.4 and 13.2.6).
+/// Adds a number of 0 to `span` in its fewest octets, octet-aligned, after their count, itself a constrained whole
+/// number (X.691 11.5.7.4 and 13.2.6).
 fn push_fewest_octets(output: &mut Packing, span: u128, value: u128) -> Result<(), EncodeError>
     requires within { value ≤ span }
     requires large { 65536 ≤ span }
@@ -27,8 +27,8 @@ fn push_fewest_octets(output: &mut Packing, span: u128, value: u128) -> Result<(
     Ok(())
 }
 
-/// Adds a number of 0 to `span` at an octet: in one octet where there are 256 such numbers, in two where there are at
-/// most 65536, else behind the number of its octets (X.691 11.5.7.2 to 11.5.7.4).
+/// Adds a number of 0 to `span`, octet-aligned: one octet if the range has 256 values, two if at most 65536, else
+/// after the number of its octets (X.691 11.5.7.2 to 11.5.7.4).
 #[inline(always)]
 fn push_octets(output: &mut Packing, span: u128, value: u128) -> Result<(), EncodeError>
     requires within { value ≤ span }
@@ -47,11 +47,11 @@ fn push_octets(output: &mut Packing, span: u128, value: u128) -> Result<(), Enco
     Ok(())
 }
 
-/// Adds a constrained whole number, one of 0 to `span` (X.691 11.5). A number above `span` is refused.
+/// Adds a constrained whole number of 0 to `span` (X.691 11.5). A number above `span` is refused.
 ///
 /// # Errors
 ///
-/// `OutOfMemory`; any other only where the value has no encoding in this form.
+/// `OutOfMemory`; any other only if the value has no encoding.
 #[inline(always)]
 pub fn push_constrained(
     output: &mut Packing,

@@ -1,4 +1,4 @@
-//! Units behind a length determinant in the general form (X.691 11.9).
+//! Units after a general length determinant (X.691 11.9).
 ghost use Rattle.std.specs.Prelude.{◌≡◌, ◌^◌, ◌<◌, length, MatchResult};
 ghost use Rattle.asn1_model.specs.Per.{counted, counted_octets};
 ghost use Rattle.per_codec_packing.specs.Texts.{text_at};
@@ -11,8 +11,8 @@ use asn1_schema_faults::EncodeError;
 use per_codec_limits::Variant;
 use per_codec_packing::Packing;
 
-/// Adds the units that are due and, as long as more stand behind a next length determinant, this and the units that
-/// are due behind it (X.691 11.9.3.8). The only error is want of memory.
+/// Adds the units that are due and, while more follow another length determinant, this one and the units after it
+/// (X.691 11.9.3.8). The only error is `OutOfMemory`.
 #[cold]
 fn push_fragments<U: Units>(
     output: &mut Packing,
@@ -37,8 +37,8 @@ fn push_fragments<U: Units>(
     Ok(())
 }
 
-/// Adds the units that are due, and those behind further length determinants (X.691 11.9.3.8). The only error is want
-/// of memory.
+/// Adds the units that are due, and those after further length determinants (X.691 11.9.3.8). The only error is
+/// `OutOfMemory`.
 #[inline(always)]
 pub(crate) fn push_due<U: Units>(
     output: &mut Packing,
@@ -61,12 +61,12 @@ pub(crate) fn push_due<U: Units>(
     }
 }
 
-/// Adds units behind a length determinant in the general form: from 16384 units on in fragments, the largest first,
-/// and the rest behind a short one (X.691 11.9).
+/// Adds units after a general length determinant: from 16384 units on in fragments, the largest first, and the rest
+/// after a short one (X.691 11.9).
 ///
 /// # Errors
 ///
-/// `OutOfMemory`, and no other.
+/// Only `OutOfMemory`.
 #[inline(always)]
 pub fn push_counted<U: Units>(
     output: &mut Packing,
@@ -82,11 +82,11 @@ pub fn push_counted<U: Units>(
     Ok(())
 }
 
-/// Adds octets behind their number (X.691 11.9).
+/// Adds octets after a length determinant (X.691 11.9).
 ///
 /// # Errors
 ///
-/// `OutOfMemory`, and no other.
+/// Only `OutOfMemory`.
 #[inline]
 pub fn push_counted_octets(
     output: &mut Packing,

@@ -19,7 +19,7 @@ use per_codec_limits::Variant;
 use per_codec_packing::Packing;
 use std::alloc::Global;
 
-/// Adds the octets of a subidentifier (X.690 8.19.2). The only error is want of memory.
+/// Adds the octets of a subidentifier (X.690 8.19.2). The only error is `OutOfMemory`.
 #[inline(always)]
 fn push_subidentifier(output: &mut Packing, number: u64) -> Result<(), EncodeError>
     requires { number < 2 ^ 35 }
@@ -32,8 +32,8 @@ fn push_subidentifier(output: &mut Packing, number: u64) -> Result<(), EncodeErr
     Ok(())
 }
 
-/// Adds the contents octets that subidentifiers make (X.690 8.19): a first one, and one for each further arc. The only
-/// error is want of memory.
+/// Adds the contents octets of subidentifiers (X.690 8.19): the first one, and one for each further arc. The only
+/// error is `OutOfMemory`.
 fn push_contents(output: &mut Packing, first: u64, others: &[u32]) -> Result<(), EncodeError>
     requires { first < 2 ^ 35 }
     ensures { MatchResult result
@@ -47,8 +47,8 @@ fn push_contents(output: &mut Packing, first: u64, others: &[u32]) -> Result<(),
     Ok(())
 }
 
-/// Adds an OBJECT IDENTIFIER as `push_identifier` does, of which the contents octets are made in memory of `alloc`, so
-/// that they can stand in fragments (X.691 11.9.3.8).
+/// Adds an OBJECT IDENTIFIER as `push_identifier` does. The contents octets are first put into a buffer from `alloc`,
+/// so that they can be split into fragments (X.691 11.9.3.8).
 #[cold]
 fn push_long_identifier(
     output: &mut Packing,
@@ -71,12 +71,12 @@ fn push_long_identifier(
     }
 }
 
-/// Adds an OBJECT IDENTIFIER (X.691 24): its contents octets behind their number. Memory of `alloc` is taken for
-/// 16384 of them and more alone.
+/// Adds an OBJECT IDENTIFIER (X.691 24): its contents octets after a length determinant. It allocates from `alloc`
+/// only for 16384 octets or more.
 ///
 /// # Errors
 ///
-/// `ValueConstraintNotSatisfied` where it has a single arc, and so no contents.
+/// `ValueConstraintNotSatisfied` if it has a single arc, and so no contents; `OutOfMemory`.
 pub fn push_identifier(
     output: &mut Packing,
     variant: Variant,

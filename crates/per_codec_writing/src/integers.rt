@@ -1,4 +1,4 @@
-//! Whole numbers (X.691 13).
+//! INTEGER (X.691 13).
 ghost use Rattle.std.specs.Prelude.{◌≡◌, true, MatchResult};
 ghost use Rattle.asn1_model.specs.Numbers.{is_within};
 ghost use Rattle.asn1_model.specs.Per.{form, semi_constrained, unconstrained, whole_number as number_form};
@@ -18,8 +18,8 @@ use asn1_values_integers::IntegerType;
 use per_codec_limits::Variant;
 use per_codec_packing::Packing;
 
-/// Adds a number without a lower bound, in its fewest octets of two's complement behind their number (X.691 11.8 and
-/// 13.2.4). The only error is want of memory.
+/// Adds an unconstrained whole number: its fewest octets of two's complement, after a length determinant (X.691 11.8
+/// and 13.2.4). The only error is `OutOfMemory`.
 fn push_unconstrained<I: IntegerType>(
     output: &mut Packing,
     variant: Variant,
@@ -36,8 +36,8 @@ fn push_unconstrained<I: IntegerType>(
     Ok(())
 }
 
-/// Adds a number with a lower bound alone, by how far it is above that, in the fewest octets behind their number (X.691
-/// 11.7 and 13.2.3). The only error is want of memory.
+/// Adds a semi-constrained whole number, by its offset from the lower bound: the fewest octets, after a length
+/// determinant (X.691 11.7 and 13.2.3). The only error is `OutOfMemory`.
 pub(crate) fn push_semi_constrained(
     output: &mut Packing,
     variant: Variant,
@@ -52,7 +52,7 @@ pub(crate) fn push_semi_constrained(
     Ok(())
 }
 
-/// Adds a number within bounds, in the form that they tell (X.691 13.2).
+/// Adds a number within bounds, in the form that the bounds determine (X.691 13.2).
 #[inline(always)]
 fn push_root(
     output: &mut Packing,
@@ -81,8 +81,8 @@ fn push_root(
     }
 }
 
-/// Adds a number under a value constraint: behind the extension bit, which tells whether it is outside the bounds,
-/// where these are extensible (X.691 13.1).
+/// Adds a number under a value constraint. If the constraint is extensible, the extension bit comes first and says
+/// whether the number is outside the bounds (X.691 13.1).
 #[inline(always)]
 fn push_bounded(
     output: &mut Packing,
@@ -116,12 +116,12 @@ fn push_bounded(
     }
 }
 
-/// Adds an INTEGER (X.691 13), of at most 128 bits under a value constraint. One outside its bounds is refused, unless
-/// these are extensible.
+/// Adds an INTEGER (X.691 13). Under a value constraint it has at most 128 bits, and one outside the bounds is
+/// refused unless the constraint is extensible.
 ///
 /// # Errors
 ///
-/// `OutOfMemory`; any other only where the value has no encoding in this form.
+/// `OutOfMemory`; any other only if the value has no encoding.
 #[inline(always)]
 pub fn push_integer<I: IntegerType>(
     output: &mut Packing,

@@ -1,4 +1,4 @@
-//! Length determinants in the general form (X.691 11.9.3.5 to 11.9.3.8).
+//! General length determinants (X.691 11.9.3.5 to 11.9.3.8).
 ghost use Rattle.std.specs.Prelude.{◌≡◌, ◌∷◌, ◌<◌, ◌≤◌, true, IfOk, MatchResult};
 ghost use Rattle.asn1_model.specs.Form.{exactly};
 ghost use Rattle.asn1_model.specs.Numbers.{binary};
@@ -13,21 +13,21 @@ use asn1_schema_faults::EncodeError;
 use per_codec_limits::{FRAGMENT, Variant};
 use per_codec_packing::Packing;
 
-/// The units that are still to come behind a length determinant, or behind their number.
+/// The units still to come after a length determinant.
 #[derive(Clone, Copy)]
 pub struct Due {
-    /// How many come before the next length determinant or the end.
+    /// The number of units before the next length determinant or the end.
     pub units: usize,
-    /// How many stand behind the next length determinant, if one comes.
+    /// The number of units after the next length determinant, if there is one.
     pub behind: Option<usize>,
 }
 
-/// Adds the length determinant of so many units below 16384: one octet below 128, else two (X.691 11.9.3.5 to
+/// Adds the length determinant of `count` units, fewer than 16384: one octet below 128, else two (X.691 11.9.3.5 to
 /// 11.9.3.7).
 ///
 /// # Errors
 ///
-/// `OutOfMemory`, and no other.
+/// Only `OutOfMemory`.
 #[inline(always)]
 pub fn push_short_length(
     output: &mut Packing,
@@ -48,11 +48,11 @@ pub fn push_short_length(
     Ok(())
 }
 
-/// Adds the length determinant of a fragment, of 1 to 4 times 16384 units (X.691 11.9.3.8).
+/// Adds the length determinant of a fragment of `multiple` times 16384 units, 1 to 4 times (X.691 11.9.3.8).
 ///
 /// # Errors
 ///
-/// `OutOfMemory`, and no other.
+/// Only `OutOfMemory`.
 pub fn push_fragment_length(
     output: &mut Packing,
     variant: Variant,
@@ -68,8 +68,8 @@ pub fn push_fragment_length(
     Ok(())
 }
 
-/// Adds the length determinant of the largest fragment of so many units (X.691 11.9.3.8). The only error is want of
-/// memory.
+/// Adds the length determinant of the largest fragment of `count` units (X.691 11.9.3.8). The only error is
+/// `OutOfMemory`.
 #[cold]
 fn push_largest_fragment(
     output: &mut Packing,
@@ -91,12 +91,12 @@ fn push_largest_fragment(
     })
 }
 
-/// Adds the next length determinant of so many units: that of the largest fragment of them or, where they are fewer
-/// than 16384, their number (X.691 11.9.3.5 to 11.9.3.8).
+/// Adds the next length determinant of `count` units: that of the largest fragment or, if there are fewer than 16384,
+/// that of all (X.691 11.9.3.5 to 11.9.3.8).
 ///
 /// # Errors
 ///
-/// `OutOfMemory`, and no other.
+/// Only `OutOfMemory`.
 #[inline(always)]
 pub fn push_length_determinant(
     output: &mut Packing,

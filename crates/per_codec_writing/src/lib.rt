@@ -1,6 +1,6 @@
-//! Writers of the packed encoding rules (X.691): of padding, length determinants and whole numbers, of what stands in
-//! front of units of a size and of these, of the scalar types, of the places of items and alternatives, of open types,
-//! and of the members of bags in the order of their complete encodings.
+//! Writers of PER (X.691): padding, length determinants and whole numbers, units under a size constraint and what
+//! precedes them, scalar types, enumeration and choice indices, open types, and SET OF, in the order of its members'
+//! complete encodings.
 #![tactic(auto)]
 
 mod bag;

@@ -1,4 +1,4 @@
-//! Members of a bag in the ascending order of their complete encodings.
+//! The members of a bag in ascending order of their complete encodings.
 ghost use Rattle.std.specs.Prelude.{◌≡◌, true, Some, MatchResult, IfOk, OnOk};
 ghost use Rattle.asn1_model.specs.Form.{ascending, joined, stands_before, written};
 ghost use Rattle.asn1_model.specs.Per.{bit_less, complete};
@@ -15,13 +15,13 @@ use asn1_schema_order::Encodings;
 use per_codec_packing::{Packing, TextView, Texts, complete_in};
 use std::alloc::{AllocError, Global};
 
-/// Octets are below 256, which is why they stand in the order of their bits.
+/// Octets are below 256, so their order is that of their bits.
 fn are_octets(octets: &[u8])
     ensures { list_all is_octet octets.now ≡ true }
 {}
 
-/// Adds the complete encoding of a member (X.691 11.1) to those of others. Where its octets do not stand so in the
-/// member, it is written in `room`, which is cleared first; the room is given back.
+/// Adds the complete encoding of a member (X.691 11.1) to those of others. If the member does not contain it as
+/// octets, it is written to `room`, which is cleared first. Returns the buffer for reuse.
 #[inline(always)]
 fn push_encoding(
     encodings: &mut Encodings,
@@ -41,7 +41,7 @@ fn push_encoding(
     Ok(octets)
 }
 
-/// The complete encodings of the members (X.691 11.1), which tell their places.
+/// The complete encodings of the members (X.691 11.1), which determine their order.
 fn encodings_of(alloc: Global, members: &Texts) -> Result<Encodings, AllocError>
     ensures { IfOk result (λ encodings. AreKeyed members.now encodings) }
 {
@@ -53,7 +53,8 @@ fn encodings_of(alloc: Global, members: &Texts) -> Result<Encodings, AllocError>
     Ok(encodings)
 }
 
-/// The members in the ascending order of their complete encodings (X.691 22), those of the same encoding as they stood.
+/// The members in ascending order of their complete encodings (X.691 22). Those with the same encoding keep their
+/// order.
 pub(crate) fn in_order(alloc: Global, members: &Texts) -> Result<Vec<TextView<'_>>, AllocError>
     ensures { IfOk result (λ ordered. ascending (λ x. written (complete x) 0) (stands_before bit_less)
         (forms members.now) ≡ Some (forms_of ordered.items)) }
@@ -67,7 +68,7 @@ pub(crate) fn in_order(alloc: Global, members: &Texts) -> Result<Vec<TextView<'_
     Ok(ordered)
 }
 
-/// Adds members, one behind the other. The only error is want of memory.
+/// Adds members in sequence. The only error is `OutOfMemory`.
 pub(crate) fn push_each(output: &mut Packing, members: &[TextView<'_>]) -> Result<(), EncodeError>
     ensures { MatchResult result (λ _. Adds
         (text_at (joined (forms_of members.now)) (place output.old)) output.old output.new)

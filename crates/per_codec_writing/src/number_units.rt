@@ -1,4 +1,4 @@
-//! The low bits of octets less one and the same number as units, at most eight of each.
+//! The low bits of octets minus a base as units, of at most eight bits.
 ghost use Rattle.std.specs.Prelude.{◌≡◌, ◌≤◌, flat_map, length, map, MatchResult};
 ghost use Rattle.asn1_model.specs.Numbers.{binary};
 ghost use Rattle.per_codec_writing.specs.Characters.{low_bits};
@@ -10,7 +10,7 @@ use crate::Units;
 use asn1_schema_faults::EncodeError;
 use per_codec_packing::Packing;
 
-/// Octets of which each, less `base`, is a unit of its low `width` bits, at most eight.
+/// Octets as units: the low `width` bits, at most eight, of each octet minus `base`.
 #[derive(Drop)]
 pub(crate) struct NumberUnits<'a> {
     pub(crate) octets: &'a [u8],
@@ -19,7 +19,8 @@ pub(crate) struct NumberUnits<'a> {
     ghost narrow: { width ≤ 8 },
 }
 
-/// The low `width` bits of at most eight octets less `base`, one behind the other, as a number, and how many they are.
+/// The low `width` bits of each of at most eight octets minus `base`, concatenated to a number, and the count of
+/// these bits.
 #[inline(always)]
 fn joined_bits(octets: &[u8], width: u32, base: u8) -> (u64, u32)
     requires narrow { width ≤ 8 }
@@ -37,7 +38,7 @@ fn joined_bits(octets: &[u8], width: u32, base: u8) -> (u64, u32)
     (number, count)
 }
 
-/// Adds the low `width` bits of octets less `base`, those of eight octets at a time. The only error is want of memory.
+/// Adds the low `width` bits of each octet minus `base`, for eight octets at a time. The only error is `OutOfMemory`.
 fn push_low_bits(
     output: &mut Packing,
     octets: &[u8],

@@ -15,12 +15,12 @@ use asn1_schema_faults::EncodeError;
 use per_codec_limits::{Variant, string_has_padding};
 use per_codec_packing::Packing;
 
-/// Adds an OCTET STRING (X.691 17), of which the program's type holds as many octets as `held` tells.
+/// Adds an OCTET STRING (X.691 17). `held` are the numbers of octets that the Rust type can hold.
 ///
 /// # Errors
 ///
-/// `SizeConstraintNotSatisfied` where the type does not hold so many octets, or a size without an extension marker does
-/// not admit them.
+/// `SizeConstraintNotSatisfied` if the Rust type does not hold that many octets, or a size without an extension
+/// marker does not admit them; `OutOfMemory`.
 #[inline(always)]
 pub fn push_octet_string(
     output: &mut Packing,

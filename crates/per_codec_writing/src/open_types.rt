@@ -12,12 +12,12 @@ use asn1_values_bits::BitBuffer;
 use per_codec_limits::Variant;
 use per_codec_packing::Packing;
 
-/// Adds bits as an open type: padded with zero bits to whole octets, one zero octet in place of no bits, behind the
-/// number of these octets (X.691 11.1 and 11.2).
+/// Adds bits as an open type: a length determinant, then the bits padded with zero bits to whole octets, or one zero
+/// octet if there are no bits (X.691 11.1 and 11.2).
 ///
 /// # Errors
 ///
-/// `OutOfMemory`, and no other.
+/// Only `OutOfMemory`.
 pub fn push_open_type(
     output: &mut Packing,
     variant: Variant,

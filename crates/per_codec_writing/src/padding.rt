@@ -1,4 +1,4 @@
-//! Padding up to octets (X.691 11.1).
+//! Padding to octet boundaries (X.691 11.1).
 ghost use Rattle.std.specs.Prelude.{◌≡◌, MatchResult};
 ghost use Rattle.per_codec_writing.specs.Writing.{padding_if, place, plus};
 ghost use Rattle.per_codec_limits.specs.Variants.{is_aligned};
@@ -7,11 +7,11 @@ use asn1_schema_faults::EncodeError;
 use per_codec_limits::Variant;
 use per_codec_packing::Packing;
 
-/// Adds padding up to the next octet in the aligned variant, and adds nothing in the other (X.691 11.1).
+/// Adds padding to the next octet boundary in the aligned variant, and nothing in the unaligned one (X.691 11.1).
 ///
 /// # Errors
 ///
-/// `OutOfMemory`, and no other.
+/// Only `OutOfMemory`.
 #[inline(always)]
 pub fn push_padding(output: &mut Packing, variant: Variant) -> Result<(), EncodeError>
     ensures { MatchResult result

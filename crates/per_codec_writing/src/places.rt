@@ -1,4 +1,4 @@
-//! The places of items among those of an enumeration, and of alternatives among those of a choice (X.691 14 and 23).
+//! Enumeration and choice indices (X.691 14 and 23).
 ghost use Rattle.std.specs.Prelude.{◌≡◌, MatchResult};
 ghost use Rattle.asn1_model.specs.Per.{form, extension_bit_of};
 ghost use Rattle.asn1_model.specs.Schema.{enumerated};
@@ -14,7 +14,7 @@ use asn1_schema_variants::{Chosen, Enumerated};
 use per_codec_limits::Variant;
 use per_codec_packing::Packing;
 
-/// Adds the extension bit, where the type has one (X.691 14.3 and 23.5). The only error is want of memory.
+/// Adds the extension bit, if the type has one (X.691 14.3 and 23.5). The only error is `OutOfMemory`.
 #[inline(always)]
 fn push_extension_bit(
     output: &mut Packing,
@@ -32,13 +32,14 @@ fn push_extension_bit(
     Ok(())
 }
 
-/// Adds a place: among so many in the root, as a constrained whole number behind the extension bit, or among the
-/// added ones, as a normally small number behind the extension bit that is set (X.691 14.2, 14.3 and 23.5 to 23.8).
-/// A place outside the root is refused, and so is an added one of a type without an extension bit.
+/// Adds an enumeration or choice index. In a root of `roots` items it is a constrained whole number after the
+/// extension bit, if there is one. Among the additions it is a normally small number after an extension bit of 1
+/// (X.691 14.2, 14.3 and 23.5 to 23.8). An index outside the root is refused, and so is an added one of a type
+/// without an extension bit.
 ///
 /// # Errors
 ///
-/// `OutOfMemory`; any other only where the value has no encoding in this form.
+/// `OutOfMemory`; any other only if the value has no encoding.
 #[inline(always)]
 pub fn push_place(
     output: &mut Packing,
@@ -66,11 +67,11 @@ pub fn push_place(
     Ok(())
 }
 
-/// Adds an ENUMERATED, an item by its place (X.691 14).
+/// Adds an ENUMERATED by its enumeration index (X.691 14).
 ///
 /// # Errors
 ///
-/// `OutOfMemory`; any other only where the value has no encoding in this form.
+/// `OutOfMemory`; any other only if the value has no encoding.
 pub fn push_enumerated<T: Enumerated>(
     output: &mut Packing,
     variant: Variant,

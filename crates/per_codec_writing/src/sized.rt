@@ -1,4 +1,4 @@
-//! Units of a size (X.691 16, 17, 22 and 30).
+//! Units under a size constraint (X.691 16, 17, 22 and 30).
 ghost use Rattle.std.specs.Prelude.{MatchResult};
 ghost use Rattle.asn1_model.specs.Per.{sized};
 ghost use Rattle.asn1_schema_constraints.specs.Bounds.{counts_of};
@@ -14,14 +14,14 @@ use asn1_schema_faults::EncodeError;
 use per_codec_limits::Variant;
 use per_codec_packing::Packing;
 
-/// Adds units of a size (X.691 16, 17, 22 and 30). `held` are the numbers of units that the program's type holds;
-/// `has_padding` tells whether padding stands in front of the units, in the aligned variant, where their number is one
-/// by the bounds of the root.
+/// Adds units under a size constraint (X.691 16, 17, 22 and 30). `held` are the counts that the Rust type can hold.
+/// `has_padding` says whether padding precedes the units in the aligned variant, if their number is encoded by the
+/// bounds of the root.
 ///
 /// # Errors
 ///
-/// `SizeConstraintNotSatisfied` where the type does not hold so many, or a size without an extension marker does not
-/// admit them; `OutOfMemory`.
+/// `SizeConstraintNotSatisfied` if the Rust type does not hold that many units, or a size without an extension marker
+/// does not admit them; `OutOfMemory`.
 #[inline(always)]
 pub fn push_sized<U: Units>(
     output: &mut Packing,

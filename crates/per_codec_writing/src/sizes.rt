@@ -1,5 +1,5 @@
-//! What stands in front of the units of a size: the extension bit, their number and padding, or a length determinant
-//! in the general form (X.691 11.9.4, 16.6 to 16.11, 17.3 to 17.8, 20.4, 20.5 and 30.4 to 30.5.7).
+//! What precedes the units under a size constraint: the extension bit, their number and padding, or a general length
+//! determinant (X.691 11.9.4, 16.6 to 16.11, 17.3 to 17.8, 20.4, 20.5 and 30.4 to 30.5.7).
 ghost use Rattle.std.specs.Prelude.{◌≡◌, ◌≤◌, true, IfOk, MatchResult};
 ghost use Rattle.asn1_model.specs.Numbers.{is_count_within};
 ghost use Rattle.asn1_schema_constraints.specs.Bounds.{counts_of, upper};
@@ -16,7 +16,7 @@ use asn1_schema_faults::EncodeError;
 use per_codec_limits::{Variant, told_highest};
 use per_codec_packing::Packing;
 
-/// Adds a number of units, one of `low` to `high`, and padding behind it if `has_padding` tells so (X.691 11.9.4.1).
+/// Adds a number of units of `low` to `high`, and padding after it if `has_padding` (X.691 11.9.4.1).
 #[inline(always)]
 fn push_number(
     output: &mut Packing,
@@ -39,8 +39,8 @@ fn push_number(
     Ok(())
 }
 
-/// Adds the number of units of the root of a size: by its bounds where the highest is below 65536, else a length
-/// determinant in the general form (X.691 11.9.4.1).
+/// Adds the number of units of the root of a size: by its bounds if the upper bound is below 65536, else a general
+/// length determinant (X.691 11.9.4.1).
 #[inline(always)]
 fn push_root_count(
     output: &mut Packing,
@@ -68,13 +68,13 @@ fn push_root_count(
     })
 }
 
-/// Adds what stands in front of so many units of a size: the extension bit, if the size is extensible, and their number
-/// or the first length determinant in the general form. `has_padding` tells whether padding stands behind a number by
-/// the bounds of the root, in the aligned variant.
+/// Adds what precedes `count` units under a size constraint: the extension bit, if the size is extensible, and the
+/// number of units or the first general length determinant. `has_padding` says whether padding follows a number
+/// encoded by the bounds of the root, in the aligned variant.
 ///
 /// # Errors
 ///
-/// `SizeConstraintNotSatisfied` where a size without an extension marker does not admit so many; `OutOfMemory`.
+/// `SizeConstraintNotSatisfied` if a size without an extension marker does not admit `count` units; `OutOfMemory`.
 #[inline(always)]
 pub fn push_heading(
     output: &mut Packing,

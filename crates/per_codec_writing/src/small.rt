@@ -10,12 +10,12 @@ use asn1_schema_faults::EncodeError;
 use per_codec_limits::Variant;
 use per_codec_packing::Packing;
 
-/// Adds a normally small number: up to 63 in six bits behind one that is not set, else behind one that is, in the
-/// fewest octets behind their number (X.691 11.6).
+/// Adds a normally small number (X.691 11.6): up to 63 a zero bit and six bits, else a one bit, a length determinant
+/// and the fewest octets.
 ///
 /// # Errors
 ///
-/// `OutOfMemory`, and no other.
+/// Only `OutOfMemory`.
 pub fn push_normally_small(
     output: &mut Packing,
     variant: Variant,

@@ -15,11 +15,11 @@ use asn1_schema_faults::EncodeError;
 use per_codec_limits::Variant;
 use per_codec_packing::Packing;
 
-/// Adds a UTF8String (X.691 30): its octets behind their number, since its constraints count for nothing.
+/// Adds a UTF8String (X.691 30): its octets after a length determinant. Its constraints do not affect the encoding.
 ///
 /// # Errors
 ///
-/// `OutOfMemory`, and no other.
+/// Only `OutOfMemory`.
 #[inline(always)]
 pub fn push_utf8(
     output: &mut Packing,

@@ -1,4 +1,4 @@
-//! Runs of units, which are written behind their number (X.691 11.9).
+//! Runs of units after a length determinant (X.691 11.9).
 ghost use Rattle.std.specs.Prelude.{◌≡◌, ◌≤◌, List, length, slice_range, MatchResult};
 ghost use Rattle.asn1_model.specs.Form.{joined};
 ghost use Rattle.asn1_model.specs.Per.{BitForm, bit_units, octet_units};
@@ -12,17 +12,16 @@ use asn1_schema_faults::EncodeError;
 use asn1_values_bits::BitStr;
 use per_codec_packing::{Packing, TextView};
 
-/// Units that can be written in pieces, since from 16384 units on they stand in fragments (X.691 11.9.3.8).
+/// Units that can be written in pieces: 16384 units or more are split into fragments (X.691 11.9.3.8).
 pub trait Units {
     /// The form of each unit.
     ghost forms: { Self → List BitForm };
 
-    /// How many units there are.
+    /// The number of units.
     fn count(&self) -> usize
         ensures { result ≡ length (forms self.now) };
 
-    /// Adds the units from one place up to another, counted from 0, one behind the other. The only error is want of
-    /// memory.
+    /// Adds the units from index `from` up to `to`, counted from 0. The only error is `OutOfMemory`.
     fn push_range(&self, output: &mut Packing, from: usize, to: usize) -> Result<(), EncodeError>
         requires order { from ≤ to }
         requires within { to ≤ length (forms self.now) }
@@ -62,7 +61,7 @@ impl Units for BitStr<'_> {
     }
 }
 
-/// Members of a bag, which stand in their order.
+/// Members of a bag, already in order.
 impl Units for &[TextView<'_>] {
     ghost forms = { λ members. forms_of members.now };
 

@@ -10,7 +10,7 @@ use Rattle.asn1_model.proofs.OnValues.{on_values}
 use Rattle.asn1_model_rows.proofs.Plain.{is_plain, is_text, bits_not_read, octets_not_read}
 use Rattle.asn1_model_rows.proofs.refused_rows.Goals as goal
 
--- a text of a value whose form is plain is the canonical one, in each of the rule sets
+-- an encoding of a value whose form is plain is the canonical one, in each set of rules
 by_coer : (s : Schema) (v : Value) (w : List ℕ) → IsEncoding coer s v w → is_plain strict_oer (Oer.form s v) 0 ≡ true → is_text ◌==◌ (written (Oer.form s v) 0) w ≡ false → ⊥
 unfolding IsEncoding
 by_coer s v w r h n = octets_not_read strict_oer (Oer.form s v) w h n r.1

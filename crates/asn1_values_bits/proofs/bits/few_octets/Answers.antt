@@ -5,7 +5,7 @@ use Rattle.asn1_model.specs.Numbers.{binary, octet_bits}
 use Rattle.asn1_values_bits.proofs.Binary.{binary_join, octet_bits_push}
 use Rattle.asn1_values_bits.proofs.bits.few_octets.Goals as goal
 
--- an octet behind others
+-- an octet after others
 behind : (w v x : ℕ) → v < 2 ^ w → w + 8 ≤ 64 → x < 2 ^ 8 → bit_or (v * 2 ^ 8 % 2 ^ 64) x ≡ v * 2 ^ 8 + x
 behind w v x h n l = ap (λ k. bit_or k x) (shl_whole v w 8 64 h n) ∙ or_shifted v 8 x l
 
