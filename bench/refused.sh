@@ -8,8 +8,10 @@
 # want_of_memory* have to pass each time; a package without one is an error, as nothing would be judged. A test ample_X
 # makes the same requests as refused_X, and fails where one was refused: a package is done with the first N from which
 # on, twice in a row, all of its ample_* tests pass, or where it has none, all of its tests. So refused_X has then met
-# each request of ample_X. What a test takes to begin with counts as its requests too. Each run builds the tests anew,
-# which takes a minute of a processor in a package of the relay. Nothing is proved.
+# each request of ample_X. What a test takes to begin with counts as its requests too. Tests of other names are run
+# too, and not judged where there are ample_* tests: those of asn1_relay_tests_memory that take all memory fail here, as
+# a sanitizer's heap never ends. Each run builds the tests anew, which takes a minute and a half of a processor in a
+# package of the relay. Nothing is proved.
 #
 #   RT     what runs them, where it is not rt
 #   JOBS   how many runs stand side by side, where it is not one

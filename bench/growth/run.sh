@@ -24,14 +24,20 @@ while read -r shape piece size; do
     twice=$(an_octet "$shape" $((2 * size)) "$piece")
     echo "| $shape | $piece | $size | $once | $twice |"
 done <<SHAPES
-string 1 2000
+string 1 32768
 string 4096 65536
-packed_string 1 2000
+packed_string 1 32768
 packed_string 4096 65536
 list 1 1000
+list 1 50000
 list 4096 65536
 packed_list 1 1000
+packed_list 1 50000
 packed_list 4096 65536
+strings 1 20
+strings 4096 1000
+packed_strings 1 20
+packed_strings 4096 1000
 sequences 1 20
 sequences 4096 1000
 packed_sequences 1 20

@@ -1,4 +1,4 @@
--- What a command line asks for. Words are taken apart as clap does it, and then mean what their names say.
+-- What a command line requests. Words are split as clap does it, and then mean what their names say.
 use Rattle.std.specs.Prelude.{true, ⊤, ◌≢◌, ◌≤◌, ℕ, pos, List, [], ◌∷◌, Option, Some, None, option_map}
 use Rattle.std.specs.Prelude.{option_and_then, if◌then◌else◌, codes}
 use Rattle.std.specs.Str.{bytes_eq}
@@ -9,7 +9,7 @@ use Rattle.clap.specs.ValueTests.{is_unsigned_in}
 use Rattle.clap.specs.declared.builder.action.ArgAction.TheVariants.{Append}
 use Rattle.clap.specs.declared.builder.value_parser.ValueParser.TheVariants as vp
 use Rattle.asn1_relay_core.specs.declared.codec.Codec.{Codec}
-use Rattle.asn1_relay_core.specs.declared.codec.Codec.TheVariants.{Uper, Aper, Oer, Coer}
+use Rattle.asn1_relay_core.specs.declared.codec.Codec.TheVariants.{Uper, Aper, UperStrict, AperStrict, Oer, Coer}
 use Rattle.asn1_relay_command.specs.declared.order.Kind.{Kind}
 use Rattle.asn1_relay_command.specs.declared.order.Kind.TheVariants as kind
 use Rattle.asn1_relay_command.specs.declared.order.Order.{Order}
@@ -23,7 +23,7 @@ use Rattle.asn1_relay_command.specs.declared.order.Translation.{Translation}
 
 -- ---- the grammar
 
--- an option that takes one word and has to be there
+-- a required option with one value
 abbrev pub option_rule : Text → Rule
 option_rule name = record (new_rule name) { long = Some name; required = true }
 
@@ -69,9 +69,11 @@ abbrev pub codec_by_name : Text → Option Codec
 codec_by_name name =
     if bytes_eq name (codes "uper") then Some Uper
     else (if bytes_eq name (codes "aper") then Some Aper
+    else (if bytes_eq name (codes "uper-strict") then Some UperStrict
+    else (if bytes_eq name (codes "aper-strict") then Some AperStrict
     else (if bytes_eq name (codes "oer") then Some Oer
     else (if bytes_eq name (codes "coer") then Some Coer
-    else None)))
+    else None)))))
 
 abbrev pub kind_by_name : Text → Option Kind
 kind_by_name name =
@@ -107,15 +109,19 @@ abbrev pub hop_by_name : Text → Option Hop
 hop_by_name name =
     if bytes_eq name (codes "old:uper") then Some (hop Old Uper)
     else (if bytes_eq name (codes "old:aper") then Some (hop Old Aper)
+    else (if bytes_eq name (codes "old:uper-strict") then Some (hop Old UperStrict)
+    else (if bytes_eq name (codes "old:aper-strict") then Some (hop Old AperStrict)
     else (if bytes_eq name (codes "old:oer") then Some (hop Old Oer)
     else (if bytes_eq name (codes "old:coer") then Some (hop Old Coer)
     else (if bytes_eq name (codes "new:uper") then Some (hop New Uper)
     else (if bytes_eq name (codes "new:aper") then Some (hop New Aper)
+    else (if bytes_eq name (codes "new:uper-strict") then Some (hop New UperStrict)
+    else (if bytes_eq name (codes "new:aper-strict") then Some (hop New AperStrict)
     else (if bytes_eq name (codes "new:oer") then Some (hop New Oer)
     else (if bytes_eq name (codes "new:coer") then Some (hop New Coer)
-    else None)))))))
+    else None)))))))))))
 
--- the hops of these names, in turn, if each names one
+-- the hops with these names, in order, if each names one
 abbrev pub hops_by_names : List Text → Option (List Hop)
 hops_by_names [] = Some []
 hops_by_names (name ∷ names) =
@@ -136,11 +142,11 @@ pub record Route : Type 0 where
 
 -- what to do
 pub data Task : Type 0 where
-  -- translate one message, which is all of the input
+  -- translate one message, the whole input
   once : Translation → Task
-  -- translate messages that are strung together, each of at most so many octets
+  -- translate a stream of messages, each of at most a number of octets
   stream : Translation → ℕ → Task
-  -- send one message, which is all of the input, along a route
+  -- send one message, the whole input, along a route
   route : Route → Task
 
 abbrev pub task_of : Order → Task
@@ -202,11 +208,11 @@ CanBeDone (once t) = ⊤
 CanBeDone (stream t limit) = 1 ≤ limit
 CanBeDone (route r) = r.hops ≢ []
 
--- what is asked for by words that the grammar finds no fault with
+-- what words request that match the grammar
 abbrev pub unless_fault : Kinds → Option Task → Option Task
 unless_fault [] task = task
 unless_fault (fault ∷ faults) task = None
 
--- what a command line asks for; nothing where it is a bad one
+-- what a command line requests; nothing if it is not valid
 unfoldable pub asked_by : List Text → Option Task
 asked_by words = unless_fault (fault_of program_app words) (task_in_command (subcommand_of program_app words))

@@ -1,4 +1,4 @@
-//! What a command line asks for.
+//! What a command line requests.
 ghost use Rattle.std.specs.Prelude.{◌≡◌, ◌≢◌, ◌⊎◌, ◌≤◌, [], None, Some, IfErr, IfOk, IfSome, codes, false, map};
 ghost use Rattle.std.specs.Prelude.{option_and_then, option_map};
 ghost use Rattle.clap.specs.Words.{app_of, first_value, found_of, kind_of, one_text, rows_of, rule_of};
@@ -57,13 +57,13 @@ pub enum Pair {
     Plain,
     /// SEQUENCE {s S DEFAULT {a TRUE}}, where S is `old` or `new`.
     Default,
-    /// SEQUENCE {a BOOLEAN, ...}, and with an addition that stays required: r [1] BOOLEAN.
+    /// SEQUENCE {a BOOLEAN, ...}, and the same with an addition that is not optional: r [1] BOOLEAN.
     Required,
     /// ENUMERATED {red, ...} and ENUMERATED {red, ..., blue}.
     Colour,
 }
 
-/// How messages of a type are translated, from the one set of rules to the other.
+/// How messages of a type are translated from one set of rules to another.
 #[derive(Clone, Copy, Debug, PartialEq, Eq)]
 pub struct Translation {
     /// The rules of the input.
@@ -77,16 +77,16 @@ pub struct Translation {
 /// What to do.
 #[derive(Debug, Drop, PartialEq, Eq)]
 pub enum Order {
-    /// Translate one message, which is all of the input.
+    /// Translate one message, the whole input.
     Once(Translation),
-    /// Translate messages that are strung together.
+    /// Translate a stream of messages.
     Stream {
         /// How each message is translated.
         translation: Translation,
-        /// How many octets a message may have, 1 or more.
+        /// The most octets that a message may have, 1 or more.
         limit: u32,
     },
-    /// Send one message, which is all of the input, along a route.
+    /// Send one message, the whole input, along a route.
     Route {
         /// The rules of the input.
         from: Codec,
@@ -97,20 +97,22 @@ pub enum Order {
     },
 }
 
-/// The rules of this name.
+/// The rules with this name.
 fn codec_named(name: &str) -> Option<Codec>
     ensures { result ≡ codec_by_name name.now }
 {
     match name {
         "uper" => Some(Codec::Uper),
         "aper" => Some(Codec::Aper),
+        "uper-strict" => Some(Codec::UperStrict),
+        "aper-strict" => Some(Codec::AperStrict),
         "oer" => Some(Codec::Oer),
         "coer" => Some(Codec::Coer),
         _ => None,
     }
 }
 
-/// The type of this name.
+/// The type with this name.
 fn kind_named(name: &str) -> Option<Kind>
     ensures { result ≡ kind_by_name name.now }
 {
@@ -134,7 +136,7 @@ fn kind_named(name: &str) -> Option<Kind>
     }
 }
 
-/// The pair of versions of this name.
+/// The pair of versions with this name.
 fn pair_named(name: &str) -> Option<Pair>
     ensures { result ≡ pair_by_name name.now }
 {
@@ -147,31 +149,35 @@ fn pair_named(name: &str) -> Option<Pair>
     }
 }
 
-/// A hop of this version that writes by these rules.
+/// A hop of this version that writes in these rules.
 fn hop(version: Version, to: Codec) -> Option<Hop>
     ensures { result ≡ Some (record { version = version; to = to }) }
 {
     Some(Hop { version, to })
 }
 
-/// The hop of this name: a version, and the rules in which it writes.
+/// The hop with this name: a version, and the rules in which it writes.
 fn hop_named(name: &str) -> Option<Hop>
     ensures { result ≡ hop_by_name name.now }
 {
     match name {
         "old:uper" => hop(Version::Old, Codec::Uper),
         "old:aper" => hop(Version::Old, Codec::Aper),
+        "old:uper-strict" => hop(Version::Old, Codec::UperStrict),
+        "old:aper-strict" => hop(Version::Old, Codec::AperStrict),
         "old:oer" => hop(Version::Old, Codec::Oer),
         "old:coer" => hop(Version::Old, Codec::Coer),
         "new:uper" => hop(Version::New, Codec::Uper),
         "new:aper" => hop(Version::New, Codec::Aper),
+        "new:uper-strict" => hop(Version::New, Codec::UperStrict),
+        "new:aper-strict" => hop(Version::New, Codec::AperStrict),
         "new:oer" => hop(Version::New, Codec::Oer),
         "new:coer" => hop(Version::New, Codec::Coer),
         _ => None,
     }
 }
 
-/// The hops of these names, in turn, if each names one.
+/// The hops with these names, in order, if each names one.
 fn hops_named(alloc: Global, names: &[&str]) -> Result<Option<Vec<Hop>>, AllocError>
     ensures { IfOk result (λ hops. option_map (λ v. v.items) hops ≡ hops_by_names (map (λ s. s.now) names.now)) }
 {
@@ -185,7 +191,7 @@ fn hops_named(alloc: Global, names: &[&str]) -> Result<Option<Vec<Hop>>, AllocEr
     Ok(Some(hops))
 }
 
-/// An option that takes one word and has to be there.
+/// A required option with one value.
 fn option<'a>(alloc: Global, name: &'a str, help: &'a str) -> Arg<'a>
     ensures rule { rule_of result ≡ option_rule name.entry.now }
     ensures local { result.global ≡ false }
@@ -202,12 +208,12 @@ fn translating<'a>(alloc: Global, name: &'a str, about: &'a str) -> Result<Comma
         .arg(option(
             alloc,
             "from",
-            "the rules of the input: uper, aper, oer or coer",
+            "the rules of the input: uper, aper, uper-strict, aper-strict, oer or coer",
         ))?
         .arg(option(
             alloc,
             "to",
-            "the rules of the output: uper, aper, oer or coer",
+            "the rules of the output: uper, aper, uper-strict, aper-strict, oer or coer",
         ))?
         .arg(option(
             alloc,
@@ -217,7 +223,7 @@ fn translating<'a>(alloc: Global, name: &'a str, about: &'a str) -> Result<Comma
         ))
 }
 
-/// The option of the limit.
+/// The `--limit` option.
 fn limit_option<'a>(alloc: Global) -> Arg<'a>
     ensures rule { rule_of result ≡ limit_rule }
     ensures local { result.global ≡ false }
@@ -230,7 +236,7 @@ fn limit_option<'a>(alloc: Global) -> Arg<'a>
     .value_parser(value_parser!(u32).range(1..))
 }
 
-/// The option of a hop, which is there once or more.
+/// The `--hop` option, given once or more.
 fn hop_option<'a>(alloc: Global) -> Arg<'a>
     ensures rule { rule_of result ≡ hop_rule }
     ensures local { result.global ≡ false }
@@ -238,8 +244,8 @@ fn hop_option<'a>(alloc: Global) -> Arg<'a>
     option(
         alloc,
         "hop",
-        "a version and the rules in which the hop writes: old or new, a colon, and uper, aper, oer or \
-         coer; once or more",
+        "a version and the rules in which the hop writes: old or new, a colon, and uper, aper, \
+         uper-strict, aper-strict, oer or coer; once or more",
     )
     .action(ArgAction::Append)
 }
@@ -256,7 +262,7 @@ fn routing<'a>(alloc: Global) -> Result<Command<'a>, AllocError>
         .arg(option(
             alloc,
             "from",
-            "the rules of the input: uper, aper, oer or coer",
+            "the rules of the input: uper, aper, uper-strict, aper-strict, oer or coer",
         ))?
         .arg(option(
             alloc,
@@ -266,7 +272,7 @@ fn routing<'a>(alloc: Global) -> Result<Command<'a>, AllocError>
         .arg(hop_option(alloc))
 }
 
-/// The words that the program knows.
+/// The grammar of the command line.
 fn grammar<'a>(alloc: Global) -> Result<Command<'a>, AllocError>
     ensures { IfOk result (λ g. app_of g ≡ program_app) }
 {
@@ -290,7 +296,7 @@ fn grammar<'a>(alloc: Global) -> Result<Command<'a>, AllocError>
         .subcommand(route)
 }
 
-/// The translation that the options ask for, if each of them names something.
+/// The translation that the options request, if each of them names something.
 fn translation_in(options: &ArgMatches<'_>) -> Option<Translation>
     ensures { result ≡ translation_by_names (first_value (found_of options.now) (codes "from"))
         (first_value (found_of options.now) (codes "to")) (first_value (found_of options.now) (codes "type")) }
@@ -302,7 +308,7 @@ fn translation_in(options: &ArgMatches<'_>) -> Option<Translation>
     })
 }
 
-/// The limit that the options ask for, if there is one.
+/// The limit that the options request, if there is one.
 fn limit_in(options: &ArgMatches<'_>) -> Option<u32>
     ensures limit { result ≡ option_and_then limit_by_text (one_text (found_of options.now) (codes "limit")) }
     ensures some { IfSome result (λ n. 1 ≤ n) }
@@ -311,7 +317,7 @@ fn limit_in(options: &ArgMatches<'_>) -> Option<u32>
     if limit >= 1 { Some(limit) } else { None }
 }
 
-/// What the options of `once` ask for, if each of them names something.
+/// What the options of `once` request, if each of them names something.
 fn once_in(options: &ArgMatches<'_>) -> Option<Order>
     ensures task { option_map task_of result ≡ once_in_rows (rows_of (found_of options.now)) }
     ensures sound { IfSome result (λ order. CanBeDone (task_of order)) }
@@ -320,7 +326,7 @@ fn once_in(options: &ArgMatches<'_>) -> Option<Order>
     Some(Order::Once(translation))
 }
 
-/// What the options of `stream` ask for, if each of them names something.
+/// What the options of `stream` request, if each of them names something.
 fn stream_in(options: &ArgMatches<'_>) -> Option<Order>
     ensures task { option_map task_of result ≡ stream_in_rows (rows_of (found_of options.now)) }
     ensures sound { IfSome result (λ order. CanBeDone (task_of order)) }
@@ -330,7 +336,7 @@ fn stream_in(options: &ArgMatches<'_>) -> Option<Order>
     Some(Order::Stream { translation, limit })
 }
 
-/// The hops that the options ask for, if each of them names one.
+/// The hops that the options request, if each of them names one.
 fn hops_in(alloc: Global, options: &ArgMatches<'_>) -> Result<Option<Vec<Hop>>, AllocError>
     ensures { IfOk result (λ hops. option_map (λ v. v.items) hops ≡ hops_in_rows (rows_of (found_of options.now))) }
 {
@@ -340,7 +346,7 @@ fn hops_in(alloc: Global, options: &ArgMatches<'_>) -> Result<Option<Vec<Hop>>, 
     }
 }
 
-/// What the options of `route` ask for beside these hops, if each of them names something, and there is a hop.
+/// What the options of `route` request besides these hops, if each of them names something, and there is a hop.
 fn route_by(options: &ArgMatches<'_>, hops: Option<Vec<Hop>>) -> Option<Order>
     ensures task { option_map task_of result ≡ route_by_names (first_value (found_of options.now) (codes "from"))
         (first_value (found_of options.now) (codes "pair")) (option_map (λ v. v.items) hops) }
@@ -355,7 +361,7 @@ fn route_by(options: &ArgMatches<'_>, hops: Option<Vec<Hop>>) -> Option<Order>
     Some(Order::Route { from, pair, hops })
 }
 
-/// What the options of `route` ask for, if each of them names something.
+/// What the options of `route` request, if each of them names something.
 fn route_in(alloc: Global, options: &ArgMatches<'_>) -> Result<Option<Order>, AllocError>
     ensures task { IfOk result (λ order. option_map task_of order ≡ route_in_rows (rows_of (found_of options.now))) }
     ensures sound { IfOk result (λ order. IfSome order (λ o. CanBeDone (task_of o))) }
@@ -364,7 +370,7 @@ fn route_in(alloc: Global, options: &ArgMatches<'_>) -> Result<Option<Order>, Al
     Ok(route_by(options, hops))
 }
 
-/// What words that follow the grammar ask for, if each of them names something.
+/// What words that match the grammar request, if each of them names something.
 fn order_in(alloc: Global, matches: &ArgMatches<'_>) -> Result<Option<Order>, AllocError>
     ensures task { IfOk result (λ order. option_map task_of order ≡ task_in_command (subcommand_rows_of matches.now)) }
     ensures sound { IfOk result (λ order. IfSome order (λ o. CanBeDone (task_of o))) }
@@ -380,13 +386,13 @@ fn order_in(alloc: Global, matches: &ArgMatches<'_>) -> Result<Option<Order>, Al
     }
 }
 
-/// Reads a command line, whose first word is the name of the program. An error's `Display` is the text for the user;
-/// its kind is `OutOfMemory` where no memory was left.
+/// Reads a command line, whose first word is the name of the program. The `Display` of an error is the text for the
+/// user.
 ///
 /// # Errors
 ///
-/// Where the line asks for nothing that the program does, for the help text too, or for want of memory, of the kind
-/// `OutOfMemory`.
+/// If the line requests nothing that the program does, also for the help text. The kind is `OutOfMemory` if memory
+/// ran out.
 pub fn read_order<S: AsStr>(alloc: Global, words: &[S]) -> Result<Order, Error>
     ensures ok { IfOk result (λ order. asked_by (map S.text words.now) ≡ Some (task_of order)) }
     ensures sound { IfOk result (λ order. CanBeDone (task_of order)) }
@@ -399,9 +405,9 @@ pub fn read_order<S: AsStr>(alloc: Global, words: &[S]) -> Result<Order, Error>
         Some(order) => Ok(order),
         None => Err(grammar.error(
             ErrorKind::InvalidValue,
-            "rules are uper, aper, oer or coer, types bool, small, pair, integer, bits, octets, visible, \
-             null, nulls, set, bag, nest, new, old or group, pairs plain, default, required or colour, \
-             and hops old or new, a colon and rules",
+            "rules are uper, aper, uper-strict, aper-strict, oer or coer, types bool, small, pair, integer, \
+             bits, octets, visible, null, nulls, set, bag, nest, new, old or group, pairs plain, default, \
+             required or colour, and hops old or new, a colon and rules",
         )?),
     }
 }

@@ -1,5 +1,5 @@
 -- That the messages which were relayed one after the other are those in front of all octets.
-use Rattle.std.proofs.Common.{◌≡◌, ◌⊎◌, inl, inr, ℕ, ◌+◌, ◌≤◌, min, true, false, List, [], ◌∷◌, ◌++◌, length, drop, Some, None, refl, ap, sym, ◌∙◌, subst, append_assoc, arith}
+use Rattle.std.proofs.Common.{◌≡◌, ◌⊎◌, inl, inr, ℕ, ◌+◌, ◌≤◌, ◌<◌, min, true, false, List, [], ◌∷◌, ◌++◌, length, drop, Some, None, refl, ap, sym, ◌∙◌, subst, append_assoc, arith}
 use Rattle.std.proofs.Math.Seq.{drop-append_seam}
 use Rattle.std.proofs.lemmas.List.{length-append, append-nil}
 use Rattle.asn1_model.specs.Schema.{Schema}
@@ -12,7 +12,7 @@ use Rattle.asn1_relay_core.specs.declared.fault.RelayFault.{RelayFault}
 use Rattle.asn1_relay_core.specs.declared.fault.RelayFaultKind.{RelayFaultKind}
 use Rattle.asn1_relay_core.specs.declared.fault.RelayFaultKind.TheVariants as kind
 use Rattle.asn1_relay_core.specs.Relaying.{Relaying, capped, kind_of_stop, onwards, IsFed, FaultOf}
-use Rattle.asn1_relay_core.specs.Fronts.{RelaysOne}
+use Rattle.asn1_relay_core.specs.Fronts.{Awaits, RelaysOne}
 
 -- no message is in front of nothing
 pub none_of_none : (r : Rules) (s : Schema) (limit : ℕ) → HasNoMessage r s limit []
@@ -102,6 +102,28 @@ module _ (s : Schema) (old : Relaying) (piece before : List ℕ) where
       stopped had (inr y) =
           let w : StopsAt (rules_of old.from) (rules_of old.to) s old.limit now.unread (Some y.0) = here (λ a b l. StopsAt a b s l now.unread (Some y.0)) y.2 in
           inr (inl (had, y.0, record { count = length h.messages; written = h.written; rest = now.unread; relays = record { messages = h.messages; counted = refl; front = h.front; stops = w }; grows = h.grows; is = fault_as (kind_of_stop y.0) y.1; stops = stopped_as }))
+
+-- a relay that awaits more octets than are unread
+pub waited : (s : Schema) (old now : Relaying) (piece before : List ℕ) (awaited : ℕ) → old.failed ≡ false → now ≡ onwards old (old.unread ++ piece) old.number false → old.number ≤ most
+    → Awaits (rules_of old.from) s old.limit old.unread awaited → length (old.unread ++ piece) < awaited → length (old.unread ++ piece) ≤ old.limit → IsFed s old now piece before before
+waited s old now piece before awaited had e n w k l =
+    let a = length-append old.unread piece in
+    let none = w piece (omega arith) in
+    let here : StopsAt (rules_of old.from) (rules_of old.to) s old.limit (old.unread ++ piece) None = (none.1, inr (none.0, l)) in
+    let there : StopsAt (rules_of now.from) (rules_of now.to) s now.limit now.unread None = subst (λ (r : Relaying). StopsAt (rules_of r.from) (rules_of r.to) s r.limit r.unread None) (sym e) here in
+    fed s old piece before now before (begun s old piece before now before e n refl) had there
+
+-- it awaits as many behind the piece
+pub awaits_on : (source : Rules) (s : Schema) (limit : ℕ) (unread piece : List ℕ) (awaited : ℕ) → Awaits source s limit unread awaited → Awaits source s limit (unread ++ piece) awaited
+awaits_on source s limit unread piece awaited w more less =
+    let a = length-append unread piece in
+    let b = length-append piece more in
+    let t = w (piece ++ more) (omega arith) in
+    (t.0, subst (λ x. HasNoMessage source s limit x) (sym (append_assoc unread piece more)) t.1)
+
+-- nothing is awaited where no number is
+pub awaits_none : (source : Rules) (s : Schema) (limit : ℕ) (unread : List ℕ) → Awaits source s limit unread 0
+awaits_none source s limit unread more less = absurd (omega arith)
 
 -- a relay that holds nothing is fed nothing
 pub nothing_fed : (s : Schema) (old : Relaying) (piece before : List ℕ) → old.failed ≡ false → old.unread ≡ [] → piece ≡ [] → old.number ≤ most → IsFed s old old piece before before

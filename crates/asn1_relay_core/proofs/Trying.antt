@@ -2,14 +2,14 @@
 use Rattle.std.proofs.Common.{◌≡◌, ◌≢◌, ◌⊎◌, inl, inr, ℕ, ◌+◌, ◌-◌, ◌≤◌, ◌<◌, ltb, min, Bool, true, false, List, [], ◌∷◌, ◌++◌, length, take, drop, Option, Some, None, refl, ap, sym, ◌∙◌, subst, append_assoc, arith}
 use Rattle.std.proofs.Math.Nat.{min-le_left, min-le_right, le-min}
 use Rattle.std.proofs.lemmas.Bool.{ltb-true, ltb-false}
-use Rattle.std.proofs.lemmas.List.{length-append, length-take-le, take-append-drop}
+use Rattle.std.proofs.lemmas.List.{length-append, length-take-le, take-append-drop, take_all}
 use Rattle.asn1_model.specs.Schema.{Schema}
 use Rattle.asn1_model.specs.Value.{Value}
 use Rattle.asn1_model.specs.Rules.{Rules, IsEncoding}
 use Rattle.asn1_schema_presented.specs.Tables.{IsValue}
 use Rattle.asn1_schema_faults.specs.declared.DecodeError.{DecodeError}
 use Rattle.asn1_schema_faults.specs.declared.DecodeError.TheVariants as Decoding
-use Rattle.asn1_schema_decode.specs.Messages.{HasMessage, Tells, NoMessage}
+use Rattle.asn1_schema_decode.specs.Messages.{NeedsMore, HasMessage, Tells, NoMessage}
 use Rattle.asn1_laws_across.specs.Streams.{Message, IsMessageWithin, HasNoMessage}
 use Rattle.asn1_laws_across.specs.Relayed.{Stop, no_target, empty_message, none_within_limit, HasEmptyMessage, BeginsWith, StopsAt}
 use Rattle.asn1_laws_across.proofs.Relayed.{begins_with}
@@ -19,7 +19,7 @@ use Rattle.asn1_relay_core.specs.declared.fault.RelayFaultKind.{RelayFaultKind}
 use Rattle.asn1_relay_core.specs.declared.fault.RelayFaultKind.TheVariants as kind
 use Rattle.asn1_relay_core.specs.declared.front.Front.TheVariants as front
 use Rattle.asn1_relay_core.specs.Relaying.{kind_of_stop}
-use Rattle.asn1_relay_core.specs.Fronts.{AddsText, AddsNothing, unread_front, Tries}
+use Rattle.asn1_relay_core.specs.Fronts.{AddsText, AddsNothing, Awaits, unread_front, Tries}
 
 -- no length, no elements
 none_long : (l : List ℕ) → length l ≡ 0 → l ≡ []
@@ -55,16 +55,28 @@ module _ (source target : Rules) (schema : ℕ → Schema) (limit : ℕ) (u : Li
     pub has_no_empty : ¬ (HasEmptyMessage source (schema 128))
     has_no_empty = λ h. none h.0 window (record { message = []; in_front = refl; encoding = h.1; levels = h.2 })
 
-  pub tried_none : (e : DecodeError) (past : Bool) (before after : List ℕ) → past ≡ ltb limit (length u) → after ≡ before → NoMessage source schema window e → Tries source target (schema 128) limit u before after (unread_front e past)
-  tried_none Decoding.OutOfMemory past before after p g h = (g, inl refl)
-  tried_none e true before after p g h =
+  -- octets that are all within the limit
+  whole : length u ≤ limit → window ≡ u
+  whole l = take_all (min limit (length u)) u (le-min l (omega arith))
+
+  awaited : (e : DecodeError) (n number : ℕ) → ¬ (e ≡ Decoding.OutOfMemory) → length u ≤ limit → number ≤ length u + n → NeedsMore source schema window n e → Awaits source (schema 128) limit u number
+  awaited e n number q l k h more less =
+      let t = h more (omega arith) in
+      let m : NoMessage source schema (u ++ more) e = subst (λ w. NoMessage source schema (w ++ more) e) (whole l) t in (
+        (λ x. m.none q x.0 (u ++ more) (record { message = []; in_front = refl; encoding = x.1; levels = x.2 })),
+        (λ x rest f i. m.none q x.value rest (record { message = x.octets; in_front = f; encoding = i.is_encoding; levels = i.is_shallow })),
+      )
+
+  pub tried_none : (e : DecodeError) (n number : ℕ) (past : Bool) (before after : List ℕ) → past ≡ ltb limit (length u) → number ≤ length u + n → after ≡ before → NoMessage source schema window e → NeedsMore source schema window n e → Tries source target (schema 128) limit u before after (unread_front e number past)
+  tried_none Decoding.OutOfMemory n number past before after p k g h w = (g, inl refl)
+  tried_none e n number true before after p k g h w =
       let n = h.none (λ q. cc) in
       let l : limit < length u = ltb-true limit (length u) (sym p) in
       (g, inr (none_within_limit, refl, (has_none n, has_no_empty n, l)))
-  tried_none e false before after p g h =
-      let n = h.none (λ q. cc) in
+  tried_none e n number false before after p k g h w =
+      let m = h.none (λ q. cc) in
       let l : length u ≤ limit = ltb-false limit (length u) (sym p) in
-      (g, (has_none n, inr (has_no_empty n, l)))
+      (g, (has_none m, inr (has_no_empty m, l)), awaited e n number (λ q. cc) l k w)
 
   -- ---- a message is told
 

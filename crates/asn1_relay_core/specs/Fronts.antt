@@ -1,12 +1,12 @@
 -- What a relay does to the message in front of its unread octets.
-use Rattle.std.specs.Prelude.{◌≡◌, ◌≢◌, ◌⊎◌, ℕ, Bool, List, [], ◌++◌, length, Some, None, if◌then◌else◌}
+use Rattle.std.specs.Prelude.{◌≡◌, ◌≢◌, ◌⊎◌, ℕ, ◌+◌, ◌<◌, Bool, List, [], ◌++◌, length, Some, None, if◌then◌else◌}
 use Rattle.asn1_model.specs.Schema.{Schema}
 use Rattle.asn1_model.specs.Value.{Value}
 use Rattle.asn1_model.specs.Rules.{Rules, canonical}
-use Rattle.asn1_laws_across.specs.Streams.{Message, IsMessageWithin}
+use Rattle.asn1_laws_across.specs.Streams.{Message, IsMessageWithin, HasNoMessage}
 use Rattle.asn1_schema_faults.specs.declared.DecodeError.{DecodeError}
 use Rattle.asn1_schema_faults.specs.declared.DecodeError.TheVariants as Decoding
-use Rattle.asn1_laws_across.specs.Relayed.{Stop, StopsAt}
+use Rattle.asn1_laws_across.specs.Relayed.{Stop, HasEmptyMessage, StopsAt}
 use Rattle.asn1_relay_core.specs.declared.fault.RelayFaultKind.{RelayFaultKind}
 use Rattle.asn1_relay_core.specs.declared.fault.RelayFaultKind.TheVariants as kind
 use Rattle.asn1_relay_core.specs.declared.front.Front.{Front}
@@ -41,14 +41,20 @@ pub record AddsNothing (target : Rules) (schema : ℕ → Schema) (v : Value) (b
   pub why : (k ≡ kind.Memory) ⊎ ((k ≡ kind.NoTarget) × IsWritten target schema v None)
       ⊎ ((k ≡ kind.EmptyMessage) × IsWritten target schema v (Some []))
 
--- What comes of octets in front of which no message is read.
-abbrev pub unread_front : DecodeError → Bool → Front
-unread_front Decoding.OutOfMemory past = front.Stops kind.Memory
-unread_front e past = if past then front.Stops kind.NoneWithinLimit else front.Waits
+-- While octets follow these, but fewer than the number in all, no message stands in front.
+abbrev pub Awaits : Rules → Schema → ℕ → List ℕ → ℕ → Type 0
+Awaits source s limit w number = (more : List ℕ) → length w + length more < number
+    → ¬ (HasEmptyMessage source s) × HasNoMessage source s limit (w ++ more)
+
+-- What comes of octets in front of which no message is read, where one has at least so many.
+abbrev pub unread_front : DecodeError → ℕ → Bool → Front
+unread_front Decoding.OutOfMemory number past = front.Stops kind.Memory
+unread_front e number past = if past then front.Stops kind.NoneWithinLimit else front.Waits number
 
 -- What came of a try: nothing is written but by the first kind, and each of the others comes at its cause alone.
 abbrev pub Tries : Rules → Rules → Schema → ℕ → List ℕ → List ℕ → List ℕ → Front → Type 0
 Tries source target s limit w before after (front.Relayed count) = RelaysOne source target s limit w before after count
-Tries source target s limit w before after front.Waits = (after ≡ before) × StopsAt source target s limit w None
+Tries source target s limit w before after (front.Waits number) =
+    (after ≡ before) × StopsAt source target s limit w None × Awaits source s limit w number
 Tries source target s limit w before after (front.Stops k) = (after ≡ before)
     × ((k ≡ kind.Memory) ⊎ ((why : Stop) × (k ≡ kind_of_stop why) × StopsAt source target s limit w (Some why)))

@@ -1,5 +1,5 @@
 -- What the translation of a message is.
-use Rattle.std.specs.Prelude.{◌≡◌, ℕ, List, Option, Some, None, Result, Ok, Err, Vec}
+use Rattle.std.specs.Prelude.{ℕ, List, Option, Some, None, Result, Ok, Err, Vec}
 use Rattle.asn1_model.specs.Schema.{Schema}
 use Rattle.asn1_model.specs.Lawful.{IsLawful}
 pub use Rattle.asn1_laws_versions.specs.Answers.{IsMessage, IsAnswer}

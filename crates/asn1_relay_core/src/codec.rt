@@ -1,13 +1,13 @@
 //! The sets of encoding rules.
 ghost use Rattle.std.specs.Prelude.{◌≡◌, List, ℕ, Some, IfOk, IfErr};
-ghost use Rattle.asn1_schema_decode.specs.Messages.{NoMessage, Tells};
+ghost use Rattle.asn1_schema_decode.specs.Messages.{NeedsMore, NoMessage, Tells};
 ghost use Rattle.asn1_relay_core.specs.Coding.{rules_of, kind_of, IsWritten, NotWritten};
 
-use asn1_schema_decode::Decode;
+use asn1_schema_decode::{Decode, Refusal};
 use asn1_schema_encode::Encode;
 use asn1_schema_faults::{CodecKind, DecodeError, EncodeError};
 use oer_codec::{coer, oer};
-use per_codec::{aper, uper};
+use per_codec::{aper, aper_strict, uper, uper_strict};
 use std::alloc::Global;
 
 /// A set of encoding rules.
@@ -17,6 +17,11 @@ pub enum Codec {
     Uper,
     /// The aligned packed encoding rules (X.691).
     Aper,
+    /// Strict UPER: written as UPER, and read where it is as UPER writes it, but for bitmaps of any width with a bit
+    /// set, additions that the type does not know, and the order of bags.
+    UperStrict,
+    /// Strict APER: written as APER, and read where it is as APER writes it, but for the same three.
+    AperStrict,
     /// The basic octet encoding rules (X.696).
     Oer,
     /// The canonical octet encoding rules (X.696).
@@ -24,13 +29,13 @@ pub enum Codec {
 }
 
 impl Codec {
-    /// Which of the four codecs reads and writes by these rules.
+    /// Which of the four codecs reads and writes by these rules; strict UPER is UPER's, and strict APER is APER's.
     pub fn kind(self) -> CodecKind
         ensures { result ≡ kind_of self }
     {
         match self {
-            Codec::Uper => CodecKind::Uper,
-            Codec::Aper => CodecKind::Aper,
+            Codec::Uper | Codec::UperStrict => CodecKind::Uper,
+            Codec::Aper | Codec::AperStrict => CodecKind::Aper,
             Codec::Oer => CodecKind::Oer,
             Codec::Coer => CodecKind::Coer,
         }
@@ -50,8 +55,8 @@ impl Codec {
         ensures fits { IfErr result (λ e. e ≡ EncodeError.LengthExceedsPlatformSize → ⊥) }
     {
         let octets = match self {
-            Codec::Uper => uper::encode(alloc, value)?,
-            Codec::Aper => aper::encode(alloc, value)?,
+            Codec::Uper | Codec::UperStrict => uper::encode(alloc, value)?,
+            Codec::Aper | Codec::AperStrict => aper::encode(alloc, value)?,
             Codec::Oer => oer::encode(alloc, value)?,
             Codec::Coer => coer::encode(alloc, value)?,
         };
@@ -90,8 +95,35 @@ impl Codec {
         let front = match self {
             Codec::Uper => uper::decode_with_remainder(alloc, input)?,
             Codec::Aper => aper::decode_with_remainder(alloc, input)?,
+            Codec::UperStrict => uper_strict::decode_with_remainder(alloc, input)?,
+            Codec::AperStrict => aper_strict::decode_with_remainder(alloc, input)?,
             Codec::Oer => oer::decode_with_remainder(alloc, input)?,
             Codec::Coer => coer::decode_with_remainder(alloc, input)?,
+        };
+        Ok(front)
+    }
+
+    /// As `read_front`, and a refusal says how many more octets are needed at least.
+    ///
+    /// # Errors
+    ///
+    /// Those of `read_front`.
+    pub(crate) fn decode_or_need<'input, T: Decode>(
+        self,
+        alloc: Global,
+        input: &'input [u8],
+    ) -> Result<(T, &'input [u8]), Refusal>
+        ensures ok { IfOk result (λ x. Tells (rules_of self) T.schema (T.meaning x.0) input.now x.1.now) }
+        ensures only { IfErr result (λ x. NoMessage (rules_of self) T.schema input.now x.error) }
+        ensures needed { IfErr result (λ x. NeedsMore (rules_of self) T.schema input.now x.needed x.error) }
+    {
+        let front = match self {
+            Codec::Uper => uper::decode_or_need(alloc, input)?,
+            Codec::Aper => aper::decode_or_need(alloc, input)?,
+            Codec::UperStrict => uper_strict::decode_or_need(alloc, input)?,
+            Codec::AperStrict => aper_strict::decode_or_need(alloc, input)?,
+            Codec::Oer => oer::decode_or_need(alloc, input)?,
+            Codec::Coer => coer::decode_or_need(alloc, input)?,
         };
         Ok(front)
     }

@@ -14,8 +14,8 @@ use std::alloc::Global;
 pub enum Front {
     /// It had so many octets, and its translation is written.
     Relayed(usize),
-    /// More octets are needed to tell whether there is one.
-    Waits,
+    /// None stands in front while fewer octets than these in all are unread.
+    Waits(usize),
     /// The relay stops there.
     Stops(RelayFaultKind),
 }
@@ -43,9 +43,12 @@ pub fn relay_front<T: Encode + Decode>(
         out.new.items result }
 {
     let window = &unread[..way.limit.min(unread.len())];
-    let (value, rest): (T, &[u8]) = match way.from.read_front(alloc, window) {
+    let (value, rest): (T, &[u8]) = match way.from.decode_or_need(alloc, window) {
         Ok(front) => front,
-        Err(error) => return without_message(error, unread.len() > way.limit),
+        Err(refusal) => {
+            let number = unread.len().saturating_add(refusal.needed);
+            return without_message(refusal.error, number, unread.len() > way.limit);
+        }
     };
     let count = window.len() - rest.len();
     if count == 0 {
@@ -57,14 +60,15 @@ pub fn relay_front<T: Encode + Decode>(
     }
 }
 
-/// What comes of octets in front of which no message is read, and which may be more than one may have.
-fn without_message(error: DecodeError, is_past_limit: bool) -> Front
-    ensures { result ≡ unread_front error is_past_limit }
+/// What comes of octets in front of which no message is read, where one has at least so many, and which may be more
+/// than one may have.
+fn without_message(error: DecodeError, number: usize, is_past_limit: bool) -> Front
+    ensures { result ≡ unread_front error number is_past_limit }
 {
     match error {
         DecodeError::OutOfMemory => Front::Stops(RelayFaultKind::Memory),
         _ if is_past_limit => Front::Stops(RelayFaultKind::NoneWithinLimit),
-        _ => Front::Waits,
+        _ => Front::Waits(number),
     }
 }
 

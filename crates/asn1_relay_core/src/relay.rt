@@ -7,22 +7,25 @@ use crate::fault::{RelayFault, RelayFaultKind};
 use crate::front::{Front, Way, relay_front};
 use asn1_schema_decode::Decode;
 use asn1_schema_encode::Encode;
+use asn1_schema_types::Described;
 use bytes::BytesMut;
 use std::alloc::Global;
 use std::marker::{Model, PhantomData};
 
 /// Translates a stream of messages of the type `T`, one behind the other, which comes in pieces of any length.
 #[derive(Drop)]
-pub struct Relay<T> {
+pub struct Relay<T: Described> {
     alloc: Global,
     way: Way,
     unread: BytesMut,
+    // While fewer octets are unread, no message stands in front of them.
+    awaited: usize,
     number: u64,
     failed: bool,
     messages: PhantomData<T>,
 }
 
-impl<T> Model for Relay<T> {
+impl<T: Described> Model for Relay<T> {
     ghost use Rattle.asn1_relay_core.specs.Relaying.{Relaying};
 
     ghost Value = { Relaying };
@@ -37,8 +40,11 @@ impl<T> Model for Relay<T> {
     } };
 
     ghost use Rattle.std.specs.Prelude.{◌≤◌};
+    ghost use Rattle.asn1_relay_core.specs.Coding.{rules_of};
+    ghost use Rattle.asn1_relay_core.specs.Fronts.{Awaits};
 
-    ghost invariant = { λ r. 1 ≤ r.way.limit };
+    ghost invariant = { λ r. (1 ≤ r.way.limit)
+        × Awaits (rules_of r.way.from) (T.schema 128) r.way.limit r.unread.items r.awaited };
 }
 
 impl<T: Encode + Decode> Relay<T> {
@@ -52,6 +58,7 @@ impl<T: Encode + Decode> Relay<T> {
             alloc,
             way: Way { from, to, limit },
             unread: BytesMut::new(alloc),
+            awaited: 0,
             number: 0,
             failed: false,
             messages: PhantomData,
@@ -92,16 +99,26 @@ impl<T: Encode + Decode> Relay<T> {
         if piece.is_empty() && self.unread.is_empty() {
             return Ok(());
         }
-        if self.unread.extend_from_slice(piece).is_err() {
+        let awaited = self.awaited;
+        self.awaited = 0;
+        let Ok(()) = self.unread.extend_from_slice(piece) else {
             return Err(self.stop(RelayFaultKind::Memory));
+        };
+        if self.unread.len() < awaited && self.unread.len() <= self.way.limit {
+            self.awaited = awaited;
+            return Ok(());
         }
         while !self.unread.is_empty() {
             match relay_front::<T>(self.alloc, self.way, self.unread.as_slice(), out) {
                 Front::Relayed(count) => {
+                    self.awaited = 0;
                     self.unread.advance(count);
                     self.number = self.number.saturating_add(1);
                 }
-                Front::Waits => return Ok(()),
+                Front::Waits(number) => {
+                    self.awaited = number;
+                    return Ok(());
+                }
                 Front::Stops(kind) => return Err(self.stop(kind)),
             }
         }

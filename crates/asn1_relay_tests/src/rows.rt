@@ -1,19 +1,25 @@
-//! What stands for one value in each set of rules.
+//! The encodings of a value in each set of rules.
 use crate::fakes::Octets;
 use asn1_relay_core::Codec;
 
-/// The four sets of rules.
-pub const CODECS: [Codec; 4] = [Codec::Uper, Codec::Aper, Codec::Oer, Codec::Coer];
+/// The six sets of rules.
+pub const CODECS: [Codec; 6] = [
+    Codec::Uper,
+    Codec::Aper,
+    Codec::UperStrict,
+    Codec::AperStrict,
+    Codec::Oer,
+    Codec::Coer,
+];
 
-/// The octets by these rules, of a row that has the canonical encodings of one value: by the unaligned packed encoding
-/// rules and by the aligned ones (X.691), and by both octet encoding rules (X.696), which have the same one, with a bar
-/// between two of them.
+/// The octets in these rules, from a row with the canonical encodings of one value: UPER, APER (X.691), and both OER
+/// and COER (X.696), which have the same one, separated by bars.
 pub fn octets_by(row: &str, codec: Codec) -> Octets {
     let (uper, others) = row.split_once('|').unwrap_or(("", ""));
     let (aper, octets) = others.split_once('|').unwrap_or(("", ""));
     Octets::of(match codec {
-        Codec::Uper => uper,
-        Codec::Aper => aper,
+        Codec::Uper | Codec::UperStrict => uper,
+        Codec::Aper | Codec::AperStrict => aper,
         Codec::Oer | Codec::Coer => octets,
     })
 }

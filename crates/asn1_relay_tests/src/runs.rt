@@ -1,26 +1,26 @@
-//! Runs of the command, each a row.
+//! Runs of the command, one per row.
 use crate::assertions::assert_same;
 use crate::fakes::{FakeReader, FakeWriter, Octets};
 use asn1_relay_command::command;
 use std::alloc::{AllocError, Global};
 use std::io::Write;
 
-/// A run of the command, as a row says it with a bar between two parts; those at the end may be missing.
+/// A run of the command. A row gives its parts, separated by bars; the last ones may be absent.
 #[derive(Clone, Copy)]
 struct Run<'a> {
-    /// The words behind the program's name, where `''` stands for none; `-` is a command line without that name.
+    /// The words after the program's name, `''` for an empty one; `-` is a command line without that name.
     words: &'a str,
     /// What each read does.
     reads: &'a str,
     /// The octets that are written.
     output: &'a str,
-    /// The line of the error behind the program's name; none if nothing is wrong, and `usage` where the words ask for
-    /// nothing that the program does.
+    /// The error line after the program's name; empty if nothing is wrong, and `usage` if the words request nothing
+    /// that the program does.
     line: &'a str,
-    /// How many octets of the output can be written one by one, and `unflushed` if they cannot be flushed; where
-    /// nothing is said, all can be, and at once.
+    /// The number of octets of the output that can be written, one at a time, and `unflushed` if they cannot be
+    /// flushed. If empty, all can be written at once.
     writes: &'a str,
-    /// How many octets of the error can be written one by one; where nothing is said, all.
+    /// The number of octets of the error that can be written, one at a time; all if absent.
     errors: &'a str,
 }
 
@@ -54,8 +54,8 @@ impl<'a> Run<'a> {
         errors.holds(wanted.octets())
     }
 
-    /// Whether an error is a line that memory was wanting, of the program or of a hop of a route, or as much of it as
-    /// can be written.
+    /// Whether an error is an out-of-memory line of the program or of a hop of a route, or as much of it as can be
+    /// written.
     fn lacks_memory(&self, errors: &FakeWriter) -> bool {
         self.holds_line(errors, "out of memory")
             || self.holds_line(errors, "hop 0: out of memory")
@@ -63,7 +63,7 @@ impl<'a> Run<'a> {
             || self.holds_line(errors, "hop 2: out of memory")
     }
 
-    /// Whether what is written of an error is as the row says. The usage of the program may be any text.
+    /// Whether the error text is as the row says. The usage of the program may be any text.
     fn errors_are_right(&self, errors: &FakeWriter) -> bool {
         match self.line {
             "" => errors.holds(&[]),
@@ -72,7 +72,7 @@ impl<'a> Run<'a> {
         }
     }
 
-    /// Whether memory was refused, and no more was written than may be: of a stream, the messages in front.
+    /// Whether an allocation failed, and no more was written than may be: in a stream, the messages before.
     fn is_refused(&self, status: u8, output: &FakeWriter, errors: &FakeWriter) -> bool {
         let is_begun = self.words.starts_with("stream");
         status == 1
@@ -81,7 +81,7 @@ impl<'a> Run<'a> {
                 || is_begun && Octets::of(self.output).all().starts_with(output.octets()))
     }
 
-    /// Whether all is as the row says.
+    /// Whether everything is as the row says.
     fn is_right(
         &self,
         status: u8,
@@ -97,12 +97,12 @@ impl<'a> Run<'a> {
     }
 }
 
-/// A word, for none of which `''` stands.
+/// A word; `''` is an empty one.
 fn word_of(word: &str) -> &str {
     if word == "''" { "" } else { word }
 }
 
-/// Adds the program's name, and the words behind it.
+/// Adds the program's name, and the words after it.
 fn push_words<'a>(words: &mut Vec<&'a str>, text: &'a str) -> Result<(), AllocError> {
     words.push("asn1_relay")?;
     for word in text.split_whitespace() {
@@ -132,16 +132,16 @@ fn status_of(
     Ok(command(alloc, words.as_slice(), input, output, errors))
 }
 
-/// What came of a run.
+/// The outcome of a run.
 #[derive(Clone, Copy, PartialEq, Eq)]
 enum Outcome {
     Right,
     Wrong,
-    /// Memory was refused.
+    /// An allocation failed.
     Refused,
 }
 
-/// Makes a run.
+/// Does a run.
 fn outcome_of(alloc: Global, run: &Run<'_>) -> Outcome {
     let mut input = FakeReader::new(run.reads);
     let mut output = FakeWriter::failing(run.writes);
@@ -154,7 +154,8 @@ fn outcome_of(alloc: Global, run: &Run<'_>) -> Outcome {
     }
 }
 
-/// The first row whose run is not right. Where memory was refused it is made once more: one request at most is.
+/// The first row whose run is not right. After a failed allocation the run is repeated: at most one request is
+/// refused.
 fn first_wrong<'a>(alloc: Global, rows: &'a str) -> Option<&'a str> {
     for row in rows.lines() {
         let run = Run::of(row);
@@ -168,7 +169,7 @@ fn first_wrong<'a>(alloc: Global, rows: &'a str) -> Option<&'a str> {
     None
 }
 
-/// A message of each type, from each set of rules and to each.
+/// A message of each type, from and to each set of rules.
 const MESSAGES: &str = "\
 once --from oer --to coer --type bool | 05 | FF
 once --from uper --to coer --type small | 17 | FC
@@ -184,15 +185,30 @@ once --from oer --to coer --type bag | 01 03 03 01 02 | 01 03 01 02 03
 once --from coer --to uper --type nest | 81 80 | 80
 once --from uper --to aper --type new | C0 40 41 C0 | C0 40 01 07
 once --from uper --to uper --type old | C0 E0 20 E0 35 40 | 40
-once --from uper --to coer --type group | C0 40 40 00 | 00 FF";
+once --from uper --to coer --type group | C0 40 40 00 | 00 FF
+once --from uper --to uper --type new | C0 40 81 EA 80 | C0 40 41 C0
+once --from uper-strict --to uper --type new | C0 E0 20 E0 35 40 | C0 40 41 C0
+once --from uper-strict --to uper --type old | C0 E0 20 E0 35 40 | 40
+once --from coer --to uper-strict --type small | FC | 10
+once --from coer --to aper-strict --type new | 80 FF 02 07 80 01 07 | C0 40 01 07
+once --from aper-strict --to uper-strict --type octets | 00 01 | 00 20";
 
-/// Each fault of a message, of a reader and of a writer. The input is read to its end before it is translated; of the
-/// last two lines no octet can be written, and 14 octets.
+/// Each error of a message, of a reader and of a writer. The input is read to its end before it is translated. Lines
+/// with strict rules have other octets than a writer's. The last two lines allow no octet and 14 octets of the error to
+/// be written.
 const FAULTS: &str = "\
 once --from coer --to uper --type bool | 05 | | not an encoding
 once --from coer --to uper --type bool | | | not an encoding
 once --from uper --to coer --type small | B0 | | not an encoding
 once --from coer --to uper --type bool | FF FF | | surplus octets
+once --from uper-strict --to coer --type small | 17 | | not an encoding
+once --from uper-strict --to uper --type integer | 02 00 07 | | not an encoding
+once --from uper-strict --to uper --type octets | 80 80 80 | | not an encoding
+once --from aper-strict --to aper --type octets | 80 01 01 | | not an encoding
+once --from uper-strict --to uper --type new | C0 00 | | not an encoding
+once --from uper-strict --to uper --type new | C0 40 81 EA 80 | | not an encoding
+once --from uper-strict --to uper --type group | C0 40 40 00 | | not an encoding
+once --from aper-strict --to aper --type old | 40 00 | | surplus octets
 once --from uper --to coer --type pair | fails | | read failed
 once --from uper --to coer --type pair | 88, fails | | read failed
 once --from uper --to coer --type pair | D8, fails | | read failed
@@ -205,9 +221,9 @@ once --from uper --to coer --type pair | 88 | FF FC | write failed | 2 unflushed
 once --from coer --to uper --type pair | 01 FC | | not an encoding | | 0
 once --from uper --to coer --type pair | fails | | read failed | | 14";
 
-/// Streams to their end, and each fault of a message, of a reader and of a writer: the greatest limit, an octet at a
-/// time, and an interruption; a fault that is found before the reader fails; a line of which the beginning alone can be
-/// written; a leading plus, which is part of a number; and two messages of one octet each.
+/// Streams to their end, and each error of a message, of a reader and of a writer: the greatest limit, one octet at a
+/// time, and an interruption; an error that is found before the reader fails; a line of which only a prefix can be
+/// written; a leading plus, which is part of a number; two messages of one octet each; and strict rules.
 const STREAMS: &str = "\
 stream --from oer --to uper --type integer --limit 2 | 01 07 02 | 01 07 | message 1: no form
 stream --from oer --to uper --type integer --limit 2 | |
@@ -226,11 +242,14 @@ stream --from oer --to uper --type integer --limit 2 | 01 07, 01 08 | 01 07 01 0
 stream --from oer --to uper --type integer --limit 2 | fails | | read failed | | 0
 stream --from oer --to uper --type integer --limit 2 | 01 07 02 | 01 07 | message 1: no form | | 21
 stream --from oer --to uper --type integer --limit +2 | 01 07 | 01 07
-stream --from uper --to uper --type null --limit 1 | 00 00 | 00 00";
+stream --from uper --to uper --type null --limit 1 | 00 00 | 00 00
+stream --from uper-strict --to aper-strict --type new --limit 4 | C0, 40, 41, C0, 40 | C0 40 01 07 40
+stream --from uper-strict --to coer --type small --limit 1 | 10 17 A0 | FC | message 1: none within the limit
+stream --from uper-strict --to coer --type small --limit 1 | 10 17 | FC | message 1: no form";
 
-/// Messages of each pair that arrive, and that a hop turns back; readers and writers that fail. What the older version
-/// does not know was all that kept a component from its default; a line of which the beginning alone can be written;
-/// an input that is read to its end before a hop can turn it back.
+/// Messages of each pair that arrive, and that a hop rejects; readers and writers that fail. Also: what the older
+/// version does not know was all that distinguished a component from its default; a line of which only a prefix can
+/// be written; an input that is read to its end before a hop can reject it.
 const ROUTES: &str = "\
 route --from uper --pair plain --hop new:coer | C0 40 41 C0 | 80 FF 02 07 80 01 07
 route --from uper --pair plain --hop new:coer --hop old:uper | C0 40 41 C0 | 40
@@ -243,6 +262,14 @@ route --from coer --pair default --hop old:coer | 80 80 FF 02 07 80 01 07 | | ho
 route --from uper --pair required --hop old:uper --hop new:coer | C0 40 60 00 | | hop 1: not an encoding
 route --from uper --pair colour --hop old:uper | 80 | | hop 0: not an encoding
 route --from uper --pair plain --hop new:uper | 40 00 | | hop 0: surplus octets
+route --from uper-strict --pair default --hop old:coer | E0 20 20 E0 | | hop 0: not an encoding
+route --from coer --pair default --hop old:uper-strict --hop new:coer | 80 80 FF 02 07 80 01 07 | | hop 0: not an \
+encoding
+route --from oer --pair default --hop old:uper-strict | 80 80 FF 02 07 80 01 07 | 00
+route --from oer --pair default --hop new:uper-strict --hop old:oer | 80 80 FF 02 07 80 01 07 | | hop 1: not an encoding
+route --from uper-strict --pair plain --hop old:uper-strict --hop new:coer | C0 40 41 C0 | 00 FF
+route --from uper --pair plain --hop new:aper-strict | C0 40 81 EA 80 | C0 40 01 07
+route --from uper-strict --pair required --hop old:aper-strict --hop new:coer | C0 40 60 00 | | hop 1: not an encoding
 route --from uper --pair colour --hop old:uper | 80 | | hop 0: not an encoding | | 21
 route --from uper --pair plain --hop new:coer --hop old:uper --hop new:coer | C0 40 41 C0, fails | | read failed | 9
 route --from uper --pair plain --hop new:coer --hop old:uper --hop new:coer | FF, fails | | read failed | 9
@@ -251,7 +278,7 @@ route --from uper --pair plain --hop new:coer --hop old:uper --hop new:coer | C0
 route --from uper --pair plain --hop new:coer --hop old:uper --hop new:coer | C0 40 41 C0 | 00 FF | write failed \
 | 2 unflushed";
 
-/// Words that ask for nothing that the program does, before which no input is read.
+/// Words that request nothing that the program does. No input is read.
 const ORDERS: &str = "\
 - | fails | | usage
  | fails | | usage
@@ -263,6 +290,9 @@ stream --from coer --to uper --type bool | fails | | usage
 route --from coer --pair plain | fails | | usage
 once --from der --to uper --type bool | fails | | usage
 once --from coer --to per --type bool | fails | | usage
+once --from oer-strict --to uper --type bool | fails | | usage
+once --from coer --to coer-strict --type bool | fails | | usage
+once --from uper_strict --to uper --type bool | fails | | usage
 once --from coer --to uper --type INTEGER | fails | | usage
 once --from Coer --to uper --type bool | fails | | usage
 once --from coer --to uper --type Bool | fails | | usage
@@ -273,6 +303,7 @@ once --from coer --from coer --to uper --type bool | fails | | usage
 once --from coer --to uper --type bool surplus | fails | | usage
 twice | fails | | usage | | 0
 stream --help | fails | | usage
+stream --from oer-strict --to uper --type bool --limit 1 | fails | | usage
 stream --from coer --to uper --type bool --limit 0 | fails | | usage
 stream --from coer --to uper --type bool --limit 4294967296 | fails | | usage
 stream --from coer --to uper --type bool --limit -1 | fails | | usage
@@ -281,12 +312,14 @@ stream --from coer --to uper --type bool --limit '' | fails | | usage
 route --from uper --pair plain | fails | | usage
 route --from uper --pair plain --hop old: | fails | | usage
 route --from uper --pair plain --hop old:ber | fails | | usage
+route --from uper --pair plain --hop old:oer-strict | fails | | usage
 route --from uper --pair plain --hop older:uper | fails | | usage
 route --from uper --pair plain --hop new:uper: | fails | | usage
 route --from uper --pair plain --hop New:uper | fails | | usage
 route --from uper --pair plain --hop new:uper --hop uper | fails | | usage
 route --from uper --pair colours --hop new:uper | fails | | usage
 route --from ber --pair plain --hop new:uper | fails | | usage
+route --from oer-strict --pair plain --hop new:uper | fails | | usage
 route --pair plain --hop new:uper | fails | | usage
 route --from uper --hop new:uper | fails | | usage
 route --help | fails | | usage";

@@ -1,5 +1,5 @@
-//! Streams: runs whose reader or writer fails at each call in turn, a relay behind its fault, long streams, and values
-//! one behind the other.
+//! Streams: runs whose reader or writer fails at each call in turn, a relay after its error, long streams, and values
+//! in sequence.
 use crate::assertions::assert_same;
 use crate::fakes::Octets;
 use asn1_relay_core::{
@@ -11,13 +11,13 @@ use asn1_schema::{Decode, Encode, FrontReader, Iter};
 use asn1_values_integers::Integer;
 use asn1_values_octets::OctetString;
 use oer_codec::{CoerFront, OerFront};
-use per_codec::{AperFront, UperFront};
+use per_codec::{AperFront, AperStrictFront, UperFront, UperStrictFront};
 use std::alloc::{AllocError, Global};
 
-/// A run from the canonical octet encoding rules to the unaligned packed ones, as a row says it with a bar between two
-/// parts: how many messages {a TRUE, b 7} of `New` come in front, and octets behind them; the limit; which call of the
-/// reader fails; which one of the writer; how many of the messages in front are written, and octets behind them; and
-/// the fault, if there is one: `read`, `write`, or the number of a message and `no form` or `none`.
+/// A run from COER to UPER. A row gives, separated by bars: the number of messages {a TRUE, b 7} of `New` at the
+/// start, and the octets after them; the limit; the call of the reader that fails; the call of the writer that fails;
+/// the number of these messages that are written, and the octets after them; and the error, if there is one: `read`,
+/// `write`, or the number of a message and `no form` or `none`.
 const ROWS: &str = "\
 0 FC 05 | 1 | - | - | 0 10 A0 |
 0 FC 05 | 1 | 0 | - | 0 | read
@@ -39,10 +39,10 @@ const ROWS: &str = "\
 0 | 1 | 0 | - | 0 | read
 0 | 1 | - | 0 | 0 | write";
 
-/// Runs over more than a block of 4096 octets. Of 586 messages of 7 octets one straddles the first block and the
-/// second, and ends that; of 1171 the third block has 5 octets, behind 2 of the same message; 584 of them and four of 2
-/// octets fill a block; of 585 the first octet behind them is alone in the first block, and of 586 all octets behind
-/// them are in the second.
+/// Runs over more than a block of 4096 octets. Of 586 messages of 7 octets, one straddles the first and the second
+/// block, and ends the second. Of 1171, the third block has 5 octets, after 2 of the same message. 584 of them and
+/// four of 2 octets fill a block. After 585, the first octet that follows is alone in the first block; after 586, all
+/// octets that follow are in the second.
 const LONG_ROWS: &str = "\
 586 | 7 | - | - | 586 |
 586 | 7 | 1 | - | 585 | read
@@ -69,13 +69,13 @@ const LONG_ROWS: &str = "\
 586 80 FF 02 07 | 7 | 2 | - | 586 | read
 586 80 FF 02 07 | 7 | - | 1 | 585 | write";
 
-/// A number, and the octets behind it.
+/// A number, and the octets after it.
 fn counted(text: &str) -> (usize, Octets) {
     let (count, behind) = text.split_once(' ').unwrap_or((text, ""));
     (count.parse::<usize>().unwrap_or(0), Octets::of(behind))
 }
 
-/// A message so many times, as the first word of a text says, and behind it the octets of the text.
+/// A message repeated as often as the first word of a text says, and then the octets of the text.
 fn repeated(alloc: Global, message: &[u8], text: &str) -> Result<Vec<u8>, AllocError> {
     let (count, behind) = counted(text);
     let mut octets = message.repeat(alloc, count)?;
@@ -83,7 +83,7 @@ fn repeated(alloc: Global, message: &[u8], text: &str) -> Result<Vec<u8>, AllocE
     Ok(octets)
 }
 
-/// The answer of a run.
+/// The result of a run.
 fn answer_of(text: &str) -> Result<(), RunFault> {
     let (number, kind) = text.split_once(' ').unwrap_or((text, ""));
     let number = number.parse::<u64>().unwrap_or(0);
@@ -99,7 +99,7 @@ fn answer_of(text: &str) -> Result<(), RunFault> {
     }
 }
 
-/// How many octets a message may have, which call of the reader fails, and which one of the writer.
+/// The most octets of a message, the call of the reader that fails, and the call of the writer that fails.
 #[derive(Clone, Copy)]
 struct Calls {
     limit: usize,
@@ -107,7 +107,7 @@ struct Calls {
     write: Option<u64>,
 }
 
-/// The answer of a run over octets, and what it has written.
+/// The result of a run over octets, and what it has written.
 fn run_over<T: Encode + Decode>(
     alloc: Global,
     calls: Calls,
@@ -127,7 +127,7 @@ fn run_over<T: Encode + Decode>(
     (answer, writer)
 }
 
-/// Whether a run over octets has this answer, and has written those that are wanted.
+/// Whether a run over octets has this result, and has written the wanted octets.
 fn answers<T: Encode + Decode>(
     alloc: Global,
     calls: Calls,
@@ -173,12 +173,12 @@ fn runs_whose_calls_fail_in_turn(rt: HostRuntime) {
     assert_same(&rt, &first_wrong::<New>(alloc, LONG_ROWS), &None);
 }
 
-/// The answer of a relay that waits or stops at its first message.
+/// The result of a relay that waits or stops at its first message.
 fn at_first(kind: RelayFaultKind) -> Result<(), RelayFault> {
     Err(RelayFault { number: 0, kind })
 }
 
-/// Whether a relay that has stopped answers so to each call, and writes nothing.
+/// Whether a relay that has stopped returns that error from each call, and writes nothing.
 fn has_stopped(relay: &mut Relay<Small>, out: &mut Vec<u8>) -> bool {
     let stopped = at_first(RelayFaultKind::AlreadyFailed);
     relay.has_failed()
@@ -200,7 +200,7 @@ fn stops_at_its_limit(relay: &mut Relay<Small>, out: &mut Vec<u8>) -> bool {
         && has_stopped(relay, out)
 }
 
-/// Whether a relay of messages of one octet stops so.
+/// Whether a relay of messages of one octet stops like that.
 fn has_a_limit(alloc: Global) -> bool {
     let mut relay = Relay::<Small>::new(alloc, Codec::Coer, Codec::Uper, 1);
     stops_at_its_limit(&mut relay, &mut Vec::new(alloc))
@@ -211,7 +211,33 @@ fn a_relay_behind_its_fault(rt: HostRuntime) {
     assert!(rt; has_a_limit(rt.alloc()));
 }
 
-/// Whether octets are fed and become these, and the stream may end there.
+/// The result of a relay that waits or stops at its second message.
+fn at_second(kind: RelayFaultKind) -> Result<(), RelayFault> {
+    Err(RelayFault { number: 1, kind })
+}
+
+/// Whether a relay takes -4 as it is written, waits behind the same number with other padding, and stops at the octet
+/// behind it (X.691 11.1).
+fn reads_strictly(alloc: Global, rules: Codec) -> bool {
+    let mut relay = Relay::<Small>::new(alloc, rules, Codec::Coer, 1);
+    let mut out = Vec::new(alloc);
+    relay.feed(&[0x10], &mut out) == Ok(())
+        && relay.feed(&[0x17], &mut out) == Ok(())
+        && relay.finish() == at_second(RelayFaultKind::NoForm)
+        && relay.feed(&[0x10], &mut out) == at_second(RelayFaultKind::NoneWithinLimit)
+        && relay.has_failed()
+        && out.as_slice() == [0xFC].as_slice()
+}
+
+#[test]
+fn a_relay_that_reads_strictly(rt: HostRuntime) {
+    let alloc = rt.alloc();
+    assert!(rt; reads_strictly(alloc, Codec::UperStrict));
+    assert!(rt; reads_strictly(alloc, Codec::AperStrict));
+    assert!(rt; !reads_strictly(alloc, Codec::Uper) && !reads_strictly(alloc, Codec::Aper));
+}
+
+/// Whether octets are fed and become `wanted`, and the stream may end there.
 fn is_relayed<T: Encode + Decode>(
     relay: &mut Relay<T>,
     out: &mut Vec<u8>,
@@ -221,7 +247,7 @@ fn is_relayed<T: Encode + Decode>(
     relay.feed(octets, out) == Ok(()) && relay.finish() == Ok(()) && out.as_slice() == wanted
 }
 
-/// Whether 100000 messages that come in one piece are relayed.
+/// Whether 100000 messages in one piece are relayed.
 fn are_many_relayed(alloc: Global) -> Result<bool, AllocError> {
     let octets = vec![in alloc; 0xFCu8; 100_000]?;
     let wanted = vec![in alloc; 0x10u8; 100_000]?;
@@ -229,7 +255,7 @@ fn are_many_relayed(alloc: Global) -> Result<bool, AllocError> {
     Ok(is_relayed(&mut relay, &mut Vec::new(alloc), &octets, &wanted))
 }
 
-/// Feeds octets one by one. Whether the relay waits for more behind each.
+/// Feeds octets one by one. Returns whether the relay waits for more after each.
 fn waits_for_more<T: Encode + Decode>(
     relay: &mut Relay<T>,
     out: &mut Vec<u8>,
@@ -243,8 +269,7 @@ fn waits_for_more<T: Encode + Decode>(
     relay.unread_len() == octets.len() && out.is_empty()
 }
 
-/// A string of 1000 octets behind its length, and one octet behind its own, in the octet encoding rules or the packed
-/// ones.
+/// A string of 1000 octets after its length, and one of one octet after its own, in OER or PER.
 fn strings(alloc: Global, length: &[u8]) -> Result<Vec<u8>, AllocError> {
     let mut octets = Vec::from_slice(alloc, length)?;
     octets.extend_from_slice(&[0x5A; 1000])?;
@@ -252,7 +277,7 @@ fn strings(alloc: Global, length: &[u8]) -> Result<Vec<u8>, AllocError> {
     Ok(octets)
 }
 
-/// Whether a message that comes in 1000 pieces of an octet, and ends in one with another message behind it, is relayed.
+/// Whether a message is relayed that comes in 1000 pieces of one octet and a last one that includes another message.
 fn is_pieced_together(
     relay: &mut Relay<OctetString>,
     out: &mut Vec<u8>,
@@ -263,7 +288,7 @@ fn is_pieced_together(
     waits_for_more(relay, out, pieces) && is_relayed(relay, out, last, wanted)
 }
 
-/// Whether a string of 1000 octets and one of one octet are relayed so.
+/// Whether a string of 1000 octets and one of one octet are relayed like that.
 fn is_long_relayed(alloc: Global) -> Result<bool, AllocError> {
     let octets = strings(alloc, &[0x82, 0x03, 0xE8])?;
     let wanted = strings(alloc, &[0x83, 0xE8])?;
@@ -271,10 +296,19 @@ fn is_long_relayed(alloc: Global) -> Result<bool, AllocError> {
     Ok(is_pieced_together(&mut relay, &mut Vec::new(alloc), &octets, &wanted))
 }
 
+/// Whether the same strings are relayed from strict rules.
+fn is_long_read_strictly(alloc: Global) -> Result<bool, AllocError> {
+    let octets = strings(alloc, &[0x83, 0xE8])?;
+    let wanted = strings(alloc, &[0x82, 0x03, 0xE8])?;
+    let mut relay = Relay::<OctetString>::new(alloc, Codec::UperStrict, Codec::Coer, 1002);
+    Ok(is_pieced_together(&mut relay, &mut Vec::new(alloc), &octets, &wanted))
+}
+
 #[test]
 fn long_streams(rt: HostRuntime) {
     assert!(rt; are_many_relayed(rt.alloc()) == Ok(true));
     assert!(rt; is_long_relayed(rt.alloc()) == Ok(true));
+    assert!(rt; is_long_read_strictly(rt.alloc()) == Ok(true));
 }
 
 /// Whether the next value is this number, or there is none yet.
@@ -289,7 +323,7 @@ fn is_next<R: FrontReader<Integer> + Drop>(
     }
 }
 
-/// Whether 7 and 300, which comes in two pieces, are read, with nothing lost between these.
+/// Whether 7 and 300 are read, with nothing lost in between; 300 comes in two pieces.
 fn are_next<R: FrontReader<Integer> + Drop>(values: &mut Iter<Integer, R>) -> bool {
     is_next(values, Some(7))
         && is_next(values, None)
@@ -300,7 +334,7 @@ fn are_next<R: FrontReader<Integer> + Drop>(values: &mut Iter<Integer, R>) -> bo
         && values.unread_len() == 0
 }
 
-/// Whether a reader of the message in front reads them. They are the same octets in all rules.
+/// Whether a front reader reads them. Their octets are the same in all rules.
 fn reads_on<R: FrontReader<Integer> + Drop>(alloc: Global, reader: R) -> bool {
     match iter::<Integer, R>(alloc, reader, &[0x01, 0x07, 0x02, 0x01]) {
         Ok(mut values) => are_next(&mut values),
@@ -313,4 +347,5 @@ fn values_one_behind_the_other(rt: HostRuntime) {
     let alloc = rt.alloc();
     assert!(rt; reads_on(alloc, OerFront) && reads_on(alloc, CoerFront));
     assert!(rt; reads_on(alloc, UperFront) && reads_on(alloc, AperFront));
+    assert!(rt; reads_on(alloc, UperStrictFront) && reads_on(alloc, AperStrictFront));
 }

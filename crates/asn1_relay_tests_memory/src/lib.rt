@@ -1,9 +1,11 @@
-//! Tests that make calls which take memory, each by itself: with ample memory (`ample_`), and with a request for
-//! memory that may be refused (`refused_`). `bench/refused.sh` refuses each request in turn.
+//! Tests of calls that take memory, each by itself: with ample memory (`ample_`), with a request for memory that may
+//! be refused (`refused_`), and where all memory is taken (`full`). `bench/refused.sh` refuses each request in turn.
 #![tactic(auto)]
 
 #[cfg(test)]
 mod common;
+#[cfg(test)]
+mod full;
 #[cfg(test)]
 mod messages;
 #[cfg(test)]

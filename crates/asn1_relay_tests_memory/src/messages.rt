@@ -104,6 +104,26 @@ fn refused_aper_decode(rt: HostRuntime) {
 }
 
 #[test]
+fn ample_uper_strict_decode(rt: HostRuntime) {
+    assert!(rt; is_ample::<Decodes>(rt.alloc(), Codec::UperStrict));
+}
+
+#[test]
+fn refused_uper_strict_decode(rt: HostRuntime) {
+    assert!(rt; is_right::<Decodes>(rt.alloc(), Codec::UperStrict));
+}
+
+#[test]
+fn ample_aper_strict_decode(rt: HostRuntime) {
+    assert!(rt; is_ample::<Decodes>(rt.alloc(), Codec::AperStrict));
+}
+
+#[test]
+fn refused_aper_strict_decode(rt: HostRuntime) {
+    assert!(rt; is_right::<Decodes>(rt.alloc(), Codec::AperStrict));
+}
+
+#[test]
 fn ample_oer_decode(rt: HostRuntime) {
     assert!(rt; is_ample::<Decodes>(rt.alloc(), Codec::Oer));
 }

@@ -3,14 +3,14 @@ use crate::parcel::{Parcel, is_parcel, parcel, parcels};
 use crate::trial::{Outcome, Trial};
 use asn1_relay_core::{Codec, DecodeError, EncodeError, RecodeFault, recode};
 use oer_codec::{coer, oer};
-use per_codec::{aper, uper};
+use per_codec::{aper, aper_strict, uper, uper_strict};
 use std::alloc::{AllocError, Global};
 
 /// The rules of the other family of which `recode` and `feed` make theirs.
 pub fn target_of(source: Codec) -> Codec {
     match source {
-        Codec::Uper => Codec::Coer,
-        Codec::Aper => Codec::Oer,
+        Codec::Uper | Codec::UperStrict => Codec::Coer,
+        Codec::Aper | Codec::AperStrict => Codec::Oer,
         Codec::Oer => Codec::Aper,
         Codec::Coer => Codec::Uper,
     }
@@ -27,8 +27,8 @@ pub struct Encodes {
 impl Encodes {
     fn written(&self) -> Result<Vec<u8>, EncodeError> {
         match self.codec {
-            Codec::Uper => uper::encode(self.alloc, &self.parcel),
-            Codec::Aper => aper::encode(self.alloc, &self.parcel),
+            Codec::Uper | Codec::UperStrict => uper::encode(self.alloc, &self.parcel),
+            Codec::Aper | Codec::AperStrict => aper::encode(self.alloc, &self.parcel),
             Codec::Oer => oer::encode(self.alloc, &self.parcel),
             Codec::Coer => coer::encode(self.alloc, &self.parcel),
         }
@@ -75,8 +75,12 @@ pub struct EncodesInto {
 impl EncodesInto {
     fn write(&mut self) -> Result<(), EncodeError> {
         match self.codec {
-            Codec::Uper => uper::encode_buf(self.alloc, &self.parcel, &mut self.buffer),
-            Codec::Aper => aper::encode_buf(self.alloc, &self.parcel, &mut self.buffer),
+            Codec::Uper | Codec::UperStrict => {
+                uper::encode_buf(self.alloc, &self.parcel, &mut self.buffer)
+            }
+            Codec::Aper | Codec::AperStrict => {
+                aper::encode_buf(self.alloc, &self.parcel, &mut self.buffer)
+            }
             Codec::Oer => oer::encode_buf(self.alloc, &self.parcel, &mut self.buffer),
             Codec::Coer => coer::encode_buf(self.alloc, &self.parcel, &mut self.buffer),
         }
@@ -86,7 +90,7 @@ impl EncodesInto {
     fn holds(&self, octets: &[u8]) -> bool {
         let held = self.buffer.as_slice();
         match self.codec {
-            Codec::Uper | Codec::Aper => held == octets,
+            Codec::Uper | Codec::Aper | Codec::UperStrict | Codec::AperStrict => held == octets,
             Codec::Oer | Codec::Coer => held.strip_prefix(&[0xAA]) == Some(octets),
         }
     }
@@ -130,6 +134,8 @@ impl Decodes {
         match self.codec {
             Codec::Uper => uper::decode(self.alloc, input),
             Codec::Aper => aper::decode(self.alloc, input),
+            Codec::UperStrict => uper_strict::decode(self.alloc, input),
+            Codec::AperStrict => aper_strict::decode(self.alloc, input),
             Codec::Oer => oer::decode(self.alloc, input),
             Codec::Coer => coer::decode(self.alloc, input),
         }

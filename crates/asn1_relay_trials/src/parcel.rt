@@ -130,7 +130,7 @@ pub fn parcel_len(codec: Codec) -> usize
     ensures { result ≤ 19 }
 {
     match codec {
-        Codec::Uper | Codec::Aper => 15,
+        Codec::Uper | Codec::Aper | Codec::UperStrict | Codec::AperStrict => 15,
         Codec::Oer | Codec::Coer => 19,
     }
 }
@@ -138,8 +138,8 @@ pub fn parcel_len(codec: Codec) -> usize
 /// The octets of so many of that parcel, at most two, one behind the other, by these rules.
 pub fn parcels(codec: Codec, count: usize) -> &'static [u8] {
     let both: &'static [u8] = match codec {
-        Codec::Uper => &UPER,
-        Codec::Aper => &APER,
+        Codec::Uper | Codec::UperStrict => &UPER,
+        Codec::Aper | Codec::AperStrict => &APER,
         Codec::Oer | Codec::Coer => &OER,
     };
     let len = parcel_len(codec) * count.min(2);

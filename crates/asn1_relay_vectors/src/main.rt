@@ -1,16 +1,18 @@
-//! Judges vectors: lines on standard input that say what octets of a type stand for, by four sets of ASN.1 encoding
+//! Judges vectors: lines on standard input that say what octets of a type stand for, by six sets of ASN.1 encoding
 //! rules, and what becomes of streams of them. It says each line that is wrong, how many there were, and what was tried
 //! where octets are cut; its status is 1 where a line is wrong. docs/VECTORS.md has the form of a line.
 #![tactic(auto)]
 
+mod foretold;
 mod named;
-mod routes;
+mod of;
+mod pairs;
 mod special;
 
 use crate::named::judge_named;
-use crate::routes::judge_routes;
+use crate::pairs::judge_routes;
 use asn1_relay_vectors_judging::cuts::Inputs;
-use asn1_relay_vectors_judging::line::{Line, Verdict};
+use asn1_relay_vectors_lines::line::{Line, Verdict};
 use std::io::{self, BufRead, BufReader};
 use std::process::ExitCode;
 

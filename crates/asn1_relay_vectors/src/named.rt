@@ -1,12 +1,12 @@
 //! Types by their names, one group behind the other.
+use crate::of::Of;
 use crate::special::Special;
 use asn1_relay_types::{
     Bag, Group, Nest, New, NewColour, NewRequired, Octets, Old, Pair, Set, Small,
 };
 use asn1_relay_vectors_judging::cuts::Inputs;
-use asn1_relay_vectors_judging::judged::Of;
 use asn1_relay_vectors_judging::judging::judge;
-use asn1_relay_vectors_judging::line::{Line, LineError, Verdict};
+use asn1_relay_vectors_lines::line::{Line, LineError, Verdict};
 use asn1_relay_vectors_types::{
     Around, Distant, ExtensibleInteger, ExtensibleOctet, Five, ListOfOneOrTwo, Noted, Nothing,
     Offset, Outer, Person, Scale, Schedule, Spaced, Twelve, Versioned,

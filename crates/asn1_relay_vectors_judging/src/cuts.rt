@@ -2,16 +2,29 @@
 //! against one another.
 use crate::judged::{Encoded, Judged, Rules, Step, Told, part};
 use crate::judging::{CODECS, Subject};
-use crate::limits::Limits;
-use crate::line::{Limit, LineError, Verdict};
-use crate::octets::shown;
 use crate::streams::Way;
 use asn1_relay_core::{Codec, DecodeError, RecodeFault, RelayFault, RelayFaultKind};
+use asn1_relay_vectors_lines::limits::Limits;
+use asn1_relay_vectors_lines::line::{Limit, LineError, Verdict};
+use asn1_relay_vectors_lines::octets::shown;
 use std::alloc::{AllocError, Global};
 
 /// The first octet and the length of inputs over which readers would go 10^9 times, if they were cut at each octet: a
-/// list of 16,385 members, and fragments of 49,152 and of 65,536 octets with others behind them.
-const HEAVY: [(u8, usize); 3] = [(0x02, 16_388), (0xC3, 65_538), (0xC4, 80_003)];
+/// list of 16,385 members, and fragments with 16,384 octets or more behind them.
+const HEAVY: [(u8, usize); 8] = [
+    (0x02, 16_388),
+    (0xC1, 81_923),
+    (0xC2, 49_155),
+    (0xC3, 65_538),
+    (0xC4, 80_003),
+    (0xC4, 81_923),
+    (0xC4, 81_924),
+    (0xC4, 131_075),
+];
+
+/// So many sets of rules are written differently. Those behind them are written as two of these, to which a relay from
+/// them goes.
+const WRITERS: usize = 4;
 
 /// These are cut at each place within so many octets of their ends.
 const ENDS: usize = 512;
@@ -91,7 +104,7 @@ pub struct Tries {
 }
 
 /// What was found by each set of rules.
-type Fronts = [Found; 4];
+type Fronts = [Found; 6];
 
 /// An input that was tried.
 #[derive(Drop)]
@@ -187,7 +200,7 @@ fn try_input(
 ) -> Result<Fronts, LineError> {
     let Input { limits, octets, .. } = input;
     let lengths = lengths_of(alloc, octets)?;
-    let mut fronts = [Found::NOTHING; 4];
+    let mut fronts = [Found::NOTHING; 6];
     for place in 0..CODECS.len() {
         let reading = Reading {
             subject: Subject { alloc, limits },
@@ -200,8 +213,10 @@ fn try_input(
             reading.goes_on(of, least, tries)?;
         }
         if limits.is_none() {
-            reading.relays(of, CODECS[place], tries)?;
             reading.relays(of, CODECS[(place + 2) % CODECS.len()], tries)?;
+            if place < WRITERS {
+                reading.relays(of, CODECS[place], tries)?;
+            }
         }
     }
     tries.inputs = tries.inputs.saturating_add(1);

@@ -1,15 +1,22 @@
 //! Whether a type's octets are translated, or refused, as a line says.
 use crate::cuts::{Front, Input, Inputs};
 use crate::judged::{Judged, Rules, Translated};
-use crate::limits::Limits;
-use crate::line::{Claim, Line, LineError, Spelled, Verdict};
-use crate::octets::shown;
 use crate::streams::{judge_repeated, judge_stream};
 use asn1_relay_core::{Codec, RecodeFault};
+use asn1_relay_vectors_lines::limits::Limits;
+use asn1_relay_vectors_lines::line::{Claim, Line, LineError, Spelled, Verdict};
+use asn1_relay_vectors_lines::octets::shown;
 use std::alloc::{AllocError, Global};
 
-/// The four sets of rules.
-pub const CODECS: [Codec; 4] = [Codec::Uper, Codec::Aper, Codec::Oer, Codec::Coer];
+/// The six sets of rules. The last two are written as the first two.
+pub const CODECS: [Codec; 6] = [
+    Codec::Uper,
+    Codec::Aper,
+    Codec::Oer,
+    Codec::Coer,
+    Codec::UperStrict,
+    Codec::AperStrict,
+];
 
 /// The constraints of a type, and the memory in which its lines are judged.
 #[derive(Clone, Copy)]
@@ -77,7 +84,7 @@ fn judge_input(
         octets: source.octets.as_slice(),
     };
     match front {
-        Some(front) => inputs.judge(of, input, source.rules.as_slice(), front),
+        Some(front) => inputs.judge(of, input, source.readers.as_slice(), front),
         None => inputs.judge(of, input, &[], Front::Whole),
     }
 }
@@ -127,7 +134,7 @@ impl<'a> Subject<'a> {
     /// Octets become others in each set of rules that is named, by any way, and are refused with an octet behind them.
     fn becomes(&self, of: &dyn Judged, source: &Spelled, target: &Spelled) -> Verdict {
         let octets = source.octets.as_slice();
-        for from in source.rules.iter() {
+        for from in source.readers.iter() {
             for to in target.rules.iter() {
                 self.gives_by_any_way(of, *from, octets, *to, target.octets.as_slice())?;
             }
@@ -164,7 +171,7 @@ impl<'a> Subject<'a> {
     /// The octets are refused for this reason, whatever they are to become.
     fn is_refused(&self, of: &dyn Judged, source: &Spelled, fault: RecodeFault) -> Verdict {
         let octets = source.octets.as_slice();
-        for from in source.rules.iter() {
+        for from in source.readers.iter() {
             for to in CODECS {
                 self.gives(of, *from, octets, to, Err(fault))?;
             }
@@ -180,7 +187,7 @@ impl<'a> Subject<'a> {
         rules: &[Codec],
         fault: RecodeFault,
     ) -> Verdict {
-        for from in source.rules.iter() {
+        for from in source.readers.iter() {
             for to in rules {
                 self.gives(of, *from, source.octets.as_slice(), *to, Err(fault))?;
             }

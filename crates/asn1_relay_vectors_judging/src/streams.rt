@@ -1,8 +1,8 @@
 //! Whether streams of messages are translated, or stop, as a line says.
 use crate::judged::Judged;
-use crate::line::{Limit, LineError, Spelled, Verdict};
-use crate::octets::shown;
 use asn1_relay_core::{Codec, RelayFault, RelayFaultKind, RunFault};
+use asn1_relay_vectors_lines::line::{Limit, LineError, Spelled, Verdict};
+use asn1_relay_vectors_lines::octets::shown;
 use std::alloc::{AllocError, Global};
 
 /// Streams of no more octets are cut in every way, and others at one place alone, or at each.
@@ -94,7 +94,7 @@ pub fn judge_stream(
     target: &Spelled,
     answer: Result<(), RelayFault>,
 ) -> Verdict {
-    for from in source.rules.iter() {
+    for from in source.readers.iter() {
         for to in target.rules.iter() {
             let stream = Stream {
                 alloc,
@@ -131,7 +131,7 @@ pub fn judge_repeated(
     };
     let octets = twice(alloc, source.octets.as_slice())?;
     let wanted = twice(alloc, target.octets.as_slice())?;
-    for from in source.rules.iter() {
+    for from in source.readers.iter() {
         for to in target.rules.iter() {
             let stream = Stream {
                 alloc,

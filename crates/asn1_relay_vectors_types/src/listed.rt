@@ -42,7 +42,8 @@ pub trait Listed: Drop {
         ensures ok { IfOk result
             (λ x. Reads D.step (sequence_type form) (D.levels decoder.old) (value x) decoder.old decoder.new) }
         ensures level { OnOk result (D.levels decoder.new ≡ D.levels decoder.old) }
-        ensures only { IfErr result (Unread D.step (sequence_type form) (D.levels decoder.old) decoder.old) }
+        ensures only { IfErr result
+            (Unread D.step D.too_few (sequence_type form) (D.levels decoder.old) decoder.old decoder.new) }
         ensures failed { OnErr result (D.has_failed decoder.new) }
         ensures already { D.has_failed decoder.old → result ≡ Err DecodeError.AlreadyFailed }
         ensures after { result ≡ Err DecodeError.AlreadyFailed → D.has_failed decoder.old };

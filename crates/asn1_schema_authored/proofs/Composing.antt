@@ -9,6 +9,7 @@ use Rattle.asn1_schema_presented.specs.Chains.{OneAfter, OneRecord}
 use Rattle.asn1_schema_encode.specs.Writes.{Refused, Writes, CannotWrite, WritesTail, CannotWriteTail}
 use Rattle.asn1_schema_encode.proofs.Writing.{writes_this, cannot_this, cannot_this_here}
 use Rattle.asn1_schema_decode.specs.Reads.{NoLevel, Reads, Unread, ReadsTail, UnreadTail}
+use Rattle.asn1_schema_lacking.specs.Carried.{CarriesRecords}
 use Rattle.asn1_schema_decode.proofs.Reading.{reads_sequence, unread_sequence, unread_sequence_here}
 use Rattle.asn1_schema_constructed.specs.Constructed.{Form, sequence_form, set_form, constructed_type}
 use Rattle.asn1_schema_authored.specs.Shapes.{IsHeading, is_set, form_of, form_tags, begins, asks}
@@ -41,10 +42,10 @@ module _ {S : Type 0} {step : S → Record → S → Type 0} (h : Heading) (t : 
   reads_composite sequence_form {a = a} {b} i l s r = reads_sequence t i.presence_bits (sym i.marker) l (subst (λ (k : Form). step a (begins k h.extensible h.optional) b) (is_form i) s) r
   reads_composite set_form {a = a} {b} i l s r = reads_set t i.presence_bits (sym i.marker) l (subst (λ (k : Form). step a (begins k h.extensible h.optional) b) (is_form i) s) r
 
-  pub unread_composite_here : (k : Form) (m : ℕ) {a : S} {x : DecodeError} → IsHeading h k t → NoLevel step (asks (form_of h.set) h.extensible h.optional) m a x → Unread step (constructed_type k t) m a x
-  unread_composite_here sequence_form m {a} {x} i u = unread_sequence_here t m i.presence_bits (sym i.marker) (subst (λ (k : Form). NoLevel step (asks k h.extensible h.optional) m a x) (is_form i) u)
-  unread_composite_here set_form m {a} {x} i u = unread_set_here t m i.presence_bits (sym i.marker) (subst (λ (k : Form). NoLevel step (asks k h.extensible h.optional) m a x) (is_form i) u)
+  pub unread_composite_here : (k : Form) (m : ℕ) {few : S → S → S → Type 0} {a failed : S} {x : DecodeError} → IsHeading h k t → NoLevel step few (asks (form_of h.set) h.extensible h.optional) m a failed x → Unread step few (constructed_type k t) m a failed x
+  unread_composite_here sequence_form m {few} {a} {failed} {x} i u = unread_sequence_here t m i.presence_bits (sym i.marker) (subst (λ (k : Form). NoLevel step few (asks k h.extensible h.optional) m a failed x) (is_form i) u)
+  unread_composite_here set_form m {few} {a} {failed} {x} i u = unread_set_here t m i.presence_bits (sym i.marker) (subst (λ (k : Form). NoLevel step few (asks k h.extensible h.optional) m a failed x) (is_form i) u)
 
-  pub unread_composite : (k : Form) {m n : ℕ} {a b : S} {x : DecodeError} → IsHeading h k t → OneRecord step → m ≡ n + 1 → step a (begins (form_of h.set) h.extensible h.optional) b → UnreadTail step t n b x → Unread step (constructed_type k t) m a x
-  unread_composite sequence_form {a = a} {b} i one l s u = unread_sequence one t i.presence_bits (sym i.marker) l (subst (λ (k : Form). step a (begins k h.extensible h.optional) b) (is_form i) s) u
-  unread_composite set_form {a = a} {b} i one l s u = unread_set one t i.presence_bits (sym i.marker) l (subst (λ (k : Form). step a (begins k h.extensible h.optional) b) (is_form i) s) u
+  pub unread_composite : (k : Form) {m n : ℕ} {few : S → S → S → Type 0} {a b failed : S} {x : DecodeError} → IsHeading h k t → OneRecord step → CarriesRecords step few → m ≡ n + 1 → step a (begins (form_of h.set) h.extensible h.optional) b → UnreadTail step few t n b failed x → Unread step few (constructed_type k t) m a failed x
+  unread_composite sequence_form {a = a} {b} i one carries l s u = unread_sequence one carries t i.presence_bits (sym i.marker) l (subst (λ (k : Form). step a (begins k h.extensible h.optional) b) (is_form i) s) u
+  unread_composite set_form {a = a} {b} i one carries l s u = unread_set one carries t i.presence_bits (sym i.marker) l (subst (λ (k : Form). step a (begins k h.extensible h.optional) b) (is_form i) s) u

@@ -11,6 +11,7 @@ use Rattle.asn1_schema_presented.specs.Parts.{part_unless}
 use Rattle.asn1_schema_presented.specs.Chains.{Chain, OneRecord}
 use Rattle.asn1_schema_presented.proofs.Joined.{presence_bits_at}
 use Rattle.asn1_schema_decode.specs.Reads.{NoRecord, NoLevel, Reads, Unread, ReadsTail, UnreadTail}
+use Rattle.asn1_schema_lacking.specs.Carried.{CarriesRecords, CarriesValues}
 use Rattle.asn1_schema_presented.specs.Additions.{group_type, IsGroup}
 use Rattle.asn1_schema_presented.proofs.Groups.{no_part}
 use Rattle.asn1_schema_authored.specs.Reads.{ReadsEnclosed, ReadsAddition, UnreadAddition}
@@ -38,26 +39,27 @@ module _ {S : Type 0} {step : S → Record → S → Type 0} {t : Table} (g : Is
       } in
       subst (λ (i : ℕ). Reads step (group_type t) i (fields ps end) a c) (let z : suc n ≡ m = omega arith in z) y
 
-  pub unread_group_here : (m : ℕ) {a : S} {x : DecodeError} → NoLevel step (asks_group k) m a x → Unread step (group_type t) m a x
+  pub unread_group_here : (m : ℕ) {few : S → S → S → Type 0} {a failed : S} {x : DecodeError} → NoLevel step few (asks_group k) m a failed x → Unread step few (group_type t) m a failed x
   unfolding group_type scope Fits
-  unread_group_here zero h = record { none = λ w v c f p. f }
-  unread_group_here (suc n) {a} h = record {
-    none = λ w v c f p.
-        let d = of_group step (components_at n t.root) v a c f p in
-        h.none w (let z : 0 < suc n = omega arith in z) _ d.1 (ap asks_group (presence_bits_at n t.root ∙ sym e)) d.3;
+  unread_group_here zero h = record { none = λ w start near v c f p. f }
+  unread_group_here (suc n) h = record {
+    none = λ w start near v c f p.
+        let d = of_group step (components_at n t.root) v start c f p in
+        h.none w start near (let z : 0 < suc n = omega arith in z) _ d.1 (ap asks_group (presence_bits_at n t.root ∙ sym e)) d.3;
   }
 
-  pub unread_group : OneRecord step → {m n : ℕ} {a b : S} {x : DecodeError} → m ≡ n + 1 → step a (group_begins k) b → UnreadTail step t n b x → Unread step (group_type t) m a x
+  pub unread_group : OneRecord step → {few : S → S → S → Type 0} → CarriesRecords step few → {m n : ℕ} {a b failed : S} {x : DecodeError} → m ≡ n + 1 → step a (group_begins k) b → UnreadTail step few t n b failed x → Unread step few (group_type t) m a failed x
   unfolding group_type scope
-  unread_group one {m} {n} {a} {b} {x} l h u =
-      let r : Unread step (group_type t) (suc n) a x = record {
-        none = λ w v c f p.
-            let d = of_group step (components_at n t.root) v a c f p in
-            let i = (one a (group_begins (optional_count (components_at n t.root))) (group_begins k) d.1 b (ap asks_group (presence_bits_at n t.root ∙ sym e)) d.3 h).1 in
+  unread_group one {few} carries {m} {n} {a} {b} {failed} {x} l h u =
+      let r : Unread step few (group_type t) (suc n) a failed x = record {
+        none = λ w start near v c f p.
+            let j = carries (group_begins k) a b failed start refl h near in
+            let d = of_group step (components_at n t.root) v start c f p in
+            let i = (one start (group_begins (optional_count (components_at n t.root))) (group_begins k) d.1 j.0 (ap asks_group (presence_bits_at n t.root ∙ sym e)) d.3 j.1).1 in
             let q = subst (λ (s : S). Chain step (root_records (components_at n t.root) d.0 (ends ∷ [])) s c) i d.4 in
-            u.none w d.0 end c (group_fits n g d.0 refl d.2) (subst (λ rs. Chain step rs b c) (sym (group_tail n g d.0 refl)) q);
+            u.none w j.0 j.2 d.0 end c (group_fits n g d.0 refl d.2) (subst (λ rs. Chain step rs j.0 c) (sym (group_tail n g d.0 refl)) q);
       } in
-      subst (λ (i : ℕ). Unread step (group_type t) i a x) (let z : suc n ≡ m = omega arith in z) r
+      subst (λ (i : ℕ). Unread step few (group_type t) i a failed x) (let z : suc n ≡ m = omega arith in z) r
 
 -- a value of a group is left out if none of its components is there
 left_out_as : (t : Table) (n : ℕ) (v : Value) {ps : Parts} → Fits (group_type t n) v → normal (group_type t n) v ≡ fields ps end → is_group_left_out (group_type t n) v ≡ are_absent ps
@@ -72,5 +74,5 @@ module _ {S : Type 0} {step : S → Record → S → Type 0} (t : Table) {n : �
   pub reads_left : {a c d : S} → are_absent ps ≡ true → ReadsEnclosed step (group_type t) n (fields ps end) a c → step c is_empty d → ReadsAddition step optional (group_type t) n left_out a d
   reads_left k h z = reads_empty optional h refl (left_out_as t n h.reads.raw h.reads.fits h.reads.means ∙ k) z
 
-  pub unread_left : OneRecord step → {a b c d : S} {x : DecodeError} → are_absent ps ≡ true → step a (addition true) b → Reads step (group_type t) n (fields ps end) b c → step c addition_ends d → NoRecord step asks_empty d x → UnreadAddition step optional (group_type t) n a x
-  unread_left one k m r e h = unread_empty one optional m r e refl (left_out_as t n r.raw r.fits r.means ∙ k) h
+  pub unread_left : OneRecord step → {few : S → S → S → Type 0} → CarriesRecords step few → CarriesValues step few → {a b c d failed : S} {x : DecodeError} → are_absent ps ≡ true → step a (addition true) b → Reads step (group_type t) n (fields ps end) b c → step c addition_ends d → NoRecord step few asks_empty d failed x → UnreadAddition step few optional (group_type t) n a failed x
+  unread_left one carries values k m r e h = unread_empty one carries values optional m r e refl (left_out_as t n r.raw r.fits r.means ∙ k) h

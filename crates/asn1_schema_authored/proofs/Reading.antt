@@ -5,7 +5,6 @@ use Rattle.asn1_model.specs.Schema.{Tag, Presence, required, optional, by_defaul
 use Rattle.asn1_model.specs.Normal.{normal, normal_parts, is_at_default, is_group_left_out}
 use Rattle.asn1_model.specs.Normal.{is_required}
 use Rattle.asn1_schema_faults.specs.declared.DecodeError.{DecodeError}
-use Rattle.asn1_schema_faults.specs.declared.DecodeError.TheVariants.{OutOfMemory}
 use Rattle.asn1_schema_presented.specs.Records.{Record, is_default, is_empty, additions_begin, addition, addition_ends, ends, asks_additions, asks_addition, asks_addition_end, asks_default, asks_empty, asks_end}
 use Rattle.asn1_schema_presented.specs.Presents.{Part, left_out, there, with_part, presents, noted, component_count, root_records, addition_records, added_records, Fits, PartFits, PartsFit}
 use Rattle.asn1_schema_presented.specs.Tables.{Fields, no_field, field, components_at, IsType, IsValue}
@@ -16,7 +15,9 @@ use Rattle.asn1_schema_presented.proofs.OneValue.{one_value}
 use Rattle.asn1_schema_presented.proofs.Values.{not_empty, normal_field, fits_field}
 use Rattle.asn1_schema_presented.proofs.Joined.{nothing_noted}
 use Rattle.asn1_schema_presented.proofs.Same.{same_self}
+use Rattle.asn1_schema_decode.proofs.Carrying.{carry_addition, reads_near}
 use Rattle.asn1_schema_decode.specs.Reads.{NoRecord, Reads, Unread, ReadsTail, UnreadTail}
+use Rattle.asn1_schema_lacking.specs.Carried.{CarriesRecords, CarriesValues}
 use Rattle.asn1_schema_decode.proofs.Reading.{reads_as}
 use Rattle.asn1_schema_presented.specs.Additions.{addition_count, extensible_table}
 use Rattle.asn1_schema_authored.specs.Reads.{ReadsEnclosed, ReadsExtension, UnreadExtension, ReadsExtensionDefault, omitted, spelled_out, other_value, UnreadExtensionDefault, ReadsAddition, UnreadAddition, ReadsAdded, UnreadAdded}
@@ -75,11 +76,11 @@ module _ {S : Type 0} {step : S → Record → S → Type 0} where
     chain = rw (k, g) (h.begun, h.begins, chain_append step (presents (s n) h.reads.raw) (addition_ends ∷ is_empty ∷ []) h.begun h.read d h.reads.chain (c, h.ends, (d, z, refl)));
   }
 
-  pub unread_addition_here : (o : Presence) {s : ℕ → Schema} {n : ℕ} {a : S} {x : DecodeError} → NoRecord step asks_addition a x → UnreadAddition step o s n a x
-  unread_addition_here o {s} {n} {a} h = record {
-    none = λ w p b. elim p as (λ p. PartFits (λ v. Fits (s n) v) o p → Chain step (addition_records (λ v. presents (s n) v) o (s n) p) a b → ⊥) [
-      | left_out ↦ λ f q. let q' : Chain step (addition false ∷ []) a b = rw f at q in h.none w (addition false) q'.0 refl q'.1
-      | there v ↦ λ f q. h.none w (addition true) q.0 refl q.1
+  pub unread_addition_here : (o : Presence) {s : ℕ → Schema} {n : ℕ} {few : S → S → S → Type 0} {a failed : S} {x : DecodeError} → NoRecord step few asks_addition a failed x → UnreadAddition step few o s n a failed x
+  unread_addition_here o {s} {n} h = record {
+    none = λ w start near p b. elim p as (λ p. PartFits (λ v. Fits (s n) v) o p → Chain step (addition_records (λ v. presents (s n) v) o (s n) p) start b → ⊥) [
+      | left_out ↦ λ f q. let q' : Chain step (addition false ∷ []) start b = rw f at q in h.none w start near (addition false) q'.0 refl q'.1
+      | there v ↦ λ f q. h.none w start near (addition true) q.0 refl q.1
     ];
   }
 
@@ -108,8 +109,8 @@ module _ {S : Type 0} {step : S → Record → S → Type 0} where
     chain = (b, subst (λ (i : ℕ). step a (additions_begin i) b) (e ∙ sym (count_at n fs)) h, r.chain);
   }
 
-  pub unread_no_more : (n : ℕ) {a : S} {x : DecodeError} → NoRecord step asks_end a x → UnreadAdded step no_field n a x
-  unread_no_more n {a} h = record { none = λ w qs b f p. let t = not_at_end step n qs a b f p in h.none w ends t.0 refl t.1 }
+  pub unread_no_more : (n : ℕ) {few : S → S → S → Type 0} {a failed : S} {x : DecodeError} → NoRecord step few asks_end a failed x → UnreadAdded step few no_field n a failed x
+  unread_no_more n h = record { none = λ w start near qs b f p. let t = not_at_end step n qs start b f p in h.none w start near ends t.0 refl t.1 }
 
   -- additions, and what they are made of
   parts_of : (n : ℕ) (ts : List Tag) (o : Presence) (s : ℕ → Schema) (fs : Fields) (qs : Parts) (a c : S) → PartsFit (components_at n (field ts o s fs)) qs → Chain step (added_records (components_at n (field ts o s fs)) qs) a c → (x : Part) × (rs : Parts) × (m : S) × PartFits (λ v. Fits (s n) v) o x × PartsFit (components_at n fs) rs × Chain step (addition_records (λ v. presents (s n) v) o (s n) x) a m × Chain step (added_records (components_at n fs) rs) m c
@@ -118,11 +119,11 @@ module _ {S : Type 0} {step : S → Record → S → Type 0} where
   parts_of n ts o s fs (absent qs) a c f p = let d = chain_split step (addition_records (λ v. presents (s n) v) o (s n) left_out) (added_records (components_at n fs) qs) a c p in (left_out, qs, d.0, f.0, f.1, d.1, d.2)
   parts_of n ts o s fs (present v qs) a c f p = let d = chain_split step (addition_records (λ v. presents (s n) v) o (s n) (there v)) (added_records (components_at n fs) qs) a c p in (there v, qs, d.0, f.0, f.1, d.1, d.2)
 
-  pub unread_more_here : (ts : List Tag) {o : Presence} {s : ℕ → Schema} (fs : Fields) {n : ℕ} {a : S} {x : DecodeError} → UnreadAddition step o s n a x → UnreadAdded step (field ts o s fs) n a x
-  unread_more_here ts {o} {s} fs {n} {a} h = record { none = λ w qs c f p. let d = parts_of n ts o s fs qs a c f p in h.none w d.0 d.2 d.3 d.5 }
+  pub unread_more_here : (ts : List Tag) {o : Presence} {s : ℕ → Schema} (fs : Fields) {n : ℕ} {few : S → S → S → Type 0} {a failed : S} {x : DecodeError} → UnreadAddition step few o s n a failed x → UnreadAdded step few (field ts o s fs) n a failed x
+  unread_more_here ts {o} {s} fs {n} h = record { none = λ w start near qs c f p. let d = parts_of n ts o s fs qs start c f p in h.none w start near d.0 d.2 d.3 d.5 }
 
-  pub unread_additions_here : {fs : Fields} {n : ℕ} {k : ℕ} {a : S} {x : DecodeError} → k ≡ addition_count fs → NoRecord step (asks_additions k) a x → UnreadTail step (extensible_table fs) n a x
-  unread_additions_here {fs} {n} {k} {a} e h = record { none = λ w ps qs c f p. let d = behind_extension_bit step n fs ps qs a c f.0 p in h.none w (additions_begin (addition_count fs)) d.0 (ap asks_additions (sym e)) d.1 }
+  pub unread_additions_here : {fs : Fields} {n : ℕ} {k : ℕ} {few : S → S → S → Type 0} {a failed : S} {x : DecodeError} → k ≡ addition_count fs → NoRecord step few (asks_additions k) a failed x → UnreadTail step few (extensible_table fs) n a failed x
+  unread_additions_here {fs} {n} e h = record { none = λ w start near ps qs c f p. let d = behind_extension_bit step n fs ps qs start c f.0 p in h.none w start near (additions_begin (addition_count fs)) d.0 (ap asks_additions (sym e)) d.1 }
 
 module _ {S : Type 0} {step : S → Record → S → Type 0} (one : OneRecord step) where
   after : OneAfter step
@@ -147,72 +148,89 @@ module _ {S : Type 0} {step : S → Record → S → Type 0} (one : OneRecord st
       let m : Chain step (addition_ends ∷ noted o s w) j.0 b = subst (λ (y : Value). Chain step (addition_ends ∷ noted o s y) j.0 b) k.0 l in
       chain_one step after (addition_ends ∷ noted o s w) j.0 b c m j.2
 
-  pub unread_more : (ts : List Tag) {o : Presence} {s : ℕ → Schema} {fs : Fields} {n : ℕ} {x : Part} {a b : S} {y : DecodeError} → ReadsAddition step o s n x a b → UnreadAdded step fs n b y → UnreadAdded step (field ts o s fs) n a y
-  unread_more ts {o} {s} {fs} {n} {x} {a} {b} h k = record {
-    none = λ w qs c f p.
-        let d = parts_of n ts o s fs qs a c f p in
-        let e = one_addition o (s n) d.0 h.raw a d.2 b d.3 h.fits d.5 h.chain in
-        k.none w d.1 c d.4 (subst (λ (z : S). Chain step (added_records (components_at n fs) d.1) z c) e d.6);
-  }
-
-  pub unread_additions : {fs : Fields} {n : ℕ} {k : ℕ} {a b : S} {x : DecodeError} → k ≡ addition_count fs → step a (additions_begin k) b → UnreadAdded step fs n b x → UnreadTail step (extensible_table fs) n a x
-  unread_additions {fs} {n} {k} {a} {b} e h r = record {
-    none = λ w ps qs c f p.
-        let d = behind_extension_bit step n fs ps qs a c f.0 p in
-        let q = subst (λ (i : ℕ). step a (additions_begin i) d.0) (sym e) d.1 in
-        r.none w qs c f.1 (subst (λ (z : S). Chain step (added_records (components_at n fs) qs) z c) (after a (additions_begin k) d.0 b q h) d.2);
-  }
-
-  -- ---- where one addition ends
-  pub unread_absent : {s : ℕ → Schema} {n : ℕ} {a b : S} {x : DecodeError} → step a (addition false) b → UnreadAddition step required s n a x
-  unread_absent {s} {n} {a} m = record {
-    none = λ w p c. elim p as (λ p. PartFits (λ v. Fits (s n) v) required p → Chain step (addition_records (λ v. presents (s n) v) required (s n) p) a c → ⊥) [
-      | left_out ↦ λ f q. let e : true ≡ false = f in cc
-      | there v ↦ λ f q. not_both q.1 m
-    ];
-  }
-
-  pub unread_inner : (o : Presence) {s : ℕ → Schema} {n : ℕ} {a b : S} {x : DecodeError} → step a (addition true) b → Unread step s n b x → UnreadAddition step o s n a x
-  unread_inner o {s} {n} {a} {b} m h = record {
-    none = λ w p c. elim p as (λ p. PartFits (λ v. Fits (s n) v) o p → Chain step (addition_records (λ v. presents (s n) v) o (s n) p) a c → ⊥) [
-      | left_out ↦ λ f q. let q' : Chain step (addition false ∷ []) a c = rw f at q in not_both m q'.1
-      | there v ↦ λ f q.
-          let d = chain_split step (presents (s n) v) (addition_ends ∷ noted o (s n) v) q.0 c q.2 in
-          h.none w v d.0 f (subst (λ (z : S). Chain step (presents (s n) v) z d.0) (after a (addition true) q.0 b q.1 m) d.1)
-    ];
-  }
-
   -- what is told behind a value that was read
-  told_behind : (o : Presence) {s : ℕ → Schema} {n : ℕ} {v : Value} {a b c : S} (d : S) → step a (addition true) b → (r : Reads step s n v b c) → (p : Part) → PartFits (λ w. Fits (s n) w) o p → Chain step (addition_records (λ w. presents (s n) w) o (s n) p) a d → Chain step (addition_ends ∷ noted o (s n) r.raw) c d
-  told_behind o {s} {n} {v} {a} {b} {c} d m r left_out f q = let q' : Chain step (addition false ∷ []) a d = rw f at q in absurd (not_both m q'.1)
-  told_behind o {s} {n} {v} {a} {b} {c} d m r (there u) f q =
-      let i = chain_split step (presents (s n) u) (addition_ends ∷ noted o (s n) u) q.0 d q.2 in
-      let k = one_value one (s n) u r.raw b i.0 c f r.fits (subst (λ (z : S). Chain step (presents (s n) u) z i.0) (after a (addition true) q.0 b q.1 m) i.1) r.chain in
-      subst (λ (y : Value). Chain step (addition_ends ∷ noted o (s n) y) c d) k.0 (subst (λ (z : S). Chain step (addition_ends ∷ noted o (s n) u) z d) k.1 i.2)
+  told_behind : (o : Presence) (s : Schema) (v : Value) {a b c : S} (d : S) → step a (addition true) b → Fits s v → Chain step (presents s v) b c → (p : Part) → PartFits (λ w. Fits s w) o p → Chain step (addition_records (λ w. presents s w) o s p) a d → Chain step (addition_ends ∷ noted o s v) c d
+  told_behind o s v {a} {b} {c} d m g r left_out f q = let q' : Chain step (addition false ∷ []) a d = rw f at q in absurd (not_both m q'.1)
+  told_behind o s v {a} {b} {c} d m g r (there u) f q =
+      let i = chain_split step (presents s u) (addition_ends ∷ noted o s u) q.0 d q.2 in
+      let k = one_value one s u v b i.0 c f g (subst (λ (z : S). Chain step (presents s u) z i.0) (after a (addition true) q.0 b q.1 m) i.1) r in
+      subst (λ (y : Value). Chain step (addition_ends ∷ noted o s y) c d) k.0 (subst (λ (z : S). Chain step (addition_ends ∷ noted o s u) z d) k.1 i.2)
 
-  pub unread_end : (o : Presence) {s : ℕ → Schema} {n : ℕ} {v : Value} {a b c : S} {x : DecodeError} → step a (addition true) b → Reads step s n v b c → NoRecord step asks_addition_end c x → UnreadAddition step o s n a x
-  unread_end o m r h = record { none = λ w p d f q. let t = told_behind o d m r p f q in h.none w addition_ends t.0 refl t.1 }
+  module _ {few : S → S → S → Type 0} (carries : CarriesRecords step few) where
+    pub unread_additions : {fs : Fields} {n : ℕ} {k : ℕ} {a b failed : S} {x : DecodeError} → k ≡ addition_count fs → step a (additions_begin k) b → UnreadAdded step few fs n b failed x → UnreadTail step few (extensible_table fs) n a failed x
+    unread_additions {fs} {n} {k} {a} {b} {failed} e h r = record {
+      none = λ w start near ps qs c f p.
+          let i = carries (additions_begin k) a b failed start refl h near in
+          let d = behind_extension_bit step n fs ps qs start c f.0 p in
+          let q = subst (λ (j : ℕ). step start (additions_begin j) d.0) (sym e) d.1 in
+          r.none w i.0 i.2 qs c f.1 (subst (λ (z : S). Chain step (added_records (components_at n fs) qs) z c) (after start (additions_begin k) d.0 i.0 q i.1) d.2);
+    }
 
-  pub unread_empty : (o : Presence) {s : ℕ → Schema} {n : ℕ} {v : Value} {a b c d : S} {x : DecodeError} → step a (addition true) b → (r : Reads step s n v b c) → step c addition_ends d → is_at_default o (s n) r.raw ≡ false → is_group_left_out (s n) r.raw ≡ true → NoRecord step asks_empty d x → UnreadAddition step o s n a x
-  unread_empty o {s} {n} {c = c} {d} m r e k g h = record {
-    none = λ w p y f q.
-        let t = told_behind o y m r p f q in
-        let u : noted o (s n) r.raw ≡ is_empty ∷ [] = rw (k, g) refl in
-        let z = subst (λ rs. Chain step rs t.0 y) u t.2 in
-        h.none w is_empty z.0 refl (subst (λ (i : S). step i is_empty z.0) (after c addition_ends t.0 d t.1 e) z.1);
-  }
+    -- ---- where one addition ends
+    pub unread_absent : {s : ℕ → Schema} {n : ℕ} {a b failed : S} {x : DecodeError} → step a (addition false) b → UnreadAddition step few required s n a failed x
+    unread_absent {s} {n} {a} {b} {failed} m = record {
+      none = λ w start near p c.
+          let i = carries (addition false) a b failed start refl m near in
+          elim p as (λ p. PartFits (λ v. Fits (s n) v) required p → Chain step (addition_records (λ v. presents (s n) v) required (s n) p) start c → ⊥) [
+            | left_out ↦ λ f q. let e : true ≡ false = f in cc
+            | there v ↦ λ f q. not_both q.1 i.1
+          ];
+    }
+
+    pub unread_inner : (o : Presence) {s : ℕ → Schema} {n : ℕ} {a b failed : S} {x : DecodeError} → step a (addition true) b → Unread step few s n b failed x → UnreadAddition step few o s n a failed x
+    unread_inner o {s} {n} {a} {b} {failed} m h = record {
+      none = λ w start near p c.
+          let i = carries (addition true) a b failed start refl m near in
+          elim p as (λ p. PartFits (λ v. Fits (s n) v) o p → Chain step (addition_records (λ v. presents (s n) v) o (s n) p) start c → ⊥) [
+            | left_out ↦ λ f q. let q' : Chain step (addition false ∷ []) start c = rw f at q in not_both i.1 q'.1
+            | there v ↦ λ f q.
+                let d = chain_split step (presents (s n) v) (addition_ends ∷ noted o (s n) v) q.0 c q.2 in
+                h.none w i.0 i.2 v d.0 f (subst (λ (z : S). Chain step (presents (s n) v) z d.0) (after start (addition true) q.0 i.0 q.1 i.1) d.1)
+          ];
+    }
+
+    module _ (values : CarriesValues step few) where
+      pub unread_more : (ts : List Tag) {o : Presence} {s : ℕ → Schema} {fs : Fields} {n : ℕ} {x : Part} {a b failed : S} {y : DecodeError} → ReadsAddition step o s n x a b → UnreadAdded step few fs n b failed y → UnreadAdded step few (field ts o s fs) n a failed y
+      unread_more ts {o} {s} {fs} {n} {x} {a} {b} {failed} h k = record {
+        none = λ w start near qs c f p.
+            let i = carry_addition step few carries values o (s n) h.raw a b failed start h.chain near in
+            let d = parts_of n ts o s fs qs start c f p in
+            let e = one_addition o (s n) d.0 h.raw start d.2 i.0 d.3 h.fits d.5 i.1 in
+            k.none w i.0 i.2 d.1 c d.4 (subst (λ (z : S). Chain step (added_records (components_at n fs) d.1) z c) e d.6);
+      }
+
+      pub unread_end : (o : Presence) {s : ℕ → Schema} {n : ℕ} {v : Value} {a b c failed : S} {x : DecodeError} → step a (addition true) b → Reads step s n v b c → NoRecord step few asks_addition_end c failed x → UnreadAddition step few o s n a failed x
+      unread_end o {s} {n} {v} {a} {b} {c} {failed} m r h = record {
+        none = λ w start near p d f q.
+            let i = carries (addition true) a b failed start refl m near in
+            let j = values (s n) r.raw b c failed i.0 r.chain i.2 in
+            let t = told_behind o (s n) r.raw d i.1 r.fits j.1 p f q in
+            h.none w j.0 j.2 addition_ends t.0 refl t.1;
+      }
+
+      pub unread_empty : (o : Presence) {s : ℕ → Schema} {n : ℕ} {v : Value} {a b c d failed : S} {x : DecodeError} → step a (addition true) b → (r : Reads step s n v b c) → step c addition_ends d → is_at_default o (s n) r.raw ≡ false → is_group_left_out (s n) r.raw ≡ true → NoRecord step few asks_empty d failed x → UnreadAddition step few o s n a failed x
+      unread_empty o {s} {n} {v} {a} {b} {c} {d} {failed} m r e k g h = record {
+        none = λ w start near p y f q.
+            let i = carries (addition true) a b failed start refl m near in
+            let j = values (s n) r.raw b c failed i.0 r.chain i.2 in
+            let l = carries addition_ends c d failed j.0 refl e j.2 in
+            let t = told_behind o (s n) r.raw y i.1 r.fits j.1 p f q in
+            let u : noted o (s n) r.raw ≡ is_empty ∷ [] = rw (k, g) refl in
+            let z = subst (λ rs. Chain step rs t.0 y) u t.2 in
+            h.none w l.0 l.2 is_empty z.0 refl (subst (λ (i : S). step i is_empty z.0) (after j.0 addition_ends t.0 l.0 t.1 l.1) z.1);
+      }
 
 -- ---- additions under given constraints
 module _ {S : Type 0} {step : S → Record → S → Type 0} {s : ℕ → Schema} {n : ℕ} where
-  pub unread_extension_here : {a : S} {x : DecodeError} → NoRecord step asks_addition a x → UnreadExtension step s n a x
-  unread_extension_here {a} h = record { none = λ w p c. elim p as (λ p. ReadsExtension step s n p a c → ⊥) [ left_out ↦ λ q. h.none w (addition false) c refl q | there v ↦ λ q. h.none w (addition true) q.begun refl q.begins ] }
+  pub unread_extension_here : {few : S → S → S → Type 0} {a failed : S} {x : DecodeError} → NoRecord step few asks_addition a failed x → UnreadExtension step few s n a failed x
+  unread_extension_here h = record { none = λ w start near p c. elim p as (λ p. ReadsExtension step s n p start c → ⊥) [ left_out ↦ λ q. h.none w start near (addition false) c refl q | there v ↦ λ q. h.none w start near (addition true) q.begun refl q.begins ] }
 
-  pub unread_extension_default_here : {d : Value} {a : S} {x : DecodeError} → NoRecord step asks_addition a x → UnreadExtensionDefault step s n d a x
-  unread_extension_default_here {d} {a} h = record {
-    none = λ w v c p. elim p [
-      | omitted e q ↦ h.none w (addition false) c refl q
-      | spelled_out e b q z ↦ h.none w (addition true) q.begun refl q.begins
-      | other_value e q ↦ h.none w (addition true) q.begun refl q.begins
+  pub unread_extension_default_here : {d : Value} {few : S → S → S → Type 0} {a failed : S} {x : DecodeError} → NoRecord step few asks_addition a failed x → UnreadExtensionDefault step few s n d a failed x
+  unread_extension_default_here h = record {
+    none = λ w start near v c p. elim p [
+      | omitted e q ↦ h.none w start near (addition false) c refl q
+      | spelled_out e b q z ↦ h.none w start near (addition true) q.begun refl q.begins
+      | other_value e q ↦ h.none w start near (addition true) q.begun refl q.begins
     ];
   }
 
@@ -226,44 +244,64 @@ module _ {S : Type 0} {step : S → Record → S → Type 0} {s : ℕ → Schema
         let k = one_value one (s n) q.reads.raw r.raw b q.read c q.reads.fits r.fits (subst (λ (z : S). Chain step (presents (s n) q.reads.raw) z q.read) (after one a (addition true) q.begun b q.begins m) q.reads.chain) r.chain in
         (sym q.reads.means ∙ ap (λ y. normal (s n) y) k.0 ∙ r.means, k.1)
 
-    not_ended : {v w : Value} {a b c d : S} {x : DecodeError} → ¬ (x ≡ OutOfMemory) → step a (addition true) b → Reads step s n v b c → NoRecord step asks_addition_end c x → ReadsEnclosed step s n w a d → ⊥
-    not_ended {d = d} u m r h q = h.none u addition_ends d refl (subst (λ (z : S). step z addition_ends d) (same_value m r q).1 q.ends)
+    not_ended : {v w : Value} {a b c d : S} → step a (addition true) b → Reads step s n v b c → ((e : S) → step c addition_ends e → ⊥) → ReadsEnclosed step s n w a d → ⊥
+    not_ended {d = d} m r h q = h d (subst (λ (z : S). step z addition_ends d) (same_value m r q).1 q.ends)
 
-    pub unread_extension : {a b : S} {x : DecodeError} → step a (addition true) b → Unread step s n b x → UnreadExtension step s n a x
-    unread_extension {a} m h = record { none = λ w p c. elim p as (λ p. ReadsExtension step s n p a c → ⊥) [ left_out ↦ λ q. not_both one m q | there v ↦ λ q. not_enclosed m (h.none w) q ] }
+    module _ {few : S → S → S → Type 0} (carries : CarriesRecords step few) where
+      pub unread_extension : {a b failed : S} {x : DecodeError} → step a (addition true) b → Unread step few s n b failed x → UnreadExtension step few s n a failed x
+      unread_extension {a} {b} {failed} m h = record {
+        none = λ w start near p c.
+            let i = carries (addition true) a b failed start refl m near in
+            elim p as (λ p. ReadsExtension step s n p start c → ⊥) [ left_out ↦ λ q. not_both one i.1 q | there v ↦ λ q. not_enclosed i.1 (h.none w i.0 i.2) q ];
+      }
 
-    pub unread_extension_end : {v : Value} {a b c : S} {x : DecodeError} → step a (addition true) b → Reads step s n v b c → NoRecord step asks_addition_end c x → UnreadExtension step s n a x
-    unread_extension_end {a = a} m r h = record { none = λ w p c. elim p as (λ p. ReadsExtension step s n p a c → ⊥) [ left_out ↦ λ q. not_both one m q | there v ↦ λ q. not_ended w m r h q ] }
+      pub unread_extension_default : {d : Value} {a b failed : S} {x : DecodeError} → step a (addition true) b → Unread step few s n b failed x → UnreadExtensionDefault step few s n d a failed x
+      unread_extension_default {a = a} {b = b} {failed = failed} m h = record {
+        none = λ w start near v c p.
+            let i = carries (addition true) a b failed start refl m near in
+            elim p [
+              | omitted e q ↦ not_both one i.1 q
+              | spelled_out e b q z ↦ not_enclosed i.1 (h.none w i.0 i.2) q
+              | other_value e q ↦ not_enclosed i.1 (h.none w i.0 i.2) q
+            ];
+      }
 
-    pub unread_extension_default : {d : Value} {a b : S} {x : DecodeError} → step a (addition true) b → Unread step s n b x → UnreadExtensionDefault step s n d a x
-    unread_extension_default m h = record {
-      none = λ w v c p. elim p [
-        | omitted e q ↦ not_both one m q
-        | spelled_out e b q z ↦ not_enclosed m (h.none w) q
-        | other_value e q ↦ not_enclosed m (h.none w) q
-      ];
-    }
+      module _ (values : CarriesValues step few) where
+        pub unread_extension_end : {v : Value} {a b c failed : S} {x : DecodeError} → step a (addition true) b → Reads step s n v b c → NoRecord step few asks_addition_end c failed x → UnreadExtension step few s n a failed x
+        unread_extension_end {a = a} {b = b} {failed = failed} m r h = record {
+          none = λ w start near p y.
+              let i = carries (addition true) a b failed start refl m near in
+              let j = reads_near values r i.2 in
+              elim p as (λ p. ReadsExtension step s n p start y → ⊥) [ left_out ↦ λ q. not_both one i.1 q | there v ↦ λ q. not_ended i.1 j.1 (λ o k. h.none w j.0 j.2 addition_ends o refl k) q ];
+        }
 
-    pub unread_extension_default_end : {d v : Value} {a b c : S} {x : DecodeError} → step a (addition true) b → Reads step s n v b c → NoRecord step asks_addition_end c x → UnreadExtensionDefault step s n d a x
-    unread_extension_default_end m r h = record {
-      none = λ w v c p. elim p [
-        | omitted e q ↦ not_both one m q
-        | spelled_out e b q z ↦ not_ended w m r h q
-        | other_value e q ↦ not_ended w m r h q
-      ];
-    }
+        pub unread_extension_default_end : {d v : Value} {a b c failed : S} {x : DecodeError} → step a (addition true) b → Reads step s n v b c → NoRecord step few asks_addition_end c failed x → UnreadExtensionDefault step few s n d a failed x
+        unread_extension_default_end {a = a} {b = b} {failed = failed} m r h = record {
+          none = λ w start near v y p.
+              let i = carries (addition true) a b failed start refl m near in
+              let j = reads_near values r i.2 in
+              elim p [
+                | omitted e q ↦ not_both one i.1 q
+                | spelled_out e b q z ↦ not_ended i.1 j.1 (λ o k. h.none w j.0 j.2 addition_ends o refl k) q
+                | other_value e q ↦ not_ended i.1 j.1 (λ o k. h.none w j.0 j.2 addition_ends o refl k) q
+              ];
+        }
 
-    pub unread_extension_noted : {d v : Value} {a b c i : S} {x : DecodeError} → same v d ≡ true → step a (addition true) b → Reads step s n v b c → step c addition_ends i → NoRecord step asks_default i x → UnreadExtensionDefault step s n d a x
-    unread_extension_noted {d} {v} {c = c} {i} f m r e h = record {
-      none = λ w u y p. elim p [
-        | omitted k q ↦ not_both one m q
-        | spelled_out k b q z ↦
-            let j = same_value m r q in
-            let l = after one c addition_ends b i (subst (λ (z : S). step z addition_ends b) j.1 q.ends) e in
-            h.none w is_default y refl (subst (λ (j : S). step j is_default y) l z)
-        | other_value k q ↦ let j : same u d ≡ same v d = ap (λ i. same i d) (same_value m r q).0 in let l : false ≡ true = sym k ∙ j ∙ f in cc
-      ];
-    }
+        pub unread_extension_noted : {d v : Value} {a b c l failed : S} {x : DecodeError} → same v d ≡ true → step a (addition true) b → Reads step s n v b c → step c addition_ends l → NoRecord step few asks_default l failed x → UnreadExtensionDefault step few s n d a failed x
+        unread_extension_noted {d} {v} {a} {b} {c} {l} {failed} f m r e h = record {
+          none = λ w start near u y p.
+              let i = carries (addition true) a b failed start refl m near in
+              let j = reads_near values r i.2 in
+              let g = carries addition_ends c l failed j.0 refl e j.2 in
+              elim p [
+                | omitted k q ↦ not_both one i.1 q
+                | spelled_out k behind q z ↦
+                    let t = same_value i.1 j.1 q in
+                    let o = after one j.0 addition_ends behind g.0 (subst (λ (z : S). step z addition_ends behind) t.1 q.ends) g.1 in
+                    h.none w g.0 g.2 is_default y refl (subst (λ (j : S). step j is_default y) o z)
+                | other_value k q ↦ let t : same u d ≡ same v d = ap (λ i. same i d) (same_value i.1 j.1 q).0 in let o : false ≡ true = sym k ∙ t ∙ f in cc
+              ];
+        }
 
   -- ---- an addition of a type under its own constraints
   module _ {ts : List Tag} {t : ℕ → Schema} (k : IsType ts t) (e : (n : ℕ) → t n ≡ s n) where
@@ -292,11 +330,11 @@ module _ {S : Type 0} {step : S → Record → S → Type 0} {s : ℕ → Schema
     there_of : (o : Presence) (v : Value) {a : S} (c : S) → Fits (t n) v → Chain step (addition_records (λ w. presents (t n) w) o (t n) (there v)) a c → (b : S) × ReadsEnclosed step s n (normal (t n) v) a b × Chain step (noted o (t n) v) b c
     there_of o v {a} c f q = let d = chain_split step (presents (t n) v) (addition_ends ∷ noted o (t n) v) q.0 c q.2 in (d.2.0, of_type v q.0 d.0 q.1 f d.1 d.2.1, d.2.2)
 
-    pub extension_unread : {a : S} {x : DecodeError} → UnreadExtension step s n a x → UnreadAddition step optional t n a x
-    extension_unread {a} h = record {
-      none = λ w p c. elim p as (λ p. PartFits (λ v. Fits (t n) v) optional p → Chain step (addition_records (λ v. presents (t n) v) optional (t n) p) a c → ⊥) [
-        | left_out ↦ λ f q. h.none w left_out q.0 q.1
-        | there v ↦ λ f q. let d = there_of optional v c f q in h.none w (there (normal (t n) v)) d.0 d.1
+    pub extension_unread : {few : S → S → S → Type 0} {a failed : S} {x : DecodeError} → UnreadExtension step few s n a failed x → UnreadAddition step few optional t n a failed x
+    extension_unread h = record {
+      none = λ w start near p c. elim p as (λ p. PartFits (λ v. Fits (t n) v) optional p → Chain step (addition_records (λ v. presents (t n) v) optional (t n) p) start c → ⊥) [
+        | left_out ↦ λ f q. h.none w start near left_out q.0 q.1
+        | there v ↦ λ f q. let d = there_of optional v c f q in h.none w start near (there (normal (t n) v)) d.0 d.1
       ];
     }
 
@@ -312,11 +350,11 @@ module _ {S : Type 0} {step : S → Record → S → Type 0} {s : ℕ → Schema
         let z = subst (λ rs. Chain step rs y.0 c) j y.2 in
         other_value (rw (i.normal n) at l) (subst (λ (j : S). ReadsEnclosed step s n (normal (t n) v) a j) (sym z) y.1)
 
-    pub extension_default_unread : {d : Value} {a : S} {x : DecodeError} → IsValue t d → UnreadExtensionDefault step s n d a x → UnreadAddition step (by_default d) t n a x
-    extension_default_unread {d} {a} i h = record {
-      none = λ w p c. elim p as (λ p. PartFits (λ v. Fits (t n) v) (by_default d) p → Chain step (addition_records (λ v. presents (t n) v) (by_default d) (t n) p) a c → ⊥) [
-        | left_out ↦ λ f q. h.none w d q.0 (omitted refl q.1)
-        | there v ↦ λ f q. h.none w (normal (t n) v) c (default_there v (is_at_default (by_default d) (t n) v) refl i f q)
+    pub extension_default_unread : {d : Value} {few : S → S → S → Type 0} {a failed : S} {x : DecodeError} → IsValue t d → UnreadExtensionDefault step few s n d a failed x → UnreadAddition step few (by_default d) t n a failed x
+    extension_default_unread {d} i h = record {
+      none = λ w start near p c. elim p as (λ p. PartFits (λ v. Fits (t n) v) (by_default d) p → Chain step (addition_records (λ v. presents (t n) v) (by_default d) (t n) p) start c → ⊥) [
+        | left_out ↦ λ f q. h.none w start near d q.0 (omitted refl q.1)
+        | there v ↦ λ f q. h.none w start near (normal (t n) v) c (default_there v (is_at_default (by_default d) (t n) v) refl i f q)
       ];
     }
 

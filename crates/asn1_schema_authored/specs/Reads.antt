@@ -27,10 +27,11 @@ abbrev pub ReadsExtension : {S : Type 0} → (S → Record → S → Type 0) →
 ReadsExtension step schema n left_out old new = step old (addition false) new
 ReadsExtension step schema n (there v) old new = ReadsEnclosed step schema n v old new
 
--- Why none is read: for want of memory, or because the records of none are next.
-pub record UnreadExtension {S : Type 0} (step : S → Record → S → Type 0) (schema : ℕ → Schema) (n : ℕ) (old : S)
-    (x : DecodeError) : Type 0 where
-  pub none : ¬ (x ≡ OutOfMemory) → (p : Part) (new : S) → ReadsExtension step schema n p old new → ⊥
+-- Why none is read: for want of memory, or because the records of none are next, also with few octets more.
+pub record UnreadExtension {S : Type 0} (step : S → Record → S → Type 0) (few : S → S → S → Type 0)
+    (schema : ℕ → Schema) (n : ℕ) (old failed : S) (x : DecodeError) : Type 0 where
+  pub none : ¬ (x ≡ OutOfMemory) → (a : S) → few old failed a → (p : Part) (new : S)
+      → ReadsExtension step schema n p a new → ⊥
 
 -- One with the default d: it is left out, or spelled out, which is noted, or of another value.
 pub data ReadsExtensionDefault {S : Type 0} (step : S → Record → S → Type 0) (schema : ℕ → Schema) (n : ℕ)
@@ -41,9 +42,10 @@ pub data ReadsExtensionDefault {S : Type 0} (step : S → Record → S → Type 
   other_value : same v d ≡ false → ReadsEnclosed step schema n v old new
       → ReadsExtensionDefault step schema n d v old new
 
-pub record UnreadExtensionDefault {S : Type 0} (step : S → Record → S → Type 0) (schema : ℕ → Schema) (n : ℕ)
-    (d : Value) (old : S) (x : DecodeError) : Type 0 where
-  pub none : ¬ (x ≡ OutOfMemory) → (v : Value) (new : S) → ReadsExtensionDefault step schema n d v old new → ⊥
+pub record UnreadExtensionDefault {S : Type 0} (step : S → Record → S → Type 0) (few : S → S → S → Type 0)
+    (schema : ℕ → Schema) (n : ℕ) (d : Value) (old failed : S) (x : DecodeError) : Type 0 where
+  pub none : ¬ (x ≡ OutOfMemory) → (a : S) → few old failed a → (v : Value) (new : S)
+      → ReadsExtensionDefault step schema n d v a new → ⊥
 
 -- One addition by its type's own constraints, there or left out; x is its normal form.
 pub record ReadsAddition {S : Type 0} (step : S → Record → S → Type 0) (o : Presence) (schema : ℕ → Schema) (n : ℕ)
@@ -53,10 +55,11 @@ pub record ReadsAddition {S : Type 0} (step : S → Record → S → Type 0) (o 
   pub means : normal_part o (schema n) raw ≡ x
   pub chain : Chain step (addition_records (λ v. presents (schema n) v) o (schema n) raw) old new
 
-pub record UnreadAddition {S : Type 0} (step : S → Record → S → Type 0) (o : Presence) (schema : ℕ → Schema) (n : ℕ)
-    (old : S) (x : DecodeError) : Type 0 where
-  pub none : ¬ (x ≡ OutOfMemory) → (p : Part) (new : S) → PartFits (λ v. Fits (schema n) v) o p
-      → Chain step (addition_records (λ v. presents (schema n) v) o (schema n) p) old new → ⊥
+pub record UnreadAddition {S : Type 0} (step : S → Record → S → Type 0) (few : S → S → S → Type 0) (o : Presence)
+    (schema : ℕ → Schema) (n : ℕ) (old failed : S) (x : DecodeError) : Type 0 where
+  pub none : ¬ (x ≡ OutOfMemory) → (a : S) → few old failed a → (p : Part) (new : S)
+      → PartFits (λ v. Fits (schema n) v) o p
+      → Chain step (addition_records (λ v. presents (schema n) v) o (schema n) p) a new → ⊥
 
 -- The additions that are left, and the end.
 pub record ReadsAdded {S : Type 0} (step : S → Record → S → Type 0) (fs : Fields) (n : ℕ) (qs : Parts) (old new : S) :
@@ -66,7 +69,7 @@ pub record ReadsAdded {S : Type 0} (step : S → Record → S → Type 0) (fs : 
   pub means : normal_parts (components_at n fs) raw ≡ qs
   pub chain : Chain step (added_records (components_at n fs) raw) old new
 
-pub record UnreadAdded {S : Type 0} (step : S → Record → S → Type 0) (fs : Fields) (n : ℕ) (old : S)
-    (x : DecodeError) : Type 0 where
-  pub none : ¬ (x ≡ OutOfMemory) → (qs : Parts) (new : S) → PartsFit (components_at n fs) qs
-      → Chain step (added_records (components_at n fs) qs) old new → ⊥
+pub record UnreadAdded {S : Type 0} (step : S → Record → S → Type 0) (few : S → S → S → Type 0) (fs : Fields) (n : ℕ)
+    (old failed : S) (x : DecodeError) : Type 0 where
+  pub none : ¬ (x ≡ OutOfMemory) → (a : S) → few old failed a → (qs : Parts) (new : S)
+      → PartsFit (components_at n fs) qs → Chain step (added_records (components_at n fs) qs) a new → ⊥

@@ -77,7 +77,7 @@ pub trait ChoiceAlternatives: Drop {
             (shape.inner x) decoder.old decoder.new) }
         ensures level { OnOk result (D.levels decoder.new ≡ D.levels decoder.old) }
         ensures only { IfErr result
-            (Unread D.step (chosen_type shape.table chosen) (D.levels decoder.old) decoder.old) }
+            (Unread D.step D.too_few (chosen_type shape.table chosen) (D.levels decoder.old) decoder.old decoder.new) }
         ensures failed { OnErr result (D.has_failed decoder.new) }
         ensures already { D.has_failed decoder.old → result ≡ Err DecodeError.AlreadyFailed }
         ensures after { result ≡ Err DecodeError.AlreadyFailed → D.has_failed decoder.old };

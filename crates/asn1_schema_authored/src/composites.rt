@@ -107,7 +107,8 @@ pub trait Components: Drop {
         ensures ok { IfOk result (λ x. ReadsTail D.step shape.table (D.levels decoder.old) (shape.root x)
             (shape.added x) decoder.old decoder.new) }
         ensures level { OnOk result (D.levels decoder.new ≡ D.levels decoder.old + 1) }
-        ensures only { IfErr result (UnreadTail D.step shape.table (D.levels decoder.old) decoder.old) }
+        ensures only { IfErr result
+            (UnreadTail D.step D.too_few shape.table (D.levels decoder.old) decoder.old decoder.new) }
         ensures failed { OnErr result (D.has_failed decoder.new) }
         ensures already { D.has_failed decoder.old → result ≡ Err DecodeError.AlreadyFailed }
         ensures after { result ≡ Err DecodeError.AlreadyFailed → D.has_failed decoder.old };
@@ -237,8 +238,9 @@ fn begin_read<D: Decoder>(decoder: &mut D, tag: Tag, heading: Heading) -> Result
     ensures ok { OnOk result
         (D.step decoder.old (begins (form_of heading.set) heading.extensible heading.optional) decoder.new) }
     ensures level { OnOk result (D.levels decoder.old ≡ D.levels decoder.new + 1) }
-    ensures only { IfErr result (NoLevel D.step (asks (form_of heading.set) heading.extensible heading.optional)
-        (D.levels decoder.old) decoder.old) }
+    ensures only { IfErr result
+        (NoLevel D.step D.too_few (asks (form_of heading.set) heading.extensible heading.optional)
+        (D.levels decoder.old) decoder.old decoder.new) }
     ensures failed { OnErr result (D.has_failed decoder.new) }
     ensures already { D.has_failed decoder.old → result ≡ Err DecodeError.AlreadyFailed }
     ensures after { result ≡ Err DecodeError.AlreadyFailed → D.has_failed decoder.old }

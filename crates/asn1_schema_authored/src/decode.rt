@@ -32,7 +32,8 @@ pub trait DecodeAdditions: AdditionsOf + Drop {
         ensures ok { IfOk result
             (λ x. ReadsAdded D.step Self.additions (D.levels decoder.old) (Self.parts x) decoder.old decoder.new) }
         ensures level { OnOk result (D.levels decoder.new ≡ D.levels decoder.old + 1) }
-        ensures only { IfErr result (UnreadAdded D.step Self.additions (D.levels decoder.old) decoder.old) }
+        ensures only { IfErr result
+            (UnreadAdded D.step D.too_few Self.additions (D.levels decoder.old) decoder.old decoder.new) }
         ensures failed { OnErr result (D.has_failed decoder.new) }
         ensures already { D.has_failed decoder.old → result ≡ Err DecodeError.AlreadyFailed }
         ensures after { result ≡ Err DecodeError.AlreadyFailed → D.has_failed decoder.old };
@@ -101,7 +102,8 @@ pub trait DecodeExtension: Decoder {
             (λ x. ReadsAddition Self.step required T.schema (Self.levels self.old) (there (T.meaning x))
             self.old self.new) }
         ensures level { OnOk result (Self.levels self.new ≡ Self.levels self.old) }
-        ensures only { IfErr result (UnreadAddition Self.step required T.schema (Self.levels self.old) self.old) }
+        ensures only { IfErr result
+            (UnreadAddition Self.step Self.too_few required T.schema (Self.levels self.old) self.old self.new) }
         ensures failed { OnErr result (Self.has_failed self.new) }
         ensures already { Self.has_failed self.old → result ≡ Err DecodeError.AlreadyFailed }
         ensures after { result ≡ Err DecodeError.AlreadyFailed → Self.has_failed self.old }
@@ -126,7 +128,8 @@ pub trait DecodeExtension: Decoder {
             (λ x. ReadsAddition Self.step optional T.schema (Self.levels self.old) (part_of T.meaning x)
             self.old self.new) }
         ensures level { OnOk result (Self.levels self.new ≡ Self.levels self.old) }
-        ensures only { IfErr result (UnreadAddition Self.step optional T.schema (Self.levels self.old) self.old) }
+        ensures only { IfErr result
+            (UnreadAddition Self.step Self.too_few optional T.schema (Self.levels self.old) self.old self.new) }
         ensures failed { OnErr result (Self.has_failed self.new) }
         ensures already { Self.has_failed self.old → result ≡ Err DecodeError.AlreadyFailed }
         ensures after { result ≡ Err DecodeError.AlreadyFailed → Self.has_failed self.old }
@@ -146,7 +149,8 @@ pub trait DecodeExtension: Decoder {
             (λ x. ReadsAddition Self.step optional T.schema (Self.levels self.old) (part_of T.meaning x)
             self.old self.new) }
         ensures level { OnOk result (Self.levels self.new ≡ Self.levels self.old) }
-        ensures only { IfErr result (UnreadAddition Self.step optional T.schema (Self.levels self.old) self.old) }
+        ensures only { IfErr result
+            (UnreadAddition Self.step Self.too_few optional T.schema (Self.levels self.old) self.old self.new) }
         ensures failed { OnErr result (Self.has_failed self.new) }
         ensures already { Self.has_failed self.old → result ≡ Err DecodeError.AlreadyFailed }
         ensures after { result ≡ Err DecodeError.AlreadyFailed → Self.has_failed self.old }
@@ -172,7 +176,8 @@ pub trait DecodeExtension: Decoder {
             (part_of T.meaning x) self.old self.new) }
         ensures level { OnOk result (Self.levels self.new ≡ Self.levels self.old) }
         ensures only { IfErr result
-            (UnreadExtension Self.step (T.under (meant constraints.now)) (Self.levels self.old) self.old) }
+            (UnreadExtension Self.step Self.too_few (T.under (meant constraints.now))
+            (Self.levels self.old) self.old self.new) }
         ensures failed { OnErr result (Self.has_failed self.new) }
         ensures already { Self.has_failed self.old → result ≡ Err DecodeError.AlreadyFailed }
         ensures after { result ≡ Err DecodeError.AlreadyFailed → Self.has_failed self.old }
@@ -195,7 +200,8 @@ pub trait DecodeExtension: Decoder {
             (part_of T.meaning x) self.old self.new) }
         ensures level { OnOk result (Self.levels self.new ≡ Self.levels self.old) }
         ensures only { IfErr result
-            (UnreadExtension Self.step (T.under (meant constraints.now)) (Self.levels self.old) self.old) }
+            (UnreadExtension Self.step Self.too_few (T.under (meant constraints.now))
+            (Self.levels self.old) self.old self.new) }
         ensures failed { OnErr result (Self.has_failed self.new) }
         ensures already { Self.has_failed self.old → result ≡ Err DecodeError.AlreadyFailed }
         ensures after { result ≡ Err DecodeError.AlreadyFailed → Self.has_failed self.old }
@@ -217,7 +223,8 @@ pub trait DecodeExtension: Decoder {
             (part_of T.meaning x) self.old self.new) }
         ensures level { OnOk result (Self.levels self.new ≡ Self.levels self.old) }
         ensures only { IfErr result
-            (UnreadExtension Self.step (T.under (meant constraints.now)) (Self.levels self.old) self.old) }
+            (UnreadExtension Self.step Self.too_few (T.under (meant constraints.now))
+            (Self.levels self.old) self.old self.new) }
         ensures failed { OnErr result (Self.has_failed self.new) }
         ensures already { Self.has_failed self.old → result ≡ Err DecodeError.AlreadyFailed }
         ensures after { result ≡ Err DecodeError.AlreadyFailed → Self.has_failed self.old }
@@ -245,7 +252,8 @@ pub trait DecodeExtension: Decoder {
             (part_unless (same (T.meaning x) V.value) (T.meaning x)) self.old self.new) }
         ensures level { OnOk result (Self.levels self.new ≡ Self.levels self.old) }
         ensures only { IfErr result
-            (UnreadAddition Self.step (by_default V.value) T.schema (Self.levels self.old) self.old) }
+            (UnreadAddition Self.step Self.too_few (by_default V.value) T.schema
+            (Self.levels self.old) self.old self.new) }
         ensures failed { OnErr result (Self.has_failed self.new) }
         ensures already { Self.has_failed self.old → result ≡ Err DecodeError.AlreadyFailed }
         ensures after { result ≡ Err DecodeError.AlreadyFailed → Self.has_failed self.old }
@@ -266,7 +274,8 @@ pub trait DecodeExtension: Decoder {
             (part_unless (same (T.meaning x) V.value) (T.meaning x)) self.old self.new) }
         ensures level { OnOk result (Self.levels self.new ≡ Self.levels self.old) }
         ensures only { IfErr result
-            (UnreadAddition Self.step (by_default V.value) T.schema (Self.levels self.old) self.old) }
+            (UnreadAddition Self.step Self.too_few (by_default V.value) T.schema
+            (Self.levels self.old) self.old self.new) }
         ensures failed { OnErr result (Self.has_failed self.new) }
         ensures already { Self.has_failed self.old → result ≡ Err DecodeError.AlreadyFailed }
         ensures after { result ≡ Err DecodeError.AlreadyFailed → Self.has_failed self.old }
@@ -292,8 +301,8 @@ pub trait DecodeExtension: Decoder {
             V.value (T.meaning x) self.old self.new) }
         ensures level { OnOk result (Self.levels self.new ≡ Self.levels self.old) }
         ensures only { IfErr result
-            (UnreadExtensionDefault Self.step (T.under (meant constraints.now)) (Self.levels self.old) V.value
-            self.old) }
+            (UnreadExtensionDefault Self.step Self.too_few (T.under (meant constraints.now))
+            (Self.levels self.old) V.value self.old self.new) }
         ensures failed { OnErr result (Self.has_failed self.new) }
         ensures already { Self.has_failed self.old → result ≡ Err DecodeError.AlreadyFailed }
         ensures after { result ≡ Err DecodeError.AlreadyFailed → Self.has_failed self.old }
@@ -317,8 +326,8 @@ pub trait DecodeExtension: Decoder {
             V.value (T.meaning x) self.old self.new) }
         ensures level { OnOk result (Self.levels self.new ≡ Self.levels self.old) }
         ensures only { IfErr result
-            (UnreadExtensionDefault Self.step (T.under (meant constraints.now)) (Self.levels self.old) V.value
-            self.old) }
+            (UnreadExtensionDefault Self.step Self.too_few (T.under (meant constraints.now))
+            (Self.levels self.old) V.value self.old self.new) }
         ensures failed { OnErr result (Self.has_failed self.new) }
         ensures already { Self.has_failed self.old → result ≡ Err DecodeError.AlreadyFailed }
         ensures after { result ≡ Err DecodeError.AlreadyFailed → Self.has_failed self.old }
@@ -347,7 +356,8 @@ pub trait DecodeExtension: Decoder {
             (λ x. Reads Self.step (group_type G.components) (Self.levels self.old) (fields (G.parts x) end)
             self.old self.new) }
         ensures level { OnOk result (Self.levels self.new ≡ Self.levels self.old) }
-        ensures only { IfErr result (Unread Self.step (group_type G.components) (Self.levels self.old) self.old) }
+        ensures only { IfErr result
+            (Unread Self.step Self.too_few (group_type G.components) (Self.levels self.old) self.old self.new) }
         ensures failed { OnErr result (Self.has_failed self.new) }
         ensures already { Self.has_failed self.old → result ≡ Err DecodeError.AlreadyFailed }
         ensures after { result ≡ Err DecodeError.AlreadyFailed → Self.has_failed self.old }
@@ -371,7 +381,8 @@ pub trait DecodeExtension: Decoder {
             (group_part G.parts x) self.old self.new) }
         ensures level { OnOk result (Self.levels self.new ≡ Self.levels self.old) }
         ensures only { IfErr result
-            (UnreadAddition Self.step optional (group_type G.components) (Self.levels self.old) self.old) }
+            (UnreadAddition Self.step Self.too_few optional (group_type G.components)
+            (Self.levels self.old) self.old self.new) }
         ensures failed { OnErr result (Self.has_failed self.new) }
         ensures already { Self.has_failed self.old → result ≡ Err DecodeError.AlreadyFailed }
         ensures after { result ≡ Err DecodeError.AlreadyFailed → Self.has_failed self.old }
@@ -405,7 +416,8 @@ pub trait DecodeExtension: Decoder {
             (λ x. Reads Self.step (sequence_type C.table) (Self.levels self.old) (fields (C.root x) (C.added x))
             self.old self.new) }
         ensures level { OnOk result (Self.levels self.new ≡ Self.levels self.old) }
-        ensures only { IfErr result (Unread Self.step (sequence_type C.table) (Self.levels self.old) self.old) }
+        ensures only { IfErr result
+            (Unread Self.step Self.too_few (sequence_type C.table) (Self.levels self.old) self.old self.new) }
         ensures failed { OnErr result (Self.has_failed self.new) }
         ensures already { Self.has_failed self.old → result ≡ Err DecodeError.AlreadyFailed }
         ensures after { result ≡ Err DecodeError.AlreadyFailed → Self.has_failed self.old }

@@ -12,6 +12,7 @@ use Rattle.asn1_schema_presented.specs.Parts.{values_of}
 use Rattle.asn1_schema_presented.specs.Tables.{scope}
 use Rattle.asn1_schema_presented.specs.Chains.{Chain, OneRecord}
 use Rattle.asn1_schema_decode.specs.Reads.{NoLevel, Reads, Unread, ReadsMembers, UnreadMembers}
+use Rattle.asn1_schema_lacking.specs.Carried.{CarriesMembers}
 use Rattle.asn1_schema_constructed.specs.Bags.{bag_type}
 
 count_values : {A : Type 0} (f : A → Value) (xs : List A) → member_count (values_of f xs) ≡ length xs
@@ -36,26 +37,27 @@ module _ {S : Type 0} {step : S → Record → S → Type 0} (s : ℕ → Schema
       } in
       subst (λ (i : ℕ). Reads step (bag_type z h s) i (bag (values_of f xs)) a c) (let z : suc n ≡ m = omega arith in z) y
 
-  pub unread_bag : OneRecord step → ((a : S) (z : Size) (h : Counts) (k : ℕ) (b : S) → step a (bag_begins z h k) b → is_count_within h k ≡ true) → {x : DecodeError} → m ≡ n + 1 → ((k : ℕ) → is_count_within h k ≡ true → step a (bag_begins z h k) b) → UnreadMembers step s n h b x → Unread step (bag_type z h s) m a x
+  pub unread_bag : OneRecord step → {few within : S → S → S → Type 0} → CarriesMembers step few within → ((a : S) (z : Size) (h : Counts) (k : ℕ) (b : S) → step a (bag_begins z h k) b → is_count_within h k ≡ true) → {failed : S} {x : DecodeError} → m ≡ n + 1 → ((k : ℕ) → is_count_within h k ≡ true → step a (bag_begins z h k) b) → UnreadMembers step within s n h b failed x → Unread step few (bag_type z h s) m a failed x
   unfolding bag_type scope presents Fits
-  unread_bag one held {x} l i u =
-      let y : Unread step (bag_type z h s) (suc n) a x = record {
-        none = λ w v c. elim v as (λ v. Fits (set_of z h (s n)) v → Chain step (presents (set_of z h (s n)) v) a c → ⊥) [
+  unread_bag one {few} {within} carries held {failed} {x} l i u =
+      let y : Unread step few (bag_type z h s) (suc n) a failed x = record {
+        none = λ w start near v c. elim v as (λ v. Fits (set_of z h (s n)) v → Chain step (presents (set_of z h (s n)) v) start c → ⊥) [
           | bag vs ↦ λ g p.
-              let k = held a z h (member_count vs) p.0 p.1 in
-              let e = (one a (bag_begins z h (member_count vs)) (bag_begins z h (member_count vs)) p.0 b refl p.1 (i (member_count vs) k)).1 in
-              u.none w vs c k g (subst (λ (y : S). Chain step (member_records (λ v. presents (s n) v) vs) y c) e p.2)
+              let k = held start z h (member_count vs) p.0 p.1 in
+              let q = carries.bag z h (member_count vs) a b failed start (i (member_count vs) k) near in
+              let e = (one start (bag_begins z h (member_count vs)) (bag_begins z h (member_count vs)) p.0 q.0 refl p.1 q.1).1 in
+              u.none w q.0 q.2 vs c k g (subst (λ (y : S). Chain step (member_records (λ v. presents (s n) v) vs) y c) e p.2)
           | _ ↦ λ g p. g
         ];
       } in
-      subst (λ (i : ℕ). Unread step (bag_type z h s) i a x) (let z : suc n ≡ m = omega arith in z) y
+      subst (λ (i : ℕ). Unread step few (bag_type z h s) i a failed x) (let z : suc n ≡ m = omega arith in z) y
 
-pub unread_bag_here : {S : Type 0} {step : S → Record → S → Type 0} (s : ℕ → Schema) (z : Size) (h : Counts) (m : ℕ) {a : S} {x : DecodeError} → NoLevel step (asks_bag z h) m a x → Unread step (bag_type z h s) m a x
+pub unread_bag_here : {S : Type 0} {step : S → Record → S → Type 0} (s : ℕ → Schema) (z : Size) (h : Counts) (m : ℕ) {few : S → S → S → Type 0} {a failed : S} {x : DecodeError} → NoLevel step few (asks_bag z h) m a failed x → Unread step few (bag_type z h s) m a failed x
 unfolding bag_type scope presents Fits
-unread_bag_here s z h zero k = record { none = λ w v c g p. g }
-unread_bag_here {step = step} s z h (suc n) {a} k = record {
-  none = λ w v c. elim v as (λ v. Fits (set_of z h (s n)) v → Chain step (presents (set_of z h (s n)) v) a c → ⊥) [
-    | bag vs ↦ λ g p. k.none w (let y : 0 < suc n = omega arith in y) _ p.0 refl p.1
+unread_bag_here s z h zero k = record { none = λ w start near v c g p. g }
+unread_bag_here {step = step} s z h (suc n) k = record {
+  none = λ w start near v c. elim v as (λ v. Fits (set_of z h (s n)) v → Chain step (presents (set_of z h (s n)) v) start c → ⊥) [
+    | bag vs ↦ λ g p. k.none w start near (let y : 0 < suc n = omega arith in y) _ p.0 refl p.1
     | _ ↦ λ g p. g
   ];
 }

@@ -26,9 +26,9 @@ module _ {S : Type 0} {step : S → Record → S → Type 0} (rs : List ℤ) (e 
   unfolding presents Fits normal
   reads_enumerated n {y} {b = b} k = record { raw = item y; fits = tt; means = refl; chain = (b, k, refl) }
 
-  unread_enumerated : (n : ℕ) {a : S} {x : DecodeError} → NoRecord step (asks_one_of rs e xs) a x → Unread step (λ _. enumerated rs e xs) n a x
+  unread_enumerated : (n : ℕ) {few : S → S → S → Type 0} {a failed : S} {x : DecodeError} → NoRecord step few (asks_one_of rs e xs) a failed x → Unread step few (λ _. enumerated rs e xs) n a failed x
   unfolding presents Fits
-  unread_enumerated n {a} k = record { none = λ w v c. elim v as (λ v. Fits (enumerated rs e xs) v → Chain step (presents (enumerated rs e xs) v) a c → ⊥) [ item z ↦ λ f p. k.none w _ p.0 refl p.1 | _ ↦ λ f p. f ] }
+  unread_enumerated n k = record { none = λ w start near v c. elim v as (λ v. Fits (enumerated rs e xs) v → Chain step (presents (enumerated rs e xs) v) start c → ⊥) [ item z ↦ λ f p. k.none w start near _ p.0 refl p.1 | _ ↦ λ f p. f ] }
 
 -- the same of a type of these items, and of a value that means one
 module _ {S : Type 0} {step : S → Record → S → Type 0} {rs : List ℤ} {e : Bool} {xs : List ℤ} {s : ℕ → Schema} (h : (n : ℕ) → s n ≡ enumerated rs e xs) where
@@ -41,5 +41,5 @@ module _ {S : Type 0} {step : S → Record → S → Type 0} {rs : List ℤ} {e 
   pub reads_item : (n : ℕ) {v : Value} {y : ℤ} {a b : S} → v ≡ item y → step a (one_of rs e xs y) b → Reads step s n v a b
   reads_item n {v} {y} {a} {b} m k = subst (λ u. Reads step s n u a b) (sym m) (reads_as (λ _. enumerated rs e xs) s h (reads_enumerated rs e xs n k))
 
-  pub unread_item : (n : ℕ) {a : S} {x : DecodeError} → NoRecord step (asks_one_of rs e xs) a x → Unread step s n a x
+  pub unread_item : (n : ℕ) {few : S → S → S → Type 0} {a failed : S} {x : DecodeError} → NoRecord step few (asks_one_of rs e xs) a failed x → Unread step few s n a failed x
   unread_item n k = unread_as (λ _. enumerated rs e xs) s h (unread_enumerated rs e xs n k)

@@ -16,6 +16,6 @@ pub record ReadsTagged {S : Type 0} (step : S → Record → S → Type 0) (t : 
   pub reads : Reads step (chosen_type t c) n v old new
 
 -- Why none is: no alternative has the tag, or no value of the one that has it is next.
-pub record UnreadTagged {S : Type 0} (step : S → Record → S → Type 0) (t : Choices) (tag : Tag) (n : ℕ) (old : S)
-    (x : DecodeError) : Type 0 where
-  pub none : (c : Chosen) → of_tag t tag ≡ Some c → Unread step (chosen_type t c) n old x
+pub record UnreadTagged {S : Type 0} (step : S → Record → S → Type 0) (few : S → S → S → Type 0) (t : Choices)
+    (tag : Tag) (n : ℕ) (old failed : S) (x : DecodeError) : Type 0 where
+  pub none : (c : Chosen) → of_tag t tag ≡ Some c → Unread step few (chosen_type t c) n old failed x

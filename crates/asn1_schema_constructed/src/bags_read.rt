@@ -32,7 +32,8 @@ pub trait DecodeBag: Decoder {
         ensures held { IfOk result (λ x. is_count_within (members_of held) (length x.items) ≡ true) }
         ensures level { OnOk result (Self.levels self.new ≡ Self.levels self.old) }
         ensures only { IfErr result
-            (Unread Self.step (bag_under constraints.now held T.schema) (Self.levels self.old) self.old) }
+            (Unread Self.step Self.too_few (bag_under constraints.now held T.schema)
+            (Self.levels self.old) self.old self.new) }
         ensures failed { OnErr result (Self.has_failed self.new) }
         ensures already { Self.has_failed self.old → result ≡ Err DecodeError.AlreadyFailed }
         ensures after { result ≡ Err DecodeError.AlreadyFailed → Self.has_failed self.old }

@@ -29,7 +29,8 @@ pub trait DecodeChoice: Choice + Drop {
             (λ x. Reads D.step (chosen_type Self.table chosen) (D.levels decoder.old) (Self.inner x)
             decoder.old decoder.new) }
         ensures level { OnOk result (D.levels decoder.new ≡ D.levels decoder.old) }
-        ensures only { IfErr result (Unread D.step (chosen_type Self.table chosen) (D.levels decoder.old) decoder.old) }
+        ensures only { IfErr result
+            (Unread D.step D.too_few (chosen_type Self.table chosen) (D.levels decoder.old) decoder.old decoder.new) }
         ensures failed { OnErr result (D.has_failed decoder.new) }
         ensures already { D.has_failed decoder.old → result ≡ Err DecodeError.AlreadyFailed }
         ensures after { result ≡ Err DecodeError.AlreadyFailed → D.has_failed decoder.old };
@@ -51,7 +52,8 @@ pub trait DecodeChoice: Choice + Drop {
             (λ x. ReadsTagged D.step Self.table (tag_of tag) (D.levels decoder.old) (Self.place x) (Self.inner x)
             decoder.old decoder.new) }
         ensures level { OnOk result (D.levels decoder.new ≡ D.levels decoder.old) }
-        ensures only { IfErr result (UnreadTagged D.step Self.table (tag_of tag) (D.levels decoder.old) decoder.old) }
+        ensures only { IfErr result
+            (UnreadTagged D.step D.too_few Self.table (tag_of tag) (D.levels decoder.old) decoder.old decoder.new) }
         ensures failed { OnErr result (D.has_failed decoder.new) }
         ensures unknown { of_tag Self.table (tag_of tag) ≡ None → result ≡ Err DecodeError.InvalidTagVariantOnChoice }
         ensures already { D.has_failed decoder.old → (c : Chosen) → of_tag Self.table (tag_of tag) ≡ Some c
@@ -82,7 +84,8 @@ pub trait DecodeAlternatives: Decoder {
             self.old self.new) }
         ensures level { OnOk result (Self.levels self.new ≡ Self.levels self.old) }
         ensures only { IfErr result
-            (Unread Self.step (T.under (meant constraints.now)) (Self.levels self.old) self.old) }
+            (Unread Self.step Self.too_few (T.under (meant constraints.now))
+            (Self.levels self.old) self.old self.new) }
         ensures failed { OnErr result (Self.has_failed self.new) }
         ensures already { Self.has_failed self.old → result ≡ Err DecodeError.AlreadyFailed }
         ensures after { result ≡ Err DecodeError.AlreadyFailed → Self.has_failed self.old }
@@ -100,7 +103,8 @@ pub trait DecodeAlternatives: Decoder {
         ensures ok { IfOk result (λ x. Self.step self.old (begins C.table x.added x.place) self.new) }
         ensures within { IfOk result (IsAmong C.table) }
         ensures level { OnOk result (Self.levels self.old ≡ Self.levels self.new + 1) }
-        ensures only { IfErr result (NoLevel Self.step (asks C.table) (Self.levels self.old) self.old) }
+        ensures only { IfErr result
+            (NoLevel Self.step Self.too_few (asks C.table) (Self.levels self.old) self.old self.new) }
         ensures failed { OnErr result (Self.has_failed self.new) }
         ensures already { Self.has_failed self.old → result ≡ Err DecodeError.AlreadyFailed }
         ensures after { result ≡ Err DecodeError.AlreadyFailed → Self.has_failed self.old }

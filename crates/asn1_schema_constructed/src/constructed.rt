@@ -55,7 +55,8 @@ pub trait Constructed: AsnType + Drop {
         ensures ok { IfOk result
             (λ x. ReadsTail D.step table (D.levels decoder.old) (root x) (added x) decoder.old decoder.new) }
         ensures level { OnOk result (D.levels decoder.new ≡ D.levels decoder.old + 1) }
-        ensures only { IfErr result (UnreadTail D.step table (D.levels decoder.old) decoder.old) }
+        ensures only { IfErr result
+            (UnreadTail D.step D.too_few table (D.levels decoder.old) decoder.old decoder.new) }
         ensures failed { OnErr result (D.has_failed decoder.new) }
         ensures already { D.has_failed decoder.old → result ≡ Err DecodeError.AlreadyFailed }
         ensures after { result ≡ Err DecodeError.AlreadyFailed → D.has_failed decoder.old };
@@ -114,7 +115,8 @@ pub trait DecodeConstructed: Decoder {
             (λ x. Reads Self.step (sequence_type T.table) (Self.levels self.old) (fields (T.root x) (T.added x))
             self.old self.new) }
         ensures level { OnOk result (Self.levels self.new ≡ Self.levels self.old) }
-        ensures only { IfErr result (Unread Self.step (sequence_type T.table) (Self.levels self.old) self.old) }
+        ensures only { IfErr result
+            (Unread Self.step Self.too_few (sequence_type T.table) (Self.levels self.old) self.old self.new) }
         ensures failed { OnErr result (Self.has_failed self.new) }
         ensures already { Self.has_failed self.old → result ≡ Err DecodeError.AlreadyFailed }
         ensures after { result ≡ Err DecodeError.AlreadyFailed → Self.has_failed self.old }

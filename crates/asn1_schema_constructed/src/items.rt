@@ -54,7 +54,7 @@ pub trait DecodeItems: Decoder {
         ensures ok { IfOk result
             (λ x. Reads Self.step T.schema (Self.levels self.old) (T.meaning x) self.old self.new) }
         ensures level { OnOk result (Self.levels self.new ≡ Self.levels self.old) }
-        ensures only { IfErr result (Unread Self.step T.schema (Self.levels self.old) self.old) }
+        ensures only { IfErr result (Unread Self.step Self.too_few T.schema (Self.levels self.old) self.old self.new) }
         ensures failed { OnErr result (Self.has_failed self.new) }
         ensures already { Self.has_failed self.old → result ≡ Err DecodeError.AlreadyFailed }
         ensures after { result ≡ Err DecodeError.AlreadyFailed → Self.has_failed self.old }

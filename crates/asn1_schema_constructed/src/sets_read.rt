@@ -30,7 +30,8 @@ pub trait DecodeSet: Decoder {
             (λ x. Reads Self.step (set_type C.table) (Self.levels self.old) (fields (C.root x) (C.added x))
             self.old self.new) }
         ensures level { OnOk result (Self.levels self.new ≡ Self.levels self.old) }
-        ensures only { IfErr result (Unread Self.step (set_type C.table) (Self.levels self.old) self.old) }
+        ensures only { IfErr result
+            (Unread Self.step Self.too_few (set_type C.table) (Self.levels self.old) self.old self.new) }
         ensures failed { OnErr result (Self.has_failed self.new) }
         ensures already { Self.has_failed self.old → result ≡ Err DecodeError.AlreadyFailed }
         ensures after { result ≡ Err DecodeError.AlreadyFailed → Self.has_failed self.old }
@@ -53,7 +54,8 @@ pub trait DecodeSet: Decoder {
             (λ x. Reads Self.step (set_type T.table) (Self.levels self.old) (fields (T.root x) (T.added x))
             self.old self.new) }
         ensures level { OnOk result (Self.levels self.new ≡ Self.levels self.old) }
-        ensures only { IfErr result (Unread Self.step (set_type T.table) (Self.levels self.old) self.old) }
+        ensures only { IfErr result
+            (Unread Self.step Self.too_few (set_type T.table) (Self.levels self.old) self.old self.new) }
         ensures failed { OnErr result (Self.has_failed self.new) }
         ensures already { Self.has_failed self.old → result ≡ Err DecodeError.AlreadyFailed }
         ensures after { result ≡ Err DecodeError.AlreadyFailed → Self.has_failed self.old }

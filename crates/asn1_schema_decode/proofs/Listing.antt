@@ -8,7 +8,7 @@ use Rattle.asn1_model.specs.Normal.{normal}
 use Rattle.asn1_model.specs.Numbers.{is_count_within}
 use Rattle.asn1_schema_faults.specs.declared.DecodeError.{DecodeError}
 use Rattle.asn1_schema_presented.specs.Records.{Record, list_begins, further, ends, asks_list, asks_further, asks_end}
-use Rattle.asn1_model.specs.Lawful.{member_count}
+use Rattle.asn1_model.specs.Lawful.{IsLawful, member_count}
 use Rattle.asn1_schema_presented.specs.Presents.{presents, member_records, Fits, AllFit}
 use Rattle.asn1_schema_presented.specs.Parts.{values_of}
 use Rattle.asn1_schema_presented.specs.Tables.{scope, list_type}
@@ -16,6 +16,7 @@ use Rattle.asn1_schema_presented.specs.Chains.{Chain, OneRecord}
 use Rattle.asn1_schema_presented.proofs.Chains.{chain_append, chain_split}
 use Rattle.asn1_schema_presented.proofs.OneValue.{one_value}
 use Rattle.asn1_schema_decode.specs.Reads.{NoRecord, NoLevel, Reads, Unread, ReadsMembers, UnreadMembers}
+use Rattle.asn1_schema_lacking.specs.Carried.{CarriesMembers}
 use Rattle.std.specs.Option.{option_map_or}
 
 -- members, and those behind them
@@ -48,10 +49,10 @@ within_below : (h : Option ℕ) (k n : ℕ) → n ≤ k → option_map_or (λ x.
 within_below None k n l e = refl
 within_below (Some high) k n l e = le-leb n high (let j = leb-true k high e in omega arith)
 
--- a loop over the members: what is read of them so far, and what is behind
-pub record ReadsFrom {S A : Type 0} (step : S → Record → S → Type 0) (s : ℕ → Schema) (n : ℕ) (f : A → Value) (xs : List A) (start now : S) : Type 0 where
+-- a loop over the members: what is read of them so far, and what is behind, also with few octets more
+pub record ReadsFrom {S A : Type 0} (step : S → Record → S → Type 0) (within : S → S → S → Type 0) (s : ℕ → Schema) (n : ℕ) (f : A → Value) (xs : List A) (start now : S) : Type 0 where
   pub done : (us : Values) (c : S) → ReadsMembers step s n us now c → ReadsMembers step s n (joined (values_of f xs) us) start c
-  pub rest : (vs : Values) (c : S) → AllFit (λ v. Fits (s n) v) vs → Chain step (member_records (λ v. presents (s n) v) vs) start c → (ws : Values) × (member_count vs ≡ length xs + member_count ws) × AllFit (λ v. Fits (s n) v) ws × Chain step (member_records (λ v. presents (s n) v) ws) now c
+  pub rest : (failed c : S) → within start failed c → (d : S) × within now failed d × ((vs : Values) (e : S) → AllFit (λ v. Fits (s n) v) vs → Chain step (member_records (λ v. presents (s n) v) vs) c e → (ws : Values) × (member_count vs ≡ length xs + member_count ws) × AllFit (λ v. Fits (s n) v) ws × Chain step (member_records (λ v. presents (s n) v) ws) d e)
 
 module _ {S : Type 0} (step : S → Record → S → Type 0) (s : ℕ → Schema) (n : ℕ) where
   reads_no_more : {a : S} (b : S) {c : S} → step a (further false) b → step b ends c → ReadsMembers step s n no_more a c
@@ -89,68 +90,89 @@ module _ {S : Type 0} (step : S → Record → S → Type 0) (s : ℕ → Schema
         let e = one_value one (s n) q.0 r.raw b t.0 d q.3 r.fits t.1 r.chain in
         (q.1, q.2, q.4, subst (λ (z : S). Chain step (member_records (λ v. presents (s n) v) q.1) z c) e.1 t.2)
 
-module _ {S A : Type 0} {step : S → Record → S → Type 0} {s : ℕ → Schema} {n : ℕ} {f : A → Value} where
-  pub from_start : (a : S) → ReadsFrom step s n f [] a a
-  from_start a = record { done = λ us c h. h; rest = λ vs c g p. (vs, omega arith, g, p) }
+module _ {S A : Type 0} {step : S → Record → S → Type 0} {within : S → S → S → Type 0} {s : ℕ → Schema} {n : ℕ} {f : A → Value} where
+  pub from_start : (a : S) → ReadsFrom step within s n f [] a a
+  from_start a = record { done = λ us c h. h; rest = λ failed c near. (c, near, λ vs e g p. (vs, omega arith, g, p)) }
 
-  pub from_end : {xs : List A} {a b c d : S} → ReadsFrom step s n f xs a b → step b (further false) c → step c ends d → ReadsMembers step s n (values_of f xs) a d
+  pub from_end : {xs : List A} {a b c d : S} → ReadsFrom step within s n f xs a b → step b (further false) c → step c ends d → ReadsMembers step s n (values_of f xs) a d
   from_end {xs} {a} {b} {c} {d} w m h = subst (λ (us : Values). ReadsMembers step s n us a d) (joined_all (values_of f xs)) (w.done no_more d (reads_no_more step s n _ m h))
 
-  pub from_further : (h : Counts) {xs : List A} {a b : S} {x : DecodeError} → ReadsFrom step s n f xs a b → NoRecord step asks_further b x → UnreadMembers step s n h a x
-  from_further h w k = record { none = λ m vs c i g p. let q = w.rest vs c g p in let t = first_further step s n q.0 _ c q.3 in k.none m (further t.0) t.1 refl t.2 }
-
-  module _ (one : OneRecord step) where
-    pub from_next : {xs : List A} {x : A} {a b c d : S} → ReadsFrom step s n f xs a b → step b (further true) c → Reads step s n (f x) c d → ReadsFrom step s n f (xs ++ x ∷ []) a d
-    from_next {xs} {x} {a} {b} {c} {d} w m r = record {
-      done = λ us e k. subst (λ (vs : Values). ReadsMembers step s n vs a e) (sym (joined_more f xs x us)) (w.done (member (f x) us) e (reads_member step s n m r k));
-      rest = λ vs e g p.
-          let q = w.rest vs e g p in
-          let t = behind_member step s n one q.0 e m r q.2 q.3 in
-          let l = one_longer xs x in
-          (t.0, omega (arith, q.1, t.1, l), t.2, t.3);
+  module _ {few : S → S → S → Type 0} (carries : CarriesMembers step few within) where
+    pub from_further : (h : Counts) {xs : List A} {a b failed : S} {x : DecodeError} → ReadsFrom step within s n f xs a b → NoRecord step few asks_further b failed x → UnreadMembers step within s n h a failed x
+    from_further h {a = a} {b = b} {failed = failed} w k = record {
+      none = λ m start near vs c i g p.
+          let y = w.rest failed start near in
+          let q = y.2 vs c g p in
+          let t = first_further step s n q.0 y.0 c q.3 in
+          carries.asked b failed (λ d l v e r. k.none m d l (further v) e refl r) y.0 y.1 t.0 t.1 t.2;
     }
 
-    pub from_stuck : (h : Counts) {xs : List A} {a b c : S} {x : DecodeError} → ReadsFrom step s n f xs a b → step b (further true) c → Unread step s n c x → UnreadMembers step s n h a x
-    from_stuck h w m u = record {
-      none = λ y vs e i g p.
-          let q = w.rest vs e g p in
-          let t = one_further step s n one q.0 e m q.2 q.3 in
-          let z = chain_split step (presents (s n) t.0) (member_records (λ v. presents (s n) v) t.1) _ e t.5 in
-          u.none y t.0 z.0 t.3 z.1;
-    }
+    module _ (one : OneRecord step) where
+      pub from_next : {xs : List A} {x : A} {a b c d : S} → ReadsFrom step within s n f xs a b → step b (further true) c → Reads step s n (f x) c d → ReadsFrom step within s n f (xs ++ x ∷ []) a d
+      from_next {xs} {x} {a} {b} {c} {d} w m r = record {
+        done = λ us e k. subst (λ (vs : Values). ReadsMembers step s n vs a e) (sym (joined_more f xs x us)) (w.done (member (f x) us) e (reads_member step s n m r k));
+        rest = λ failed start near.
+            let y = w.rest failed start near in
+            let z = carries.member (s n) r.raw b c d failed y.0 m r.chain y.1 in (
+              z.1,
+              z.4,
+              λ vs e g p.
+                  let q = y.2 vs e g p in
+                  let u : Reads step s n (f x) z.0 z.1 = record { raw = r.raw; fits = r.fits; means = r.means; chain = z.3 } in
+                  let t = behind_member step s n one q.0 e z.2 u q.2 q.3 in
+                  let l = one_longer xs x in
+                  (t.0, omega (arith, q.1, t.1, l), t.2, t.3),
+            );
+      }
 
-    pub from_close : (h : Counts) {xs : List A} {a b c : S} {x : DecodeError} → ReadsFrom step s n f xs a b → step b (further false) c → NoRecord step asks_end c x → UnreadMembers step s n h a x
-    from_close h w m u = record {
-      none = λ y vs e i g p.
-          let q = w.rest vs e g p in
-          let t = none_further step s n one q.0 e m q.3 in
-          u.none y ends e refl t.1;
-    }
+      pub from_stuck : (h : Counts) → IsLawful (s n) → {xs : List A} {a b c failed : S} {x : DecodeError} → ReadsFrom step within s n f xs a b → step b (further true) c → Unread step few s n c failed x → UnreadMembers step within s n h a failed x
+      from_stuck h lawful {b = b} {c = c} {failed = failed} w m u = record {
+        none = λ y start near vs e i g p.
+            let r = w.rest failed start near in
+            let q = r.2 vs e g p in
+            let z = carries.coming b c failed r.0 m r.1 in
+            let t = one_further step s n one q.0 e z.1 q.2 q.3 in
+            carries.stuck (s n) lawful b c failed m (λ d l v o f p. u.none y d l v o f p) r.0 z.0 r.1 z.1 t.0 t.1 e t.3 t.5;
+      }
 
-    -- one member more than h has room for
-    pub from_full : (h : Counts) (x : DecodeError) {xs : List A} {a b c : S} → ReadsFrom step s n f xs a b → step b (further true) c → not (option_map_or (λ x. leb (length xs + 1) x) h.high true) ≡ true → UnreadMembers step s n h a x
-    from_full h x {xs} w m u = record {
-      none = λ y vs e i g p.
-          let q = w.rest vs e g p in
-          let t = one_further step s n one q.0 e m q.2 q.3 in
-          let j = and_parts (leb h.low (member_count vs)) (option_map_or (λ x. leb (member_count vs) x) h.high true) i in
-          let z : option_map_or (λ x. leb (length xs + 1) x) h.high true ≡ true = within_below h.high (member_count vs) (length xs + 1) (omega (arith, q.1, t.2)) j.1 in
-          let z' : not (option_map_or (λ x. leb (length xs + 1) x) h.high true) ≡ false = rw z refl in
-          let e : true ≡ false = sym u ∙ z' in
-          cc;
-    }
+      pub from_close : (h : Counts) {xs : List A} {a b c failed : S} {x : DecodeError} → ReadsFrom step within s n f xs a b → step b (further false) c → NoRecord step few asks_end c failed x → UnreadMembers step within s n h a failed x
+      from_close h {b = b} {c = c} {failed = failed} w m u = record {
+        none = λ y start near vs e i g p.
+            let r = w.rest failed start near in
+            let q = r.2 vs e g p in
+            let z = carries.last b c failed r.0 m r.1 in
+            let t = none_further step s n one q.0 e z.1 q.3 in
+            u.none y z.0 z.2 ends e refl t.1;
+      }
 
-    -- another number of members than h admits
-    pub from_other : (h : Counts) (x : DecodeError) {xs : List A} {a b c : S} → ReadsFrom step s n f xs a b → step b (further false) c → is_count_within h (length xs) ≡ false → UnreadMembers step s n h a x
-    from_other h x {xs} w m u = record {
-      none = λ y vs e i g p.
-          let q = w.rest vs e g p in
-          let t = none_further step s n one q.0 e m q.3 in
-          let l : member_count q.0 ≡ 0 = ap member_count t.0 in
-          let k : member_count vs ≡ length xs = omega (arith, q.1, l) in
-          let z : is_count_within h (member_count vs) ≡ false = rw k u in
-          cc;
-    }
+      -- one member more than h has room for
+      pub from_full : (h : Counts) (x : DecodeError) {xs : List A} {a b c : S} (failed : S) → ReadsFrom step within s n f xs a b → step b (further true) c → not (option_map_or (λ x. leb (length xs + 1) x) h.high true) ≡ true → UnreadMembers step within s n h a failed x
+      from_full h x {xs} {b = b} {c = c} failed w m u = record {
+        none = λ y start near vs e i g p.
+            let r = w.rest failed start near in
+            let q = r.2 vs e g p in
+            let o = carries.coming b c failed r.0 m r.1 in
+            let t = one_further step s n one q.0 e o.1 q.2 q.3 in
+            let j = and_parts (leb h.low (member_count vs)) (option_map_or (λ x. leb (member_count vs) x) h.high true) i in
+            let z : option_map_or (λ x. leb (length xs + 1) x) h.high true ≡ true = within_below h.high (member_count vs) (length xs + 1) (omega (arith, q.1, t.2)) j.1 in
+            let z' : not (option_map_or (λ x. leb (length xs + 1) x) h.high true) ≡ false = rw z refl in
+            let e : true ≡ false = sym u ∙ z' in
+            cc;
+      }
+
+      -- another number of members than h admits
+      pub from_other : (h : Counts) (x : DecodeError) {xs : List A} {a b c : S} (failed : S) → ReadsFrom step within s n f xs a b → step b (further false) c → is_count_within h (length xs) ≡ false → UnreadMembers step within s n h a failed x
+      from_other h x {xs} {b = b} {c = c} failed w m u = record {
+        none = λ y start near vs e i g p.
+            let r = w.rest failed start near in
+            let q = r.2 vs e g p in
+            let o = carries.last b c failed r.0 m r.1 in
+            let t = none_further step s n one q.0 e o.1 q.3 in
+            let l : member_count q.0 ≡ 0 = ap member_count t.0 in
+            let k : member_count vs ≡ length xs = omega (arith, q.1, l) in
+            let z : is_count_within h (member_count vs) ≡ false = rw k u in
+            cc;
+      }
 
 module _ {S : Type 0} {step : S → Record → S → Type 0} (s : ℕ → Schema) (z : Size) (h : Counts) {a b : S} {m n : ℕ} where
   -- a list begins with any number of members that h admits
@@ -166,26 +188,27 @@ module _ {S : Type 0} {step : S → Record → S → Type 0} (s : ℕ → Schema
       } in
       subst (λ (i : ℕ). Reads step (list_type z h s) i (members (values_of f xs)) a c) (let z : suc n ≡ m = omega arith in z) y
 
-  pub unread_list : OneRecord step → ((a : S) (z : Size) (h : Counts) (k : ℕ) (b : S) → step a (list_begins z h k) b → is_count_within h k ≡ true) → {x : DecodeError} → m ≡ n + 1 → ((k : ℕ) → is_count_within h k ≡ true → step a (list_begins z h k) b) → UnreadMembers step s n h b x → Unread step (list_type z h s) m a x
+  pub unread_list : OneRecord step → {few within : S → S → S → Type 0} → CarriesMembers step few within → ((a : S) (z : Size) (h : Counts) (k : ℕ) (b : S) → step a (list_begins z h k) b → is_count_within h k ≡ true) → {failed : S} {x : DecodeError} → m ≡ n + 1 → ((k : ℕ) → is_count_within h k ≡ true → step a (list_begins z h k) b) → UnreadMembers step within s n h b failed x → Unread step few (list_type z h s) m a failed x
   unfolding list_type scope presents Fits
-  unread_list one held {x} l i u =
-      let y : Unread step (list_type z h s) (suc n) a x = record {
-        none = λ w v c. elim v as (λ v. Fits (sequence_of z h (s n)) v → Chain step (presents (sequence_of z h (s n)) v) a c → ⊥) [
+  unread_list one {few} {within} carries held {failed} {x} l i u =
+      let y : Unread step few (list_type z h s) (suc n) a failed x = record {
+        none = λ w start near v c. elim v as (λ v. Fits (sequence_of z h (s n)) v → Chain step (presents (sequence_of z h (s n)) v) start c → ⊥) [
           | members vs ↦ λ g p.
-              let k = held a z h (member_count vs) p.0 p.1 in
-              let e = (one a (list_begins z h (member_count vs)) (list_begins z h (member_count vs)) p.0 b refl p.1 (i (member_count vs) k)).1 in
-              u.none w vs c k g (subst (λ (y : S). Chain step (member_records (λ v. presents (s n) v) vs) y c) e p.2)
+              let k = held start z h (member_count vs) p.0 p.1 in
+              let q = carries.list z h (member_count vs) a b failed start (i (member_count vs) k) near in
+              let e = (one start (list_begins z h (member_count vs)) (list_begins z h (member_count vs)) p.0 q.0 refl p.1 q.1).1 in
+              u.none w q.0 q.2 vs c k g (subst (λ (y : S). Chain step (member_records (λ v. presents (s n) v) vs) y c) e p.2)
           | _ ↦ λ g p. g
         ];
       } in
-      subst (λ (i : ℕ). Unread step (list_type z h s) i a x) (let z : suc n ≡ m = omega arith in z) y
+      subst (λ (i : ℕ). Unread step few (list_type z h s) i a failed x) (let z : suc n ≡ m = omega arith in z) y
 
-pub unread_list_here : {S : Type 0} {step : S → Record → S → Type 0} (s : ℕ → Schema) (z : Size) (h : Counts) (m : ℕ) {a : S} {x : DecodeError} → NoLevel step (asks_list z h) m a x → Unread step (list_type z h s) m a x
+pub unread_list_here : {S : Type 0} {step : S → Record → S → Type 0} (s : ℕ → Schema) (z : Size) (h : Counts) (m : ℕ) {few : S → S → S → Type 0} {a failed : S} {x : DecodeError} → NoLevel step few (asks_list z h) m a failed x → Unread step few (list_type z h s) m a failed x
 unfolding list_type scope presents Fits
-unread_list_here s z h zero k = record { none = λ w v c g p. g }
+unread_list_here s z h zero k = record { none = λ w start near v c g p. g }
 unread_list_here {step = step} s z h (suc n) {a} k = record {
-  none = λ w v c. elim v as (λ v. Fits (sequence_of z h (s n)) v → Chain step (presents (sequence_of z h (s n)) v) a c → ⊥) [
-    | members vs ↦ λ g p. k.none w (let y : 0 < suc n = omega arith in y) _ p.0 refl p.1
+  none = λ w start near v c. elim v as (λ v. Fits (sequence_of z h (s n)) v → Chain step (presents (sequence_of z h (s n)) v) start c → ⊥) [
+    | members vs ↦ λ g p. k.none w start near (let y : 0 < suc n = omega arith in y) _ p.0 refl p.1
     | _ ↦ λ g p. g
   ];
 }

@@ -32,15 +32,15 @@ module _ {S : Type 0} {step : S → Record → S → Type 0} (low high : ℤ) (c
       rw e (reads_integer _ _ n (subst (λ (h : Range). step a (whole (within_range low high c).bounds h y) b) q m'))
 
   pub unread_ranged : (held : Range) → held_where true held ≡ held_where true any_number → is_at_most low high ≡ true
-      → meant r ≡ within_range low high c → {a : S} {x : DecodeError} → NoRecord step (asks_whole_under r held) a x
-      → Unread step (λ _. constrained_type low high c) n a x
-  unread_ranged held q e m {a} {x} k =
-      let m' = subst (λ (w : Meant). NoRecord step (asks_whole w.bounds (held_where w.is_bounded held)) a x) m k in
-      rw e (unread_integer _ _ n (subst (λ (h : Range). NoRecord step (asks_whole (within_range low high c).bounds h) a x) q m'))
+      → meant r ≡ within_range low high c → {few : S → S → S → Type 0} {a failed : S} {x : DecodeError} → NoRecord step few (asks_whole_under r held) a failed x
+      → Unread step few (λ _. constrained_type low high c) n a failed x
+  unread_ranged held q e m {few} {a} {failed} {x} k =
+      let m' = subst (λ (w : Meant). NoRecord step few (asks_whole w.bounds (held_where w.is_bounded held)) a failed x) m k in
+      rw e (unread_integer _ _ n (subst (λ (h : Range). NoRecord step few (asks_whole (within_range low high c).bounds h) a failed x) q m'))
 
-  pub unread_unranged : is_at_most low high ≡ false → meant r ≡ from_to (negsuc 0) (negsuc 0) → {a : S} {x : DecodeError}
-      → NoRecord step (asks_whole_under r octet) a x → Unread step (λ _. constrained_type low high c) n a x
-  unread_unranged e m {a} {x} k = rw e (unread_integer _ _ n (subst (λ (w : Meant). NoRecord step (asks_whole w.bounds (held_where w.is_bounded octet)) a x) m k))
+  pub unread_unranged : is_at_most low high ≡ false → meant r ≡ from_to (negsuc 0) (negsuc 0) → {few : S → S → S → Type 0} {a failed : S} {x : DecodeError}
+      → NoRecord step few (asks_whole_under r octet) a failed x → Unread step few (λ _. constrained_type low high c) n a failed x
+  unread_unranged e m {few} {a} {failed} {x} k = rw e (unread_integer _ _ n (subst (λ (w : Meant). NoRecord step few (asks_whole w.bounds (held_where w.is_bounded octet)) a failed x) m k))
 
 -- what is from the later of two numbers on, is from the second on
 from_later : (o : Option ℤ) (low v : ℤ) → option_map_or (λ x. is_at_most x v) (later is_at_most o (Some low)) true ≡ true → is_at_most low v ≡ true

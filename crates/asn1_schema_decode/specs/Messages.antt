@@ -1,5 +1,5 @@
 -- Which message stands in front of an input, and what it tells.
-use Rattle.std.specs.Prelude.{◌≡◌, ◌≤◌, ℕ, true, List, ◌++◌}
+use Rattle.std.specs.Prelude.{◌≡◌, ◌≤◌, ◌<◌, ℕ, true, List, ◌++◌, length}
 use Rattle.asn1_model.specs.Value.{Value, same, depth}
 use Rattle.asn1_model.specs.Schema.{Schema}
 use Rattle.asn1_model.specs.Lawful.{IsLawful}
@@ -24,6 +24,10 @@ pub record Tells (r : Rules) (schema : ℕ → Schema) (v : Value) (input rest :
 -- Why nothing is told: for want of memory, or because no message stands in front.
 pub record NoMessage (r : Rules) (schema : ℕ → Schema) (input : List ℕ) (e : DecodeError) : Type 0 where
   pub none : ¬ (e ≡ OutOfMemory) → (v : Value) (rest : List ℕ) → HasMessage r (schema 128) v input rest → ⊥
+
+-- The input does not begin with a message, and still does not with fewer than n octets appended.
+abbrev pub NeedsMore : Rules → (ℕ → Schema) → List ℕ → ℕ → DecodeError → Type 0
+NeedsMore r schema input n e = (more : List ℕ) → length more < n → NoMessage r schema (input ++ more) e
 
 -- An input tells one value at most of a lawful type, up to the order of bags, and one rest stands behind its message.
 abbrev pub OneMessageIn : Rules → Type 0

@@ -14,15 +14,19 @@ use Rattle.asn1_schema_presented.specs.Tables.{Table, components_at}
 use Rattle.asn1_schema_presented.specs.Chains.{Chain}
 use Rattle.asn1_schema_presented.specs.Parts.{normal_part, tail_records, TailFits}
 
--- Why a decoder answers the error x: for want of memory, or because no record is next that answers this question.
-pub record NoRecord {S : Type 0} (step : S → Record → S → Type 0) (q : Question) (old : S) (x : DecodeError) : Type 0
-  where
-    pub none : ¬ (x ≡ OutOfMemory) → (r : Record) (new : S) → question r ≡ q → step old r new → ⊥
+-- Why a decoder returns the error x: it ran out of memory, or no record that answers this question is next, even with a
+-- little more input. `few old failed a` says that a is old with more input appended, but less than the decoder that
+-- failed in failed needs at least.
+pub record NoRecord {S : Type 0} (step : S → Record → S → Type 0) (few : S → S → S → Type 0) (q : Question)
+    (old failed : S) (x : DecodeError) : Type 0 where
+  pub none : ¬ (x ≡ OutOfMemory) → (a : S) → few old failed a → (r : Record) (new : S) → question r ≡ q → step a r new
+      → ⊥
 
 -- Or because no level is left.
-pub record NoLevel {S : Type 0} (step : S → Record → S → Type 0) (q : Question) (levels : ℕ) (old : S)
-    (x : DecodeError) : Type 0 where
-  pub none : ¬ (x ≡ OutOfMemory) → 0 < levels → (r : Record) (new : S) → question r ≡ q → step old r new → ⊥
+pub record NoLevel {S : Type 0} (step : S → Record → S → Type 0) (few : S → S → S → Type 0) (q : Question) (levels : ℕ)
+    (old failed : S) (x : DecodeError) : Type 0 where
+  pub none : ¬ (x ≡ OutOfMemory) → (a : S) → few old failed a → 0 < levels → (r : Record) (new : S) → question r ≡ q
+      → step a r new → ⊥
 
 -- The state goes from old to new by the records of a value that nests at most n levels, and v is its normal form.
 pub record Reads {S : Type 0} (step : S → Record → S → Type 0) (schema : ℕ → Schema) (n : ℕ) (v : Value)
@@ -33,10 +37,10 @@ pub record Reads {S : Type 0} (step : S → Record → S → Type 0) (schema : �
   pub chain : Chain step (presents (schema n) raw) old new
 
 -- Why no value is read: for want of memory, or because the records of none are next.
-pub record Unread {S : Type 0} (step : S → Record → S → Type 0) (schema : ℕ → Schema) (n : ℕ) (old : S)
-    (x : DecodeError) : Type 0 where
-  pub none : ¬ (x ≡ OutOfMemory) → (v : Value) (new : S) → Fits (schema n) v
-      → Chain step (presents (schema n) v) old new → ⊥
+pub record Unread {S : Type 0} (step : S → Record → S → Type 0) (few : S → S → S → Type 0) (schema : ℕ → Schema)
+    (n : ℕ) (old failed : S) (x : DecodeError) : Type 0 where
+  pub none : ¬ (x ≡ OutOfMemory) → (a : S) → few old failed a → (v : Value) (new : S) → Fits (schema n) v
+      → Chain step (presents (schema n) v) a new → ⊥
 
 -- The same of one component.
 pub record ReadsPart {S : Type 0} (step : S → Record → S → Type 0) (o : Presence) (schema : ℕ → Schema) (n : ℕ)
@@ -46,10 +50,11 @@ pub record ReadsPart {S : Type 0} (step : S → Record → S → Type 0) (o : Pr
   pub means : normal_part o (schema n) raw ≡ x
   pub chain : Chain step (part_records (λ v. presents (schema n) v) o (schema n) raw) old new
 
-pub record UnreadPart {S : Type 0} (step : S → Record → S → Type 0) (o : Presence) (schema : ℕ → Schema) (n : ℕ)
-    (old : S) (x : DecodeError) : Type 0 where
-  pub none : ¬ (x ≡ OutOfMemory) → (p : Part) (new : S) → PartFits (λ v. Fits (schema n) v) o p
-      → Chain step (part_records (λ v. presents (schema n) v) o (schema n) p) old new → ⊥
+pub record UnreadPart {S : Type 0} (step : S → Record → S → Type 0) (few : S → S → S → Type 0) (o : Presence)
+    (schema : ℕ → Schema) (n : ℕ) (old failed : S) (x : DecodeError) : Type 0 where
+  pub none : ¬ (x ≡ OutOfMemory) → (a : S) → few old failed a → (p : Part) (new : S)
+      → PartFits (λ v. Fits (schema n) v) o p
+      → Chain step (part_records (λ v. presents (schema n) v) o (schema n) p) a new → ⊥
 
 -- One that may be absent: a presence bit says that it is there, and the records of its value follow.
 pub record ReadsPresent {S : Type 0} (step : S → Record → S → Type 0) (schema : ℕ → Schema) (n : ℕ) (v : Value)
@@ -63,9 +68,10 @@ abbrev pub ReadsOptional : {S : Type 0} → (S → Record → S → Type 0) → 
 ReadsOptional step schema n left_out old new = step old (presence_bit false) new
 ReadsOptional step schema n (there v) old new = ReadsPresent step schema n v old new
 
-pub record UnreadOptional {S : Type 0} (step : S → Record → S → Type 0) (schema : ℕ → Schema) (n : ℕ) (old : S)
-    (x : DecodeError) : Type 0 where
-  pub none : ¬ (x ≡ OutOfMemory) → (p : Part) (new : S) → ReadsOptional step schema n p old new → ⊥
+pub record UnreadOptional {S : Type 0} (step : S → Record → S → Type 0) (few : S → S → S → Type 0) (schema : ℕ → Schema)
+    (n : ℕ) (old failed : S) (x : DecodeError) : Type 0 where
+  pub none : ¬ (x ≡ OutOfMemory) → (a : S) → few old failed a → (p : Part) (new : S)
+      → ReadsOptional step schema n p a new → ⊥
 
 -- One with the default d: it is left out, or spelled out, which is noted, or of another value.
 pub data ReadsDefault {S : Type 0} (step : S → Record → S → Type 0) (schema : ℕ → Schema) (n : ℕ) (d v : Value)
@@ -75,9 +81,10 @@ pub data ReadsDefault {S : Type 0} (step : S → Record → S → Type 0) (schem
       → ReadsDefault step schema n d v old new
   other_value : same v d ≡ false → ReadsPresent step schema n v old new → ReadsDefault step schema n d v old new
 
-pub record UnreadDefault {S : Type 0} (step : S → Record → S → Type 0) (schema : ℕ → Schema) (n : ℕ) (d : Value)
-    (old : S) (x : DecodeError) : Type 0 where
-  pub none : ¬ (x ≡ OutOfMemory) → (v : Value) (new : S) → ReadsDefault step schema n d v old new → ⊥
+pub record UnreadDefault {S : Type 0} (step : S → Record → S → Type 0) (few : S → S → S → Type 0) (schema : ℕ → Schema)
+    (n : ℕ) (d : Value) (old failed : S) (x : DecodeError) : Type 0 where
+  pub none : ¬ (x ≡ OutOfMemory) → (a : S) → few old failed a → (v : Value) (new : S)
+      → ReadsDefault step schema n d v a new → ⊥
 
 -- The same of what is left of a sequence.
 pub record ReadsTail {S : Type 0} (step : S → Record → S → Type 0) (t : Table) (n : ℕ) (ps qs : Parts) (old new : S) :
@@ -89,10 +96,10 @@ pub record ReadsTail {S : Type 0} (step : S → Record → S → Type 0) (t : Ta
   pub means_added : normal_parts (components_at n t.additions) additions ≡ qs
   pub chain : Chain step (tail_records n t root additions) old new
 
-pub record UnreadTail {S : Type 0} (step : S → Record → S → Type 0) (t : Table) (n : ℕ) (old : S) (x : DecodeError) :
-    Type 0 where
-  pub none : ¬ (x ≡ OutOfMemory) → (ps qs : Parts) (new : S) → TailFits n t ps qs
-      → Chain step (tail_records n t ps qs) old new → ⊥
+pub record UnreadTail {S : Type 0} (step : S → Record → S → Type 0) (few : S → S → S → Type 0) (t : Table) (n : ℕ)
+    (old failed : S) (x : DecodeError) : Type 0 where
+  pub none : ¬ (x ≡ OutOfMemory) → (a : S) → few old failed a → (ps qs : Parts) (new : S) → TailFits n t ps qs
+      → Chain step (tail_records n t ps qs) a new → ⊥
 
 -- The same of the members of a list, and its end.
 pub record ReadsMembers {S : Type 0} (step : S → Record → S → Type 0) (schema : ℕ → Schema) (n : ℕ) (us : Values)
@@ -103,7 +110,8 @@ pub record ReadsMembers {S : Type 0} (step : S → Record → S → Type 0) (sch
   pub chain : Chain step (member_records (λ v. presents (schema n) v) raw) old new
 
 -- Why no members of a count within h are read: for want of memory, or because the records of none are next.
-pub record UnreadMembers {S : Type 0} (step : S → Record → S → Type 0) (schema : ℕ → Schema) (n : ℕ) (h : Counts)
-    (old : S) (x : DecodeError) : Type 0 where
-  pub none : ¬ (x ≡ OutOfMemory) → (vs : Values) (new : S) → is_count_within h (member_count vs) ≡ true
-      → AllFit (λ v. Fits (schema n) v) vs → Chain step (member_records (λ v. presents (schema n) v) vs) old new → ⊥
+pub record UnreadMembers {S : Type 0} (step : S → Record → S → Type 0) (few : S → S → S → Type 0) (schema : ℕ → Schema)
+    (n : ℕ) (h : Counts) (old failed : S) (x : DecodeError) : Type 0 where
+  pub none : ¬ (x ≡ OutOfMemory) → (a : S) → few old failed a → (vs : Values) (new : S)
+      → is_count_within h (member_count vs) ≡ true → AllFit (λ v. Fits (schema n) v) vs
+      → Chain step (member_records (λ v. presents (schema n) v) vs) a new → ⊥

@@ -26,7 +26,8 @@ pub trait DecodeComponents: ComponentsOf + Drop {
             (λ x. ReadsTail D.step Self.table (D.levels decoder.old) (Self.root x) (Self.added x)
             decoder.old decoder.new) }
         ensures level { OnOk result (D.levels decoder.new ≡ D.levels decoder.old + 1) }
-        ensures only { IfErr result (UnreadTail D.step Self.table (D.levels decoder.old) decoder.old) }
+        ensures only { IfErr result
+            (UnreadTail D.step D.too_few Self.table (D.levels decoder.old) decoder.old decoder.new) }
         ensures failed { OnErr result (D.has_failed decoder.new) }
         ensures already { D.has_failed decoder.old → result ≡ Err DecodeError.AlreadyFailed }
         ensures after { result ≡ Err DecodeError.AlreadyFailed → D.has_failed decoder.old };
@@ -74,7 +75,8 @@ pub trait DecodeSequence: Decoder {
             (λ x. ReadsPart Self.step optional T.schema (Self.levels self.old) (part_of T.meaning x)
             self.old self.new) }
         ensures level { OnOk result (Self.levels self.new ≡ Self.levels self.old) }
-        ensures only { IfErr result (UnreadPart Self.step optional T.schema (Self.levels self.old) self.old) }
+        ensures only { IfErr result
+            (UnreadPart Self.step Self.too_few optional T.schema (Self.levels self.old) self.old self.new) }
         ensures failed { OnErr result (Self.has_failed self.new) }
         ensures already { Self.has_failed self.old → result ≡ Err DecodeError.AlreadyFailed }
         ensures after { result ≡ Err DecodeError.AlreadyFailed → Self.has_failed self.old }
@@ -94,7 +96,8 @@ pub trait DecodeSequence: Decoder {
             (λ x. ReadsPart Self.step optional T.schema (Self.levels self.old) (part_of T.meaning x)
             self.old self.new) }
         ensures level { OnOk result (Self.levels self.new ≡ Self.levels self.old) }
-        ensures only { IfErr result (UnreadPart Self.step optional T.schema (Self.levels self.old) self.old) }
+        ensures only { IfErr result
+            (UnreadPart Self.step Self.too_few optional T.schema (Self.levels self.old) self.old self.new) }
         ensures failed { OnErr result (Self.has_failed self.new) }
         ensures already { Self.has_failed self.old → result ≡ Err DecodeError.AlreadyFailed }
         ensures after { result ≡ Err DecodeError.AlreadyFailed → Self.has_failed self.old }
@@ -116,7 +119,8 @@ pub trait DecodeSequence: Decoder {
             (part_of T.meaning x) self.old self.new) }
         ensures level { OnOk result (Self.levels self.new ≡ Self.levels self.old) }
         ensures only { IfErr result
-            (UnreadOptional Self.step (T.under (meant constraints.now)) (Self.levels self.old) self.old) }
+            (UnreadOptional Self.step Self.too_few (T.under (meant constraints.now)) (Self.levels self.old)
+            self.old self.new) }
         ensures failed { OnErr result (Self.has_failed self.new) }
         ensures already { Self.has_failed self.old → result ≡ Err DecodeError.AlreadyFailed }
         ensures after { result ≡ Err DecodeError.AlreadyFailed → Self.has_failed self.old }
@@ -138,7 +142,8 @@ pub trait DecodeSequence: Decoder {
             (part_of T.meaning x) self.old self.new) }
         ensures level { OnOk result (Self.levels self.new ≡ Self.levels self.old) }
         ensures only { IfErr result
-            (UnreadOptional Self.step (T.under (meant constraints.now)) (Self.levels self.old) self.old) }
+            (UnreadOptional Self.step Self.too_few (T.under (meant constraints.now)) (Self.levels self.old)
+            self.old self.new) }
         ensures failed { OnErr result (Self.has_failed self.new) }
         ensures already { Self.has_failed self.old → result ≡ Err DecodeError.AlreadyFailed }
         ensures after { result ≡ Err DecodeError.AlreadyFailed → Self.has_failed self.old }
@@ -164,7 +169,8 @@ pub trait DecodeSequence: Decoder {
             (λ x. ReadsPart Self.step optional T.schema (Self.levels self.old) (part_of T.meaning x)
             self.old self.new) }
         ensures level { OnOk result (Self.levels self.new ≡ Self.levels self.old) }
-        ensures only { IfErr result (UnreadPart Self.step optional T.schema (Self.levels self.old) self.old) }
+        ensures only { IfErr result
+            (UnreadPart Self.step Self.too_few optional T.schema (Self.levels self.old) self.old self.new) }
         ensures failed { OnErr result (Self.has_failed self.new) }
         ensures already { Self.has_failed self.old → result ≡ Err DecodeError.AlreadyFailed }
         ensures after { result ≡ Err DecodeError.AlreadyFailed → Self.has_failed self.old }
@@ -186,7 +192,7 @@ pub trait DecodeSequence: Decoder {
             (part_unless (same (T.meaning x) V.value) (T.meaning x)) self.old self.new) }
         ensures level { OnOk result (Self.levels self.new ≡ Self.levels self.old) }
         ensures only { IfErr result
-            (UnreadPart Self.step (by_default V.value) T.schema (Self.levels self.old) self.old) }
+            (UnreadPart Self.step Self.too_few (by_default V.value) T.schema (Self.levels self.old) self.old self.new) }
         ensures failed { OnErr result (Self.has_failed self.new) }
         ensures already { Self.has_failed self.old → result ≡ Err DecodeError.AlreadyFailed }
         ensures after { result ≡ Err DecodeError.AlreadyFailed → Self.has_failed self.old }
@@ -207,7 +213,7 @@ pub trait DecodeSequence: Decoder {
             (part_unless (same (T.meaning x) V.value) (T.meaning x)) self.old self.new) }
         ensures level { OnOk result (Self.levels self.new ≡ Self.levels self.old) }
         ensures only { IfErr result
-            (UnreadPart Self.step (by_default V.value) T.schema (Self.levels self.old) self.old) }
+            (UnreadPart Self.step Self.too_few (by_default V.value) T.schema (Self.levels self.old) self.old self.new) }
         ensures failed { OnErr result (Self.has_failed self.new) }
         ensures already { Self.has_failed self.old → result ≡ Err DecodeError.AlreadyFailed }
         ensures after { result ≡ Err DecodeError.AlreadyFailed → Self.has_failed self.old }
@@ -233,7 +239,8 @@ pub trait DecodeSequence: Decoder {
             (T.meaning x) self.old self.new) }
         ensures level { OnOk result (Self.levels self.new ≡ Self.levels self.old) }
         ensures only { IfErr result
-            (UnreadDefault Self.step (T.under (meant constraints.now)) (Self.levels self.old) V.value self.old) }
+            (UnreadDefault Self.step Self.too_few (T.under (meant constraints.now)) (Self.levels self.old) V.value
+            self.old self.new) }
         ensures failed { OnErr result (Self.has_failed self.new) }
         ensures already { Self.has_failed self.old → result ≡ Err DecodeError.AlreadyFailed }
         ensures after { result ≡ Err DecodeError.AlreadyFailed → Self.has_failed self.old }
@@ -255,7 +262,8 @@ pub trait DecodeSequence: Decoder {
             (T.meaning x) self.old self.new) }
         ensures level { OnOk result (Self.levels self.new ≡ Self.levels self.old) }
         ensures only { IfErr result
-            (UnreadDefault Self.step (T.under (meant constraints.now)) (Self.levels self.old) V.value self.old) }
+            (UnreadDefault Self.step Self.too_few (T.under (meant constraints.now)) (Self.levels self.old) V.value
+            self.old self.new) }
         ensures failed { OnErr result (Self.has_failed self.new) }
         ensures already { Self.has_failed self.old → result ≡ Err DecodeError.AlreadyFailed }
         ensures after { result ≡ Err DecodeError.AlreadyFailed → Self.has_failed self.old }
@@ -290,7 +298,8 @@ pub trait DecodeSequence: Decoder {
             (λ x. Reads Self.step (sequence_type C.table) (Self.levels self.old) (fields (C.root x) (C.added x))
             self.old self.new) }
         ensures level { OnOk result (Self.levels self.new ≡ Self.levels self.old) }
-        ensures only { IfErr result (Unread Self.step (sequence_type C.table) (Self.levels self.old) self.old) }
+        ensures only { IfErr result
+            (Unread Self.step Self.too_few (sequence_type C.table) (Self.levels self.old) self.old self.new) }
         ensures failed { OnErr result (Self.has_failed self.new) }
         ensures already { Self.has_failed self.old → result ≡ Err DecodeError.AlreadyFailed }
         ensures after { result ≡ Err DecodeError.AlreadyFailed → Self.has_failed self.old }

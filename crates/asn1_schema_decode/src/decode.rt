@@ -20,6 +20,7 @@ ghost use Rattle.asn1_schema_types.specs.Told.{asks_whole_under, asks_bits_under
 ghost use Rattle.asn1_schema_types.specs.Told.{asks_characters_under, list_begins_under, bag_begins_under};
 ghost use Rattle.asn1_schema_types.specs.Told.{asks_list_under, asks_bag_under};
 ghost use Rattle.asn1_schema_decode.specs.Reads.{NoRecord, NoLevel, Reads, Unread};
+ghost use Rattle.asn1_schema_lacking.specs.Carried.{CarriesMembers, CarriesRecords, CarriesValues};
 ghost use Rattle.asn1_schema_decode.specs.Answers.{Begins, is_admitted};
 
 use asn1_schema_constraints::{Bounded, Constraints};
@@ -111,6 +112,14 @@ pub trait Decoder {
     /// How what is held before a record and what is held after it go together.
     ghost step: { Self → Record → Self → Type 0 };
 
+    /// The third state is the first with more input appended, but less than the second, in which the decoder has
+    /// failed, needs at least.
+    ghost too_few: { Self → Self → Self → Type 0 };
+
+    /// The same inside a list or bag, for which the second needs at least one octet or bit more for each member that is
+    /// still to come.
+    ghost too_few_members: { Self → Self → Self → Type 0 };
+
     /// An earlier call was refused.
     ghost has_failed: { Self → Type 0 };
 
@@ -135,7 +144,7 @@ pub trait Decoder {
     fn decode_bool(&mut self, tag: Tag) -> Result<bool, DecodeError>
         ensures ok { IfOk result (λ x. step self.old (flag x) self.new) }
         ensures level { OnOk result (levels self.new ≡ levels self.old) }
-        ensures only { IfErr result (NoRecord step asks_flag self.old) }
+        ensures only { IfErr result (NoRecord step too_few asks_flag self.old self.new) }
         ensures no_memory { IfErr result (λ e. e ≡ DecodeError.OutOfMemory → ⊥) }
         ensures failed { OnErr result (has_failed self.new) }
         ensures already { has_failed self.old → result ≡ Err DecodeError.AlreadyFailed }
@@ -145,7 +154,7 @@ pub trait Decoder {
     fn decode_null(&mut self, tag: Tag) -> Result<(), DecodeError>
         ensures ok { OnOk result (step self.old nil self.new) }
         ensures level { OnOk result (levels self.new ≡ levels self.old) }
-        ensures only { IfErr result (NoRecord step asks_nil self.old) }
+        ensures only { IfErr result (NoRecord step too_few asks_nil self.old self.new) }
         ensures no_memory { IfErr result (λ e. e ≡ DecodeError.OutOfMemory → ⊥) }
         ensures failed { OnErr result (has_failed self.new) }
         ensures already { has_failed self.old → result ≡ Err DecodeError.AlreadyFailed }
@@ -161,7 +170,8 @@ pub trait Decoder {
         ensures ok { IfOk result (λ x. step self.old (whole_under constraints.now I.held (I.value x)) self.new) }
         ensures within { IfOk result (λ x. is_admitted constraints.now (I.value x) ≡ true) }
         ensures level { OnOk result (levels self.new ≡ levels self.old) }
-        ensures only { IfErr result (NoRecord step (asks_whole_under constraints.now I.held) self.old) }
+        ensures only { IfErr result
+            (NoRecord step too_few (asks_whole_under constraints.now I.held) self.old self.new) }
         ensures failed { OnErr result (has_failed self.new) }
         ensures already { has_failed self.old → result ≡ Err DecodeError.AlreadyFailed }
         ensures after { result ≡ Err DecodeError.AlreadyFailed → has_failed self.old };
@@ -170,7 +180,8 @@ pub trait Decoder {
     fn decode_enumerated<T: Enumerated>(&mut self, tag: Tag) -> Result<T, DecodeError>
         ensures ok { IfOk result (λ x. step self.old (one_of T.roots T.extensible T.additions (T.number x)) self.new) }
         ensures level { OnOk result (levels self.new ≡ levels self.old) }
-        ensures only { IfErr result (NoRecord step (asks_one_of T.roots T.extensible T.additions) self.old) }
+        ensures only { IfErr result
+            (NoRecord step too_few (asks_one_of T.roots T.extensible T.additions) self.old self.new) }
         ensures failed { OnErr result (has_failed self.new) }
         ensures already { has_failed self.old → result ≡ Err DecodeError.AlreadyFailed }
         ensures after { result ≡ Err DecodeError.AlreadyFailed → has_failed self.old };
@@ -186,7 +197,7 @@ pub trait Decoder {
         ensures ok { IfOk result (λ x. step self.old (bits_under constraints.now held x) self.new) }
         ensures held { IfOk result (λ x. is_count_within (counts_of held) (length x) ≡ true) }
         ensures level { OnOk result (levels self.new ≡ levels self.old) }
-        ensures only { IfErr result (NoRecord step (asks_bits_under constraints.now held) self.old) }
+        ensures only { IfErr result (NoRecord step too_few (asks_bits_under constraints.now held) self.old self.new) }
         ensures failed { OnErr result (has_failed self.new) }
         ensures already { has_failed self.old → result ≡ Err DecodeError.AlreadyFailed }
         ensures after { result ≡ Err DecodeError.AlreadyFailed → has_failed self.old };
@@ -207,7 +218,7 @@ pub trait Decoder {
             (λ x. lends self.old (octets_under constraints.now held (Self.Octets.items x)) self.new
             → Self.Octets.is_lent x) }
         ensures level { OnOk result (levels self.new ≡ levels self.old) }
-        ensures only { IfErr result (NoRecord step (asks_octets_under constraints.now held) self.old) }
+        ensures only { IfErr result (NoRecord step too_few (asks_octets_under constraints.now held) self.old self.new) }
         ensures failed { OnErr result (has_failed self.new) }
         ensures already { has_failed self.old → result ≡ Err DecodeError.AlreadyFailed }
         ensures after { result ≡ Err DecodeError.AlreadyFailed → has_failed self.old };
@@ -222,7 +233,8 @@ pub trait Decoder {
         ensures ok { IfOk result
             (λ x. step self.old (characters_under utf8 constraints.now (string_bytes x)) self.new) }
         ensures level { OnOk result (levels self.new ≡ levels self.old) }
-        ensures only { IfErr result (NoRecord step (asks_characters_under utf8 constraints.now) self.old) }
+        ensures only { IfErr result
+            (NoRecord step too_few (asks_characters_under utf8 constraints.now) self.old self.new) }
         ensures failed { OnErr result (has_failed self.new) }
         ensures already { has_failed self.old → result ≡ Err DecodeError.AlreadyFailed }
         ensures after { result ≡ Err DecodeError.AlreadyFailed → has_failed self.old };
@@ -238,7 +250,8 @@ pub trait Decoder {
         ensures ok { IfOk result
             (λ x. step self.old (characters_under S.kind constraints.now (S.characters x)) self.new) }
         ensures level { OnOk result (levels self.new ≡ levels self.old) }
-        ensures only { IfErr result (NoRecord step (asks_characters_under S.kind constraints.now) self.old) }
+        ensures only { IfErr result
+            (NoRecord step too_few (asks_characters_under S.kind constraints.now) self.old self.new) }
         ensures failed { OnErr result (has_failed self.new) }
         ensures already { has_failed self.old → result ≡ Err DecodeError.AlreadyFailed }
         ensures after { result ≡ Err DecodeError.AlreadyFailed → has_failed self.old };
@@ -251,7 +264,7 @@ pub trait Decoder {
     ) -> Result<ObjectIdentifier, DecodeError>
         ensures ok { IfOk result (λ x. step self.old (identifier x) self.new) }
         ensures level { OnOk result (levels self.new ≡ levels self.old) }
-        ensures only { IfErr result (NoRecord step (asks_identifier) self.old) }
+        ensures only { IfErr result (NoRecord step too_few (asks_identifier) self.old self.new) }
         ensures failed { OnErr result (has_failed self.new) }
         ensures already { has_failed self.old → result ≡ Err DecodeError.AlreadyFailed }
         ensures after { result ≡ Err DecodeError.AlreadyFailed → has_failed self.old };
@@ -267,7 +280,8 @@ pub trait Decoder {
         ensures ok { OnOk result (Begins step held (list_begins_under constraints.now held) self.old self.new) }
         ensures begun { OnOk result (has_failed self.new → ⊥) }
         ensures level { OnOk result (levels self.old ≡ levels self.new + 1) }
-        ensures only { IfErr result (NoLevel step (asks_list_under constraints.now held) (levels self.old) self.old) }
+        ensures only { IfErr result
+            (NoLevel step too_few (asks_list_under constraints.now held) (levels self.old) self.old self.new) }
         ensures failed { OnErr result (has_failed self.new) }
         ensures already { has_failed self.old → result ≡ Err DecodeError.AlreadyFailed }
         ensures after { result ≡ Err DecodeError.AlreadyFailed → has_failed self.old };
@@ -283,7 +297,8 @@ pub trait Decoder {
         ensures ok { OnOk result (Begins step held (bag_begins_under constraints.now held) self.old self.new) }
         ensures begun { OnOk result (has_failed self.new → ⊥) }
         ensures level { OnOk result (levels self.old ≡ levels self.new + 1) }
-        ensures only { IfErr result (NoLevel step (asks_bag_under constraints.now held) (levels self.old) self.old) }
+        ensures only { IfErr result
+            (NoLevel step too_few (asks_bag_under constraints.now held) (levels self.old) self.old self.new) }
         ensures failed { OnErr result (has_failed self.new) }
         ensures already { has_failed self.old → result ≡ Err DecodeError.AlreadyFailed }
         ensures after { result ≡ Err DecodeError.AlreadyFailed → has_failed self.old };
@@ -292,7 +307,7 @@ pub trait Decoder {
     fn get_further(&mut self) -> Result<bool, DecodeError>
         ensures ok { IfOk result (λ x. step self.old (further x) self.new) }
         ensures level { OnOk result (levels self.new ≡ levels self.old) }
-        ensures only { IfErr result (NoRecord step asks_further self.old) }
+        ensures only { IfErr result (NoRecord step too_few asks_further self.old self.new) }
         ensures failed { OnErr result (has_failed self.new) }
         ensures already { has_failed self.old → result ≡ Err DecodeError.AlreadyFailed }
         ensures after { result ≡ Err DecodeError.AlreadyFailed → has_failed self.old };
@@ -307,7 +322,8 @@ pub trait Decoder {
     ) -> Result<(), DecodeError>
         ensures ok { OnOk result (step self.old (sequence_begins extensible optional) self.new) }
         ensures level { OnOk result (levels self.old ≡ levels self.new + 1) }
-        ensures only { IfErr result (NoLevel step (asks_sequence extensible optional) (levels self.old) self.old) }
+        ensures only { IfErr result
+            (NoLevel step too_few (asks_sequence extensible optional) (levels self.old) self.old self.new) }
         ensures failed { OnErr result (has_failed self.new) }
         ensures already { has_failed self.old → result ≡ Err DecodeError.AlreadyFailed }
         ensures after { result ≡ Err DecodeError.AlreadyFailed → has_failed self.old };
@@ -317,7 +333,8 @@ pub trait Decoder {
     fn begin_set(&mut self, tag: Tag, extensible: bool, optional: usize) -> Result<(), DecodeError>
         ensures ok { OnOk result (step self.old (set_begins extensible optional) self.new) }
         ensures level { OnOk result (levels self.old ≡ levels self.new + 1) }
-        ensures only { IfErr result (NoLevel step (asks_set extensible optional) (levels self.old) self.old) }
+        ensures only { IfErr result
+            (NoLevel step too_few (asks_set extensible optional) (levels self.old) self.old self.new) }
         ensures failed { OnErr result (has_failed self.new) }
         ensures already { has_failed self.old → result ≡ Err DecodeError.AlreadyFailed }
         ensures after { result ≡ Err DecodeError.AlreadyFailed → has_failed self.old };
@@ -326,7 +343,7 @@ pub trait Decoder {
     fn begin_group(&mut self, optional: usize) -> Result<(), DecodeError>
         ensures ok { OnOk result (step self.old (group_begins optional) self.new) }
         ensures level { OnOk result (levels self.old ≡ levels self.new + 1) }
-        ensures only { IfErr result (NoLevel step (asks_group optional) (levels self.old) self.old) }
+        ensures only { IfErr result (NoLevel step too_few (asks_group optional) (levels self.old) self.old self.new) }
         ensures failed { OnErr result (has_failed self.new) }
         ensures already { has_failed self.old → result ≡ Err DecodeError.AlreadyFailed }
         ensures after { result ≡ Err DecodeError.AlreadyFailed → has_failed self.old };
@@ -335,7 +352,7 @@ pub trait Decoder {
     fn get_presence_bit(&mut self) -> Result<bool, DecodeError>
         ensures ok { IfOk result (λ x. step self.old (presence_bit x) self.new) }
         ensures level { OnOk result (levels self.new ≡ levels self.old) }
-        ensures only { IfErr result (NoRecord step asks_presence_bit self.old) }
+        ensures only { IfErr result (NoRecord step too_few asks_presence_bit self.old self.new) }
         ensures failed { OnErr result (has_failed self.new) }
         ensures already { has_failed self.old → result ≡ Err DecodeError.AlreadyFailed }
         ensures after { result ≡ Err DecodeError.AlreadyFailed → has_failed self.old }
@@ -346,7 +363,7 @@ pub trait Decoder {
     fn note_default(&mut self) -> Result<(), DecodeError>
         ensures ok { OnOk result (step self.old is_default self.new) }
         ensures level { OnOk result (levels self.new ≡ levels self.old) }
-        ensures only { IfErr result (NoRecord step asks_default self.old) }
+        ensures only { IfErr result (NoRecord step too_few asks_default self.old self.new) }
         ensures failed { OnErr result (has_failed self.new) }
         ensures already { has_failed self.old → result ≡ Err DecodeError.AlreadyFailed }
         ensures after { result ≡ Err DecodeError.AlreadyFailed → has_failed self.old }
@@ -356,7 +373,7 @@ pub trait Decoder {
     fn note_empty(&mut self) -> Result<(), DecodeError>
         ensures ok { OnOk result (step self.old is_empty self.new) }
         ensures level { OnOk result (levels self.new ≡ levels self.old) }
-        ensures only { IfErr result (NoRecord step asks_empty self.old) }
+        ensures only { IfErr result (NoRecord step too_few asks_empty self.old self.new) }
         ensures failed { OnErr result (has_failed self.new) }
         ensures already { has_failed self.old → result ≡ Err DecodeError.AlreadyFailed }
         ensures after { result ≡ Err DecodeError.AlreadyFailed → has_failed self.old }
@@ -367,7 +384,7 @@ pub trait Decoder {
     fn begin_additions(&mut self, count: usize) -> Result<(), DecodeError>
         ensures ok { OnOk result (step self.old (additions_begin count) self.new) }
         ensures level { OnOk result (levels self.new ≡ levels self.old) }
-        ensures only { IfErr result (NoRecord step (asks_additions count) self.old) }
+        ensures only { IfErr result (NoRecord step too_few (asks_additions count) self.old self.new) }
         ensures failed { OnErr result (has_failed self.new) }
         ensures already { has_failed self.old → result ≡ Err DecodeError.AlreadyFailed }
         ensures after { result ≡ Err DecodeError.AlreadyFailed → has_failed self.old };
@@ -376,7 +393,7 @@ pub trait Decoder {
     fn get_addition(&mut self) -> Result<bool, DecodeError>
         ensures ok { IfOk result (λ x. step self.old (addition x) self.new) }
         ensures level { OnOk result (levels self.new ≡ levels self.old) }
-        ensures only { IfErr result (NoRecord step asks_addition self.old) }
+        ensures only { IfErr result (NoRecord step too_few asks_addition self.old self.new) }
         ensures failed { OnErr result (has_failed self.new) }
         ensures already { has_failed self.old → result ≡ Err DecodeError.AlreadyFailed }
         ensures after { result ≡ Err DecodeError.AlreadyFailed → has_failed self.old };
@@ -385,7 +402,7 @@ pub trait Decoder {
     fn end_addition(&mut self) -> Result<(), DecodeError>
         ensures ok { OnOk result (step self.old addition_ends self.new) }
         ensures level { OnOk result (levels self.new ≡ levels self.old) }
-        ensures only { IfErr result (NoRecord step asks_addition_end self.old) }
+        ensures only { IfErr result (NoRecord step too_few asks_addition_end self.old self.new) }
         ensures failed { OnErr result (has_failed self.new) }
         ensures already { has_failed self.old → result ≡ Err DecodeError.AlreadyFailed }
         ensures after { result ≡ Err DecodeError.AlreadyFailed → has_failed self.old };
@@ -398,8 +415,8 @@ pub trait Decoder {
         ensures within { IfOk result (λ x. x.place < length (cond x.added tables.now.additions tables.now.roots)) }
         ensures level { OnOk result (levels self.old ≡ levels self.new + 1) }
         ensures only { IfErr result
-            (NoLevel step (asks_choice tables.now.roots tables.now.extensible tables.now.additions)
-            (levels self.old) self.old) }
+            (NoLevel step too_few (asks_choice tables.now.roots tables.now.extensible tables.now.additions)
+            (levels self.old) self.old self.new) }
         ensures failed { OnErr result (has_failed self.new) }
         ensures already { has_failed self.old → result ≡ Err DecodeError.AlreadyFailed }
         ensures after { result ≡ Err DecodeError.AlreadyFailed → has_failed self.old };
@@ -408,7 +425,7 @@ pub trait Decoder {
     fn end(&mut self) -> Result<(), DecodeError>
         ensures ok { OnOk result (step self.old ends self.new) }
         ensures level { OnOk result (levels self.new ≡ levels self.old + 1) }
-        ensures only { IfErr result (NoRecord step asks_end self.old) }
+        ensures only { IfErr result (NoRecord step too_few asks_end self.old self.new) }
         ensures failed { OnErr result (has_failed self.new) }
         ensures already { has_failed self.old → result ≡ Err DecodeError.AlreadyFailed }
         ensures after { result ≡ Err DecodeError.AlreadyFailed → has_failed self.old };
@@ -433,6 +450,18 @@ pub trait Decoder {
     /// What stands after a record has not failed.
     ghost goes_on: { (a : Self) (r : Record) (b : Self) → step a r b → has_failed b → ⊥ };
 
+    /// With no more input there is too little.
+    ghost few_at_once: { (a failed : Self) → too_few a failed a };
+
+    /// What is next is also next with a little more input.
+    ghost records_carried: { CarriesRecords step too_few };
+
+    /// The same for all records of a value.
+    ghost values_carried: { CarriesValues step too_few };
+
+    /// The same for the members of a list or bag, which need at least one octet or bit each.
+    ghost members_carried: { CarriesMembers step too_few too_few_members };
+
     /// None stands after one that has failed.
     ghost none_after: { (a : Self) (r : Record) (b : Self) → has_failed a → step a r b → ⊥ };
 
@@ -455,7 +484,8 @@ pub trait Decode: AsnType + Drop {
             decoder.old decoder.new) }
         ensures level { OnOk result (D.levels decoder.new ≡ D.levels decoder.old) }
         ensures only { IfErr result
-            (Unread D.step (Self.under (meant constraints.now)) (D.levels decoder.old) decoder.old) }
+            (Unread D.step D.too_few (Self.under (meant constraints.now)) (D.levels decoder.old)
+            decoder.old decoder.new) }
         ensures failed { OnErr result (D.has_failed decoder.new) }
         ensures already { D.has_failed decoder.old → result ≡ Err DecodeError.AlreadyFailed }
         ensures after { result ≡ Err DecodeError.AlreadyFailed → D.has_failed decoder.old };
@@ -469,7 +499,8 @@ pub trait Decode: AsnType + Drop {
         ensures ok { IfOk result
             (λ x. Reads D.step Self.schema (D.levels decoder.old) (Self.meaning x) decoder.old decoder.new) }
         ensures level { OnOk result (D.levels decoder.new ≡ D.levels decoder.old) }
-        ensures only { IfErr result (Unread D.step Self.schema (D.levels decoder.old) decoder.old) }
+        ensures only { IfErr result
+            (Unread D.step D.too_few Self.schema (D.levels decoder.old) decoder.old decoder.new) }
         ensures failed { OnErr result (D.has_failed decoder.new) }
         ensures already { D.has_failed decoder.old → result ≡ Err DecodeError.AlreadyFailed }
         ensures after { result ≡ Err DecodeError.AlreadyFailed → D.has_failed decoder.old }
@@ -489,7 +520,8 @@ pub trait Decode: AsnType + Drop {
         ensures ok { IfOk result
             (λ x. Reads D.step Self.schema (D.levels decoder.old) (Self.meaning x) decoder.old decoder.new) }
         ensures level { OnOk result (D.levels decoder.new ≡ D.levels decoder.old) }
-        ensures only { IfErr result (Unread D.step Self.schema (D.levels decoder.old) decoder.old) }
+        ensures only { IfErr result
+            (Unread D.step D.too_few Self.schema (D.levels decoder.old) decoder.old decoder.new) }
         ensures failed { OnErr result (D.has_failed decoder.new) }
         ensures already { D.has_failed decoder.old → result ≡ Err DecodeError.AlreadyFailed }
         ensures after { result ≡ Err DecodeError.AlreadyFailed → D.has_failed decoder.old }
@@ -517,7 +549,8 @@ pub trait Decode: AsnType + Drop {
             decoder.old decoder.new) }
         ensures level { OnOk result (D.levels decoder.new ≡ D.levels decoder.old) }
         ensures only { IfErr result
-            (Unread D.step (Self.under (meant constraints.now)) (D.levels decoder.old) decoder.old) }
+            (Unread D.step D.too_few (Self.under (meant constraints.now)) (D.levels decoder.old)
+            decoder.old decoder.new) }
         ensures failed { OnErr result (D.has_failed decoder.new) }
         ensures already { D.has_failed decoder.old → result ≡ Err DecodeError.AlreadyFailed }
         ensures after { result ≡ Err DecodeError.AlreadyFailed → D.has_failed decoder.old }

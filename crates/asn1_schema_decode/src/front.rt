@@ -8,6 +8,15 @@ use crate::Decode;
 use asn1_schema_faults::DecodeError;
 use std::alloc::Global;
 
+/// Why octets do not begin with an encoding, and how many more octets are needed at least.
+#[derive(Clone, Copy, Debug, PartialEq, Eq)]
+pub struct Refusal {
+    /// Why they do not.
+    pub error: DecodeError,
+    /// With fewer octets than this appended, they still do not begin with an encoding. Never zero.
+    pub needed: usize,
+}
+
 /// Reads the value whose encoding stands in front of octets, by one set of rules.
 pub trait FrontReader<T: Decode> {
     /// The rules.

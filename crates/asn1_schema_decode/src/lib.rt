@@ -29,6 +29,6 @@ pub mod wide;
 pub use calls::go_on;
 pub use components::{DecodeComponents, DecodeSequence};
 pub use decode::{Decode, Decoder, ReadOctets};
-pub use front::FrontReader;
+pub use front::{FrontReader, Refusal};
 pub use lists::{DecodeList, members_within, most_members};
 pub use values::Iter;

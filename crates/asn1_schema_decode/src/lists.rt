@@ -34,7 +34,8 @@ pub trait DecodeList: Decoder {
         ensures held { IfOk result (λ x. is_count_within (members_of held) (length x.items) ≡ true) }
         ensures level { OnOk result (Self.levels self.new ≡ Self.levels self.old) }
         ensures only { IfErr result
-            (Unread Self.step (list_under constraints.now held T.schema) (Self.levels self.old) self.old) }
+            (Unread Self.step Self.too_few (list_under constraints.now held T.schema) (Self.levels self.old)
+            self.old self.new) }
         ensures failed { OnErr result (Self.has_failed self.new) }
         ensures already { Self.has_failed self.old → result ≡ Err DecodeError.AlreadyFailed }
         ensures after { result ≡ Err DecodeError.AlreadyFailed → Self.has_failed self.old }
@@ -75,7 +76,9 @@ pub fn members_within<T: Decode, D: Decoder>(
         decoder.old decoder.new) }
     ensures held { IfOk result (λ x. is_count_within (members_of held) (length x.items) ≡ true) }
     ensures level { OnOk result (D.levels decoder.new ≡ D.levels decoder.old + 1) }
-    ensures only { IfErr result (UnreadMembers D.step T.schema (D.levels decoder.old) (members_of held) decoder.old) }
+    ensures only { IfErr result
+        (UnreadMembers D.step D.too_few_members T.schema (D.levels decoder.old) (members_of held)
+        decoder.old decoder.new) }
     ensures failed { OnErr result (D.has_failed decoder.new) }
     ensures after { result ≡ Err DecodeError.AlreadyFailed → D.has_failed decoder.old }
 {

@@ -109,7 +109,8 @@ fn read_branches<D: Decoder>(alloc: Global, decoder: &mut D) -> Result<Vec<Tree>
     ensures ok { IfOk result (λ x. Reads D.step branches_schema (D.levels decoder.old)
         (members (values_of tree_meaning x.items)) decoder.old decoder.new) }
     ensures level { OnOk result (D.levels decoder.new ≡ D.levels decoder.old) }
-    ensures only { IfErr result (Unread D.step branches_schema (D.levels decoder.old) decoder.old) }
+    ensures only { IfErr result
+        (Unread D.step D.too_few branches_schema (D.levels decoder.old) decoder.old decoder.new) }
     ensures failed { OnErr result (D.has_failed decoder.new) }
     ensures after { result ≡ Err DecodeError.AlreadyFailed → D.has_failed decoder.old }
 {

@@ -1,6 +1,7 @@
 -- How the item of an enumeration is taken, and why none is.
 use Rattle.std.proofs.Common.{◌≡◌, ℤ, Bool, true, false, List, [], Some, None, sym, ◌∙◌, subst, ap}
 use Rattle.asn1_schema_decode.specs.Reads.{NoRecord}
+use Rattle.asn1_schema_lacking.specs.Carried.{AtOnce}
 use Rattle.asn1_schema_faults.specs.declared.DecodeError.{DecodeError}
 use Rattle.asn1_schema_presented.specs.Records.{Record, question, one_of, asks_one_of}
 use Rattle.asn1_schema_records.proofs.Taking.{leaves, other}
@@ -18,7 +19,7 @@ module _ {a b : Left} {k : Record} where
       leaves (one_of roots e adds w) l (f ∙ (ap (λ (t : Bool). one_of [] t [] v) g ∙ ap (λ (t : ℤ). one_of [] e [] t) (sym h)), i) l.levels
 
   -- another record, or one with another extension marker
-  pub no_one_of : {roots adds : List ℤ} {e m : Bool} {y : DecodeError} → Leaves a k b → m ≡ e → ((v : ℤ) → k ≡ one_of [] m [] v → ⊥) → NoRecord Takes (asks_one_of roots e adds) a y
+  pub no_one_of : {roots adds : List ℤ} {e m : Bool} {y : DecodeError} {failed : Left} → Leaves a k b → m ≡ e → ((v : ℤ) → k ≡ one_of [] m [] v → ⊥) → NoRecord Takes AtOnce (asks_one_of roots e adds) a failed y
   no_one_of {roots} {adds} {e} {m} l g apart = other l go where
     go : (r : Record) → question r ≡ asks_one_of roots e adds → IsKept k r → ⊥
     go (one_of roots' e' adds' w) q i =
@@ -27,7 +28,7 @@ module _ {a b : Left} {k : Record} where
     go r q i = cc q
 
   -- the number of no item
-  pub no_item : {roots adds : List ℤ} {e m : Bool} {v : ℤ} {y : DecodeError} → Leaves a k b → k ≡ one_of [] m [] v → IsNone roots e adds v → NoRecord Takes (asks_one_of roots e adds) a y
+  pub no_item : {roots adds : List ℤ} {e m : Bool} {v : ℤ} {y : DecodeError} {failed : Left} → Leaves a k b → k ≡ one_of [] m [] v → IsNone roots e adds v → NoRecord Takes AtOnce (asks_one_of roots e adds) a failed y
   no_item {roots} {adds} {e} {m} {v} l f n = other l go where
     go : (r : Record) → question r ≡ asks_one_of roots e adds → IsKept k r → ⊥
     go (one_of roots' e' adds' w) q i =

@@ -11,6 +11,8 @@ use Rattle.asn1_schema_constraints.specs.Terms.{bounds_of, held_of}
 use Rattle.asn1_schema_constraints.specs.declared.extensions.Extensible.{Extensible}
 use Rattle.asn1_schema_constraints.specs.declared.parts.Value.{Value}
 use Rattle.asn1_schema_decode.specs.Reads.{NoRecord}
+use Rattle.asn1_schema_lacking.specs.Carried.{AtOnce}
+use Rattle.asn1_schema_decode.proofs.AtOnce.{none_at_once}
 use Rattle.asn1_schema_faults.specs.declared.DecodeError.{DecodeError}
 use Rattle.asn1_schema_faults.specs.declared.DecodeError.TheVariants.{IntegerOverflow, ValueConstraintNotSatisfied, PermittedAlphabet, OutOfMemory}
 use Rattle.asn1_schema_presented.specs.Records.{Record, Question, question, whole, characters, asks_whole, asks_characters}
@@ -21,13 +23,11 @@ use Rattle.asn1_schema_records.specs.Taken.{Left, Takes, Leaves, Levels, IsKept,
 use Rattle.asn1_values_alphabets.specs.Permitted.{permits_all}
 
 -- another record leaves
-pub other : {q : Question} {a b : Left} {k : Record} {x : DecodeError} → Leaves a k b → ((r : Record) → question r ≡ q → IsKept k r → ⊥) → NoRecord Takes q a x
-other {q} {a} {b} {k} h apart = record {
-  none = λ w r c e t.
-      let f : k ∷ b.records ≡ t.front ∷ c.records = sym h.taken ∙ t.taken in
-      let g : k ≡ t.front = cc f in
-      apart r e (subst (λ (y : Record). IsKept y r) (sym g) t.is_kept);
-}
+pub other : {q : Question} {a b failed : Left} {k : Record} {x : DecodeError} → Leaves a k b → ((r : Record) → question r ≡ q → IsKept k r → ⊥) → NoRecord Takes AtOnce q a failed x
+other {q} {a} {b} {failed} {k} h apart = none_at_once Takes (λ w r c e t.
+    let f : k ∷ b.records ≡ t.front ∷ c.records = sym h.taken ∙ t.taken in
+    let g : k ≡ t.front = cc f in
+    apart r e (subst (λ (y : Record). IsKept y r) (sym g) t.is_kept))
 
 -- the one that is asked for leaves
 pub leaves : {a b : Left} {k : Record} (r : Record) → Leaves a k b → IsKept k r → Levels (question r) a b → Takes a r b
@@ -50,7 +50,7 @@ module _ {a b : Left} {k : Record} where
       let t : Takes a (whole z' h v) b = leaves (whole z' h v) l (e ∙ ap (λ (y : Bounds). whole y any_number v) f, w, i) l.levels in
       subst (λ (y : ℤ). Takes a (whole z' h y) b) (sym g) t
 
-  other_whole : {z z' : Bounds} {h : Range} {v : ℤ} {y : DecodeError} → Leaves a k b → k ≡ whole z any_number v → (z ≡ z' → is_within h v ≡ true → (z'.extensible || is_within z'.range v) ≡ true → ⊥) → NoRecord Takes (asks_whole z' h) a y
+  other_whole : {z z' : Bounds} {h : Range} {v : ℤ} {y : DecodeError} {failed : Left} → Leaves a k b → k ≡ whole z any_number v → (z ≡ z' → is_within h v ≡ true → (z'.extensible || is_within z'.range v) ≡ true → ⊥) → NoRecord Takes AtOnce (asks_whole z' h) a failed y
   other_whole {z} {z'} {h} {v} l f apart = other l go where
     go : (r : Record) → question r ≡ asks_whole z' h → IsKept k r → ⊥
     go (whole u i w) q e =
@@ -67,13 +67,13 @@ module _ {a b : Left} {k : Record} where
       let u : Takes a (characters t z' l h cs) b = leaves (characters t z' l h cs) m (e ∙ (ap (λ (y : Size). characters visible y any_alphabet any_count cs) f ∙ ap (λ (s : StringKind). characters s z' any_alphabet any_count cs) (sym (kind_kept t law))), may_be_held t law cs w) m.levels in
       subst (λ (y : List ℕ). Takes a (characters t z' l h y) b) (sym g) u
 
-  pub no_characters : {t : StringKind} → ((cs : List ℕ) → may_hold t cs ≡ permits_all t cs) → {z : Size} {l : Alphabet} {h : Counts} {y : DecodeError} → Leaves a k b → ((u : Size) (cs : List ℕ) → k ≡ characters visible u any_alphabet any_count cs → ⊥) → NoRecord Takes (asks_characters t z l h) a y
+  pub no_characters : {t : StringKind} → ((cs : List ℕ) → may_hold t cs ≡ permits_all t cs) → {z : Size} {l : Alphabet} {h : Counts} {y : DecodeError} {failed : Left} → Leaves a k b → ((u : Size) (cs : List ℕ) → k ≡ characters visible u any_alphabet any_count cs → ⊥) → NoRecord Takes AtOnce (asks_characters t z l h) a failed y
   no_characters {t} law {z} {l} {h} m apart = other m go where
     go : (r : Record) → question r ≡ asks_characters t z l h → IsKept k r → ⊥
     go (characters s u i j cs) q e = let x : s ≡ t = cc q in apart u cs (e.0 ∙ ap (λ (v : StringKind). characters v u any_alphabet any_count cs) (ap kept_kind x ∙ kind_kept t law))
     go r q e = cc q
 
-  other_characters : {t : StringKind} → ((cs : List ℕ) → may_hold t cs ≡ permits_all t cs) → {z z' : Size} {l : Alphabet} {h : Counts} {cs : List ℕ} {y : DecodeError} → Leaves a k b → k ≡ characters visible z any_alphabet any_count cs → (z ≡ z' → permits_all t cs ≡ true → ⊥) → NoRecord Takes (asks_characters t z' l h) a y
+  other_characters : {t : StringKind} → ((cs : List ℕ) → may_hold t cs ≡ permits_all t cs) → {z z' : Size} {l : Alphabet} {h : Counts} {cs : List ℕ} {y : DecodeError} {failed : Left} → Leaves a k b → k ≡ characters visible z any_alphabet any_count cs → (z ≡ z' → permits_all t cs ≡ true → ⊥) → NoRecord Takes AtOnce (asks_characters t z' l h) a failed y
   other_characters {t} law {z} {z'} {l} {h} {cs} m f apart = other m go where
     go : (r : Record) → question r ≡ asks_characters t z' l h → IsKept k r → ⊥
     go (characters s u i j ds) q e =
@@ -86,20 +86,20 @@ module _ {a b : Left} {k : Record} where
     go r q e = cc q
 
   -- ---- why no value of the program's type is made
-  pub no_number : (c : Option (Extensible Value)) (h : Range) {z : Bounds} {v : ℤ} {x y : DecodeError} → Leaves a k b → k ≡ whole z any_number v → y ≡ x → IsUntaken c h v x → NoRecord Takes (asks_whole (bounds_of c) (held_of c h)) a y
-  no_number c h {z} {v} {x} {y} l f e u = go x e u where
-    go : (x : DecodeError) → y ≡ x → IsUntaken c h v x → NoRecord Takes (asks_whole (bounds_of c) (held_of c h)) a y
+  pub no_number : (c : Option (Extensible Value)) (h : Range) {z : Bounds} {v : ℤ} {x y : DecodeError} {failed : Left} → Leaves a k b → k ≡ whole z any_number v → y ≡ x → IsUntaken c h v x → NoRecord Takes AtOnce (asks_whole (bounds_of c) (held_of c h)) a failed y
+  no_number c h {z} {v} {x} {y} {failed} l f e u = go x e u where
+    go : (x : DecodeError) → y ≡ x → IsUntaken c h v x → NoRecord Takes AtOnce (asks_whole (bounds_of c) (held_of c h)) a failed y
     go ValueConstraintNotSatisfied e u = other_whole l f (λ g w i. not_admitted c h v u w i)
     go IntegerOverflow e u = other_whole l f (λ g w i. not_held c h v u.1 w)
-    go OutOfMemory e u = record { none = λ w. absurd (w e) }
+    go OutOfMemory e u = none_at_once Takes (λ w. absurd (w e))
     go x e u = absurd u
 
-  pub no_string : {t : StringKind} → ((cs : List ℕ) → may_hold t cs ≡ permits_all t cs) → {z z' : Size} {l : Alphabet} {h : Counts} {cs : List ℕ} {x y : DecodeError} → Leaves a k b → k ≡ characters visible z any_alphabet any_count cs → y ≡ x → IsUnspelled t cs x → NoRecord Takes (asks_characters t z' l h) a y
-  no_string {t} law {z} {z'} {l} {h} {cs} {x} {y} m f e u = go x e u where
-    go : (x : DecodeError) → y ≡ x → IsUnspelled t cs x → NoRecord Takes (asks_characters t z' l h) a y
+  pub no_string : {t : StringKind} → ((cs : List ℕ) → may_hold t cs ≡ permits_all t cs) → {z z' : Size} {l : Alphabet} {h : Counts} {cs : List ℕ} {x y : DecodeError} {failed : Left} → Leaves a k b → k ≡ characters visible z any_alphabet any_count cs → y ≡ x → IsUnspelled t cs x → NoRecord Takes AtOnce (asks_characters t z' l h) a failed y
+  no_string {t} law {z} {z'} {l} {h} {cs} {x} {y} {failed} m f e u = go x e u where
+    go : (x : DecodeError) → y ≡ x → IsUnspelled t cs x → NoRecord Takes AtOnce (asks_characters t z' l h) a failed y
     go PermittedAlphabet e u = other_characters law m f (λ g w. let i : false ≡ true = sym u ∙ w in cc)
-    go OutOfMemory e u = record { none = λ w. absurd (w e) }
+    go OutOfMemory e u = none_at_once Takes (λ w. absurd (w e))
     go x e u = absurd u
 
-  pub other_sizes : {t : StringKind} → ((cs : List ℕ) → may_hold t cs ≡ permits_all t cs) → {z z' : Size} {l : Alphabet} {h : Counts} {cs : List ℕ} {y : DecodeError} → Leaves a k b → k ≡ characters visible z any_alphabet any_count cs → (z ≡ z' → ⊥) → NoRecord Takes (asks_characters t z' l h) a y
+  pub other_sizes : {t : StringKind} → ((cs : List ℕ) → may_hold t cs ≡ permits_all t cs) → {z z' : Size} {l : Alphabet} {h : Counts} {cs : List ℕ} {y : DecodeError} {failed : Left} → Leaves a k b → k ≡ characters visible z any_alphabet any_count cs → (z ≡ z' → ⊥) → NoRecord Takes AtOnce (asks_characters t z' l h) a failed y
   other_sizes law m f apart = other_characters law m f (λ g w. apart g)

@@ -7,6 +7,7 @@ ghost use Rattle.asn1_model.specs.Numbers.{is_within, is_count_within};
 ghost use Rattle.asn1_schema_constraints.specs.Bounds.{counts_of, members_of};
 ghost use Rattle.asn1_schema_constraints.specs.Terms.{admits_whole, bounds_of, sizes_of};
 ghost use Rattle.asn1_schema_decode.specs.Reads.{NoRecord, NoLevel};
+ghost use Rattle.asn1_schema_lacking.specs.Carried.{AtOnce};
 ghost use Rattle.asn1_schema_types.specs.Told.{whole_under, bits_under, octets_under, characters_under};
 ghost use Rattle.asn1_schema_types.specs.Told.{list_begins_under, bag_begins_under};
 ghost use Rattle.asn1_schema_types.specs.Told.{asks_whole_under, asks_bits_under, asks_octets_under};
@@ -166,10 +167,15 @@ impl RecordDecoder {
 impl Decoder for RecordDecoder {
     ghost use Rattle.asn1_schema_records.specs.ReadingLaws.{takes_one, takes_held, takes_bag_held, takes_none};
     ghost use Rattle.asn1_schema_records.specs.ReadingLaws.{takes_on, takes_same};
+    ghost use Rattle.asn1_schema_lacking.proofs.AtOnce.{at_once, records_at_once, values_at_once, members_at_once};
 
     type Octets = Vec<u8>;
 
     ghost step = { Takes };
+
+    ghost too_few = { AtOnce };
+
+    ghost too_few_members = { AtOnce };
 
     ghost has_failed = { λ d. d.failed ≡ true };
 
@@ -190,7 +196,7 @@ impl Decoder for RecordDecoder {
     fn decode_bool(&mut self, _tag: Tag) -> Result<bool, DecodeError>
         ensures ok { IfOk result (λ x. Takes self.old (flag x) self.new) }
         ensures level { OnOk result (self.new.levels ≡ self.old.levels) }
-        ensures only { IfErr result (NoRecord Takes asks_flag self.old) }
+        ensures only { IfErr result (NoRecord Takes AtOnce asks_flag self.old self.new) }
         ensures no_memory { IfErr result (λ e. e ≡ DecodeError.OutOfMemory → ⊥) }
         ensures failed { OnErr result (self.new.failed ≡ true) }
         ensures already { self.old.failed ≡ true → result ≡ Err DecodeError.AlreadyFailed }
@@ -207,7 +213,7 @@ impl Decoder for RecordDecoder {
     fn decode_null(&mut self, _tag: Tag) -> Result<(), DecodeError>
         ensures ok { OnOk result (Takes self.old nil self.new) }
         ensures level { OnOk result (self.new.levels ≡ self.old.levels) }
-        ensures only { IfErr result (NoRecord Takes asks_nil self.old) }
+        ensures only { IfErr result (NoRecord Takes AtOnce asks_nil self.old self.new) }
         ensures no_memory { IfErr result (λ e. e ≡ DecodeError.OutOfMemory → ⊥) }
         ensures failed { OnErr result (self.new.failed ≡ true) }
         ensures already { self.old.failed ≡ true → result ≡ Err DecodeError.AlreadyFailed }
@@ -233,7 +239,8 @@ impl Decoder for RecordDecoder {
         ensures within { IfOk result (λ x. ((bounds_of constraints.now.value).extensible
             || is_within ((bounds_of constraints.now.value).range) (I.value x)) ≡ true) }
         ensures level { OnOk result (self.new.levels ≡ self.old.levels) }
-        ensures only { IfErr result (NoRecord Takes (asks_whole_under constraints.now I.held) self.old) }
+        ensures only { IfErr result
+            (NoRecord Takes AtOnce (asks_whole_under constraints.now I.held) self.old self.new) }
         ensures failed { OnErr result (self.new.failed ≡ true) }
         ensures already { self.old.failed ≡ true → result ≡ Err DecodeError.AlreadyFailed }
         ensures after { result ≡ Err DecodeError.AlreadyFailed → self.old.failed ≡ true }
@@ -255,7 +262,8 @@ impl Decoder for RecordDecoder {
     fn decode_enumerated<T: Enumerated>(&mut self, _tag: Tag) -> Result<T, DecodeError>
         ensures ok { IfOk result (λ x. Takes self.old (one_of T.roots T.extensible T.additions (T.number x)) self.new) }
         ensures level { OnOk result (self.new.levels ≡ self.old.levels) }
-        ensures only { IfErr result (NoRecord Takes (asks_one_of T.roots T.extensible T.additions) self.old) }
+        ensures only { IfErr result
+            (NoRecord Takes AtOnce (asks_one_of T.roots T.extensible T.additions) self.old self.new) }
         ensures failed { OnErr result (self.new.failed ≡ true) }
         ensures already { self.old.failed ≡ true → result ≡ Err DecodeError.AlreadyFailed }
         ensures after { result ≡ Err DecodeError.AlreadyFailed → self.old.failed ≡ true }
@@ -281,7 +289,7 @@ impl Decoder for RecordDecoder {
         ensures ok { IfOk result (λ x. Takes self.old (bits_under constraints.now held x) self.new) }
         ensures held { IfOk result (λ x. is_count_within (counts_of held) (length x) ≡ true) }
         ensures level { OnOk result (self.new.levels ≡ self.old.levels) }
-        ensures only { IfErr result (NoRecord Takes (asks_bits_under constraints.now held) self.old) }
+        ensures only { IfErr result (NoRecord Takes AtOnce (asks_bits_under constraints.now held) self.old self.new) }
         ensures failed { OnErr result (self.new.failed ≡ true) }
         ensures already { self.old.failed ≡ true → result ≡ Err DecodeError.AlreadyFailed }
         ensures after { result ≡ Err DecodeError.AlreadyFailed → self.old.failed ≡ true }
@@ -309,7 +317,8 @@ impl Decoder for RecordDecoder {
         ensures held { IfOk result (λ x. is_count_within (counts_of held) (length x.items) ≡ true) }
         ensures lent { IfOk result (λ x. ⊥ → ⊥) }
         ensures level { OnOk result (self.new.levels ≡ self.old.levels) }
-        ensures only { IfErr result (NoRecord Takes (asks_octets_under constraints.now held) self.old) }
+        ensures only { IfErr result
+            (NoRecord Takes AtOnce (asks_octets_under constraints.now held) self.old self.new) }
         ensures failed { OnErr result (self.new.failed ≡ true) }
         ensures already { self.old.failed ≡ true → result ≡ Err DecodeError.AlreadyFailed }
         ensures after { result ≡ Err DecodeError.AlreadyFailed → self.old.failed ≡ true }
@@ -335,7 +344,8 @@ impl Decoder for RecordDecoder {
         ensures ok { IfOk result
             (λ x. Takes self.old (characters_under utf8 constraints.now (string_bytes x)) self.new) }
         ensures level { OnOk result (self.new.levels ≡ self.old.levels) }
-        ensures only { IfErr result (NoRecord Takes (asks_characters_under utf8 constraints.now) self.old) }
+        ensures only { IfErr result
+            (NoRecord Takes AtOnce (asks_characters_under utf8 constraints.now) self.old self.new) }
         ensures failed { OnErr result (self.new.failed ≡ true) }
         ensures already { self.old.failed ≡ true → result ≡ Err DecodeError.AlreadyFailed }
         ensures after { result ≡ Err DecodeError.AlreadyFailed → self.old.failed ≡ true }
@@ -361,7 +371,8 @@ impl Decoder for RecordDecoder {
         ensures ok { IfOk result
             (λ x. Takes self.old (characters_under S.kind constraints.now (S.characters x)) self.new) }
         ensures level { OnOk result (self.new.levels ≡ self.old.levels) }
-        ensures only { IfErr result (NoRecord Takes (asks_characters_under S.kind constraints.now) self.old) }
+        ensures only { IfErr result
+            (NoRecord Takes AtOnce (asks_characters_under S.kind constraints.now) self.old self.new) }
         ensures failed { OnErr result (self.new.failed ≡ true) }
         ensures already { self.old.failed ≡ true → result ≡ Err DecodeError.AlreadyFailed }
         ensures after { result ≡ Err DecodeError.AlreadyFailed → self.old.failed ≡ true }
@@ -387,7 +398,7 @@ impl Decoder for RecordDecoder {
     ) -> Result<ObjectIdentifier, DecodeError>
         ensures ok { IfOk result (λ x. Takes self.old (object_identifier x) self.new) }
         ensures level { OnOk result (self.new.levels ≡ self.old.levels) }
-        ensures only { IfErr result (NoRecord Takes (asks_identifier) self.old) }
+        ensures only { IfErr result (NoRecord Takes AtOnce (asks_identifier) self.old self.new) }
         ensures failed { OnErr result (self.new.failed ≡ true) }
         ensures already { self.old.failed ≡ true → result ≡ Err DecodeError.AlreadyFailed }
         ensures after { result ≡ Err DecodeError.AlreadyFailed → self.old.failed ≡ true }
@@ -411,7 +422,7 @@ impl Decoder for RecordDecoder {
         ensures begun { OnOk result (self.new.failed ≡ true → ⊥) }
         ensures level { OnOk result (self.old.levels ≡ self.new.levels + 1) }
         ensures only { IfErr result
-            (NoLevel Takes (asks_list_under constraints.now held) self.old.levels self.old) }
+            (NoLevel Takes AtOnce (asks_list_under constraints.now held) self.old.levels self.old self.new) }
         ensures failed { OnErr result (self.new.failed ≡ true) }
         ensures already { self.old.failed ≡ true → result ≡ Err DecodeError.AlreadyFailed }
         ensures after { result ≡ Err DecodeError.AlreadyFailed → self.old.failed ≡ true }
@@ -439,7 +450,7 @@ impl Decoder for RecordDecoder {
         ensures begun { OnOk result (self.new.failed ≡ true → ⊥) }
         ensures level { OnOk result (self.old.levels ≡ self.new.levels + 1) }
         ensures only { IfErr result
-            (NoLevel Takes (asks_bag_under constraints.now held) self.old.levels self.old) }
+            (NoLevel Takes AtOnce (asks_bag_under constraints.now held) self.old.levels self.old self.new) }
         ensures failed { OnErr result (self.new.failed ≡ true) }
         ensures already { self.old.failed ≡ true → result ≡ Err DecodeError.AlreadyFailed }
         ensures after { result ≡ Err DecodeError.AlreadyFailed → self.old.failed ≡ true }
@@ -459,7 +470,7 @@ impl Decoder for RecordDecoder {
     fn get_further(&mut self) -> Result<bool, DecodeError>
         ensures ok { IfOk result (λ x. Takes self.old (further x) self.new) }
         ensures level { OnOk result (self.new.levels ≡ self.old.levels) }
-        ensures only { IfErr result (NoRecord Takes asks_further self.old) }
+        ensures only { IfErr result (NoRecord Takes AtOnce asks_further self.old self.new) }
         ensures failed { OnErr result (self.new.failed ≡ true) }
         ensures already { self.old.failed ≡ true → result ≡ Err DecodeError.AlreadyFailed }
         ensures after { result ≡ Err DecodeError.AlreadyFailed → self.old.failed ≡ true }
@@ -480,7 +491,8 @@ impl Decoder for RecordDecoder {
     ) -> Result<(), DecodeError>
         ensures ok { OnOk result (Takes self.old (sequence_begins extensible optional) self.new) }
         ensures level { OnOk result (self.old.levels ≡ self.new.levels + 1) }
-        ensures only { IfErr result (NoLevel Takes (asks_sequence extensible optional) self.old.levels self.old) }
+        ensures only { IfErr result
+            (NoLevel Takes AtOnce (asks_sequence extensible optional) self.old.levels self.old self.new) }
         ensures failed { OnErr result (self.new.failed ≡ true) }
         ensures already { self.old.failed ≡ true → result ≡ Err DecodeError.AlreadyFailed }
         ensures after { result ≡ Err DecodeError.AlreadyFailed → self.old.failed ≡ true }
@@ -498,7 +510,8 @@ impl Decoder for RecordDecoder {
     fn begin_set(&mut self, _tag: Tag, extensible: bool, optional: usize) -> Result<(), DecodeError>
         ensures ok { OnOk result (Takes self.old (set_begins extensible optional) self.new) }
         ensures level { OnOk result (self.old.levels ≡ self.new.levels + 1) }
-        ensures only { IfErr result (NoLevel Takes (asks_set extensible optional) self.old.levels self.old) }
+        ensures only { IfErr result
+            (NoLevel Takes AtOnce (asks_set extensible optional) self.old.levels self.old self.new) }
         ensures failed { OnErr result (self.new.failed ≡ true) }
         ensures already { self.old.failed ≡ true → result ≡ Err DecodeError.AlreadyFailed }
         ensures after { result ≡ Err DecodeError.AlreadyFailed → self.old.failed ≡ true }
@@ -516,7 +529,7 @@ impl Decoder for RecordDecoder {
     fn begin_group(&mut self, optional: usize) -> Result<(), DecodeError>
         ensures ok { OnOk result (Takes self.old (group_begins optional) self.new) }
         ensures level { OnOk result (self.old.levels ≡ self.new.levels + 1) }
-        ensures only { IfErr result (NoLevel Takes (asks_group optional) self.old.levels self.old) }
+        ensures only { IfErr result (NoLevel Takes AtOnce (asks_group optional) self.old.levels self.old self.new) }
         ensures failed { OnErr result (self.new.failed ≡ true) }
         ensures already { self.old.failed ≡ true → result ≡ Err DecodeError.AlreadyFailed }
         ensures after { result ≡ Err DecodeError.AlreadyFailed → self.old.failed ≡ true }
@@ -534,7 +547,7 @@ impl Decoder for RecordDecoder {
     fn get_presence_bit(&mut self) -> Result<bool, DecodeError>
         ensures ok { IfOk result (λ x. Takes self.old (presence_bit x) self.new) }
         ensures level { OnOk result (self.new.levels ≡ self.old.levels) }
-        ensures only { IfErr result (NoRecord Takes asks_presence_bit self.old) }
+        ensures only { IfErr result (NoRecord Takes AtOnce asks_presence_bit self.old self.new) }
         ensures failed { OnErr result (self.new.failed ≡ true) }
         ensures already { self.old.failed ≡ true → result ≡ Err DecodeError.AlreadyFailed }
         ensures after { result ≡ Err DecodeError.AlreadyFailed → self.old.failed ≡ true }
@@ -551,7 +564,7 @@ impl Decoder for RecordDecoder {
     fn note_default(&mut self) -> Result<(), DecodeError>
         ensures ok { OnOk result (Takes self.old is_default self.new) }
         ensures level { OnOk result (self.new.levels ≡ self.old.levels) }
-        ensures only { IfErr result (NoRecord Takes asks_default self.old) }
+        ensures only { IfErr result (NoRecord Takes AtOnce asks_default self.old self.new) }
         ensures failed { OnErr result (self.new.failed ≡ true) }
         ensures already { self.old.failed ≡ true → result ≡ Err DecodeError.AlreadyFailed }
         ensures after { result ≡ Err DecodeError.AlreadyFailed → self.old.failed ≡ true }
@@ -570,7 +583,7 @@ impl Decoder for RecordDecoder {
     fn note_empty(&mut self) -> Result<(), DecodeError>
         ensures ok { OnOk result (Takes self.old is_empty self.new) }
         ensures level { OnOk result (self.new.levels ≡ self.old.levels) }
-        ensures only { IfErr result (NoRecord Takes asks_empty self.old) }
+        ensures only { IfErr result (NoRecord Takes AtOnce asks_empty self.old self.new) }
         ensures failed { OnErr result (self.new.failed ≡ true) }
         ensures already { self.old.failed ≡ true → result ≡ Err DecodeError.AlreadyFailed }
         ensures after { result ≡ Err DecodeError.AlreadyFailed → self.old.failed ≡ true }
@@ -589,7 +602,7 @@ impl Decoder for RecordDecoder {
     fn begin_additions(&mut self, count: usize) -> Result<(), DecodeError>
         ensures ok { OnOk result (Takes self.old (additions_begin count) self.new) }
         ensures level { OnOk result (self.new.levels ≡ self.old.levels) }
-        ensures only { IfErr result (NoRecord Takes (asks_additions count) self.old) }
+        ensures only { IfErr result (NoRecord Takes AtOnce (asks_additions count) self.old self.new) }
         ensures failed { OnErr result (self.new.failed ≡ true) }
         ensures already { self.old.failed ≡ true → result ≡ Err DecodeError.AlreadyFailed }
         ensures after { result ≡ Err DecodeError.AlreadyFailed → self.old.failed ≡ true }
@@ -607,7 +620,7 @@ impl Decoder for RecordDecoder {
     fn get_addition(&mut self) -> Result<bool, DecodeError>
         ensures ok { IfOk result (λ x. Takes self.old (addition x) self.new) }
         ensures level { OnOk result (self.new.levels ≡ self.old.levels) }
-        ensures only { IfErr result (NoRecord Takes asks_addition self.old) }
+        ensures only { IfErr result (NoRecord Takes AtOnce asks_addition self.old self.new) }
         ensures failed { OnErr result (self.new.failed ≡ true) }
         ensures already { self.old.failed ≡ true → result ≡ Err DecodeError.AlreadyFailed }
         ensures after { result ≡ Err DecodeError.AlreadyFailed → self.old.failed ≡ true }
@@ -623,7 +636,7 @@ impl Decoder for RecordDecoder {
     fn end_addition(&mut self) -> Result<(), DecodeError>
         ensures ok { OnOk result (Takes self.old addition_ends self.new) }
         ensures level { OnOk result (self.new.levels ≡ self.old.levels) }
-        ensures only { IfErr result (NoRecord Takes asks_addition_end self.old) }
+        ensures only { IfErr result (NoRecord Takes AtOnce asks_addition_end self.old self.new) }
         ensures failed { OnErr result (self.new.failed ≡ true) }
         ensures already { self.old.failed ≡ true → result ≡ Err DecodeError.AlreadyFailed }
         ensures after { result ≡ Err DecodeError.AlreadyFailed → self.old.failed ≡ true }
@@ -644,8 +657,8 @@ impl Decoder for RecordDecoder {
         ensures within { IfOk result (λ x. x.place < length (cond x.added tables.now.additions tables.now.roots)) }
         ensures level { OnOk result (self.old.levels ≡ self.new.levels + 1) }
         ensures only { IfErr result
-            (NoLevel Takes (asks_choice tables.now.roots tables.now.extensible tables.now.additions)
-            self.old.levels self.old) }
+            (NoLevel Takes AtOnce (asks_choice tables.now.roots tables.now.extensible tables.now.additions)
+            self.old.levels self.old self.new) }
         ensures failed { OnErr result (self.new.failed ≡ true) }
         ensures already { self.old.failed ≡ true → result ≡ Err DecodeError.AlreadyFailed }
         ensures after { result ≡ Err DecodeError.AlreadyFailed → self.old.failed ≡ true }
@@ -665,7 +678,7 @@ impl Decoder for RecordDecoder {
     fn end(&mut self) -> Result<(), DecodeError>
         ensures ok { OnOk result (Takes self.old ends self.new) }
         ensures level { OnOk result (self.new.levels ≡ self.old.levels + 1) }
-        ensures only { IfErr result (NoRecord Takes asks_end self.old) }
+        ensures only { IfErr result (NoRecord Takes AtOnce asks_end self.old self.new) }
         ensures failed { OnErr result (self.new.failed ≡ true) }
         ensures already { self.old.failed ≡ true → result ≡ Err DecodeError.AlreadyFailed }
         ensures after { result ≡ Err DecodeError.AlreadyFailed → self.old.failed ≡ true }
@@ -699,6 +712,14 @@ impl Decoder for RecordDecoder {
     ghost bag_held = { takes_bag_held };
 
     ghost goes_on = { takes_on };
+
+    ghost few_at_once = { at_once };
+
+    ghost records_carried = { records_at_once Takes };
+
+    ghost values_carried = { values_at_once Takes };
+
+    ghost members_carried = { members_at_once Takes takes_one };
 
     ghost none_after = { takes_none };
 

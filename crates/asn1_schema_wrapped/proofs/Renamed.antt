@@ -18,5 +18,5 @@ module _ {S : Type 0} {step : S → Record → S → Type 0} where
   pub reads_by : {s t : ℕ → Schema} {n : ℕ} {v w : Value} {a b : S} → s ≡ t → v ≡ w → Reads step s n v a b → Reads step t n w a b
   reads_by {s} {t} {n} {v} {w} {a} {b} e f h = subst (λ (x : Value). Reads step t n x a b) f (subst (λ (x : ℕ → Schema). Reads step x n v a b) e h)
 
-  pub unread_by : {s t : ℕ → Schema} {n : ℕ} {a : S} {x : DecodeError} → s ≡ t → Unread step s n a x → Unread step t n a x
-  unread_by {s} {t} {n} {a} {x} e h = subst (λ (y : ℕ → Schema). Unread step y n a x) e h
+  pub unread_by : {s t : ℕ → Schema} {n : ℕ} {few : S → S → S → Type 0} {a failed : S} {x : DecodeError} → s ≡ t → Unread step few s n a failed x → Unread step few t n a failed x
+  unread_by {s} {t} {n} {few} {a} {failed} {x} e h = subst (λ (y : ℕ → Schema). Unread step few y n a failed x) e h

@@ -26,7 +26,8 @@ pub trait DecodeNamed: Decoder {
         Self: Sized,
         ensures ok { IfOk result (λ x. Self.step self.old (octets any_size any_count x) self.new) }
         ensures level { OnOk result (Self.levels self.new ≡ Self.levels self.old) }
-        ensures only { IfErr result (NoRecord Self.step (asks_octets any_size any_count) self.old) }
+        ensures only { IfErr result
+            (NoRecord Self.step Self.too_few (asks_octets any_size any_count) self.old self.new) }
         ensures failed { OnErr result (Self.has_failed self.new) }
         ensures already { Self.has_failed self.old → result ≡ Err DecodeError.AlreadyFailed }
         ensures after { result ≡ Err DecodeError.AlreadyFailed → Self.has_failed self.old }
@@ -50,7 +51,7 @@ pub trait DecodeNamed: Decoder {
         ensures ok { IfOk result
             (λ x. Reads Self.step T.schema (Self.levels self.old) (T.meaning x) self.old self.new) }
         ensures level { OnOk result (Self.levels self.new ≡ Self.levels self.old) }
-        ensures only { IfErr result (Unread Self.step T.schema (Self.levels self.old) self.old) }
+        ensures only { IfErr result (Unread Self.step Self.too_few T.schema (Self.levels self.old) self.old self.new) }
         ensures failed { OnErr result (Self.has_failed self.new) }
         ensures already { Self.has_failed self.old → result ≡ Err DecodeError.AlreadyFailed }
         ensures after { result ≡ Err DecodeError.AlreadyFailed → Self.has_failed self.old }
@@ -69,7 +70,8 @@ pub trait DecodeNamed: Decoder {
         Self: Sized,
         ensures ok { IfOk result (λ x. Self.step self.old (characters_under visible constraints.now x) self.new) }
         ensures level { OnOk result (Self.levels self.new ≡ Self.levels self.old) }
-        ensures only { IfErr result (NoRecord Self.step (asks_characters_under visible constraints.now) self.old) }
+        ensures only { IfErr result
+            (NoRecord Self.step Self.too_few (asks_characters_under visible constraints.now) self.old self.new) }
         ensures failed { OnErr result (Self.has_failed self.new) }
         ensures already { Self.has_failed self.old → result ≡ Err DecodeError.AlreadyFailed }
         ensures after { result ≡ Err DecodeError.AlreadyFailed → Self.has_failed self.old }
@@ -88,7 +90,8 @@ pub trait DecodeNamed: Decoder {
         Self: Sized,
         ensures ok { IfOk result (λ x. Self.step self.old (characters_under ia5 constraints.now x) self.new) }
         ensures level { OnOk result (Self.levels self.new ≡ Self.levels self.old) }
-        ensures only { IfErr result (NoRecord Self.step (asks_characters_under ia5 constraints.now) self.old) }
+        ensures only { IfErr result
+            (NoRecord Self.step Self.too_few (asks_characters_under ia5 constraints.now) self.old self.new) }
         ensures failed { OnErr result (Self.has_failed self.new) }
         ensures already { Self.has_failed self.old → result ≡ Err DecodeError.AlreadyFailed }
         ensures after { result ≡ Err DecodeError.AlreadyFailed → Self.has_failed self.old }
@@ -107,7 +110,8 @@ pub trait DecodeNamed: Decoder {
         Self: Sized,
         ensures ok { IfOk result (λ x. Self.step self.old (characters_under printable constraints.now x) self.new) }
         ensures level { OnOk result (Self.levels self.new ≡ Self.levels self.old) }
-        ensures only { IfErr result (NoRecord Self.step (asks_characters_under printable constraints.now) self.old) }
+        ensures only { IfErr result
+            (NoRecord Self.step Self.too_few (asks_characters_under printable constraints.now) self.old self.new) }
         ensures failed { OnErr result (Self.has_failed self.new) }
         ensures already { Self.has_failed self.old → result ≡ Err DecodeError.AlreadyFailed }
         ensures after { result ≡ Err DecodeError.AlreadyFailed → Self.has_failed self.old }
@@ -126,7 +130,8 @@ pub trait DecodeNamed: Decoder {
         Self: Sized,
         ensures ok { IfOk result (λ x. Self.step self.old (characters_under numeric constraints.now x) self.new) }
         ensures level { OnOk result (Self.levels self.new ≡ Self.levels self.old) }
-        ensures only { IfErr result (NoRecord Self.step (asks_characters_under numeric constraints.now) self.old) }
+        ensures only { IfErr result
+            (NoRecord Self.step Self.too_few (asks_characters_under numeric constraints.now) self.old self.new) }
         ensures failed { OnErr result (Self.has_failed self.new) }
         ensures already { Self.has_failed self.old → result ≡ Err DecodeError.AlreadyFailed }
         ensures after { result ≡ Err DecodeError.AlreadyFailed → Self.has_failed self.old }
@@ -145,7 +150,8 @@ pub trait DecodeNamed: Decoder {
         Self: Sized,
         ensures ok { IfOk result (λ x. Self.step self.old (characters_under general constraints.now x) self.new) }
         ensures level { OnOk result (Self.levels self.new ≡ Self.levels self.old) }
-        ensures only { IfErr result (NoRecord Self.step (asks_characters_under general constraints.now) self.old) }
+        ensures only { IfErr result
+            (NoRecord Self.step Self.too_few (asks_characters_under general constraints.now) self.old self.new) }
         ensures failed { OnErr result (Self.has_failed self.new) }
         ensures already { Self.has_failed self.old → result ≡ Err DecodeError.AlreadyFailed }
         ensures after { result ≡ Err DecodeError.AlreadyFailed → Self.has_failed self.old }
@@ -164,7 +170,8 @@ pub trait DecodeNamed: Decoder {
         Self: Sized,
         ensures ok { IfOk result (λ x. Self.step self.old (characters_under graphic constraints.now x) self.new) }
         ensures level { OnOk result (Self.levels self.new ≡ Self.levels self.old) }
-        ensures only { IfErr result (NoRecord Self.step (asks_characters_under graphic constraints.now) self.old) }
+        ensures only { IfErr result
+            (NoRecord Self.step Self.too_few (asks_characters_under graphic constraints.now) self.old self.new) }
         ensures failed { OnErr result (Self.has_failed self.new) }
         ensures already { Self.has_failed self.old → result ≡ Err DecodeError.AlreadyFailed }
         ensures after { result ≡ Err DecodeError.AlreadyFailed → Self.has_failed self.old }
@@ -183,7 +190,8 @@ pub trait DecodeNamed: Decoder {
         Self: Sized,
         ensures ok { IfOk result (λ x. Self.step self.old (characters_under teletex constraints.now x) self.new) }
         ensures level { OnOk result (Self.levels self.new ≡ Self.levels self.old) }
-        ensures only { IfErr result (NoRecord Self.step (asks_characters_under teletex constraints.now) self.old) }
+        ensures only { IfErr result
+            (NoRecord Self.step Self.too_few (asks_characters_under teletex constraints.now) self.old self.new) }
         ensures failed { OnErr result (Self.has_failed self.new) }
         ensures already { Self.has_failed self.old → result ≡ Err DecodeError.AlreadyFailed }
         ensures after { result ≡ Err DecodeError.AlreadyFailed → Self.has_failed self.old }
@@ -202,7 +210,8 @@ pub trait DecodeNamed: Decoder {
         Self: Sized,
         ensures ok { IfOk result (λ x. Self.step self.old (characters_under bmp constraints.now x) self.new) }
         ensures level { OnOk result (Self.levels self.new ≡ Self.levels self.old) }
-        ensures only { IfErr result (NoRecord Self.step (asks_characters_under bmp constraints.now) self.old) }
+        ensures only { IfErr result
+            (NoRecord Self.step Self.too_few (asks_characters_under bmp constraints.now) self.old self.new) }
         ensures failed { OnErr result (Self.has_failed self.new) }
         ensures already { Self.has_failed self.old → result ≡ Err DecodeError.AlreadyFailed }
         ensures after { result ≡ Err DecodeError.AlreadyFailed → Self.has_failed self.old }

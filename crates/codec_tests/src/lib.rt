@@ -1,6 +1,6 @@
-//! Tests of both codecs by one call after another of their encoders and decoders, and of OER and COER of what no line
-//! of vectors says: what a call leaves in a buffer that it is lent, values that have no encoding, and readers and
-//! writers of tags and lengths.
+//! Tests of both codecs call by call, and of what no line of the vectors covers in OER and COER: what a call leaves
+//! in a borrowed buffer, values without an encoding, how many octets a refused input needs, and readers and writers of
+//! tags and length determinants.
 #![tactic(auto)]
 
 #[cfg(test)]
@@ -15,6 +15,8 @@ mod encoders;
 mod fronts;
 #[cfg(test)]
 mod messages;
+#[cfg(test)]
+mod needed;
 #[cfg(test)]
 mod spelled;
 #[cfg(test)]

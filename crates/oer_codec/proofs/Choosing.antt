@@ -1,5 +1,5 @@
 -- Choices in front.
-use Rattle.std.proofs.Common.{◌≡◌, ℕ, Bool, true, false, List, ◌∷◌, Some, None, refl, sym, ◌∙◌, subst}
+use Rattle.std.proofs.Common.{◌≡◌, ℕ, Bool, true, false, List, [], ◌++◌, Some, None, refl, sym, ◌∙◌, subst}
 use Rattle.asn1_laws_fronts.proofs.Tags.{tags_alike}
 use Rattle.asn1_model.specs.Oer
 use Rattle.asn1_model.specs.Schema.{Tag}
@@ -11,10 +11,13 @@ use Rattle.oer_codec_reading.specs.Fronts.{Stands, Misses}
 use Rattle.oer_codec_reading.proofs.Skipping.{as_front, as_stands}
 use Rattle.oer_codec_reading.specs.Alternatives.{NoTag}
 use Rattle.oer_codec.specs.Refusals.{NoEntry, NoChoice}
+use Rattle.oer_codec_longer.proofs.Behind.{front_more}
+use Rattle.oer_codec.specs.Missing.{StillTooShort, StillNoEntry, StillNoChoice}
 use Rattle.oer_codec.proofs.Adding.{not_opened}
+use Rattle.oer_codec.proofs.ShortStrings.{none_counted}
 
 module _ (roots : List Tag) (e : Bool) (others : List Tag) (t : Tag) where
-  same_side : (p q : Bool) (i j : ℕ) → IsPlace roots e others t p i → IsPlace roots e others t q j → p ≡ q
+  pub same_side : (p q : Bool) (i j : ℕ) → IsPlace roots e others t p i → IsPlace roots e others t q j → p ≡ q
   same_side false false i j f g = refl
   same_side true true i j f g = refl
   same_side false true i j f g = let h : Some i ≡ None = sym f ∙ g.1 in cc h
@@ -31,7 +34,7 @@ module _ (free : Oer.Freedom → Bool) (roots : List Tag) (x : Bool) (others : L
   no_choice os e h = record { none = λ i plus j k b c. h.none i x c.0 plus j c.1 c.2 (as_stands free (Oer.tag_form c.0) os c.1 c.3); fresh = h.fresh }
 
   -- one tag at most stands in front
-  one_tag : (t u : Tag) (os r s : List ℕ) → Stands free (Oer.tag_form t) os r → Stands free (Oer.tag_form u) os s → (t ≡ u) × (r ≡ s)
+  pub one_tag : (t u : Tag) (os r s : List ℕ) → Stands free (Oer.tag_form t) os r → Stands free (Oer.tag_form u) os s → (t ≡ u) × (r ≡ s)
   one_tag t u os r s h g =
       let q = same_fronts free (tags_alike free t u) os r s (as_front free (Oer.tag_form t) os r h) (as_front free (Oer.tag_form u) os s g) in
       (same_tag t u q.0, q.1)
@@ -52,3 +55,15 @@ module _ (free : Oer.Freedom → Bool) (roots : List Tag) (x : Bool) (others : L
         let s : plus ≡ p = same_side roots x others t plus p j n (subst (λ u. IsPlace roots x others u plus j) q.0 c.2) place in
         entry.none i k b (subst (λ m. Enters free p m k b) q.1 (subst (λ a. Enters free a c.1 k b) s c.4));
   }
+
+  -- where an alternative lacks octets behind its tag, the choice does
+  pub no_choice_yet : (t : Tag) (p : Bool) (n : ℕ) (os mid : List ℕ) (m : ℕ) → Stands free (Oer.tag_form t) os mid → IsPlace roots x others t p n → StillNoEntry free p mid m → StillNoChoice free roots x others os m
+  no_choice_yet t p n os mid m h place entry more i l plus j k b c =
+      let g = front_more free more (Oer.tag_form t) [] os mid (as_front free (Oer.tag_form t) os mid h) in
+      let q = one_tag c.0 t (os ++ more) c.1 (mid ++ more) (as_stands free (Oer.tag_form c.0) (os ++ more) c.1 c.3) (as_stands free (Oer.tag_form t) (os ++ more) (mid ++ more) g) in
+      let s : plus ≡ p = same_side roots x others t plus p j n (subst (λ u. IsPlace roots x others u plus j) q.0 c.2) place in
+      entry more i l k b (subst (λ m. Enters free p m k b) q.1 (subst (λ a. Enters free a c.1 k b) s c.4))
+
+pub no_entry_yet : (free : Oer.Freedom → Bool) (p : Bool) (os : List ℕ) (n : ℕ) → p ≡ true → StillTooShort free None os n → StillNoEntry free p os n
+no_entry_yet free true os n e short more i l k b c = none_counted free (os ++ more) (short more i l) b.0 c.0 (as_stands free (Oer.counted b.0) (os ++ more) c.0 c.1)
+no_entry_yet free false os n e short more i l k b c = cc e

@@ -10,7 +10,7 @@ use Rattle.asn1_model.specs.Numbers.{is_within, is_count_within}
 use Rattle.asn1_model.specs.Form.{Reads, only_if}
 use Rattle.asn1_model.specs.Oer
 use Rattle.asn1_laws_fronts.proofs.OerNumbers.{unsigned_alike}
-use Rattle.asn1_schema_decode.specs.Reads.{NoRecord, NoLevel}
+use Rattle.oer_codec.proofs.Refused.{NoneIn, NoneInLevel}
 use Rattle.asn1_schema_faults.specs.declared.DecodeError.{DecodeError}
 use Rattle.asn1_schema_faults.specs.declared.DecodeError.TheVariants.{AlreadyFailed, OutOfMemory}
 use Rattle.asn1_schema_presented.specs.Records.{Record, Question, question, flag, nil, whole, bits, octets, characters, identifier, list_begins, sequence_begins, asks_flag, asks_nil, asks_whole, asks_bits, asks_octets, asks_characters, asks_identifier, asks_list, asks_sequence}
@@ -19,7 +19,7 @@ use Rattle.oer_codec_reading.proofs.Fronts.{missed, not_before}
 use Rattle.oer_codec_reading.specs.Whole.{count_in}
 use Rattle.oer_codec_fronts.specs.Takes.{Scope, components, members, State, Front, Found, Counted, Begins, Takes}
 use Rattle.oer_codec_fronts.proofs.Next.{same_fronts}
-use Rattle.oer_codec.specs.Held.{Held, state_of, Finds, IsReady}
+use Rattle.oer_codec_held.specs.Held.{Held, state_of, Finds, IsReady}
 use Rattle.oer_codec.specs.Members.{HasMembers, NoMembers}
 use Rattle.oer_codec.specs.Preamble.{HasPreamble}
 use Rattle.std.specs.Option.{option_map_or}
@@ -31,7 +31,7 @@ take_whole zero (x ∷ l) h = absurd (omega (arith, h))
 take_whole (suc k) [] h = refl
 take_whole (suc k) (x ∷ l) h = ap (λ t. x ∷ t) (take_whole k l (omega (arith, h)))
 
-stands : {free : Oer.Freedom → Bool} {x : Oer.OctetForm} {os rest : List ℕ} → Front free x os rest → Stands free x os rest
+pub stands : {free : Oer.Freedom → Bool} {x : Oer.OctetForm} {os rest : List ℕ} → Front free x os rest → Stands free x os rest
 stands f = (f.text, f.in_front, f.has_form)
 
 -- ---- scalars
@@ -68,7 +68,7 @@ module _ (free : Oer.Freedom → Bool) (a b : State) where
   asked_identifier r k t = cc k
 
 -- none of a type is found where none stands in front
-pub none_found : (old now : Held) (q : Question) (s : Schema) (e x : DecodeError) → now ≡ old → x ≡ e → NoFront (freedoms now.rules) s now.octets e → ((free : Oer.Freedom → Bool) (a b : State) (r : Record) → question r ≡ q → Takes free a r b → OfType free a b s) → NoRecord Finds q old x
+pub none_found : (old now : Held) (q : Question) (s : Schema) (e x : DecodeError) → now ≡ old → x ≡ e → NoFront (freedoms now.rules) s now.octets e → ((free : Oer.Freedom → Bool) (a b : State) (r : Record) → question r ≡ q → Takes free a r b → OfType free a b s) → NoneIn q old x
 none_found old now q s e x same faults m asked =
     let n : NoFront (freedoms old.rules) s old.octets e = subst (λ (h : Held). NoFront (freedoms h.rules) s h.octets e) same m in
     record { none = λ i r new k p. let t = asked (freedoms old.rules) (state_of old) (state_of new) r k p.taken in missed (freedoms old.rules) (Oer.form s) old.octets e n (λ y. i (faults ∙ y)) t.0 new.octets (stands t.1.0) }
@@ -107,7 +107,7 @@ pub both_ok : {A E : Type 0} {P Q R : Type 0} (r : Result A E) → OnOk r P → 
 both_ok (Ok x) p q f = f p q
 both_ok (Err e) p q f = tt
 
-pub opens : (old now new : Held) (s : Scope) (rest : List ℕ) (r : Record) → now ≡ old → IsReady old → Takes (freedoms now.rules) (state_of now) r (rest, s ∷ now.scopes) → ((most l : ℕ) → level most r (suc l) ≡ Some l) → now.levels ≡ new.levels + 1 → new ≡ record { octets = rest; scopes = s ∷ now.scopes; levels = new.levels; most = now.most; failed = now.failed; rules = now.rules } → Finds old r new
+pub opens : (old now new : Held) (s : Scope) (rest : List ℕ) (r : Record) → now ≡ old → IsReady old → Takes (freedoms now.rules) (state_of now) r (rest, s ∷ now.scopes) → ((most l : ℕ) → level most r (suc l) ≡ Some l) → now.levels ≡ new.levels + 1 → new ≡ record { octets = rest; scopes = s ∷ now.scopes; levels = new.levels; most = now.most; failed = now.failed; short = now.short; rules = now.rules } → Finds old r new
 opens old now new s rest r same ready t lower e f =
     let g : Takes (freedoms old.rules) (state_of old) r (rest, s ∷ old.scopes) = subst (λ (h : Held). Takes (freedoms h.rules) (state_of h) r (rest, s ∷ h.scopes)) same t in
     let k : (rest, s ∷ old.scopes) ≡ state_of new = ap (λ (h : Held). (rest, s ∷ h.scopes)) (sym same) ∙ sym (ap state_of f) in
@@ -118,6 +118,7 @@ opens old now new s rest r same ready t lower e f =
       levels = ap (level old.most r) l ∙ lower old.most new.levels;
       most = ap (λ (h : Held). h.most) f ∙ ap (λ (h : Held). h.most) same;
       ready_still = ap (λ (h : Held). h.failed) f ∙ ap (λ (h : Held). h.failed) same ∙ ready;
+      short = ap (λ (h : Held). h.short) f ∙ ap (λ (h : Held). h.short) same;
       rules = ap (λ (h : Held). h.rules) f ∙ ap (λ (h : Held). h.rules) same;
     }
 
@@ -137,7 +138,7 @@ pub no_beginning : (free : Oer.Freedom → Bool) (e : Bool) (n : ℕ) (a b : Sta
 unfolding Reads
 no_beginning free e n a b t none = none (components t.0 t.1) b.0 (t.2, t.3, (t.4.text, t.4.has_form, t.4.in_front))
 
-pub no_sequence : (old now : Held) (e : Bool) (n : ℕ) (x : DecodeError) → now ≡ old → ((s : Scope) (rest : List ℕ) → HasPreamble e n s now.octets rest → ⊥) → NoLevel Finds (asks_sequence e n) old.levels old x
+pub no_sequence : (old now : Held) (e : Bool) (n : ℕ) (x : DecodeError) → now ≡ old → ((s : Scope) (rest : List ℕ) → HasPreamble e n s now.octets rest → ⊥) → NoneInLevel (asks_sequence e n) old.levels old x
 no_sequence old now e n x same none = record { none = λ m l r new k p. no_beginning (freedoms old.rules) e n (state_of old) (state_of new) (asked_sequence (freedoms old.rules) e n (state_of old) (state_of new) r k p.taken) (λ s rest h. none s rest (subst (λ (g : Held). HasPreamble e n s g.octets rest) (sym same) h)) }
 
 -- ---- lists
@@ -151,7 +152,7 @@ asked_list free z h a b (list_begins y i n) k t =
     (n, subst (λ r. Takes free a r b) p t)
 asked_list free z h a b r k t = cc k
 
-pub no_list : (old now : Held) (z : Size) (h : Counts) (e x : DecodeError) → now ≡ old → x ≡ e → NoMembers (freedoms now.rules) h now.octets e → NoLevel Finds (asks_list z h) old.levels old x
+pub no_list : (old now : Held) (z : Size) (h : Counts) (e x : DecodeError) → now ≡ old → x ≡ e → NoMembers (freedoms now.rules) h now.octets e → NoneInLevel (asks_list z h) old.levels old x
 no_list old now z h e x same faults m =
     let n : NoMembers (freedoms old.rules) h old.octets e = subst (λ (g : Held). NoMembers (freedoms g.rules) h g.octets e) same m in
     record {

@@ -1,5 +1,4 @@
 mod Encoding
-mod Lifting
 mod Messages
 mod Once
 pub mod Preambles
@@ -8,3 +7,7 @@ pub mod Adding
 pub mod Choosing
 pub mod Counting
 pub mod Records
+pub mod Refused
+pub mod Owing
+pub mod ShortStrings
+pub mod Lacking

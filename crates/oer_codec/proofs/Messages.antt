@@ -1,6 +1,7 @@
 -- Which message a decoder has found, and why none stands in front where it has not.
-use Rattle.std.proofs.Common.{◌≡◌, ℕ, ◌+◌, ◌-◌, ◌<◌, ◌≤◌, ◌^◌, true, false, IsTrue, List, [], ◌++◌, length, take, drop, refl, ap, sym, ◌∙◌, subst, append_assoc, arith, length-append}
-use Rattle.std.proofs.lemmas.List.{length-take, take-append-drop}
+use Rattle.std.proofs.Common.{◌≡◌, inl, inr, min, append-nil, ℕ, ◌+◌, ◌-◌, ◌<◌, ◌≤◌, ◌^◌, true, false, IsTrue, List, [], ◌++◌, length, take, drop, refl, ap, sym, ◌∙◌, subst, append_assoc, arith, length-append}
+use Rattle.std.proofs.lemmas.Bool.{cases_lt}
+use Rattle.std.proofs.lemmas.List.{length-take, take-append-drop, take-append-le}
 use Rattle.std.proofs.Math.Seq.{take-append-add, drop-append_seam}
 use Rattle.asn1_model.specs.Value.{Value, depth}
 use Rattle.asn1_model.specs.Schema.{Schema}
@@ -13,17 +14,20 @@ use Rattle.asn1_schema_faults.specs.declared.DecodeError.{DecodeError}
 use Rattle.asn1_schema_presented.proofs.Levels.{nests}
 use Rattle.asn1_schema_presented.specs.Chains.{Chain}
 use Rattle.asn1_schema_presented.specs.Presents.{presents, Fits}
-use Rattle.oer_codec.specs.Held.{Held, Finds}
+use Rattle.oer_codec_held.specs.Held.{Held, HasFailed, Finds}
 use Rattle.oer_codec_fronts.specs.Takes.{State, Front}
 use Rattle.oer_codec_fronts.proofs.Whole.{records_read, forms_show}
 use Rattle.asn1_schema_finding.proofs.Fitting.{records_fit}
 use Rattle.oer_codec_reading.specs.Fronts.{freedoms}
 use Rattle.oer_codec_reading_lengths.specs.declared.rules.EncodingRules.{EncodingRules}
 use Rattle.oer_codec_reading_lengths.specs.declared.rules.EncodingRules.TheVariants.{Oer as OerRules, Coer as CoerRules}
-use Rattle.asn1_schema_decode.specs.Messages.{HasMessage, Tells, NoMessage}
-use Rattle.asn1_schema_decode.proofs.Nesting.{no_deeper}
+use Rattle.asn1_schema_decode.specs.Messages.{HasMessage, Tells, NoMessage, NeedsMore}
+use Rattle.asn1_schema_lacking.proofs.Nesting.{no_deeper}
 use Rattle.oer_codec.specs.Messages.{rules_of}
-use Rattle.oer_codec.proofs.Lifting.{held_at, octets_taken, levels_taken, both_found}
+use Rattle.oer_codec_held.specs.Few.{TooFewHeld, held_with, lacks}
+use Rattle.oer_codec.proofs.Finding.{take_whole}
+use Rattle.oer_codec_held.proofs.Carried.{few_at_once}
+use Rattle.oer_codec_held.proofs.Lifting.{held_at, octets_taken, levels_taken, both_found}
 
 -- ---- the rules
 any_bitmap : (r : EncodingRules) → IsTrue (freedoms r Oer.other_bitmap)
@@ -49,9 +53,9 @@ abbrev pub first : List ℕ → List ℕ
 first input = take (2 ^ 60 - 1) input
 
 abbrev pub begun : EncodingRules → List ℕ → Held
-begun r input = record { octets = first input; scopes = []; levels = 128; most = 128; failed = false; rules = r }
+begun r input = record { octets = first input; scopes = []; levels = 128; most = 128; failed = false; short = 0; rules = r }
 
-pub not_failed : (r : EncodingRules) (input : List ℕ) {old : Held} → old ≡ begun r input → old.failed ≡ true → ⊥
+pub not_failed : (r : EncodingRules) (input : List ℕ) {old : Held} → old ≡ begun r input → HasFailed old → ⊥
 not_failed r input e h = let f : true ≡ false = sym h ∙ ap (λ (o : Held). o.failed) e in cc f
 
 -- ---- what is found
@@ -118,8 +122,31 @@ module _ (r : EncodingRules) (schema : ℕ → Schema) (input : List ℕ) (lawfu
       let l = (nests s w.0 128 128 128 fits (omega arith)).1 (d, refl) in
       (w.0, held_at (begun r input) b 128, fits, both_found (presents s w.0) (begun r input) b 128 refl w.2 l)
 
-  pub none_told : (e : DecodeError) → Unread Finds schema 128 (begun r input) e → NoMessage (rules_of r) schema input e
-  none_told e u = record { none = λ n v rest m. let f = found_again v rest m in u.none n f.0 f.1 f.2 f.3 }
+  pub none_told : (e : DecodeError) (failed : Held) → Unread Finds TooFewHeld schema 128 (begun r input) failed e → NoMessage (rules_of r) schema input e
+  none_told e failed u = record { none = λ n v rest m. let f = found_again v rest m in u.none n (begun r input) (few_at_once 0 (begun r input) failed) f.0 f.1 f.2 f.3 }
 
-pub none_told_from : (r : EncodingRules) (schema : ℕ → Schema) (input : List ℕ) (old : Held) (e : DecodeError) → IsLawful (schema 128) → old ≡ begun r input → Unread Finds schema old.levels old e → NoMessage (rules_of r) schema input e
-none_told_from r schema input old e lawful q u = none_told r schema input lawful e (subst (λ (h : Held). Unread Finds schema h.levels h e) q u)
+-- an input and more octets: what is looked at of both is what is looked at of the input, and no more of the others
+begun_more : (input more : List ℕ) → (f : List ℕ) × (first (input ++ more) ≡ first input ++ f) × (length f ≤ length more)
+begun_more input more = elim (cases_lt (2 ^ 60 - 1) (length input)) [
+  | inl i ↦ ([], take-append-le (2 ^ 60 - 1) input more (omega arith) ∙ sym (append-nil (first input)), omega arith)
+  | inr i ↦
+      let k = 2 ^ 60 - 1 - length input in
+      let n : 2 ^ 60 - 1 ≡ length input + k = omega arith in
+      let w : first input ≡ input = take_whole (2 ^ 60 - 1) input i in
+      (take k more, ap (λ m. take m (input ++ more)) n ∙ take-append-add input more k ∙ ap (λ x. x ++ take k more) (sym w), omega (arith, length-take k more))
+]
+
+-- Where a decoder was refused, no message is in front either once a few octets more stand behind the input.
+pub more_needed : (r : EncodingRules) (schema : ℕ → Schema) (input : List ℕ) (failed : Held) (n : ℕ) (e : DecodeError) → IsLawful (schema 128) → n ≤ lacks failed + 1 → Unread Finds TooFewHeld schema 128 (begun r input) failed e → NeedsMore (rules_of r) schema input n e
+more_needed r schema input failed n e lawful few u more h =
+    let z = begun_more input more in
+    let d : begun r (input ++ more) ≡ held_with z.0 (begun r input) = ap (λ (x : List ℕ). let h : Held = record { octets = x; scopes = []; levels = 128; most = 128; failed = false; short = 0; rules = r } in h) z.1 in
+    let l = z.2 in
+    let near : TooFewHeld (begun r input) failed (begun r (input ++ more)) = (z.0, d, inl (omega arith, omega arith)) in
+    record { none = λ m v rest g. let f = found_again r schema (input ++ more) lawful v rest g in u.none m (begun r (input ++ more)) near f.0 f.1 f.2 f.3 }
+
+pub more_needed_from : (r : EncodingRules) (schema : ℕ → Schema) (input : List ℕ) (old failed : Held) (n : ℕ) (e : DecodeError) → IsLawful (schema 128) → old ≡ begun r input → n ≡ min (lacks failed + 1) (2 ^ 64 - 1) → Unread Finds TooFewHeld schema old.levels old failed e → NeedsMore (rules_of r) schema input n e
+more_needed_from r schema input old failed n e lawful q k u = more_needed r schema input failed n e lawful (omega (arith, k)) (subst (λ (h : Held). Unread Finds TooFewHeld schema h.levels h failed e) q u)
+
+pub none_told_from : (r : EncodingRules) (schema : ℕ → Schema) (input : List ℕ) (old failed : Held) (e : DecodeError) → IsLawful (schema 128) → old ≡ begun r input → Unread Finds TooFewHeld schema old.levels old failed e → NoMessage (rules_of r) schema input e
+none_told_from r schema input old failed e lawful q u = none_told r schema input lawful e failed (subst (λ (h : Held). Unread Finds TooFewHeld schema h.levels h failed e) q u)

@@ -2,7 +2,6 @@ pub mod Scopes
 pub mod Refusals
 pub mod Preamble
 pub mod Members
-pub mod Held
-pub mod Laws
 pub mod Encoded
 pub mod Messages
+pub mod Missing

@@ -1,5 +1,5 @@
 -- What has begun and has not ended, as a reader of the octet encoding rules (X.696) holds it.
-use Rattle.std.specs.Prelude.{◌≡◌, ℕ, suc, Bool, List, [], ◌∷◌, drop, map, reverse, Option, Some, None}
+use Rattle.std.specs.Prelude.{◌≡◌, ℕ, suc, ◌+◌, Bool, List, [], ◌∷◌, drop, map, reverse, Option, Some, None}
 use Rattle.asn1_schema_finding.specs.PresenceBits.{first_bits}
 use Rattle.asn1_values_bits.specs.BitStr.{bits_of}
 use Rattle.oer_codec_fronts.specs.Takes.{Scope, components, added, open_type, members, alternative}
@@ -52,3 +52,10 @@ with_due n k = k
 abbrev pub NextPresent : Bool → List Scope → List Scope → Type 0
 NextPresent v (added (m ∷ ms) us ∷ k) after = (v ≡ m) × (after ≡ added ms us ∷ k)
 NextPresent v k after = ⊥
+
+-- How many members are to come in frames, the outermost first, as far as the first open type.
+abbrev pub owing : List Frame → ℕ
+owing [] = 0
+owing (OpenType behind ∷ fs) = 0
+owing (Members n ∷ fs) = n + owing fs
+owing (f ∷ fs) = owing fs

@@ -1,9 +1,11 @@
 //! What finds the records of a value in octets.
-ghost use Rattle.std.specs.Prelude.{◌≡◌, ◌+◌, ◌-◌, ◌<◌, ◌≤◌, ◌^◌, [], ◌∷◌, true, false, length, take, OnOk, OnErr};
+ghost use Rattle.std.specs.Prelude.{◌≡◌, ◌+◌, ◌-◌, ◌<◌, ◌≤◌, ◌^◌, [], ◌∷◌, None, false, length, take, min, OnOk, OnErr};
 ghost use Rattle.std.specs.Prelude.{IfErr, IfOk};
 ghost use Rattle.asn1_schema_decode.specs.Reads.{NoRecord};
 ghost use Rattle.asn1_schema_presented.specs.Records.{asks_one_of, one_of};
-ghost use Rattle.oer_codec.specs.Held.{Held, Finds, HasFailed, kind_of, state_of, IsReady};
+ghost use Rattle.oer_codec_held.specs.Held.{Held, Finds, HasFailed, kind_of, state_of, IsReady};
+ghost use Rattle.oer_codec_held.specs.Few.{Empties, Keeps, TooFewHeld, lacks};
+ghost use Rattle.oer_codec.specs.Missing.{StillNoChoice, StillTooShort};
 ghost use Rattle.oer_codec.specs.Refusals.{NotOpened};
 ghost use Rattle.oer_codec.specs.Scopes.{frame_of, scope_of};
 ghost use Rattle.oer_codec_fronts.specs.Takes.{Opens};
@@ -13,6 +15,7 @@ use crate::additions::read_additions;
 use crate::choices::read_choice;
 use crate::frames::{Enclosing, Frame};
 use crate::members::read_members;
+use crate::missing::{missing, missing_in_choice, size_of_bitmap, size_of_bits, size_of_number};
 use crate::options::DecoderOptions;
 use crate::preamble::read_preamble;
 use crate::scopes::Scopes;
@@ -44,11 +47,13 @@ pub struct Decoder<'input> {
     levels: usize,
     most: usize,
     failed: bool,
+    // After a refusal, how many octets are lacking at least besides those of members that are to come, less one.
+    short: usize,
     rules: EncodingRules,
 }
 
 impl<'input> Model for Decoder<'input> {
-    ghost use Rattle.oer_codec.specs.Held.{Held};
+    ghost use Rattle.oer_codec_held.specs.Held.{Held};
 
     ghost Value = { Held };
 
@@ -59,6 +64,7 @@ impl<'input> Model for Decoder<'input> {
       most = d.most;
       failed =
           d.failed;
+      short = d.short;
       rules = d.rules;
     } };
 }
@@ -74,6 +80,7 @@ impl<'input> Decoder<'input> {
           levels = 128;
           most = 128;
           failed = false;
+          short = 0;
           rules = options.rules;
         } }
     {
@@ -83,6 +90,7 @@ impl<'input> Decoder<'input> {
             levels: 128,
             most: 128,
             failed: false,
+            short: 0,
             rules: options.rules,
         }
     }
@@ -95,6 +103,65 @@ impl<'input> Decoder<'input> {
         self.cursor.remaining()
     }
 
+    /// How many octets more are needed at least where this decoder was refused: one, the others that a string or an
+    /// open type lacks, and one for each member that is to come in a list or bag outside open types, as far as 64 bits
+    /// count them.
+    #[inline(always)]
+    pub(crate) fn needed(&mut self) -> usize
+        ensures { result ≡ min (lacks self.old + 1) (2 ^ 64 - 1) }
+    {
+        self.scopes
+            .due()
+            .saturating_add(self.short)
+            .saturating_add(1)
+    }
+
+    // Fails for this reason where octets are lacking, or do not have the form. The scopes stay: they tell how many
+    // members are lacking besides.
+    #[inline(always)]
+    fn lack(&mut self, error: DecodeError) -> DecodeError
+        ensures refused { result ≡ error }
+        ensures failed { HasFailed self.new }
+        ensures kept { Keeps 0 self.old self.new }
+    {
+        self.failed = true;
+        self.short = 0;
+        error
+    }
+
+    // The same where octets may be lacking, after these, of a fixed size, or of what follows a length determinant
+    // (X.696 8.6): the decoder then keeps how many.
+    #[inline(always)]
+    fn lack_octets(&mut self, octets: &[u8], size: Option<usize>, error: DecodeError) -> DecodeError
+        ensures refused { result ≡ error }
+        ensures failed { HasFailed self.new }
+        ensures scopes { self.new.scopes ≡ self.old.scopes }
+        ensures short { StillTooShort (freedoms self.old.rules) size octets.now self.new.short }
+    {
+        self.failed = true;
+        self.short = missing(octets, self.rules, size);
+        error
+    }
+
+    // The same where octets may be lacking, behind these, of an added alternative of a choice (X.696 20).
+    #[inline(always)]
+    fn lack_choice(
+        &mut self,
+        octets: &[u8],
+        tables: &TagTables<'_>,
+        error: DecodeError,
+    ) -> DecodeError
+        ensures refused { result ≡ error }
+        ensures failed { HasFailed self.new }
+        ensures scopes { self.new.scopes ≡ self.old.scopes }
+        ensures short { StillNoChoice (freedoms self.old.rules) tables.now.roots tables.now.extensible
+            tables.now.additions octets.now self.new.short }
+    {
+        self.failed = true;
+        self.short = missing_in_choice(octets, self.rules, tables);
+        error
+    }
+
     // Goes on, unless the decoder has failed or no level is left.
     #[inline(always)]
     fn begin_level(&mut self) -> Result<(), DecodeError>
@@ -102,8 +169,8 @@ impl<'input> Decoder<'input> {
         ensures level { OnOk result (0 < self.old.levels) }
         ensures only { IfErr result (λ _. 0 < self.old.levels → IsReady self.old → ⊥) }
         ensures after { IfErr result (λ e. e ≡ DecodeError.AlreadyFailed → HasFailed self.old) }
-        ensures failed { OnErr result (self.new.failed ≡ true) }
-        ensures already { self.old.failed ≡ true → result ≡ Err DecodeError.AlreadyFailed }
+        ensures failed { OnErr result (HasFailed self.new) }
+        ensures already { HasFailed self.old → result ≡ Err DecodeError.AlreadyFailed }
     {
         go_on(self.failed)?;
         if self.levels == 0 {
@@ -124,11 +191,12 @@ impl<'input> Decoder<'input> {
           levels = self.new.levels;
           most = self.old.most;
           failed = self.old.failed;
+          short = self.old.short;
           rules =
               self.old.rules;
         }) }
         ensures only { IfErr result (λ error. error ≡ DecodeError.OutOfMemory) }
-        ensures failed { OnErr result (self.new.failed ≡ true) }
+        ensures failed { OnErr result (HasFailed self.new) }
     {
         let Ok(()) = self.scopes.open(frame) else {
             return Err(self.refuse(DecodeError::OutOfMemory));
@@ -150,11 +218,12 @@ impl<'input> Decoder<'input> {
               levels = self.new.levels;
               most = self.old.most;
               failed = self.old.failed;
+              short = self.old.short;
               rules =
                   self.old.rules;
             }) }
         ensures only { IfErr result (λ error. error ≡ DecodeError.OutOfMemory) }
-        ensures failed { OnErr result (self.new.failed ≡ true) }
+        ensures failed { OnErr result (HasFailed self.new) }
     {
         let Ok(()) = self.scopes.enclose(enclosing) else {
             return Err(self.refuse(DecodeError::OutOfMemory));
@@ -176,11 +245,15 @@ impl<'input> Decoder<'input> {
               most =
                   self.old.most;
               failed = self.old.failed;
+              short = self.old.short;
               rules = self.old.rules;
             }) }
         ensures only { IfErr result (NotOpened (freedoms self.old.rules) self.old.octets) }
-        ensures failed { OnErr result (self.new.failed ≡ true) }
+        ensures short { IfErr result (λ e. ¬ (e ≡ DecodeError.OutOfMemory) → (self.new.scopes ≡ self.old.scopes)
+            × StillTooShort (freedoms self.old.rules) None self.old.octets self.new.short) }
+        ensures failed { OnErr result (HasFailed self.new) }
     {
+        let octets = self.cursor.remaining();
         match enter_open_type(&mut self.cursor, self.rules) {
             Ok(behind) => {
                 let Ok(()) = self.scopes.enclose(Enclosing::OpenType(behind)) else {
@@ -188,7 +261,7 @@ impl<'input> Decoder<'input> {
                 };
                 Ok(())
             }
-            Err(error) => Err(self.refuse(error)),
+            Err(error) => Err(self.lack_octets(octets, None, error)),
         }
     }
 }
@@ -199,7 +272,20 @@ macro_rules! record {
         go_on($decoder.failed)?;
         match $read {
             Ok(found) => Ok(found),
-            Err(error) => Err($decoder.refuse(error)),
+            Err(error) => Err($decoder.lack(error)),
+        }
+    }};
+}
+
+// The same of what has this number of octets, or a length determinant: after an error the decoder keeps how many octets
+// are lacking.
+macro_rules! string {
+    ($decoder:ident, $size:expr, $read:expr) => {{
+        go_on($decoder.failed)?;
+        let octets = $decoder.cursor.remaining();
+        match $read {
+            Ok(found) => Ok(found),
+            Err(error) => Err($decoder.lack_octets(octets, $size, error)),
         }
     }};
 }
@@ -210,19 +296,26 @@ macro_rules! scope {
         $decoder.begin_level()?;
         match $read {
             Ok(frame) => $decoder.enter(frame),
-            Err(error) => Err($decoder.refuse(error)),
+            Err(error) => Err($decoder.lack(error)),
         }
     }};
 }
 
+#[tactic(auto, using(crate::proofs::Refused::none_ready, crate::proofs::Refused::none_begun))]
 impl<'input> asn1_schema_decode::Decoder for Decoder<'input> {
-    ghost use Rattle.oer_codec.specs.Laws.{finds_one, finds_held, finds_bag_held, finds_none, finds_on};
-    ghost use Rattle.oer_codec.specs.Laws.{finds_same};
+    ghost use Rattle.oer_codec_held.proofs.Finds.{finds_one, finds_held, finds_bag_held, finds_none, finds_on};
+    ghost use Rattle.oer_codec_held.proofs.Finds.{finds_same};
+    ghost use Rattle.oer_codec_held.specs.Few.{TooFewMembersHeld};
+    ghost use Rattle.oer_codec_held.proofs.Carried.{at_once, held_records, held_values, held_members};
     ghost use Rattle.std.specs.Prelude.{⊤};
 
     type Octets = &'input [u8];
 
     ghost step = { Finds };
+
+    ghost too_few = { TooFewHeld };
+
+    ghost too_few_members = { TooFewMembersHeld };
 
     ghost has_failed = { HasFailed };
 
@@ -243,8 +336,14 @@ impl<'input> asn1_schema_decode::Decoder for Decoder<'input> {
         self.levels
     }
 
-    fn refuse(&mut self, error: DecodeError) -> DecodeError {
+    fn refuse(&mut self, error: DecodeError) -> DecodeError
+        ensures refused { result ≡ error }
+        ensures failed { HasFailed self.new }
+        ensures emptied { Empties self.new }
+    {
         self.failed = true;
+        self.short = 0;
+        self.scopes.clear();
         error
     }
 
@@ -265,8 +364,9 @@ impl<'input> asn1_schema_decode::Decoder for Decoder<'input> {
         _tag: Tag,
         constraints: &Constraints,
     ) -> Result<I, DecodeError> {
-        record!(
+        string!(
             self,
+            size_of_number(constraints),
             read_integer(alloc, &mut self.cursor, self.rules, constraints)
         )
     }
@@ -276,7 +376,8 @@ impl<'input> asn1_schema_decode::Decoder for Decoder<'input> {
         ensures ok { IfOk result
             (λ x. Finds self.old (one_of T.roots T.extensible T.additions (T.number x)) self.new) }
         ensures level { OnOk result (self.new.levels ≡ self.old.levels) }
-        ensures only { IfErr result (NoRecord Finds (asks_one_of T.roots T.extensible T.additions) self.old) }
+        ensures only { IfErr result (NoRecord Finds TooFewHeld (asks_one_of T.roots T.extensible T.additions) self.old
+            self.new) }
         ensures failed { OnErr result (HasFailed self.new) }
         ensures already { HasFailed self.old → result ≡ Err DecodeError.AlreadyFailed }
         ensures after { result ≡ Err DecodeError.AlreadyFailed → HasFailed self.old }
@@ -291,8 +392,9 @@ impl<'input> asn1_schema_decode::Decoder for Decoder<'input> {
         constraints: &Constraints,
         held: Bounded<usize>,
     ) -> Result<BitString, DecodeError> {
-        record!(
+        string!(
             self,
+            size_of_bits(constraints.sizes().fixed()),
             read_bit_string(alloc, &mut self.cursor, self.rules, constraints, held)
         )
     }
@@ -306,8 +408,9 @@ impl<'input> asn1_schema_decode::Decoder for Decoder<'input> {
         constraints: &Constraints,
         held: Bounded<usize>,
     ) -> Result<&'input [u8], DecodeError> {
-        record!(
+        string!(
             self,
+            constraints.sizes().fixed(),
             read_octet_string(&mut self.cursor, self.rules, constraints, held)
         )
     }
@@ -318,8 +421,9 @@ impl<'input> asn1_schema_decode::Decoder for Decoder<'input> {
         _tag: Tag,
         constraints: &Constraints,
     ) -> Result<String, DecodeError> {
-        record!(
+        string!(
             self,
+            constraints.sizes().fixed(),
             read_utf8_string(alloc, &mut self.cursor, self.rules, constraints)
         )
     }
@@ -331,8 +435,9 @@ impl<'input> asn1_schema_decode::Decoder for Decoder<'input> {
         _tag: Tag,
         constraints: &Constraints,
     ) -> Result<S, DecodeError> {
-        record!(
+        string!(
             self,
+            constraints.sizes().fixed(),
             read_characters(alloc, &mut self.cursor, self.rules, constraints)
         )
     }
@@ -342,8 +447,9 @@ impl<'input> asn1_schema_decode::Decoder for Decoder<'input> {
         alloc: Global,
         _tag: Tag,
     ) -> Result<ObjectIdentifier, DecodeError> {
-        record!(
+        string!(
             self,
+            None,
             read_object_identifier(alloc, &mut self.cursor, self.rules)
         )
     }
@@ -433,12 +539,13 @@ impl<'input> asn1_schema_decode::Decoder for Decoder<'input> {
         let Some(is_extended) = self.scopes.extension_bit() else {
             return Err(self.refuse(DecodeError::NotValidCanonicalEncoding));
         };
+        let octets = self.cursor.remaining();
         match read_additions(&mut self.cursor, self.rules, is_extended, count) {
             Ok(additions) => {
                 self.scopes.replace(Frame::Added(additions));
                 Ok(())
             }
-            Err(error) => Err(self.refuse(error)),
+            Err(error) => Err(self.lack_octets(octets, size_of_bitmap(is_extended), error)),
         }
     }
 
@@ -456,21 +563,23 @@ impl<'input> asn1_schema_decode::Decoder for Decoder<'input> {
 
     #[inline(always)]
     fn end_addition(&mut self) -> Result<(), DecodeError> {
-        record!(
-            self,
-            self.scopes.close_addition(&mut self.cursor, self.rules)
-        )
+        go_on(self.failed)?;
+        match self.scopes.close_addition(&mut self.cursor, self.rules) {
+            Ok(()) => Ok(()),
+            Err(error) => Err(self.refuse(error)),
+        }
     }
 
     #[inline(always)]
     fn begin_choice(&mut self, _tag: Tag, tables: &TagTables<'_>) -> Result<Chosen, DecodeError> {
         self.begin_level()?;
+        let octets = self.cursor.remaining();
         match read_choice(&mut self.cursor, self.rules, tables) {
             Ok((chosen, enclosing)) => {
                 self.enter_enclosing(enclosing)?;
                 Ok(chosen)
             }
-            Err(error) => Err(self.refuse(error)),
+            Err(error) => Err(self.lack_choice(octets, tables, error)),
         }
     }
 
@@ -485,7 +594,7 @@ impl<'input> asn1_schema_decode::Decoder for Decoder<'input> {
                 self.levels += 1;
                 Ok(())
             }
-            Err(error) => Err(self.refuse(error)),
+            Err(error) => Err(self.lack(error)),
         }
     }
 
@@ -496,6 +605,14 @@ impl<'input> asn1_schema_decode::Decoder for Decoder<'input> {
     ghost bag_held = { finds_bag_held };
 
     ghost goes_on = { finds_on };
+
+    ghost few_at_once = { at_once };
+
+    ghost records_carried = { held_records };
+
+    ghost values_carried = { held_values };
+
+    ghost members_carried = { held_members };
 
     ghost none_after = { finds_none };
 

@@ -1,10 +1,14 @@
 //! Open scopes.
-ghost use Rattle.std.specs.Prelude.{◌≡◌, ◌∷◌, [], None, Some, OnOk, IfErr, IfSome, IfNone};
+ghost use Rattle.std.specs.Prelude.{◌≡◌, ◌<◌, ◌∷◌, ◌++◌, [], ◌+◌, ◌-◌, ◌^◌, List, min, None, Some, OnOk, OnErr, IfErr};
+ghost use Rattle.std.specs.Prelude.{IfOk, IfSome};
+ghost use Rattle.std.specs.Prelude.{IfNone};
 ghost use Rattle.oer_codec_fronts.specs.Takes.{AdditionEnds, Ends, NextPresenceBit, NextMember};
 ghost use Rattle.oer_codec_fronts.specs.Takes.{components, members};
 ghost use Rattle.oer_codec_reading.specs.Fronts.{freedoms};
 ghost use Rattle.oer_codec.specs.Refusals.{NoAdditionEnd, NoEnd, NotFinished};
-ghost use Rattle.oer_codec.specs.Scopes.{NextPresent, frame_of, framed, scope_of, scopes_of};
+ghost use Rattle.oer_codec_longer.specs.Few.{around, due};
+ghost use Rattle.oer_codec.specs.declared.frames.Frame.{Frame};
+ghost use Rattle.oer_codec.specs.Scopes.{NextPresent, frame_of, framed, owing, scope_of, scopes_of};
 
 use crate::additions::Additions;
 use crate::endings::finish;
@@ -39,6 +43,24 @@ pub(crate) enum Enclosing<'input> {
     OpenType(Cursor<'input>),
 }
 
+impl<'input> Frame<'input> {
+    /// So many members that are to come, and those of this frame besides, as far as 64 bits count them. None of an open
+    /// type: whatever is within it is there by its length (X.696 30).
+    #[inline(always)]
+    fn add_due(&self, due: usize) -> Option<usize>
+        ensures some { IfSome result (λ n. (fs : List Frame)
+            → min (due + owing (self.now ∷ fs)) (2 ^ 64 - 1) ≡ min (n + owing fs) (2 ^ 64 - 1)) }
+        ensures most { IfSome result (λ n. n < 2 ^ 64) }
+        ensures none { IfNone result ((fs : List Frame) → owing (self.now ∷ fs) ≡ 0) }
+    {
+        match self {
+            Frame::OpenType(_) => None,
+            Frame::Members(members) => Some(due.saturating_add(*members)),
+            _ => Some(due),
+        }
+    }
+}
+
 impl<'input> Enclosing<'input> {
     /// Its frame among others.
     #[inline(always)]
@@ -50,6 +72,25 @@ impl<'input> Enclosing<'input> {
             Enclosing::OpenType(behind) => Frame::OpenType(behind),
         }
     }
+}
+
+/// How many members are to come in frames, the outermost first, as far as 64 bits count them: `Err` where an open type
+/// is among them. It takes no place of the decoder, so that a decoder whose reading succeeds need not stand in memory.
+#[cold]
+fn frames_due(frames: &[Frame<'_>]) -> Result<usize, usize>
+    ensures ok { IfOk result (λ n. (fs : List Frame)
+        → min (owing (frames.now ++ fs)) (2 ^ 64 - 1) ≡ min (n + owing fs) (2 ^ 64 - 1)) }
+    ensures most { IfOk result (λ n. n < 2 ^ 64) }
+    ensures within { IfErr result (λ n. (fs : List Frame) → min (owing (frames.now ++ fs)) (2 ^ 64 - 1) ≡ n) }
+{
+    let mut due = 0;
+    for frame in frames {
+        let Some(more) = frame.add_due(due) else {
+            return Err(due);
+        };
+        due = more;
+    }
+    Ok(due)
 }
 
 /// Opens a frame inside all others.
@@ -138,11 +179,16 @@ fn close_frame<'input>(
     ensures ok { OnOk result (Ends (freedoms rules) cursor.old (framed innermost.old outer.old.items)
         (cursor.new, framed innermost.new outer.new.items)) }
     ensures only { IfErr result (NoEnd (freedoms rules) cursor.old (framed innermost.old outer.old.items)) }
+    ensures left { OnErr result (framed innermost.new outer.new.items
+        ≡ around (framed innermost.old outer.old.items)) }
 {
     let Some(frame) = innermost.take() else {
         return Err(DecodeError::NotValidCanonicalEncoding);
     };
-    finish(frame, cursor, rules)?;
+    if let Err(error) = finish(frame, cursor, rules) {
+        *innermost = outer.pop();
+        return Err(error);
+    }
     if !outer.is_empty() {
         *innermost = outer.pop();
     }
@@ -200,6 +246,30 @@ impl<'input> Nested<'input> {
             enclosing: None,
             innermost: None,
             outer: Vec::new(alloc),
+        }
+    }
+
+    /// Closes all scopes.
+    pub(crate) fn clear(&mut self)
+        ensures { self.new ≡ [] }
+    {
+        self.enclosing = None;
+        self.innermost = None;
+        self.outer.clear();
+    }
+
+    /// How many members are to come in the lists and bags that are open outside open types, as far as 64 bits count
+    /// them.
+    #[inline(always)]
+    pub(crate) fn due(&self) -> usize
+        ensures { result ≡ min (due self.now) (2 ^ 64 - 1) }
+    {
+        let Some(innermost) = &self.innermost else {
+            return 0;
+        };
+        match frames_due(self.outer.as_slice()) {
+            Ok(due) => innermost.add_due(due).unwrap_or(due),
+            Err(due) => due,
         }
     }
 
@@ -310,7 +380,7 @@ impl<'input> Nested<'input> {
         }
     }
 
-    /// Closes the innermost scope, if nothing of it is still to come.
+    /// Closes the innermost scope. Refused if something of it is still to come.
     #[inline(always)]
     pub(crate) fn close(
         &mut self,
@@ -319,6 +389,7 @@ impl<'input> Nested<'input> {
     ) -> Result<(), DecodeError>
         ensures ok { OnOk result (Ends (freedoms rules) cursor.old self.old (cursor.new, self.new)) }
         ensures only { IfErr result (NoEnd (freedoms rules) cursor.old self.old) }
+        ensures left { OnErr result (self.new ≡ around self.old) }
     {
         if self.enclosing.is_none() {
             return close_frame(&mut self.innermost, &mut self.outer, cursor, rules);

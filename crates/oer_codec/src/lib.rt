@@ -10,6 +10,7 @@ mod frames;
 pub mod front_readers;
 pub mod laws;
 mod members;
+mod missing;
 pub mod oer;
 mod options;
 mod preamble;
@@ -17,6 +18,7 @@ pub mod reading;
 mod scopes;
 pub mod writing;
 
+pub use asn1_schema_decode::Refusal;
 pub use front_readers::{CoerFront, OerFront};
 
 /// The edition of X.696 that is followed.

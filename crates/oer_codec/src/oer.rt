@@ -1,15 +1,15 @@
 //! Basic octet encoding rules (X.696): values are written and read.
-ghost use Rattle.std.specs.Prelude.{◌≡◌, ◌++◌, ℕ, List, OnOk, OnErr, IfOk, IfErr};
+ghost use Rattle.std.specs.Prelude.{◌≡◌, ◌++◌, ◌≤◌, ℕ, List, OnOk, OnErr, IfOk, IfErr};
 ghost use Rattle.asn1_model.specs.Lawful.{IsLawful};
 ghost use Rattle.asn1_model.specs.Rules.{oer};
 ghost use Rattle.asn1_schema_constraints.specs.Terms.{meant};
-ghost use Rattle.asn1_schema_decode.specs.Messages.{NoMessage, Tells};
+ghost use Rattle.asn1_schema_decode.specs.Messages.{NeedsMore, NoMessage, Tells};
 ghost use Rattle.oer_codec.specs.Encoded.{IsEncoded, NotEncoded};
 
 pub use crate::decoder::Decoder;
 pub use crate::options::DecoderOptions;
 use asn1_schema_constraints::Constraints;
-use asn1_schema_decode::Decode;
+use asn1_schema_decode::{Decode, Refusal};
 use asn1_schema_encode::Encode;
 use asn1_schema_faults::{DecodeError, EncodeError};
 pub use oer_codec_encoder::{Encoder, EncoderOptions};
@@ -102,6 +102,25 @@ pub fn decode_with_remainder<'input, T: Decode>(
     ensures fresh { IfErr result (λ e. e ≡ DecodeError.AlreadyFailed → ⊥) }
 {
     crate::reading::decode_with_remainder(alloc, input, EncodingRules::Oer)
+}
+
+/// As `decode_with_remainder`, and an error also says how many more octets are needed at least: the input with fewer
+/// octets appended does not begin with an encoding either, apart from `OutOfMemory`.
+///
+/// # Errors
+///
+/// Those of `decode`.
+pub fn decode_or_need<'input, T: Decode>(
+    alloc: Global,
+    input: &'input [u8],
+) -> Result<(T, &'input [u8]), Refusal>
+    ensures ok { IfOk result (λ x. Tells oer T.schema (T.meaning x.0) input.now x.1.now) }
+    ensures only { IfErr result (λ r. NoMessage oer T.schema input.now r.error) }
+    ensures needed { IfErr result (λ r. NeedsMore oer T.schema input.now r.needed r.error) }
+    ensures fresh { IfErr result (λ r. r.error ≡ DecodeError.AlreadyFailed → ⊥) }
+    ensures some { IfErr result (λ r. 1 ≤ r.needed) }
+{
+    crate::reading::decode_or_need(alloc, input, EncodingRules::Oer)
 }
 
 /// Reads the value whose encoding (X.696) under these constraints, in place of the type's own, stands in front.

@@ -1,14 +1,14 @@
 //! A value is read from the front of octets.
-ghost use Rattle.std.specs.Prelude.{◌≡◌, ℕ, List, IfOk, IfErr};
+ghost use Rattle.std.specs.Prelude.{◌≡◌, ◌≤◌, ℕ, List, IfOk, IfErr};
 ghost use Rattle.asn1_model.specs.Lawful.{IsLawful};
 ghost use Rattle.asn1_schema_constraints.specs.Terms.{meant};
-ghost use Rattle.asn1_schema_decode.specs.Messages.{Tells, NoMessage};
+ghost use Rattle.asn1_schema_decode.specs.Messages.{Tells, NoMessage, NeedsMore};
 ghost use Rattle.oer_codec.specs.Messages.{rules_of};
 
 use crate::decoder::Decoder;
 use crate::options::DecoderOptions;
 use asn1_schema_constraints::Constraints;
-use asn1_schema_decode::Decode;
+use asn1_schema_decode::{Decode, Refusal};
 use asn1_schema_faults::DecodeError;
 use oer_codec_reading::EncodingRules;
 use std::alloc::Global;
@@ -48,12 +48,43 @@ pub fn decode_with_remainder<'input, T: Decode>(
     ensures only { IfErr result (NoMessage (rules_of rules) T.schema input.now) }
     ensures fresh { IfErr result (λ e. e ≡ DecodeError.AlreadyFailed → ⊥) }
 {
+    match decode_or_need(alloc, input, rules) {
+        Ok(found) => Ok(found),
+        Err(refusal) => Err(refusal.error),
+    }
+}
+
+/// As `decode_with_remainder`, and an error also says how many more octets are needed at least: the input with fewer
+/// octets appended does not begin with an encoding either, apart from `OutOfMemory`.
+///
+/// # Errors
+///
+/// As `decode`.
+#[inline(always)]
+pub fn decode_or_need<'input, T: Decode>(
+    alloc: Global,
+    input: &'input [u8],
+    rules: EncodingRules,
+) -> Result<(T, &'input [u8]), Refusal>
+    ensures ok { IfOk result (λ x. Tells (rules_of rules) T.schema (T.meaning x.0) input.now x.1.now) }
+    ensures only { IfErr result (λ r. NoMessage (rules_of rules) T.schema input.now r.error) }
+    ensures needed { IfErr result (λ r. NeedsMore (rules_of rules) T.schema input.now r.needed r.error) }
+    ensures fresh { IfErr result (λ r. r.error ≡ DecodeError.AlreadyFailed → ⊥) }
+    ensures some { IfErr result (λ r. 1 ≤ r.needed) }
+{
     let mut decoder = Decoder::new(alloc, input, DecoderOptions { rules });
     let looked_at = decoder.remaining().len();
-    let value = T::decode(alloc, &mut decoder)?;
-    let taken = looked_at - decoder.remaining().len();
-    let (_, rest) = input.split_at(taken);
-    Ok((value, rest))
+    match T::decode(alloc, &mut decoder) {
+        Ok(value) => {
+            let taken = looked_at - decoder.remaining().len();
+            let (_, rest) = input.split_at(taken);
+            Ok((value, rest))
+        }
+        Err(error) => {
+            let needed = decoder.needed();
+            Err(Refusal { error, needed })
+        }
+    }
 }
 
 /// Reads the value whose encoding under these constraints, in place of the type's own, stands in front (X.696), and

@@ -1,7 +1,9 @@
 //! Open scopes, and how many members of the innermost list are still to come.
-ghost use Rattle.std.specs.Prelude.{◌≡◌, ◌∷◌, ◌<◌, [], List, Some, OnOk, IfErr, IfSome, IfNone};
+ghost use Rattle.std.specs.Prelude.{◌≡◌, ◌∷◌, ◌<◌, ◌-◌, ◌^◌, [], List, Some, min, OnOk, OnErr, IfErr, IfSome};
+ghost use Rattle.std.specs.Prelude.{IfNone};
 ghost use Rattle.oer_codec_fronts.specs.Takes.{AdditionEnds, Ends, NextPresenceBit, NextMember, Scope};
 ghost use Rattle.oer_codec_fronts.specs.Takes.{components, members};
+ghost use Rattle.oer_codec_longer.specs.Few.{around, due};
 ghost use Rattle.oer_codec_reading.specs.Fronts.{freedoms};
 ghost use Rattle.oer_codec.specs.Refusals.{NoAdditionEnd, NoEnd};
 ghost use Rattle.oer_codec.specs.Scopes.{NextPresent, frame_of, scope_of, with_due};
@@ -56,6 +58,24 @@ impl<'input> Scopes<'input> {
             due: 0,
             nested: Nested::new(alloc),
         }
+    }
+
+    /// Closes all scopes.
+    pub(crate) fn clear(&mut self)
+        ensures { self.new ≡ [] }
+    {
+        self.due = 0;
+        self.nested.clear();
+    }
+
+    /// How many members are to come in the lists and bags that are open outside open types, as far as 64 bits count
+    /// them.
+    #[inline(always)]
+    pub(crate) fn due(&mut self) -> usize
+        ensures { result ≡ min (due self.old) (2 ^ 64 - 1) }
+    {
+        settle(&mut self.due, &mut self.nested);
+        self.nested.due()
     }
 
     /// Opens a scope inside all others.
@@ -135,7 +155,7 @@ impl<'input> Scopes<'input> {
         self.nested.next_member()
     }
 
-    /// Closes the innermost scope, if nothing of it is still to come.
+    /// Closes the innermost scope. Refused if something of it is still to come.
     #[inline(always)]
     pub(crate) fn close(
         &mut self,
@@ -144,6 +164,7 @@ impl<'input> Scopes<'input> {
     ) -> Result<(), DecodeError>
         ensures ok { OnOk result (Ends (freedoms rules) cursor.old self.old (cursor.new, self.new)) }
         ensures only { IfErr result (NoEnd (freedoms rules) cursor.old self.old) }
+        ensures left { OnErr result (self.new ≡ around self.old) }
     {
         settle(&mut self.due, &mut self.nested);
         self.nested.close(cursor, rules)

@@ -4,3 +4,5 @@ pub mod Chained
 pub mod Empty
 pub mod Lacking
 pub mod Lengths
+pub mod Few
+pub mod Levelled

@@ -129,7 +129,7 @@ module _ (free : Oer.Freedom → Bool) where
     begin_more : (x : Bool) (n : ℕ) (a b : State) → Begins free x n a b → Begins free x n (with_more e a) (with_more e b)
     begin_more x n a b f = (f.0, f.1, f.2, f.3, pushed_more (Oer.preamble (preamble_bits f.0 f.1)) a.0 a.1 (components f.0 f.1 ∷ a.1) b f.4 f.5 refl, scopes_more b (components f.0 f.1 ∷ a.1) f.5)
 
-    member_more : (v : Bool) (os : List ℕ) (k : List Scope) (b : State) → NextMember v os k b → NextMember v (octets_with e k os) (scopes_with e k) (with_more e b)
+    pub member_more : (v : Bool) (os : List ℕ) (k : List Scope) (b : State) → NextMember v os k b → NextMember v (octets_with e k os) (scopes_with e k) (with_more e b)
     member_more v os (members zero ∷ k) b f = (f.0, state_more b (os, members zero ∷ k) f.1)
     member_more v os (members (suc n) ∷ k) b f = (f.0, state_more b (os, members n ∷ k) f.1)
     member_more v os k b f = absurd f
@@ -224,7 +224,7 @@ module _ (free : Oer.Freedom → Bool) where
         let z = pushed_back (Oer.preamble (preamble_bits f.0 f.1)) a.0 a.1 (components f.0 f.1 ∷ a.1) c f.4 f.5 refl (λ r. refl) h in
         (z.0, z.1, (f.0, f.1, f.2, f.3, z.2.0, z.2.1))
 
-    member_back : (v : Bool) (os : List ℕ) (k : List Scope) (c : State) → NextMember v (octets_with e k os) (scopes_with e k) c → Back c (λ b. NextMember v os k b)
+    pub member_back : (v : Bool) (os : List ℕ) (k : List Scope) (c : State) → NextMember v (octets_with e k os) (scopes_with e k) c → Back c (λ b. NextMember v os k b)
     member_back v os (members zero ∷ k) c f = ((os, members zero ∷ k), f.1, (f.0, refl))
     member_back v os (members (suc n) ∷ k) c f = ((os, members n ∷ k), f.1, (f.0, refl))
     member_back v os k c f = absurd f

@@ -2,6 +2,7 @@
 //! them. Each function does nothing; its contract is a law.
 #![tactic(auto)]
 
+ghost use Rattle.oer_codec_longer.specs.Few.{FewCarried};
 ghost use Rattle.oer_codec_longer.specs.Laws.{EmptyEverywhere, LeftIsNotNeeded, LengthsAreLacking, MembersAreLacking};
 ghost use Rattle.oer_codec_longer.specs.Laws.{MoreChangesNothing, MoreInPieces, NothingGrows, TakesSome};
 
@@ -45,4 +46,9 @@ pub fn members_are_lacking()
 /// Where a length determinant is in front, the octets that it counts are not, before as many stand behind it.
 pub fn lengths_are_lacking()
     ensures { LengthsAreLacking }
+{}
+
+/// What is next is next with few octets more, and where a member is lacking, so are those that are to come behind it.
+pub fn few_more_are_carried()
+    ensures { FewCarried }
 {}

@@ -1,4 +1,3 @@
 mod Encoding
-mod Lifting
 mod Messages
 mod Once

@@ -1,6 +1,8 @@
 -- Which message a decoder has found, and why none stands in front where it has not.
-use Rattle.std.proofs.Common.{◌≡◌, ℕ, ◌+◌, ◌-◌, ◌*◌, ◌/◌, ◌<◌, ◌≤◌, ◌^◌, Bool, true, false, IsTrue, Some, List, [], ◌∷◌, ◌++◌, length, take, drop, refl, ap, sym, ◌∙◌, subst, append_assoc, arith, length-append}
-use Rattle.std.proofs.lemmas.List.{length-take, take-append-drop}
+use Rattle.std.proofs.Common.{◌≡◌, inl, inr, min, ℕ, ◌+◌, ◌-◌, ◌*◌, ◌/◌, ◌<◌, ◌≤◌, ◌^◌, zero, suc, Bool, true, false, IsTrue, Some, None, List, [], ◌∷◌, ◌++◌, length, take, drop, refl, ap, sym, ◌∙◌, subst, append_assoc, append-nil, arith, length-append}
+use Rattle.std.specs.Prelude.{is_some}
+use Rattle.std.proofs.lemmas.Bool.{cases_lt}
+use Rattle.std.proofs.lemmas.List.{length-take, take-append-drop, take-append-le}
 use Rattle.std.proofs.Math.Seq.{take-append-add, take-append_seam, drop-append_seam}
 use Rattle.asn1_model.specs.Value.{Value, depth}
 use Rattle.asn1_model.specs.Schema.{Schema}
@@ -13,50 +15,61 @@ use Rattle.asn1_laws_fronts.proofs.Units.{complete_whole}
 use Rattle.asn1_schema_decode.specs.Reads.{Reads as ReadsValue, Unread}
 use Rattle.asn1_schema_faults.specs.declared.DecodeError.{DecodeError}
 use Rattle.asn1_schema_presented.proofs.Levels.{nests}
-use Rattle.asn1_schema_decode.specs.Messages.{HasMessage, Tells, NoMessage}
-use Rattle.asn1_schema_decode.proofs.Nesting.{no_deeper}
+use Rattle.asn1_schema_decode.specs.Messages.{HasMessage, Tells, NoMessage, NeedsMore}
+use Rattle.asn1_schema_lacking.proofs.Nesting.{no_deeper}
 use Rattle.asn1_schema_presented.specs.Chains.{Chain}
 use Rattle.asn1_schema_presented.specs.Presents.{presents, Fits}
 use Rattle.asn1_schema_presented.proofs.OneValue.{one_value}
 use Rattle.asn1_values_bits.proofs.Binary.{octet_bits-append, octet_bits-take, length-octet_bits}
 use Rattle.asn1_schema_finding.proofs.Fitting.{records_fit}
-use Rattle.per_codec_decoder.specs.Held.{Held, Finds, IsReady}
-use Rattle.per_codec_decoder.specs.Laws.{finds_one}
+use Rattle.per_codec_held.specs.Held.{Held, Finds}
+use Rattle.per_codec_held.specs.Few.{TooFewHeld, held_with, lacks}
+use Rattle.per_codec_held.proofs.Carried.{few_at_once}
+use Rattle.per_codec_held.specs.Held.{HasFailed, IsReady}
+use Rattle.per_codec_held.proofs.Finds.{finds_one}
 use Rattle.per_codec_fronts.specs.Takes.{Place, Front, completion}
 use Rattle.per_codec_fronts.proofs.Opened.{padded_in, padded_out}
 use Rattle.per_codec_fronts.proofs.Whole.{records_read, forms_show}
 use Rattle.per_codec_reading.specs.Fronts.{freedoms, is_aligned}
 use Rattle.per_codec_reading.specs.Runs.{Storage}
-use Rattle.per_codec_limits.specs.declared.variant.Variant.{Variant}
-use Rattle.per_codec_limits.specs.declared.variant.Variant.TheVariants.{Unaligned, Aligned}
+use Rattle.per_codec_reading.specs.declared.rules.PackedRules.{PackedRules}
+use Rattle.per_codec_reading.specs.declared.rules.PackedRules.TheVariants.{Uper, Aper, UperStrict, AperStrict}
 use Rattle.per_codec.specs.Messages.{rules_of}
-use Rattle.per_codec.proofs.Lifting.{held_at, bits_taken, levels_taken, both_found, ready_still, variant_still}
+use Rattle.per_codec_held.proofs.Lifting.{held_at, bits_taken, levels_taken, both_found, ready_still, rules_still}
 
--- ---- the variants
-any_bitmap : (r : Variant) → IsTrue (freedoms r Per.other_bitmap)
-any_bitmap Unaligned = refl
-any_bitmap Aligned = refl
+-- ---- the rules
+any_bitmap : (r : PackedRules) → IsTrue (freedoms r Per.other_bitmap)
+any_bitmap Uper = refl
+any_bitmap Aper = refl
+any_bitmap UperStrict = refl
+any_bitmap AperStrict = refl
 
-any_order : (r : Variant) → IsTrue (freedoms r Per.other_order)
-any_order Unaligned = refl
-any_order Aligned = refl
+any_order : (r : PackedRules) → IsTrue (freedoms r Per.other_order)
+any_order Uper = refl
+any_order Aper = refl
+any_order UperStrict = refl
+any_order AperStrict = refl
 
-encoding_of : (r : Variant) (s : Schema) (v : Value) (w : List ℕ) → length w < 2 ^ 60 → Reads (freedoms r) (Per.message (is_aligned r) s v) 0 (octet_bits w) → IsEncoding (rules_of r) s v w
+encoding_of : (r : PackedRules) (s : Schema) (v : Value) (w : List ℕ) → length w < 2 ^ 60 → Reads (freedoms r) (Per.message (is_aligned r) s v) 0 (octet_bits w) → IsEncoding (rules_of r) s v w
 unfolding IsEncoding
-encoding_of Unaligned s v w h f = (h, f)
-encoding_of Aligned s v w h f = (h, f)
+encoding_of Uper s v w h f = (h, f)
+encoding_of Aper s v w h f = (h, f)
+encoding_of UperStrict s v w h f = (h, f)
+encoding_of AperStrict s v w h f = (h, f)
 
-form_of : (r : Variant) (s : Schema) (v : Value) (w : List ℕ) → IsEncoding (rules_of r) s v w → (length w < 2 ^ 60) × Reads (freedoms r) (Per.message (is_aligned r) s v) 0 (octet_bits w)
+form_of : (r : PackedRules) (s : Schema) (v : Value) (w : List ℕ) → IsEncoding (rules_of r) s v w → (length w < 2 ^ 60) × Reads (freedoms r) (Per.message (is_aligned r) s v) 0 (octet_bits w)
 unfolding IsEncoding
-form_of Unaligned s v w e = e
-form_of Aligned s v w e = e
+form_of Uper s v w e = e
+form_of Aper s v w e = e
+form_of UperStrict s v w e = e
+form_of AperStrict s v w e = e
 
 -- ---- what a decoder is at the beginning
 abbrev pub first : List ℕ → List ℕ
 first input = take (2 ^ 60 - 1) input
 
-abbrev pub begun : Variant → List ℕ → Held
-begun r input = record { place = (0, octet_bits (first input)); scopes = []; levels = 128; most = 128; failed = false; variant = r; stands = Some 0 ∷ [] }
+abbrev pub begun : PackedRules → List ℕ → Held
+begun r input = record { place = (0, octet_bits (first input)); scopes = []; levels = 128; most = 128; failed = None; rules = r; stands = Some 0 ∷ [] }
 
 -- ---- what is found
 -- so many octets of those that are looked at, and the input's others behind them
@@ -70,13 +83,13 @@ front_octets k input h =
     ap (λ l. text ++ l) d ∙ i
 
 -- the bits of a value and their padding are those of whole octets
-record Whole (r : Variant) (s : Schema) (v : Value) (input : List ℕ) (after : Place) : Type 0 where
+record Whole (r : PackedRules) (s : Schema) (v : Value) (input : List ℕ) (after : Place) : Type 0 where
   count : ℕ
   within : count ≤ length (first input)
   left : length after.1 + count * 8 ≡ length (octet_bits (first input))
   reads : Reads (freedoms r) (Per.message (is_aligned r) s v) 0 (octet_bits (take count (first input)))
 
-whole : (r : Variant) (s : Schema) (v : Value) (input : List ℕ) (left after : Place) → Front (freedoms r) (Per.form (is_aligned r) s v) (0, octet_bits (first input)) left → Front (freedoms r) (completion left.0) left after → Whole r s v input after
+whole : (r : PackedRules) (s : Schema) (v : Value) (input : List ℕ) (left after : Place) → Front (freedoms r) (Per.form (is_aligned r) s v) (0, octet_bits (first input)) left → Front (freedoms r) (completion left.0) left after → Whole r s v input after
 unfolding Per.message Per.complete Reads
 whole r s v input left after f g =
     let free = freedoms r in
@@ -97,15 +110,15 @@ whole r s v input left after f g =
       reads = subst (λ (l : List Bool). Reads free (Per.complete (Per.form (is_aligned r) s v)) 0 l) (sym bits) reads;
     }
 
-abbrev pub Finished : Variant → Held → Place → Type 0
+abbrev pub Finished : PackedRules → Held → Place → Type 0
 Finished r new after = Front (freedoms r) (completion new.place.0) new.place after
 
-found_form : (r : Variant) (schema : ℕ → Schema) (v : Value) (input : List ℕ) (new : Held) (t : ReadsValue Finds schema 128 v (begun r input) new) → Front (freedoms r) (Per.form (is_aligned r) (schema 128) t.raw) (0, octet_bits (first input)) new.place
+found_form : (r : PackedRules) (schema : ℕ → Schema) (v : Value) (input : List ℕ) (new : Held) (t : ReadsValue Finds schema 128 v (begun r input) new) → Front (freedoms r) (Per.form (is_aligned r) (schema 128) t.raw) (0, octet_bits (first input)) new.place
 found_form r schema v input new t =
     let f = records_read (is_aligned r) (freedoms r) (schema 128) t.raw ((0, octet_bits (first input)), []) (new.place, new.scopes) (any_bitmap r) (any_order r) (bits_taken (presents (schema 128) t.raw) (begun r input) new t.chain) in
     f.0
 
-pub told : (r : Variant) (schema : ℕ → Schema) (v : Value) (input : List ℕ) (new : Held) (after : Place) → ReadsValue Finds schema 128 v (begun r input) new → Finished r new after → Tells (rules_of r) schema v input (drop ((length (octet_bits (first input)) - length after.1) / 8) input)
+pub told : (r : PackedRules) (schema : ℕ → Schema) (v : Value) (input : List ℕ) (new : Held) (after : Place) → ReadsValue Finds schema 128 v (begun r input) new → Finished r new after → Tells (rules_of r) schema v input (drop ((length (octet_bits (first input)) - length after.1) / 8) input)
 told r schema v input new after t g =
     let s = schema 128 in
     let w = whole r s t.raw input new.place after (found_form r schema v input new t) g in
@@ -126,19 +139,19 @@ told r schema v input new after t g =
     })
 
 -- the same of a decoder as it was made
-pub told_from : (r : Variant) (schema : ℕ → Schema) (v : Value) (input : List ℕ) (old new : Held) (after : Place) → old ≡ begun r input → ReadsValue Finds schema old.levels v old new → Front (freedoms new.variant) (completion new.place.0) new.place after → Tells (rules_of r) schema v input (drop ((length old.place.1 - length after.1) / 8) input)
+pub told_from : (r : PackedRules) (schema : ℕ → Schema) (v : Value) (input : List ℕ) (old new : Held) (after : Place) → old ≡ begun r input → ReadsValue Finds schema old.levels v old new → Front (freedoms new.rules) (completion new.place.0) new.place after → Tells (rules_of r) schema v input (drop ((length old.place.1 - length after.1) / 8) input)
 told_from r schema v input old new after e t g =
     let u : ReadsValue Finds schema 128 v (begun r input) new = subst (λ (h : Held). ReadsValue Finds schema h.levels v h new) e t in
-    let q : new.variant ≡ r = variant_still (presents (schema 128) u.raw) (begun r input) new u.chain in
-    let f : Finished r new after = subst (λ (x : Variant). Front (freedoms x) (completion new.place.0) new.place after) q g in
+    let q : new.rules ≡ r = rules_still (presents (schema 128) u.raw) (begun r input) new u.chain in
+    let f : Finished r new after = subst (λ (x : PackedRules). Front (freedoms x) (completion new.place.0) new.place after) q g in
     subst (λ (n : ℕ). Tells (rules_of r) schema v input (drop ((n - length after.1) / 8) input)) (sym (ap (λ (h : Held). length h.place.1) e)) (told r schema v input new after u f)
 
 -- no more bits are left than there were, and so many octets as were taken are in the input
-pub left_within : (r : Variant) (schema : ℕ → Schema) (v : Value) (input : List ℕ) (old new : Held) (after : Place) → old ≡ begun r input → ReadsValue Finds schema old.levels v old new → Front (freedoms new.variant) (completion new.place.0) new.place after → (length after.1 ≤ length old.place.1) × ((length old.place.1 - length after.1) / 8 ≤ length input)
+pub left_within : (r : PackedRules) (schema : ℕ → Schema) (v : Value) (input : List ℕ) (old new : Held) (after : Place) → old ≡ begun r input → ReadsValue Finds schema old.levels v old new → Front (freedoms new.rules) (completion new.place.0) new.place after → (length after.1 ≤ length old.place.1) × ((length old.place.1 - length after.1) / 8 ≤ length input)
 left_within r schema v input old new after e t g =
     let u : ReadsValue Finds schema 128 v (begun r input) new = subst (λ (h : Held). ReadsValue Finds schema h.levels v h new) e t in
-    let q : new.variant ≡ r = variant_still (presents (schema 128) u.raw) (begun r input) new u.chain in
-    let f : Finished r new after = subst (λ (x : Variant). Front (freedoms x) (completion new.place.0) new.place after) q g in
+    let q : new.rules ≡ r = rules_still (presents (schema 128) u.raw) (begun r input) new u.chain in
+    let f : Finished r new after = subst (λ (x : PackedRules). Front (freedoms x) (completion new.place.0) new.place after) q g in
     let w = whole r (schema 128) u.raw input new.place after (found_form r schema v input new u) f in
     let k = w.left in
     let i = w.within in
@@ -151,7 +164,7 @@ front_of text rest input h e =
     let n : length text + (2 ^ 60 - 1 - length text) ≡ 2 ^ 60 - 1 = omega (arith, h) in
     sym (take-append-add text rest (2 ^ 60 - 1 - length text)) ∙ ap (λ k. take k (text ++ rest)) n ∙ ap first e
 
-module _ (r : Variant) (schema : ℕ → Schema) (input : List ℕ) (lawful : IsLawful (schema 128)) where
+module _ (r : PackedRules) (schema : ℕ → Schema) (input : List ℕ) (lawful : IsLawful (schema 128)) where
   -- a message in front has records that are found, and its padding behind them
   record Again : Type 0 where
     value : Value
@@ -192,8 +205,8 @@ module _ (r : Variant) (schema : ℕ → Schema) (input : List ℕ) (lawful : Is
         padded = g;
       }
 
-  pub none_told : (e : DecodeError) → Unread Finds schema 128 (begun r input) e → NoMessage (rules_of r) schema input e
-  none_told e u = record { none = λ n v rest m. let f = found_again v rest m in u.none n f.value (held_at (begun r input) (f.left, []) 128 f.stands) f.fits f.chain }
+  pub none_told : {failed : Held} (e : DecodeError) → Unread Finds TooFewHeld schema 128 (begun r input) failed e → NoMessage (rules_of r) schema input e
+  none_told {failed} e u = record { none = λ n v rest m. let f = found_again v rest m in u.none n (begun r input) (few_at_once 0 (begun r input) failed) f.value (held_at (begun r input) (f.left, []) 128 f.stands) f.fits f.chain }
 
   pub none_finished : (e : DecodeError) (x : Value) (new : Held) → ReadsValue Finds schema 128 x (begun r input) new → ((b : Place) → Front (freedoms r) (completion new.place.0) new.place b → ⊥) → NoMessage (rules_of r) schema input e
   none_finished e x new t none = record {
@@ -203,23 +216,65 @@ module _ (r : Variant) (schema : ℕ → Schema) (input : List ℕ) (lawful : Is
         none f.after (subst (λ (h : Held). Front (freedoms r) (completion h.place.0) h.place f.after) (sym k.1) f.padded);
   }
 
-pub none_told_from : (r : Variant) (schema : ℕ → Schema) (input : List ℕ) (old : Held) (e : DecodeError) → IsLawful (schema 128) → old ≡ begun r input → Unread Finds schema old.levels old e → NoMessage (rules_of r) schema input e
-none_told_from r schema input old e lawful q u = none_told r schema input lawful e (subst (λ (h : Held). Unread Finds schema h.levels h e) q u)
+pub none_told_from : {failed : Held} (r : PackedRules) (schema : ℕ → Schema) (input : List ℕ) (old : Held) (e : DecodeError) → IsLawful (schema 128) → old ≡ begun r input → Unread Finds TooFewHeld schema old.levels old failed e → NoMessage (rules_of r) schema input e
+none_told_from {failed} r schema input old e lawful q u = none_told r schema input lawful e (subst (λ (h : Held). Unread Finds TooFewHeld schema h.levels h failed e) q u)
 
-pub none_finished_from : (r : Variant) (schema : ℕ → Schema) (input : List ℕ) (x : Value) (old new : Held) (e : DecodeError) → IsLawful (schema 128) → old ≡ begun r input → ReadsValue Finds schema old.levels x old new → (IsReady new → (b : Place) → Front (freedoms new.variant) (completion new.place.0) new.place b → ⊥) → NoMessage (rules_of r) schema input e
+pub none_finished_from : (r : PackedRules) (schema : ℕ → Schema) (input : List ℕ) (x : Value) (old new : Held) (e : DecodeError) → IsLawful (schema 128) → old ≡ begun r input → ReadsValue Finds schema old.levels x old new → (IsReady new → (b : Place) → Front (freedoms new.rules) (completion new.place.0) new.place b → ⊥) → NoMessage (rules_of r) schema input e
 none_finished_from r schema input x old new e lawful q t none =
     let u : ReadsValue Finds schema 128 x (begun r input) new = subst (λ (h : Held). ReadsValue Finds schema h.levels x h new) q t in
-    let k : new.variant ≡ r = variant_still (presents (schema 128) u.raw) (begun r input) new u.chain in
+    let k : new.rules ≡ r = rules_still (presents (schema 128) u.raw) (begun r input) new u.chain in
     let i : IsReady new = ready_still (presents (schema 128) u.raw) (begun r input) new refl u.chain in
-    none_finished r schema input lawful e x new u (λ b f. none i b (subst (λ (y : Variant). Front (freedoms y) (completion new.place.0) new.place b) (sym k) f))
+    none_finished r schema input lawful e x new u (λ b f. none i b (subst (λ (y : PackedRules). Front (freedoms y) (completion new.place.0) new.place b) (sym k) f))
 
 -- ---- what has not failed
-pub not_failed : (r : Variant) (schema : ℕ → Schema) (input : List ℕ) (x : Value) (old new : Held) → old ≡ begun r input → ReadsValue Finds schema old.levels x old new → new.failed ≡ true → ⊥
+pub not_failed : (r : PackedRules) (schema : ℕ → Schema) (input : List ℕ) (x : Value) (old new : Held) → old ≡ begun r input → ReadsValue Finds schema old.levels x old new → HasFailed new → ⊥
 not_failed r schema input x old new q t h =
     let u : ReadsValue Finds schema 128 x (begun r input) new = subst (λ (h : Held). ReadsValue Finds schema h.levels x h new) q t in
-    let i : new.failed ≡ false = ready_still (presents (schema 128) u.raw) (begun r input) new refl u.chain in
+    let i : IsReady new = ready_still (presents (schema 128) u.raw) (begun r input) new refl u.chain in
     let e : true ≡ false = sym h ∙ i in
     cc
 
-pub begun_ready : (r : Variant) (input : List ℕ) (old : Held) → old ≡ begun r input → old.failed ≡ true → ⊥
-begun_ready r input old q h = let e : true ≡ false = sym h ∙ ap (λ (x : Held). x.failed) q in cc
+pub begun_ready : (r : PackedRules) (input : List ℕ) (old : Held) → old ≡ begun r input → HasFailed old → ⊥
+begun_ready r input old q h = let e : true ≡ false = sym h ∙ ap (λ (x : Held). is_some x.failed) q in cc
+
+-- ---- what is needed
+take_whole : (n : ℕ) (xs : List ℕ) → length xs ≤ n → take n xs ≡ xs
+take_whole n xs h =
+    let k : n ≡ length xs + (n - length xs) = omega (arith, h) in
+    let e : take (length xs + (n - length xs)) (xs ++ []) ≡ xs ++ take (n - length xs) [] = take-append-add xs [] (n - length xs) in
+    ap (λ m. take m xs) k ∙ ap (take (length xs + (n - length xs))) (sym (append-nil xs)) ∙ e ∙ ap (λ l. xs ++ l) (take_none (n - length xs)) ∙ append-nil xs
+  where
+    take_none : (m : ℕ) → take {A = ℕ} m [] ≡ []
+    take_none zero = refl
+    take_none (suc m) = refl
+
+-- an input and more octets: what is looked at of both is what is looked at of the input, and no more of the others
+begun_more : (input more : List ℕ) → (f : List ℕ) × (first (input ++ more) ≡ first input ++ f) × (length f ≤ length more)
+begun_more input more = elim (cases_lt (2 ^ 60 - 1) (length input)) [
+  | inl i ↦ ([], take-append-le (2 ^ 60 - 1) input more (omega arith) ∙ sym (append-nil (first input)), omega arith)
+  | inr i ↦
+      let k = 2 ^ 60 - 1 - length input in
+      let n : 2 ^ 60 - 1 ≡ length input + k = omega arith in
+      let w : first input ≡ input = take_whole (2 ^ 60 - 1) input i in
+      (take k more, ap (λ m. take m (input ++ more)) n ∙ take-append-add input more k ∙ ap (λ x. x ++ take k more) (sym w), omega (arith, length-take k more))
+]
+
+-- Where a decoder was refused, no message is in front either once a few octets more stand behind the input.
+more_needed : (r : PackedRules) (schema : ℕ → Schema) (input : List ℕ) (failed : Held) (n : ℕ) (e : DecodeError) → IsLawful (schema 128) → n ≤ lacks failed / 8 + 1 → Unread Finds TooFewHeld schema 128 (begun r input) failed e → NeedsMore (rules_of r) schema input n e
+more_needed r schema input failed n e lawful few u more h =
+    let z = begun_more input more in
+    let w = octet_bits z.0 in
+    let b : octet_bits (first (input ++ more)) ≡ octet_bits (first input) ++ w = ap octet_bits z.1 ∙ octet_bits-append (first input) z.0 in
+    let d : begun r (input ++ more) ≡ held_with w (begun r input) = ap (λ (x : List Bool). let h : Held = record { place = (0, x); scopes = []; levels = 128; most = 128; failed = None; rules = r; stands = Some 0 ∷ [] } in h) b in
+    let l = z.2 in
+    let m = length-octet_bits z.0 in
+    let near : TooFewHeld (begun r input) failed (begun r (input ++ more)) = (w, d, inl (omega arith, omega (arith, l, m, few, h))) in
+    record { none = λ i v rest g. let f = found_again r schema (input ++ more) lawful v rest g in u.none i (begun r (input ++ more)) near f.value (held_at (begun r (input ++ more)) (f.left, []) 128 f.stands) f.fits f.chain }
+
+pub more_needed_from : (r : PackedRules) (schema : ℕ → Schema) (input : List ℕ) (old failed : Held) (n : ℕ) (e : DecodeError) → IsLawful (schema 128) → old ≡ begun r input → n ≡ min (lacks failed) (2 ^ 64 - 1) / 8 + 1 → Unread Finds TooFewHeld schema old.levels old failed e → NeedsMore (rules_of r) schema input n e
+more_needed_from r schema input old failed n e lawful q k u = more_needed r schema input failed n e lawful (omega (arith, k)) (subst (λ (h : Held). Unread Finds TooFewHeld schema h.levels h failed e) q u)
+
+-- where no message is in front, none is with fewer octets than one more
+pub none_with_fewer : (r : PackedRules) (schema : ℕ → Schema) (input : List ℕ) (e : DecodeError) → NoMessage (rules_of r) schema input e → NeedsMore (rules_of r) schema input 1 e
+none_with_fewer r schema input e none [] h = subst (λ l. NoMessage (rules_of r) schema l e) (sym (append-nil input)) none
+none_with_fewer r schema input e none (x ∷ more) h = absurd (omega (arith, h))

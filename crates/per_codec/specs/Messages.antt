@@ -1,14 +1,16 @@
 -- The rules of the calls, and that what they tell is one value.
-use Rattle.asn1_model.specs.Rules.{Rules, uper, aper}
+use Rattle.asn1_model.specs.Rules.{Rules, uper, aper, uper_strict, aper_strict}
 use Rattle.asn1_schema_decode.specs.Messages.{OneMessageIn}
-use Rattle.per_codec_limits.specs.declared.variant.Variant.{Variant}
-use Rattle.per_codec_limits.specs.declared.variant.Variant.TheVariants.{Unaligned, Aligned}
+use Rattle.per_codec_reading.specs.declared.rules.PackedRules.{PackedRules}
+use Rattle.per_codec_reading.specs.declared.rules.PackedRules.TheVariants.{Uper, Aper, UperStrict, AperStrict}
 
 -- The rules as the model names them.
-abbrev pub rules_of : Variant → Rules
-rules_of Unaligned = uper
-rules_of Aligned = aper
+abbrev pub rules_of : PackedRules → Rules
+rules_of Uper = uper
+rules_of Aper = aper
+rules_of UperStrict = uper_strict
+rules_of AperStrict = aper_strict
 
 -- An input tells one value at most of a lawful type, up to the order of bags, and one rest stands behind its message.
 abbrev pub OneMessage : Type 0
-OneMessage = (variant : Variant) → OneMessageIn (rules_of variant)
+OneMessage = (rules : PackedRules) → OneMessageIn (rules_of rules)

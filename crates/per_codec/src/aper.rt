@@ -1,18 +1,19 @@
 //! The aligned packed encoding rules (X.691): values are written and read.
-ghost use Rattle.std.specs.Prelude.{◌≡◌, [], ℕ, List, OnOk, OnErr, IfOk, IfErr};
+ghost use Rattle.std.specs.Prelude.{◌≡◌, ◌≤◌, [], ℕ, List, OnOk, OnErr, IfOk, IfErr};
 ghost use Rattle.asn1_model.specs.Lawful.{IsLawful};
 ghost use Rattle.asn1_model.specs.Rules.{aper};
 ghost use Rattle.asn1_schema_constraints.specs.Terms.{meant};
-ghost use Rattle.asn1_schema_decode.specs.Messages.{NoMessage, Tells};
+ghost use Rattle.asn1_schema_decode.specs.Messages.{NeedsMore, NoMessage, Tells};
 ghost use Rattle.per_codec.specs.Encoded.{IsEncoded, NotEncoded};
 
 use asn1_schema_constraints::Constraints;
-use asn1_schema_decode::Decode;
+use asn1_schema_decode::{Decode, Refusal};
 use asn1_schema_encode::Encode;
 use asn1_schema_faults::{DecodeError, EncodeError};
 pub use per_codec_decoder::{Decoder, DecoderOptions};
 pub use per_codec_encoder::{Encoder, EncoderOptions};
-use per_codec_reading::Variant;
+use per_codec_limits::Variant;
+use per_codec_reading::PackedRules;
 use std::alloc::Global;
 
 /// The canonical encoding of a value (X.691 11.1): at least one octet.
@@ -88,7 +89,7 @@ pub fn decode<T: Decode>(alloc: Global, input: &[u8]) -> Result<T, DecodeError>
     ensures only { IfErr result (NoMessage aper T.schema input.now) }
     ensures fresh { IfErr result (λ e. e ≡ DecodeError.AlreadyFailed → ⊥) }
 {
-    let value = crate::reading::decode(alloc, input, Variant::Aligned)?;
+    let value = crate::reading::decode(alloc, input, PackedRules::Aper)?;
     Ok(value)
 }
 
@@ -105,8 +106,27 @@ pub fn decode_with_remainder<'input, T: Decode>(
     ensures only { IfErr result (NoMessage aper T.schema input.now) }
     ensures fresh { IfErr result (λ e. e ≡ DecodeError.AlreadyFailed → ⊥) }
 {
-    let (value, rest) = crate::reading::decode_with_remainder(alloc, input, Variant::Aligned)?;
+    let (value, rest) = crate::reading::decode_with_remainder(alloc, input, PackedRules::Aper)?;
     Ok((value, rest))
+}
+
+/// As `decode_with_remainder`, and a refusal says how many more octets are needed at least: with fewer behind the input
+/// no encoding stands in front either.
+///
+/// # Errors
+///
+/// Those of `decode`.
+pub fn decode_or_need<'input, T: Decode>(
+    alloc: Global,
+    input: &'input [u8],
+) -> Result<(T, &'input [u8]), Refusal>
+    ensures ok { IfOk result (λ x. Tells aper T.schema (T.meaning x.0) input.now x.1.now) }
+    ensures only { IfErr result (λ r. NoMessage aper T.schema input.now r.error) }
+    ensures needed { IfErr result (λ r. NeedsMore aper T.schema input.now r.needed r.error) }
+    ensures fresh { IfErr result (λ r. r.error ≡ DecodeError.AlreadyFailed → ⊥) }
+    ensures some { IfErr result (λ r. 1 ≤ r.needed) }
+{
+    crate::reading::decode_or_need(alloc, input, PackedRules::Aper)
 }
 
 /// Reads the value whose encoding (X.691 11.1) under these constraints, in place of the type's own, stands in front.
@@ -130,7 +150,7 @@ pub fn decode_with_constraints<T: Decode>(
         alloc,
         constraints,
         input,
-        Variant::Aligned,
+        PackedRules::Aper,
     )?;
     Ok(value)
 }

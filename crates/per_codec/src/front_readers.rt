@@ -39,3 +39,41 @@ impl<T: Decode> FrontReader<T> for AperFront {
         Ok((value, input.len() - rest.len()))
     }
 }
+
+/// Reads the message in front of octets by the unaligned packed encoding rules (X.691), strictly: only the forms
+/// that an encoder writes.
+#[derive(Clone, Copy, Debug, PartialEq, Eq)]
+pub struct UperStrictFront;
+
+impl<T: Decode> FrontReader<T> for UperStrictFront {
+    ghost use Rattle.asn1_model.specs.Rules.{uper_strict};
+    ghost use Rattle.asn1_schema_decode.specs.Messages.{NoMessage};
+
+    ghost rules = { uper_strict };
+
+    ghost refuses = { NoMessage uper_strict T.schema };
+
+    fn read_front(&self, alloc: Global, input: &[u8]) -> Result<(T, usize), DecodeError> {
+        let (value, rest): (T, &[u8]) = crate::uper_strict::decode_with_remainder(alloc, input)?;
+        Ok((value, input.len() - rest.len()))
+    }
+}
+
+/// Reads the message in front of octets by the aligned packed encoding rules (X.691), strictly: only the forms that an
+/// encoder writes.
+#[derive(Clone, Copy, Debug, PartialEq, Eq)]
+pub struct AperStrictFront;
+
+impl<T: Decode> FrontReader<T> for AperStrictFront {
+    ghost use Rattle.asn1_model.specs.Rules.{aper_strict};
+    ghost use Rattle.asn1_schema_decode.specs.Messages.{NoMessage};
+
+    ghost rules = { aper_strict };
+
+    ghost refuses = { NoMessage aper_strict T.schema };
+
+    fn read_front(&self, alloc: Global, input: &[u8]) -> Result<(T, usize), DecodeError> {
+        let (value, rest): (T, &[u8]) = crate::aper_strict::decode_with_remainder(alloc, input)?;
+        Ok((value, input.len() - rest.len()))
+    }
+}

@@ -1,14 +1,18 @@
-//! The packed encoding rules (X.691), unaligned (UPER) and aligned (APER): values are written and read.
+//! The packed encoding rules (X.691), unaligned (UPER) and aligned (APER): values are written, and read in all forms
+//! or, strictly, only in the forms that are written.
 #![tactic(auto)]
 
 pub mod aper;
+pub mod aper_strict;
 pub mod front_readers;
 pub mod laws;
 pub mod reading;
 pub mod uper;
+pub mod uper_strict;
 pub mod writing;
 
-pub use front_readers::{AperFront, UperFront};
+pub use front_readers::{AperFront, AperStrictFront, UperFront, UperStrictFront};
 pub use per_codec_decoder::{Decoder, DecoderOptions};
 pub use per_codec_encoder::{Encoder, EncoderOptions};
 pub use per_codec_limits::Variant;
+pub use per_codec_reading::PackedRules;

@@ -1,15 +1,15 @@
 //! A value is read from the front of octets.
-ghost use Rattle.std.specs.Prelude.{◌≡◌, ℕ, List, IfOk, IfErr};
+ghost use Rattle.std.specs.Prelude.{◌≡◌, ◌≤◌, ℕ, List, IfOk, IfErr};
 ghost use Rattle.asn1_model.specs.Lawful.{IsLawful};
 ghost use Rattle.asn1_schema_constraints.specs.Terms.{meant};
-ghost use Rattle.asn1_schema_decode.specs.Messages.{Tells, NoMessage};
+ghost use Rattle.asn1_schema_decode.specs.Messages.{Tells, NeedsMore, NoMessage};
 ghost use Rattle.per_codec.specs.Messages.{rules_of};
 
 use asn1_schema_constraints::Constraints;
-use asn1_schema_decode::Decode;
+use asn1_schema_decode::{Decode, Refusal};
 use asn1_schema_faults::DecodeError;
 use per_codec_decoder::{Decoder, DecoderOptions};
-use per_codec_reading::Variant;
+use per_codec_reading::PackedRules;
 use std::alloc::Global;
 
 /// Reads the value whose encoding stands in front (X.691), and passes over the octets behind it.
@@ -19,12 +19,12 @@ use std::alloc::Global;
 /// `OutOfMemory` for want of memory. Any other only if no octets in front, fewer than 2^60, are an encoding of a
 /// value of the type that nests at most 128 levels.
 #[inline(always)]
-pub fn decode<T: Decode>(alloc: Global, input: &[u8], variant: Variant) -> Result<T, DecodeError>
-    ensures ok { IfOk result (λ x. (rest : List ℕ) × Tells (rules_of variant) T.schema (T.meaning x) input.now rest) }
-    ensures only { IfErr result (NoMessage (rules_of variant) T.schema input.now) }
+pub fn decode<T: Decode>(alloc: Global, input: &[u8], rules: PackedRules) -> Result<T, DecodeError>
+    ensures ok { IfOk result (λ x. (rest : List ℕ) × Tells (rules_of rules) T.schema (T.meaning x) input.now rest) }
+    ensures only { IfErr result (NoMessage (rules_of rules) T.schema input.now) }
     ensures fresh { IfErr result (λ e. e ≡ DecodeError.AlreadyFailed → ⊥) }
 {
-    let (value, _rest) = decode_with_remainder(alloc, input, variant)?;
+    let (value, _rest) = decode_with_remainder(alloc, input, rules)?;
     Ok(value)
 }
 
@@ -37,16 +37,49 @@ pub fn decode<T: Decode>(alloc: Global, input: &[u8], variant: Variant) -> Resul
 pub fn decode_with_remainder<'input, T: Decode>(
     alloc: Global,
     input: &'input [u8],
-    variant: Variant,
+    rules: PackedRules,
 ) -> Result<(T, &'input [u8]), DecodeError>
-    ensures ok { IfOk result (λ x. Tells (rules_of variant) T.schema (T.meaning x.0) input.now x.1.now) }
-    ensures only { IfErr result (NoMessage (rules_of variant) T.schema input.now) }
+    ensures ok { IfOk result (λ x. Tells (rules_of rules) T.schema (T.meaning x.0) input.now x.1.now) }
+    ensures only { IfErr result (NoMessage (rules_of rules) T.schema input.now) }
     ensures fresh { IfErr result (λ e. e ≡ DecodeError.AlreadyFailed → ⊥) }
 {
-    let mut decoder = Decoder::new(alloc, input, DecoderOptions { variant });
+    match decode_or_need(alloc, input, rules) {
+        Ok(found) => Ok(found),
+        Err(refusal) => Err(refusal.error),
+    }
+}
+
+/// As `decode_with_remainder`, and a refusal says how many more octets are needed at least: with fewer behind the input
+/// no encoding stands in front either.
+///
+/// # Errors
+///
+/// As `decode`.
+#[inline(always)]
+pub fn decode_or_need<'input, T: Decode>(
+    alloc: Global,
+    input: &'input [u8],
+    rules: PackedRules,
+) -> Result<(T, &'input [u8]), Refusal>
+    ensures ok { IfOk result (λ x. Tells (rules_of rules) T.schema (T.meaning x.0) input.now x.1.now) }
+    ensures only { IfErr result (λ r. NoMessage (rules_of rules) T.schema input.now r.error) }
+    ensures needed { IfErr result (λ r. NeedsMore (rules_of rules) T.schema input.now r.needed r.error) }
+    ensures fresh { IfErr result (λ r. r.error ≡ DecodeError.AlreadyFailed → ⊥) }
+    ensures some { IfErr result (λ r. 1 ≤ r.needed) }
+{
+    let mut decoder = Decoder::new(alloc, input, DecoderOptions { rules });
     let looked_at = decoder.input().len();
-    let value = T::decode(alloc, &mut decoder)?;
-    decoder.finish()?;
+    let value = match T::decode(alloc, &mut decoder) {
+        Ok(value) => value,
+        Err(error) => {
+            let needed = decoder.needed();
+            return Err(Refusal { error, needed });
+        }
+    };
+    match decoder.finish() {
+        Ok(()) => {}
+        Err(error) => return Err(Refusal { error, needed: 1 }),
+    }
     let taken = (looked_at - decoder.input().len()) / 8;
     decoder.let_go();
     let (_, rest) = input.split_at(taken);
@@ -64,17 +97,17 @@ pub fn decode_with_constraints<T: Decode>(
     alloc: Global,
     constraints: &Constraints,
     input: &[u8],
-    variant: Variant,
+    rules: PackedRules,
 ) -> Result<T, DecodeError>
     ensures ok { IfOk result
         (λ x. (rest : List ℕ)
-        × Tells (rules_of variant) (T.under (meant constraints.now)) (T.meaning x) input.now rest) }
+        × Tells (rules_of rules) (T.under (meant constraints.now)) (T.meaning x) input.now rest) }
     ensures only { IfErr result
         (λ error. IsLawful (T.under (meant constraints.now) 128)
-        → NoMessage (rules_of variant) (T.under (meant constraints.now)) input.now error) }
+        → NoMessage (rules_of rules) (T.under (meant constraints.now)) input.now error) }
     ensures fresh { IfErr result (λ e. e ≡ DecodeError.AlreadyFailed → ⊥) }
 {
-    let mut decoder = Decoder::new(alloc, input, DecoderOptions { variant });
+    let mut decoder = Decoder::new(alloc, input, DecoderOptions { rules });
     let value = T::decode_with_constraints(alloc, &mut decoder, constraints)?;
     decoder.finish()?;
     decoder.let_go();

@@ -1,5 +1,5 @@
 -- Length determinants of members in front.
-use Rattle.std.proofs.Common.{◌≡◌, ℕ, zero, ◌-◌, ◌*◌, ◌≤◌, ltb, leb, Bool, true, false, cond, ◌||◌, ◌&&◌, IsTrue, inl, inr, List, [], ◌∷◌, Option, Some, None, Box, Global, refl, sym, ◌∙◌, ap, subst, arith}
+use Rattle.std.proofs.Common.{◌≡◌, ◌⊎◌, ℕ, zero, ◌-◌, ◌*◌, ◌≤◌, ◌<◌, ltb, leb, Bool, true, false, not, cond, ◌||◌, ◌&&◌, IsTrue, inl, inr, List, [], ◌∷◌, Option, Some, None, Box, Global, refl, sym, ◌∙◌, ap, subst, arith}
 use Rattle.std.proofs.lemmas.Bool.{and_parts, and_from, leb-true, le-leb}
 use Rattle.asn1_model.specs.Schema.{Counts, Size}
 use Rattle.asn1_model.specs.Numbers.{binary, is_count_within}
@@ -17,11 +17,14 @@ use Rattle.per_codec_reading.specs.Fronts.{NoneStands, Misses}
 use Rattle.per_codec_reading.specs.Lengths.{length_form}
 use Rattle.per_codec_reading.specs.declared.lengths.Length.{Length}
 use Rattle.per_codec_reading.specs.declared.lengths.Length.TheVariants.{Short, Fragment}
-use Rattle.per_codec_reading.specs.Sizes.{admitted, determinant_form, heading_form}
+use Rattle.per_codec_reading.specs.Sizes.{admitted, determinant_form, heading_form, may_be_outside}
+use Rattle.per_codec_reading.proofs.Fronts.{or_free, free_or}
+use Rattle.per_codec_reading.proofs.LargestFirst.{follows_four}
 use Rattle.per_codec_reading.specs.declared.sizes.Heading.{Heading}
 use Rattle.per_codec_reading.specs.declared.sizes.LengthDeterminant.{LengthDeterminant}
 use Rattle.per_codec_reading.specs.declared.sizes.LengthDeterminant.TheVariants.{Constrained, General}
-use Rattle.per_codec_decoder.specs.Members.{HasMembers, NoMembers, NoDeterminant, NoFurther, tally_in}
+use Rattle.per_codec_decoder.proofs.Largest.{largest_are_first, first_are_largest}
+use Rattle.per_codec_decoder.specs.Members.{largest_behind, HasMembers, NoMembers, NoDeterminant, NoFurther, tally_in}
 use Rattle.std.specs.Option.{option_map_or}
 
 -- want of memory aside, what is missed does not stand in front
@@ -71,32 +74,63 @@ module _ (free : Per.Freedom → Bool) (al : Bool) where
   pub fragment_determinant : (t u : Tally) (a b : Place) (m : ℕ) → Front free (length_form al (Fragment m)) a b → u ≡ with_fragment m t → NextDeterminant al free t a b (m * 16384) (Some u)
   fragment_determinant t u a b m f e = let g = if_out free (leb 1 m && leb m 4) (Per.at_octet al (exactly (true ∷ true ∷ binary 6 m))) a b f in inl (m, g.0, g.1, refl, ap (λ (v : Tally). Some v) e)
 
-  in_place : (out t : Bool) → IsTrue (free Per.root_told_outside) → (out || t) ≡ true → InPlace free out t
+  in_place : (out t : Bool) → may_be_outside (free Per.root_told_outside) out t ≡ true → (out || t) ≡ true → InPlace free out t
   in_place false t f e = e
-  in_place true t f e = inr f
+  in_place true t f e = elim (or_free (free Per.root_told_outside) (not t) f) [ inl x ↦ inl (not_true t x) | inr x ↦ inr x ]
+    where
+      not_true : (t : Bool) → not t ≡ true → t ≡ false
+      not_true true e = cc
+      not_true false e = refl
 
   out_of_place : (out t : Bool) → InPlace free out t → (out || t) ≡ true
   out_of_place false t e = e
   out_of_place true t e = refl
 
+  outside_if_free : (out t : Bool) → InPlace free out t → may_be_outside (free Per.root_told_outside) out t ≡ true
+  outside_if_free false t e = free_or (free Per.root_told_outside) true (inl refl)
+  outside_if_free true t e = free_or (free Per.root_told_outside) (not t) (elim e [ inl x ↦ inl (ap not x) | inr x ↦ inr x ])
+
   abbrev pub MayBe : Tally → ℕ → Type 0
   MayBe t n = admitted t.held t.size.counts t.outside n ≡ true
 
-  pub last_determinant : (t : Tally) (a b : Place) (n : ℕ) → IsTrue (free Per.root_told_outside) → IsTrue (free Per.other_fragments) → Front free (Per.short_length al n) a b → MayBe t (in_all t.sizes n) → NextDeterminant al free t a b n None
-  last_determinant t a b n f o g m =
-      let p = and_parts (is_count_within t.held (in_all t.sizes n)) (t.outside || is_count_within t.size.counts (in_all t.sizes n)) m in
-      inr ((p.0, in_place t.outside (is_count_within t.size.counts (in_all t.sizes n)) f p.1), inr o, g, refl)
+  -- a reader accepts so many
+  abbrev pub Accepted : Tally → ℕ → Bool
+  Accepted t n = may_be_outside (free Per.root_told_outside) t.outside (is_count_within t.size.counts n) && (free Per.other_fragments || largest_behind 4 t.sizes)
+
+  abbrev Fragmented : Tally → ℕ → Type 0
+  Fragmented t n = (t.sizes ≡ Per.largest_first (in_all t.sizes n)) ⊎ IsTrue (free Per.other_fragments)
+
+  pub last_determinant : (t : Tally) (a b : Place) (n total : ℕ) → n < 16384 → total ≡ in_all t.sizes n → MayBe t total → Accepted t total ≡ true → Front free (Per.short_length al n) a b → NextDeterminant al free t a b n None
+  last_determinant t a b n total l e m y g =
+      let root = is_count_within t.size.counts (in_all t.sizes n) in
+      let p = and_parts (is_count_within t.held (in_all t.sizes n)) (t.outside || root) (subst (λ k. MayBe t k) e m) in
+      let q = and_parts (may_be_outside (free Per.root_told_outside) t.outside root) (free Per.other_fragments || largest_behind 4 t.sizes) (subst (λ k. Accepted t k ≡ true) e y) in
+      let f : Fragmented t n = elim (or_free (free Per.other_fragments) (largest_behind 4 t.sizes) q.1) [ inl x ↦ inl ((largest_are_first n l 4 t.sizes x).0) | inr x ↦ inr x ] in
+      inr ((p.0, in_place t.outside root q.0 p.1), f, g, refl)
+
+  -- what a last length determinant in front tells is known
+  last_told : (t : Tally) (a b c : Place) (n due : ℕ) (hs : Option Tally) → Front free (Per.short_length al n) a b → NextDeterminant al free t a c due hs → Admits free t.size t.held t.outside (in_all t.sizes n) × Fragmented t n
+  last_told t a b c n due hs f (inl x) = absurd ((same_fronts free (fragment_or_last x.0 n) a c b x.2 f).0)
+  last_told t a b c n due hs f (inr x) =
+      let q = same_fronts free (short_length_alike free al n due) a b c f x.2 in
+      subst (λ k. Admits free t.size t.held t.outside (in_all t.sizes k) × Fragmented t k) (sym q.0) (x.0, x.1)
 
   pub other_last : (t : Tally) (a b : Place) (n : ℕ) (e : DecodeError) → Front free (Per.short_length al n) a b → (MayBe t (in_all t.sizes n) → ⊥) → NoDeterminant al free t a e
-  other_last t a b n e f w = record { none = λ i c due hs g. go c due hs g }
-    where
-      go : (c : Place) (due : ℕ) (hs : Option Tally) → NextDeterminant al free t a c due hs → ⊥
-      go c due hs (inl x) = (same_fronts free (fragment_or_last x.0 n) a c b x.2 f).0
-      go c due hs (inr x) =
-          let q = same_fronts free (short_length_alike free al n due) a b c f x.2 in
-          let j : n ≡ due = q.0 in
-          let g : Admits free t.size t.held t.outside (in_all t.sizes n) = subst (λ k. Admits free t.size t.held t.outside (in_all t.sizes k)) (sym j) x.0 in
-          w (and_from _ _ g.0 (out_of_place t.outside (is_count_within t.size.counts (in_all t.sizes n)) g.1))
+  other_last t a b n e f w = record {
+    none = λ i c due hs g.
+        let x = last_told t a b c n due hs f g in
+        w (and_from _ _ x.0.0 (out_of_place t.outside (is_count_within t.size.counts (in_all t.sizes n)) x.0.1));
+  }
+
+  pub not_accepted : (t : Tally) (a b : Place) (n total : ℕ) (e : DecodeError) → n < 16384 → total ≡ in_all t.sizes n → Accepted t total ≡ false → Front free (Per.short_length al n) a b → NoDeterminant al free t a e
+  not_accepted t a b n total e l p y f = record {
+    none = λ i c due hs g.
+        let x = last_told t a b c n due hs f g in
+        let o = outside_if_free t.outside (is_count_within t.size.counts (in_all t.sizes n)) x.0.1 in
+        let k : (largest_behind 4 t.sizes ≡ true) ⊎ IsTrue (free Per.other_fragments) = elim x.1 [ inl z ↦ inl (first_are_largest n l 4 t.sizes (follows_four false 4 (in_all t.sizes n) refl) z) | inr z ↦ inr z ] in
+        let h : Accepted t total ≡ true = subst (λ m. Accepted t m ≡ true) (sym p) (and_from _ _ o (free_or _ _ k)) in
+        untrue (sym y ∙ h);
+  }
 
   -- where no member is due behind a length determinant, none stands behind these
   pub last_of : (t : Tally) (a b : Place) (due : ℕ) (hs : Option Tally) → NextDeterminant al free t a b due hs → due ≡ 0 → hs ≡ None

@@ -1,6 +1,6 @@
 -- How a record that is asked for is found in front, and why none is.
 use Rattle.std.proofs.Common.{◌≡◌, ℕ, ℤ, suc, ◌+◌, Bool, true, false, ◌||◌, ◌&&◌, List, ◌∷◌, length, Some, Result, Ok, Err, refl, sym, ◌∙◌, ap, subst, arith}
-use Rattle.std.specs.Prelude.{OnOk, not}
+use Rattle.std.specs.Prelude.{OnOk, not, is_some}
 use Rattle.asn1_schema_presented.specs.Levels.{level}
 use Rattle.asn1_model.specs.Value.{Value, truth, nothing, number, item, bit_list, octet_list, text, arcs}
 use Rattle.asn1_model.specs.Schema.{Range, Bounds, Counts, Size, Alphabet, StringKind, Schema, boolean, null, integer, enumerated, bit_string, octet_string, character_string, object_identifier}
@@ -11,12 +11,15 @@ use Rattle.asn1_model.specs.Normal.{is_bounded}
 use Rattle.asn1_model.specs.Per
 use Rattle.asn1_laws_fronts.proofs.PerNumbers.{length_of_map}
 use Rattle.asn1_schema_decode.specs.Reads.{NoRecord}
+use Rattle.asn1_schema_lacking.specs.Carried.{AtOnce}
+use Rattle.asn1_schema_decode.proofs.AtOnce.{none_at_once}
 use Rattle.asn1_schema_faults.specs.declared.DecodeError.{DecodeError}
-use Rattle.asn1_schema_presented.specs.Records.{Record, Question, question, flag, nil, whole, one_of, bits, octets, characters, identifier, further, asks_flag, asks_nil, asks_whole, asks_one_of, asks_bits, asks_octets, asks_characters, asks_identifier, asks_further}
-use Rattle.per_codec_fronts.specs.Takes.{Place, Scope, components, State, Front, Found, NextMember, Begins, Takes}
+use Rattle.asn1_schema_presented.specs.Records.{Record, Question, question, flag, nil, whole, one_of, bits, octets, characters, identifier, further, presence_bit, asks_flag, asks_nil, asks_whole, asks_one_of, asks_bits, asks_octets, asks_characters, asks_identifier, asks_further, asks_presence_bit}
+use Rattle.per_codec_fronts.specs.Takes.{Place, Scope, components, State, Front, Found, NextMember, NextPresenceBit, Begins, Takes}
 use Rattle.per_codec_fronts.proofs.Fronts.{if_out}
 use Rattle.per_codec_reading.specs.Fronts.{freedoms, is_aligned, Misses}
-use Rattle.per_codec_decoder.specs.Held.{Held, state_of, kept, Finds, IsReady}
+use Rattle.per_codec_held.specs.Held.{Held, state_of, kept, Finds}
+use Rattle.per_codec_held.specs.Held.{IsReady}
 use Rattle.per_codec_decoder.specs.Members.{NoFurther}
 use Rattle.per_codec_decoder.specs.Preamble.{HasPreamble}
 use Rattle.per_codec_decoder.proofs.Counting.{missed}
@@ -62,10 +65,10 @@ module _ (al : Bool) (free : Per.Freedom → Bool) (a b : State) where
   asked_identifier r k t = cc k
 
 -- none of a type is found where none stands in front
-pub none_found : (old now : Held) (q : Question) (s : Schema) (e x : DecodeError) → now ≡ old → x ≡ e → Misses (freedoms now.variant) (Per.form (is_aligned now.variant) s) now.place e → ((al : Bool) (free : Per.Freedom → Bool) (a b : State) (r : Record) → question r ≡ q → Takes al free a r b → OfType al free a b s) → NoRecord Finds q old x
+pub none_found : {failed : Held} (old now : Held) (q : Question) (s : Schema) (e x : DecodeError) → now ≡ old → x ≡ e → Misses (freedoms now.rules) (Per.form (is_aligned now.rules) s) now.place e → ((al : Bool) (free : Per.Freedom → Bool) (a b : State) (r : Record) → question r ≡ q → Takes al free a r b → OfType al free a b s) → NoRecord Finds AtOnce q old failed x
 none_found old now q s e x same faults m asked =
-    let n : Misses (freedoms old.variant) (Per.form (is_aligned old.variant) s) old.place e = subst (λ (h : Held). Misses (freedoms h.variant) (Per.form (is_aligned h.variant) s) h.place e) same m in
-    record { none = λ i r new k p. let t = asked (is_aligned old.variant) (freedoms old.variant) (state_of old) (state_of new) r k p.taken in missed (freedoms old.variant) (Per.form (is_aligned old.variant) s) old.place e n (λ y. i (faults ∙ y)) t.0 new.place t.1.0 }
+    let n : Misses (freedoms old.rules) (Per.form (is_aligned old.rules) s) old.place e = subst (λ (h : Held). Misses (freedoms h.rules) (Per.form (is_aligned h.rules) s) h.place e) same m in
+    none_at_once Finds (λ i r new k p. let t = asked (is_aligned old.rules) (freedoms old.rules) (state_of old) (state_of new) r k p.taken in missed (freedoms old.rules) (Per.form (is_aligned old.rules) s) old.place e n (λ y. i (faults ∙ y)) t.0 new.place t.1.0)
 
 -- ---- what a form says of a value
 module _ (free : Per.Freedom → Bool) (al : Bool) (a b : Place) where
@@ -91,18 +94,18 @@ pub both_ok : {A E : Type 0} {P Q R : Type 0} (r : Result A E) → OnOk r P → 
 both_ok (Ok x) p q f = f p q
 both_ok (Err e) p q f = tt
 
-pub opens : (old now new : Held) (s : Scope) (rest : Place) (r : Record) → now ≡ old → IsReady old → Takes (is_aligned now.variant) (freedoms now.variant) (state_of now) r (rest, s ∷ now.scopes) → ((most l : ℕ) → level most r (suc l) ≡ Some l) → old.stands ≡ kept old r new.place new.scopes → now.levels ≡ new.levels + 1 → new ≡ record { place = rest; scopes = s ∷ now.scopes; levels = new.levels; most = now.most; failed = now.failed; variant = now.variant; stands = now.stands } → Finds old r new
+pub opens : (old now new : Held) (s : Scope) (rest : Place) (r : Record) → now ≡ old → IsReady old → Takes (is_aligned now.rules) (freedoms now.rules) (state_of now) r (rest, s ∷ now.scopes) → ((most l : ℕ) → level most r (suc l) ≡ Some l) → old.stands ≡ kept old r new.place new.scopes → now.levels ≡ new.levels + 1 → new ≡ record { place = rest; scopes = s ∷ now.scopes; levels = new.levels; most = now.most; failed = now.failed; rules = now.rules; stands = now.stands } → Finds old r new
 opens old now new s rest r same ready t lower u e f =
-    let g : Takes (is_aligned old.variant) (freedoms old.variant) (state_of old) r (rest, s ∷ old.scopes) = subst (λ (h : Held). Takes (is_aligned h.variant) (freedoms h.variant) (state_of h) r (rest, s ∷ h.scopes)) same t in
+    let g : Takes (is_aligned old.rules) (freedoms old.rules) (state_of old) r (rest, s ∷ old.scopes) = subst (λ (h : Held). Takes (is_aligned h.rules) (freedoms h.rules) (state_of h) r (rest, s ∷ h.scopes)) same t in
     let k : (rest, s ∷ old.scopes) ≡ state_of new = ap (λ (h : Held). (rest, s ∷ h.scopes)) (sym same) ∙ sym (ap state_of f) in
     let l : old.levels ≡ suc new.levels = let i : old.levels ≡ now.levels = ap (λ (h : Held). h.levels) (sym same) in omega (arith, e, i) in
     record {
       ready = ready;
-      taken = subst (Takes (is_aligned old.variant) (freedoms old.variant) (state_of old) r) k g;
+      taken = subst (Takes (is_aligned old.rules) (freedoms old.rules) (state_of old) r) k g;
       levels = ap (level old.most r) l ∙ lower old.most new.levels;
       most = ap (λ (h : Held). h.most) f ∙ ap (λ (h : Held). h.most) same;
-      ready_still = ap (λ (h : Held). h.failed) f ∙ ap (λ (h : Held). h.failed) same ∙ ready;
-      variant = ap (λ (h : Held). h.variant) f ∙ ap (λ (h : Held). h.variant) same;
+      ready_still = ap (λ (h : Held). is_some h.failed) f ∙ ap (λ (h : Held). is_some h.failed) same ∙ ready;
+      rules = ap (λ (h : Held). h.rules) f ∙ ap (λ (h : Held). h.rules) same;
       stands = ap (λ (h : Held). h.stands) f ∙ ap (λ (h : Held). h.stands) same ∙ u;
     }
 
@@ -116,7 +119,17 @@ asked_further : (al : Bool) (free : Per.Freedom → Bool) (a b : State) (r : Rec
 asked_further al free a b (further v) k t = (v, t)
 asked_further al free a b r k t = cc k
 
-pub no_member : (old now : Held) (e x : DecodeError) → now ≡ old → x ≡ e → NoFurther (is_aligned now.variant) (freedoms now.variant) now.place now.scopes e → NoRecord Finds asks_further old x
+pub no_member : {failed : Held} (old now : Held) (e x : DecodeError) → now ≡ old → x ≡ e → NoFurther (is_aligned now.rules) (freedoms now.rules) now.place now.scopes e → NoRecord Finds AtOnce asks_further old failed x
 no_member old now e x same faults m =
-    let n : NoFurther (is_aligned old.variant) (freedoms old.variant) old.place old.scopes e = subst (λ (g : Held). NoFurther (is_aligned g.variant) (freedoms g.variant) g.place g.scopes e) same m in
-    record { none = λ i r new k p. let t = asked_further (is_aligned old.variant) (freedoms old.variant) (state_of old) (state_of new) r k p.taken in n.none (λ y. i (faults ∙ y)) t.0 (state_of new) t.1 }
+    let n : NoFurther (is_aligned old.rules) (freedoms old.rules) old.place old.scopes e = subst (λ (g : Held). NoFurther (is_aligned g.rules) (freedoms g.rules) g.place g.scopes e) same m in
+    none_at_once Finds (λ i r new k p. let t = asked_further (is_aligned old.rules) (freedoms old.rules) (state_of old) (state_of new) r k p.taken in n.none (λ y. i (faults ∙ y)) t.0 (state_of new) t.1)
+
+-- ---- presence bits
+asked_presence_bit : (al : Bool) (free : Per.Freedom → Bool) (a b : State) (r : Record) → question r ≡ asks_presence_bit → Takes al free a r b → (v : Bool) × NextPresenceBit v a.0 a.1 b
+asked_presence_bit al free a b (presence_bit v) k t = (v, t)
+asked_presence_bit al free a b r k t = cc k
+
+pub no_presence_bit : {failed : Held} (old now : Held) (x : DecodeError) → now ≡ old → ((v : Bool) (p : Place) (b : State) → NextPresenceBit v p now.scopes b → ⊥) → NoRecord Finds AtOnce asks_presence_bit old failed x
+no_presence_bit old now x same none = none_at_once Finds (λ i r new k p.
+    let t = asked_presence_bit (is_aligned old.rules) (freedoms old.rules) (state_of old) (state_of new) r k p.taken in
+    none t.0 old.place (state_of new) (subst (λ (h : Held). NextPresenceBit t.0 old.place h.scopes (state_of new)) (sym same) t.1))

@@ -5,3 +5,9 @@ pub mod Opening
 pub mod Leading
 pub mod Counting
 pub mod Due
+pub mod Refused
+pub mod Owing
+pub mod TooShort
+pub mod Lacking
+pub mod Largest
+pub mod SetBits

@@ -1,5 +1,5 @@
 -- How what is left where a scope ends is passed over (X.691 11.2, 19.8), and why it is not.
-use Rattle.std.specs.Prelude.{◌≡◌, IsTrue, Bool, List}
+use Rattle.std.specs.Prelude.{◌≡◌, Bool, List}
 use Rattle.asn1_model.specs.Per
 use Rattle.asn1_schema_faults.specs.declared.DecodeError.{DecodeError}
 use Rattle.asn1_schema_faults.specs.declared.DecodeError.TheVariants.{OutOfMemory}
@@ -7,16 +7,15 @@ use Rattle.per_codec_fronts.specs.Takes.{Place, State, Scope, Closes, Skips}
 use Rattle.per_codec_decoder.specs.declared.frames.Ending.{Ending}
 use Rattle.per_codec_decoder.specs.declared.frames.Ending.TheVariants.{Nothing, Unknown, OpenType as Padded}
 
--- What stands in an open type behind its value, up to its end, may stand there: a reader with the freedoms takes it.
-abbrev pub IsClosed : Place → Type 0
-IsClosed a = (free : Per.Freedom → Bool) (rest : Place) (k : List Scope) → IsTrue (free Per.any_padding)
-    → IsTrue (free Per.octets_behind) → Closes free a rest k (rest, k)
+-- What stands in an open type behind its value, up to its end, may stand there.
+abbrev pub IsClosed : (Per.Freedom → Bool) → Place → Type 0
+IsClosed free a = (rest : Place) (k : List Scope) → Closes free a rest k (rest, k)
 
 -- What is left where a scope ends is passed over.
 abbrev pub Passes : Bool → (Per.Freedom → Bool) → Ending → Place → Place → Type 0
 Passes al free Nothing a b = b ≡ a
 Passes al free (Unknown r) a b = Skips al free r.place.1 a b
-Passes al free (Padded p) a b = IsClosed a × (b ≡ p.place)
+Passes al free (Padded p) a b = IsClosed free a × (b ≡ p.place)
 
 -- Why it is not: for want of memory, or because something else stands there.
 abbrev pub NotPassed : Bool → (Per.Freedom → Bool) → Ending → Place → DecodeError → Type 0

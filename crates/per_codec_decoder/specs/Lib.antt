@@ -1,7 +1,7 @@
 pub mod Endings
 pub mod Held
-pub mod Laws
 pub mod Additions
+pub mod Missing
 pub mod Members
 pub mod Scopes
 pub mod Preamble

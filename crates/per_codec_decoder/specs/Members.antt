@@ -1,5 +1,5 @@
 -- What stands in front of the members of a list (X.691 20), and why nothing does.
-use Rattle.std.specs.Prelude.{◌≡◌, ℕ, Bool, List, ◌∷◌, Option, Some, None}
+use Rattle.std.specs.Prelude.{◌≡◌, ℕ, leb, ◌==◌, ◌&&◌, Bool, true, List, [], ◌∷◌, Option, Some, None}
 use Rattle.std.proofs.Common.{Box, Global}
 use Rattle.asn1_model.specs.Schema.{Counts, Size}
 use Rattle.asn1_model.specs.Per
@@ -8,7 +8,7 @@ use Rattle.asn1_schema_faults.specs.declared.DecodeError.TheVariants.{OutOfMemor
 use Rattle.per_codec_fronts.specs.Sizes.{extension_bit, told_highest}
 use Rattle.per_codec_fronts.specs.Takes.{Place, Tally, Scope, members, State, Front, NextDeterminant, Counted}
 use Rattle.per_codec_fronts.specs.Takes.{ListBegins, NextMember}
-use Rattle.per_codec_limits.specs.declared.variant.Variant.{Variant}
+use Rattle.per_codec_reading.specs.declared.rules.PackedRules.{PackedRules}
 use Rattle.per_codec_reading.specs.Fronts.{freedoms, is_aligned}
 use Rattle.per_codec_reading.specs.Lengths.{length_form}
 use Rattle.per_codec_reading.specs.declared.lengths.Length.{Length}
@@ -45,11 +45,17 @@ pub record NoFurther (al : Bool) (free : Per.Freedom → Bool) (a : Place) (k : 
   pub none : ¬ (e ≡ OutOfMemory) → (v : Bool) (b : State) → NextMember al free v a k b → ⊥
 
 -- So many members are due behind this length determinant, wherever it stands in front.
-abbrev pub AreBehind : Tally → Length → ℕ → Option Tally → Type 0
-AreBehind t l due hs = (v : Variant) (a b : Place) → Front (freedoms v) (length_form (is_aligned v) l) a b
-    → NextDeterminant (is_aligned v) (freedoms v) t a b due hs
+abbrev pub AreBehind : PackedRules → Tally → Length → ℕ → Option Tally → Type 0
+AreBehind r t l due hs = (a b : Place) → Front (freedoms r) (length_form (is_aligned r) l) a b
+    → NextDeterminant (is_aligned r) (freedoms r) t a b due hs
 
 -- Why none are.
-abbrev pub NoneAreBehind : Tally → Length → DecodeError → Type 0
-NoneAreBehind t l e = (v : Variant) (a b : Place) → Front (freedoms v) (length_form (is_aligned v) l) a b
-    → NoDeterminant (is_aligned v) (freedoms v) t a e
+abbrev pub NoneAreBehind : PackedRules → Tally → Length → DecodeError → Type 0
+NoneAreBehind r t l e = (a b : Place) → Front (freedoms r) (length_form (is_aligned r) l) a b
+    → NoDeterminant (is_aligned r) (freedoms r) t a e
+
+-- Behind a fragment of so many times 16384 members, these are the largest ones first: behind one of fewer than four
+-- times 16384 stands no other (X.691 11.9.3.8).
+abbrev pub largest_behind : ℕ → List ℕ → Bool
+largest_behind m [] = true
+largest_behind m (k ∷ ks) = (m == 4 && (leb 1 k && leb k 4)) && largest_behind k ks

@@ -1,12 +1,12 @@
 -- What stands in front of the components of a sequence, set or group (X.691 19.1 to 19.3), and of additions (X.691
 -- 19.7).
-use Rattle.std.specs.Prelude.{◌≡◌, ℕ, Bool, true, false, List, [], length}
+use Rattle.std.specs.Prelude.{◌≡◌, ◌⊎◌, ℕ, Bool, IsTrue, true, false, List, [], length}
 use Rattle.asn1_model.specs.Form.{exactly}
 use Rattle.std.specs.Prelude.{is_some}
 use Rattle.asn1_model.specs.Per
 use Rattle.asn1_schema_faults.specs.declared.DecodeError.{DecodeError}
 use Rattle.asn1_schema_faults.specs.declared.DecodeError.TheVariants.{OutOfMemory}
-use Rattle.asn1_schema_finding.specs.PresenceBits.{preamble_bits}
+use Rattle.asn1_schema_finding.specs.PresenceBits.{preamble_bits, is_any_set}
 use Rattle.per_codec_fronts.specs.Takes.{Place, Scope, components, Front}
 
 -- The extension bit, if there is one, and so many presence bits, and the scope that they open.
@@ -19,10 +19,12 @@ HasPreamble free e n s a b = ⊥
 abbrev pub NoPreamble : (Per.Freedom → Bool) → Bool → ℕ → Place → DecodeError → Type 0
 NoPreamble free e n a x = ¬ (x ≡ OutOfMemory) → (s : Scope) (b : Place) → HasPreamble free e n s a b → ⊥
 
--- The bitmap of additions (X.691 19.7), where the extension bit is set.
+-- The bitmap of additions (X.691 19.7), where the extension bit is set: a bit of it is set, unless a reader accepts
+-- any.
 abbrev pub HasBitmap : (Per.Freedom → Bool) → Bool → Bool → List Bool → Place → Place → Type 0
 HasBitmap free al false bs a b = (bs ≡ []) × (b ≡ a)
-HasBitmap free al true bs a b = Front free (Per.normally_few al (Per.bit_units bs)) a b
+HasBitmap free al true bs a b = ((is_any_set bs ≡ true) ⊎ IsTrue (free Per.empty_bitmap))
+    × Front free (Per.normally_few al (Per.bit_units bs)) a b
 
 -- Why there is none: for want of memory, or because none stands in front.
 abbrev pub NoBitmap : (Per.Freedom → Bool) → Bool → Bool → Place → DecodeError → Type 0

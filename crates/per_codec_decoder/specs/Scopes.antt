@@ -1,5 +1,5 @@
 -- What has begun and has not ended, as a reader of the packed encoding rules (X.691) holds it.
-use Rattle.std.specs.Prelude.{◌≡◌, ℕ, Bool, List, [], ◌∷◌, map, reverse, Option, Some, None}
+use Rattle.std.specs.Prelude.{◌≡◌, ℕ, ◌+◌, Bool, List, [], ◌∷◌, map, reverse, Option, Some, None}
 use Rattle.asn1_model.specs.Per
 use Rattle.per_codec_fronts.specs.Takes.{Place, State, Scope, components, added, open_type, members, alternative}
 use Rattle.per_codec_fronts.specs.Takes.{AdditionsBegin, NextAddition, AdditionEnds, Ends}
@@ -35,6 +35,13 @@ scopes_in (Some f) fs = scope_of f ∷ map scope_of (reverse fs)
 abbrev pub scopes_of : Option Enclosing → Option Frame → List Frame → List Scope
 scopes_of None f fs = scopes_in f fs
 scopes_of (Some e) f fs = scope_around e ∷ scopes_in f fs
+
+-- How many members are to come in frames, the outermost first, as far as the first open type.
+abbrev pub owing : List Frame → ℕ
+owing [] = 0
+owing (OpenType behind ∷ fs) = 0
+owing (Members p ∷ fs) = p.due + owing fs
+owing (f ∷ fs) = owing fs
 
 -- Behind each open type among the frames stand bits, the innermost first.
 abbrev pub behind_frame : Frame → List Storage → List Storage

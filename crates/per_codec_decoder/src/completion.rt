@@ -1,25 +1,28 @@
 //! The padding of a message (X.691 11.1).
-ghost use Rattle.std.specs.Prelude.{OnOk, IfErr, IsTrue};
+ghost use Rattle.std.specs.Prelude.{◌≡◌, ◌||◌, ◌==◌, OnOk, IfErr};
 ghost use Rattle.asn1_model.specs.Per;
 ghost use Rattle.per_codec_fronts.specs.Takes.{Front, completion, Closes};
-ghost use Rattle.per_codec_reading.specs.Fronts.{IsFresh};
+ghost use Rattle.per_codec_reading.specs.Fronts.{freedoms, IsFresh};
 ghost use Rattle.per_codec_decoder.specs.Endings.{IsClosed};
 
 use asn1_schema_faults::DecodeError;
-use asn1_values_bits::free_bits;
-use per_codec_reading::Cursor;
+use per_codec_reading::padding::skip_padding;
+use per_codec_reading::{Cursor, PackedRules};
 
-/// Passes over the padding of a message behind its value: any bits up to the next octet, or one zero octet where the
-/// value has no bits.
+/// Passes over the padding of a message behind its value: the bits up to the next octet, which are zero in strict
+/// rules, or one zero octet where the value has no bits (X.691 11.1).
 ///
 /// # Errors
 ///
-/// `InvalidPadding` if that octet is not zero, and `Incomplete` if the bits end early.
+/// `InvalidPadding` if that octet is not zero or, in strict rules, a bit is not, and `Incomplete` if the bits end
+/// early.
 #[inline(always)]
-pub(crate) fn read_completion(cursor: &mut Cursor<'_>) -> Result<(), DecodeError>
-    ensures ok { OnOk result ((free : _) → IsTrue (free Per.any_padding)
-        → Front free (completion cursor.old.0) cursor.old cursor.new) }
-    ensures only { IfErr result (λ _. (free : _) (b : _) → Front free (completion cursor.old.0) cursor.old b → ⊥) }
+pub(crate) fn read_completion(
+    cursor: &mut Cursor<'_>,
+    rules: PackedRules,
+) -> Result<(), DecodeError>
+    ensures ok { OnOk result (Front (freedoms rules) (completion cursor.old.0) cursor.old cursor.new) }
+    ensures only { IfErr result (λ _. (b : _) → Front (freedoms rules) (completion cursor.old.0) cursor.old b → ⊥) }
     ensures fresh { IfErr result IsFresh }
 {
     if cursor.position() == 0 {
@@ -28,23 +31,37 @@ pub(crate) fn read_completion(cursor: &mut Cursor<'_>) -> Result<(), DecodeError
         }
         return Ok(());
     }
-    let _padding = cursor.take(free_bits(cursor.position()) as usize)?;
+    skip_padding(cursor, rules)?;
     Ok(())
 }
 
-/// Passes over what stands behind the value in an open type (X.691 11.2): its padding, and any octets behind that.
+/// Whether so many bits may be left in an open type: in strict rules none (X.691 11.2).
+#[inline(always)]
+fn may_be_left(rules: PackedRules, left: usize) -> bool
+    ensures { result ≡ (freedoms rules Per.octets_behind || left == 0) }
+{
+    !rules.is_strict() || left == 0
+}
+
+/// Passes over what stands behind the value in an open type (X.691 11.2): its padding, and any octets behind that if
+/// the rules are not strict.
 ///
 /// # Errors
 ///
-/// Those of [`read_completion`], and `InvalidPadding` if what is left is not whole octets.
-pub(crate) fn read_to_end(cursor: &mut Cursor<'_>) -> Result<(), DecodeError>
-    ensures ok { OnOk result (IsClosed cursor.old) }
-    ensures only { IfErr result (λ _. (free : _) (rest : _) (k : _) (b : _) → Closes free cursor.old rest k b → ⊥) }
+/// Those of [`read_completion`], `InvalidPadding` if what is left is not whole octets, and `SurplusOctets` if any are
+/// left, in strict rules.
+pub(crate) fn read_to_end(cursor: &mut Cursor<'_>, rules: PackedRules) -> Result<(), DecodeError>
+    ensures ok { OnOk result (IsClosed (freedoms rules) cursor.old) }
+    ensures only { IfErr result (λ _. (rest : _) (k : _) (b : _) → Closes (freedoms rules) cursor.old rest k b → ⊥) }
     ensures fresh { IfErr result IsFresh }
 {
-    read_completion(cursor)?;
-    if cursor.len() % 8 != 0 {
+    read_completion(cursor, rules)?;
+    let left = cursor.len();
+    if left % 8 != 0 {
         return Err(DecodeError::InvalidPadding);
+    }
+    if !may_be_left(rules, left) {
+        return Err(DecodeError::SurplusOctets);
     }
     Ok(())
 }

@@ -1,14 +1,19 @@
 //! What finds the records of a value in bits.
 ghost use Rattle.std.specs.Cow.{cow_slice_items, IsBorrowedSlice};
-ghost use Rattle.std.specs.Prelude.{◌≡◌, ◌+◌, ◌-◌, ◌<◌, ◌^◌, [], ◌∷◌, true, false, Some, length, take, OnOk};
-ghost use Rattle.std.specs.Prelude.{OnErr, IfErr, IfOk};
-ghost use Rattle.per_codec_decoder.specs.Held.{Held, Finds, Lends, HasFailed, kind_of, IsReady, Stays, Moves, Enters};
+ghost use Rattle.std.specs.Prelude.{◌≡◌, ◌+◌, ◌-◌, ◌/◌, ◌<◌, ◌^◌, [], ◌∷◌, true, Some, None, length, take, min};
+ghost use Rattle.std.specs.Prelude.{OnOk, OnErr, IfErr, IfOk};
+ghost use Rattle.per_codec_held.specs.Held.{Held, Finds, kind_of};
+ghost use Rattle.per_codec_decoder.specs.Held.{Lends, Stays, Moves, Enters};
+ghost use Rattle.per_codec_held.specs.Held.{HasFailed, IsReady};
 ghost use Rattle.per_codec_decoder.specs.Held.{HasOpened, HasPassed, NoOpening, EntersMembers, EntersComponents};
 ghost use Rattle.per_codec_decoder.specs.Held.{NotMembers, NotComponents};
 ghost use Rattle.per_codec_decoder.specs.Endings.{Passes, NotPassed};
 ghost use Rattle.per_codec_decoder.specs.Scopes.{scope_of, stands_in};
 ghost use Rattle.asn1_schema_constraints.specs.Bounds.{counts_of, members_of};
 ghost use Rattle.asn1_schema_decode.specs.Reads.{NoRecord};
+ghost use Rattle.per_codec_held.specs.Few.{TooFewHeld, OwesNoMore, lacks, told};
+ghost use Rattle.per_codec_decoder.specs.Missing.{StillTooShort};
+ghost use Rattle.per_codec_reading.specs.Units.{counted_units};
 ghost use Rattle.asn1_schema_presented.specs.Records.{octets, asks_octets, further, asks_further};
 ghost use Rattle.asn1_schema_constraints.specs.Terms.{size_of};
 ghost use Rattle.asn1_model.specs.Numbers.{octet_bits, is_count_within};
@@ -17,6 +22,7 @@ ghost use Rattle.per_codec_fronts.specs.Takes.{alternative, Front, completion};
 ghost use Rattle.per_codec_reading.specs.Fronts.{freedoms, is_aligned, IsFresh};
 
 use crate::completion::{read_completion, read_to_end};
+use crate::missing::{missing_octets, missing_of_string};
 use crate::options::DecoderOptions;
 use crate::{
     Additions, Enclosing, Ending, Frame, Scopes, read_bitmap, read_members, read_preamble,
@@ -32,7 +38,7 @@ use asn1_values_bits::BitStr;
 use asn1_values_identifiers::ObjectIdentifier;
 use asn1_values_integers::IntegerType;
 use per_codec_reading::units::{read_boolean, read_null};
-use per_codec_reading::{Variant, read_bit_string, read_object_identifier, read_utf8_string};
+use per_codec_reading::{PackedRules, read_bit_string, read_object_identifier, read_utf8_string};
 use per_codec_reading_values::{
     Stretch, read_characters, read_integer, read_item, read_place_of_alternative, skip_unknown,
 };
@@ -49,13 +55,14 @@ pub struct Decoder<'input> {
     scopes: Scopes<'input>,
     levels: usize,
     most: usize,
-    failed: bool,
-    variant: Variant,
+    // After a refusal, how many bits are lacking at least besides those of members that are to come.
+    failed: Option<usize>,
+    rules: PackedRules,
 }
 
 impl<'input> Model for Decoder<'input> {
     ghost use Rattle.std.specs.Prelude.{◌∷◌};
-    ghost use Rattle.per_codec_decoder.specs.Held.{Held};
+    ghost use Rattle.per_codec_held.specs.Held.{Held};
 
     ghost Value = { Held };
 
@@ -65,7 +72,7 @@ impl<'input> Model for Decoder<'input> {
       levels = d.levels;
       most = d.most;
       failed = d.failed;
-      variant = d.variant;
+      rules = d.rules;
       stands = d.place.storage ∷ d.scopes.behind;
     } };
 }
@@ -74,7 +81,7 @@ impl<'input> Model for Decoder<'input> {
 // reached, and after a refusal no more.
 macro_rules! record {
     ($decoder:ident, $cursor:ident, $read:expr) => {{
-        go_on($decoder.failed)?;
+        go_on($decoder.failed.is_some())?;
         let mut $cursor = $decoder.place.cursor();
         let answer = $read;
         let position = $cursor.position();
@@ -92,8 +99,8 @@ impl<'input> Decoder<'input> {
           scopes = [];
           levels = 128;
           most = 128;
-          failed = false;
-          variant = options.variant;
+          failed = None;
+          rules = options.rules;
           stands = Some 0 ∷ [];
         } }
     {
@@ -102,8 +109,8 @@ impl<'input> Decoder<'input> {
             scopes: Scopes::new(alloc),
             levels: 128,
             most: 128,
-            failed: false,
-            variant: options.variant,
+            failed: None,
+            rules: options.rules,
         }
     }
 
@@ -115,25 +122,35 @@ impl<'input> Decoder<'input> {
         self.place.bits()
     }
 
+    /// How many more octets are needed at least where this decoder was refused: one, or as many as are taken by the
+    /// bits that a string or an open type lacks, and by the members, of a bit each, that are to come in lists and bags
+    /// outside open types.
+    #[cold]
+    pub fn needed(&self) -> usize
+        ensures { result ≡ min (lacks self.now) (2 ^ 64 - 1) / 8 + 1 }
+    {
+        self.scopes.due().saturating_add(self.failed.unwrap_or(0)) / 8 + 1
+    }
+
     /// Passes over the padding of a message behind its value (X.691 11.1): bits up to the next octet, or the one octet
     /// of a value of no bits.
     ///
     /// # Errors
     ///
-    /// `AlreadyFailed` after a refusal, `InvalidPadding` if the octet of a value of no bits is not zero, and
-    /// `Incomplete` if the input ends early.
+    /// `AlreadyFailed` after a refusal, `InvalidPadding` if the octet of a value of no bits is not zero or, in strict
+    /// rules, a bit of padding is not, and `Incomplete` if the input ends early.
     #[inline(always)]
     pub fn finish(&mut self) -> Result<(), DecodeError>
         ensures ok { OnOk result (IsReady self.old
-            × Front (freedoms self.old.variant) (completion self.old.place.0) self.old.place self.new.place) }
+            × Front (freedoms self.old.rules) (completion self.old.place.0) self.old.place self.new.place) }
         ensures rest { OnOk result (Stays self.old self.new) }
         ensures only { IfErr result (λ _. IsReady self.old → (b : _)
-            → Front (freedoms self.old.variant) (completion self.old.place.0) self.old.place b → ⊥) }
+            → Front (freedoms self.old.rules) (completion self.old.place.0) self.old.place b → ⊥) }
         ensures failed { OnErr result (HasFailed self.new) }
         ensures already { HasFailed self.old → result ≡ Err DecodeError.AlreadyFailed }
         ensures after { result ≡ Err DecodeError.AlreadyFailed → HasFailed self.old }
     {
-        record!(self, cursor, read_completion(&mut cursor))
+        record!(self, cursor, read_completion(&mut cursor, self.rules))
     }
 
     /// Ends the work of the decoder, which has read a message: what memory it took is let go. Mostly it took none: then
@@ -163,23 +180,48 @@ impl<'input> Decoder<'input> {
             (octets (size_of sizes) (counts_of held) (cow_slice_items x)) self.new
             → IsBorrowedSlice x) }
         ensures level { OnOk result (self.new.levels ≡ self.old.levels) }
-        ensures only { IfErr result (NoRecord Finds
-            (asks_octets (size_of sizes) (counts_of held)) self.old) }
+        ensures only { IfErr result (NoRecord Finds TooFewHeld
+            (asks_octets (size_of sizes) (counts_of held)) self.old self.new) }
         ensures failed { OnErr result (HasFailed self.new) }
         ensures already { HasFailed self.old → result ≡ Err DecodeError.AlreadyFailed }
         ensures after { result ≡ Err DecodeError.AlreadyFailed → HasFailed self.old }
     {
-        go_on(self.failed)?;
-        match self
-            .place
-            .take_octet_string(alloc, self.variant, sizes, held)
-        {
+        go_on(self.failed.is_some())?;
+        match self.place.take_octet_string(alloc, self.rules, sizes, held) {
             Ok(octets) => Ok(octets),
-            Err(error) => Err(self.refuse(error)),
+            Err(error) => {
+                let missing = missing_of_string(self.place.cursor(), self.rules, sizes);
+                Err(self.lack_bits(error, missing))
+            }
         }
     }
 
-    // Goes on behind what a reader found, at this position, or fails as it did.
+    // Fails for this reason where bits are lacking, or do not have the form. The scopes stay: they tell how many
+    // members are lacking besides.
+    #[inline(always)]
+    fn lack(&mut self, error: DecodeError) -> DecodeError
+        ensures refused { result ≡ error }
+        ensures failed { HasFailed self.new }
+        ensures kept { self.new.scopes ≡ self.old.scopes }
+        ensures told { told self.new.failed ≡ 0 }
+    {
+        self.failed = Some(0);
+        error
+    }
+
+    // The same where so many bits are lacking besides.
+    #[cold]
+    fn lack_bits(&mut self, error: DecodeError, missing: usize) -> DecodeError
+        ensures refused { result ≡ error }
+        ensures failed { HasFailed self.new }
+        ensures kept { self.new.scopes ≡ self.old.scopes }
+        ensures told { told self.new.failed ≡ missing }
+    {
+        self.failed = Some(missing);
+        error
+    }
+
+    // Goes on behind what a reader found, at this position, or fails as it did. The scopes stay.
     #[inline(always)]
     fn settle<T>(
         &mut self,
@@ -189,14 +231,16 @@ impl<'input> Decoder<'input> {
         ensures same { result ≡ answer }
         ensures moved { OnOk result (Moves self.old position self.new) }
         ensures levels { OnOk result (self.new.levels ≡ self.old.levels) }
-        ensures failed { OnErr result (self.new.failed ≡ true) }
+        ensures kept { self.new.scopes ≡ self.old.scopes }
+        ensures owed { OnErr result (OwesNoMore self.old self.new) }
+        ensures failed { OnErr result (HasFailed self.new) }
     {
         match answer {
             Ok(value) => {
                 self.place.move_to(position);
                 Ok(value)
             }
-            Err(error) => Err(self.refuse(error)),
+            Err(error) => Err(self.lack(error)),
         }
     }
 
@@ -212,11 +256,12 @@ impl<'input> Decoder<'input> {
               levels = self.new.levels;
               most = self.old.most;
               failed = self.old.failed;
-              variant = self.old.variant;
+              rules = self.old.rules;
               stands = stands_in frame.entry self.old.stands;
             }) }
         ensures only { IfErr result (λ error. error ≡ DecodeError.OutOfMemory) }
-        ensures failed { OnErr result (self.new.failed ≡ true) }
+        ensures emptied { OnErr result (lacks self.new ≡ 0) }
+        ensures failed { OnErr result (HasFailed self.new) }
     {
         let Ok(()) = self.scopes.open(frame) else {
             return Err(self.refuse(DecodeError::OutOfMemory));
@@ -237,11 +282,12 @@ impl<'input> Decoder<'input> {
               levels = self.new.levels;
               most = self.old.most;
               failed = self.old.failed;
-              variant = self.old.variant;
+              rules = self.old.rules;
               stands = self.old.stands;
             }) }
         ensures only { IfErr result (λ error. error ≡ DecodeError.OutOfMemory) }
-        ensures failed { OnErr result (self.new.failed ≡ true) }
+        ensures emptied { OnErr result (lacks self.new ≡ 0) }
+        ensures failed { OnErr result (HasFailed self.new) }
     {
         let Ok(()) = self.scopes.enclose(Enclosing::Alternative) else {
             return Err(self.refuse(DecodeError::OutOfMemory));
@@ -261,7 +307,7 @@ impl<'input> Decoder<'input> {
           levels = self.new.levels;
           most = self.old.most;
           failed = self.old.failed;
-          variant = self.old.variant;
+          rules = self.old.rules;
           stands = self.old.stands;
         } }
     {
@@ -272,17 +318,18 @@ impl<'input> Decoder<'input> {
     fn enter_members(&mut self, sizes: Sizes, held: Bounded<usize>) -> Result<(), DecodeError>
         ensures ok { OnOk result (EntersMembers self.old (size_of sizes) (members_of held) self.new) }
         ensures only { IfErr result (NotMembers self.old (size_of sizes) (members_of held)) }
-        ensures failed { OnErr result (self.new.failed ≡ true) }
-        ensures already { self.old.failed ≡ true → result ≡ Err DecodeError.AlreadyFailed }
-        ensures after { result ≡ Err DecodeError.AlreadyFailed → self.old.failed ≡ true }
+        ensures owed { OnErr result (IsReady self.old → OwesNoMore self.old self.new) }
+        ensures failed { OnErr result (HasFailed self.new) }
+        ensures already { HasFailed self.old → result ≡ Err DecodeError.AlreadyFailed }
+        ensures after { result ≡ Err DecodeError.AlreadyFailed → HasFailed self.old }
     {
-        go_on(self.failed)?;
+        go_on(self.failed.is_some())?;
         if self.levels == 0 {
             return Err(self.refuse(DecodeError::ExceedsMaxParseDepth));
         }
         let alloc = self.scopes.allocator();
         let mut cursor = self.place.cursor();
-        let answer = read_members(alloc, &mut cursor, self.variant, sizes, held);
+        let answer = read_members(alloc, &mut cursor, self.rules, sizes, held);
         let position = cursor.position();
         let members = self.settle(position, answer)?;
         self.enter(Frame::Members(members))
@@ -292,16 +339,21 @@ impl<'input> Decoder<'input> {
     fn find_further(&mut self) -> Result<bool, DecodeError>
         ensures ok { IfOk result (λ more. Finds self.old (further more) self.new) }
         ensures level { OnOk result (self.new.levels ≡ self.old.levels) }
-        ensures only { IfErr result (NoRecord Finds asks_further self.old) }
+        ensures only { IfErr result (NoRecord Finds TooFewHeld asks_further self.old self.new) }
         ensures failed { OnErr result (HasFailed self.new) }
         ensures already { HasFailed self.old → result ≡ Err DecodeError.AlreadyFailed }
         ensures after { result ≡ Err DecodeError.AlreadyFailed → HasFailed self.old }
     {
-        record!(
-            self,
-            cursor,
-            self.scopes.next_member(&mut cursor, self.variant)
-        )
+        go_on(self.failed.is_some())?;
+        let mut cursor = self.place.cursor();
+        match self.scopes.next_member(&mut cursor, self.rules) {
+            Ok(more) => {
+                let position = cursor.position();
+                self.place.move_to(position);
+                Ok(more)
+            }
+            Err(error) => Err(self.refuse(error)),
+        }
     }
 
     // Begins a sequence, set or group.
@@ -309,18 +361,19 @@ impl<'input> Decoder<'input> {
     fn enter_components(&mut self, extensible: bool, optional: usize) -> Result<(), DecodeError>
         ensures ok { OnOk result (EntersComponents self.old extensible optional self.new) }
         ensures only { IfErr result (NotComponents self.old extensible optional) }
-        ensures failed { OnErr result (self.new.failed ≡ true) }
-        ensures already { self.old.failed ≡ true → result ≡ Err DecodeError.AlreadyFailed }
-        ensures after { result ≡ Err DecodeError.AlreadyFailed → self.old.failed ≡ true }
+        ensures owed { OnErr result (IsReady self.old → OwesNoMore self.old self.new) }
+        ensures failed { OnErr result (HasFailed self.new) }
+        ensures already { HasFailed self.old → result ≡ Err DecodeError.AlreadyFailed }
+        ensures after { result ≡ Err DecodeError.AlreadyFailed → HasFailed self.old }
     {
-        go_on(self.failed)?;
+        go_on(self.failed.is_some())?;
         if self.levels == 0 {
             return Err(self.refuse(DecodeError::ExceedsMaxParseDepth));
         }
         let alloc = self.scopes.allocator();
-        match read_preamble(alloc, &mut self.place, self.variant, extensible, optional) {
+        match read_preamble(alloc, &mut self.place, self.rules, extensible, optional) {
             Ok(frame) => self.enter(frame),
-            Err(error) => Err(self.refuse(error)),
+            Err(error) => Err(self.lack(error)),
         }
     }
 
@@ -328,13 +381,19 @@ impl<'input> Decoder<'input> {
     fn open_type(&mut self) -> Result<(), DecodeError>
         ensures ok { OnOk result (HasOpened self.old self.new) }
         ensures only { IfErr result (NoOpening self.old) }
+        ensures short { IfErr result (λ e. ¬ (e ≡ DecodeError.OutOfMemory) → (self.new.scopes ≡ self.old.scopes)
+            × StillTooShort (freedoms self.old.rules) (counted_units (is_aligned self.old.rules) 8) self.old.place
+            (told self.new.failed)) }
         ensures fresh { IfErr result IsFresh }
-        ensures failed { OnErr result (self.new.failed ≡ true) }
+        ensures failed { OnErr result (HasFailed self.new) }
     {
         let alloc = self.scopes.allocator();
-        let inside = match self.place.take_open_type(alloc, self.variant) {
+        let inside = match self.place.take_open_type(alloc, self.rules) {
             Ok(inside) => inside,
-            Err(error) => return Err(self.refuse(error)),
+            Err(error) => {
+                let missing = missing_octets(self.place.cursor(), self.rules);
+                return Err(self.lack_bits(error, missing));
+            }
         };
         let behind = replace(&mut self.place, inside);
         let Ok(()) = self.scopes.enclose(Enclosing::OpenType(behind)) else {
@@ -347,23 +406,24 @@ impl<'input> Decoder<'input> {
     #[inline(always)]
     fn pass_over(&mut self, ending: Ending<'input>) -> Result<(), DecodeError>
         ensures ok { OnOk result (HasPassed ending.entry self.old self.new
-            × Passes (is_aligned self.old.variant)
-            (freedoms self.old.variant) ending.entry self.old.place self.new.place) }
-        ensures only { IfErr result (NotPassed (is_aligned self.old.variant)
-            (freedoms self.old.variant) ending.entry self.old.place) }
+            × Passes (is_aligned self.old.rules)
+            (freedoms self.old.rules) ending.entry self.old.place self.new.place) }
+        ensures only { IfErr result (NotPassed (is_aligned self.old.rules)
+            (freedoms self.old.rules) ending.entry self.old.place) }
+        ensures stays { OnErr result (self.new.scopes ≡ self.old.scopes) }
         ensures fresh { IfErr result IsFresh }
     {
         match ending {
             Ending::Nothing => Ok(()),
             Ending::Unknown(presence) => {
                 let mut cursor = self.place.cursor();
-                skip_unknown(&mut cursor, self.variant, presence)?;
+                skip_unknown(&mut cursor, self.rules, presence)?;
                 let position = cursor.position();
                 self.place.move_to(position);
                 Ok(())
             }
             Ending::OpenType(behind) => {
-                read_to_end(&mut self.place.cursor())?;
+                read_to_end(&mut self.place.cursor(), self.rules)?;
                 self.place = behind;
                 Ok(())
             }
@@ -371,13 +431,20 @@ impl<'input> Decoder<'input> {
     }
 }
 
+#[tactic(auto, using(crate::proofs::Refused::none_ready, crate::proofs::Refused::none_begun))]
 impl<'input> asn1_schema_decode::Decoder for Decoder<'input> {
-    ghost use Rattle.per_codec_decoder.specs.Laws.{finds_one, finds_held, finds_bag_held, finds_none, finds_on};
-    ghost use Rattle.per_codec_decoder.specs.Laws.{finds_same};
+    ghost use Rattle.per_codec_held.proofs.Finds.{finds_one, finds_held, finds_bag_held, finds_none, finds_on};
+    ghost use Rattle.per_codec_held.proofs.Finds.{finds_same};
+    ghost use Rattle.per_codec_held.specs.Few.{TooFewMembersHeld};
+    ghost use Rattle.per_codec_held.proofs.Carried.{at_once, held_records, held_values, held_members};
 
     type Octets = CowSlice<'input, u8>;
 
     ghost step = { Finds };
+
+    ghost too_few = { TooFewHeld };
+
+    ghost too_few_members = { TooFewMembersHeld };
 
     ghost has_failed = { HasFailed };
 
@@ -385,12 +452,14 @@ impl<'input> asn1_schema_decode::Decoder for Decoder<'input> {
 
     ghost lends = { Lends };
 
-    ghost rules = { λ d. kind_of d.variant };
+    ghost rules = { λ d. kind_of d.rules };
 
     fn codec(&self) -> CodecKind {
-        match self.variant {
-            Variant::Unaligned => CodecKind::Uper,
-            Variant::Aligned => CodecKind::Aper,
+        match self.rules {
+            PackedRules::Uper => CodecKind::Uper,
+            PackedRules::Aper => CodecKind::Aper,
+            PackedRules::UperStrict => CodecKind::Uper,
+            PackedRules::AperStrict => CodecKind::Aper,
         }
     }
 
@@ -398,18 +467,23 @@ impl<'input> asn1_schema_decode::Decoder for Decoder<'input> {
         self.levels
     }
 
-    fn refuse(&mut self, error: DecodeError) -> DecodeError {
-        self.failed = true;
+    fn refuse(&mut self, error: DecodeError) -> DecodeError
+        ensures refused { result ≡ error }
+        ensures failed { HasFailed self.new }
+        ensures emptied { lacks self.new ≡ 0 }
+    {
+        self.failed = Some(0);
+        self.scopes.clear();
         error
     }
 
     #[inline(always)]
     fn decode_bool(&mut self, _tag: Tag) -> Result<bool, DecodeError> {
-        record!(self, cursor, read_boolean(&mut cursor, self.variant))
+        record!(self, cursor, read_boolean(&mut cursor, self.rules))
     }
 
     fn decode_null(&mut self, _tag: Tag) -> Result<(), DecodeError> {
-        record!(self, cursor, read_null(&mut cursor, self.variant))
+        record!(self, cursor, read_null(&mut cursor, self.rules))
     }
 
     #[inline(always)]
@@ -422,7 +496,7 @@ impl<'input> asn1_schema_decode::Decoder for Decoder<'input> {
         record!(
             self,
             cursor,
-            read_integer(alloc, &mut cursor, self.variant, constraints)
+            read_integer(alloc, &mut cursor, self.rules, constraints)
         )
     }
 
@@ -430,7 +504,7 @@ impl<'input> asn1_schema_decode::Decoder for Decoder<'input> {
         record!(
             self,
             cursor,
-            read_item(self.scopes.allocator(), &mut cursor, self.variant)
+            read_item(self.scopes.allocator(), &mut cursor, self.rules)
         )
     }
 
@@ -445,7 +519,7 @@ impl<'input> asn1_schema_decode::Decoder for Decoder<'input> {
         record!(
             self,
             cursor,
-            read_bit_string(alloc, &mut cursor, self.variant, sizes, held)
+            read_bit_string(alloc, &mut cursor, self.rules, sizes, held)
         )
     }
 
@@ -469,7 +543,7 @@ impl<'input> asn1_schema_decode::Decoder for Decoder<'input> {
         record!(
             self,
             cursor,
-            read_utf8_string(alloc, &mut cursor, self.variant, constraints)
+            read_utf8_string(alloc, &mut cursor, self.rules, constraints)
         )
     }
 
@@ -483,7 +557,7 @@ impl<'input> asn1_schema_decode::Decoder for Decoder<'input> {
         record!(
             self,
             cursor,
-            read_characters(alloc, &mut cursor, self.variant, constraints)
+            read_characters(alloc, &mut cursor, self.rules, constraints)
         )
     }
 
@@ -495,7 +569,7 @@ impl<'input> asn1_schema_decode::Decoder for Decoder<'input> {
         record!(
             self,
             cursor,
-            read_object_identifier(alloc, &mut cursor, self.variant)
+            read_object_identifier(alloc, &mut cursor, self.rules)
         )
     }
 
@@ -521,7 +595,7 @@ impl<'input> asn1_schema_decode::Decoder for Decoder<'input> {
 
     #[inline(always)]
     fn get_further(&mut self) -> Result<bool, DecodeError> {
-        go_on(self.failed)?;
+        go_on(self.failed.is_some())?;
         if self.scopes.take_due_member() {
             return Ok(true);
         }
@@ -553,7 +627,7 @@ impl<'input> asn1_schema_decode::Decoder for Decoder<'input> {
 
     #[inline(always)]
     fn get_presence_bit(&mut self) -> Result<bool, DecodeError> {
-        go_on(self.failed)?;
+        go_on(self.failed.is_some())?;
         match self.scopes.next_presence_bit() {
             Some(present) => Ok(present),
             None => Err(self.refuse(DecodeError::NotValidCanonicalEncoding)),
@@ -561,35 +635,41 @@ impl<'input> asn1_schema_decode::Decoder for Decoder<'input> {
     }
 
     fn note_default(&mut self) -> Result<(), DecodeError> {
-        go_on(self.failed)?;
+        go_on(self.failed.is_some())?;
+        if self.rules.is_strict() {
+            return Err(self.refuse(DecodeError::NotValidCanonicalEncoding));
+        }
         Ok(())
     }
 
     fn note_empty(&mut self) -> Result<(), DecodeError> {
-        go_on(self.failed)?;
+        go_on(self.failed.is_some())?;
+        if self.rules.is_strict() {
+            return Err(self.refuse(DecodeError::NotValidCanonicalEncoding));
+        }
         Ok(())
     }
 
     fn begin_additions(&mut self, count: usize) -> Result<(), DecodeError> {
-        go_on(self.failed)?;
+        go_on(self.failed.is_some())?;
         let Some(is_extended) = self.scopes.extension_bit() else {
             return Err(self.refuse(DecodeError::NotValidCanonicalEncoding));
         };
         let alloc = self.scopes.allocator();
-        match read_bitmap(alloc, &mut self.place, self.variant, is_extended) {
+        match read_bitmap(alloc, &mut self.place, self.rules, is_extended) {
             Ok(bitmap) => {
                 let left = count;
                 self.scopes
                     .replace(Frame::Added(Additions { left, bitmap }));
                 Ok(())
             }
-            Err(error) => Err(self.refuse(error)),
+            Err(error) => Err(self.lack(error)),
         }
     }
 
     #[inline(always)]
     fn get_addition(&mut self) -> Result<bool, DecodeError> {
-        go_on(self.failed)?;
+        go_on(self.failed.is_some())?;
         let Some(is_there) = self.scopes.next_addition() else {
             return Err(self.refuse(DecodeError::NotValidCanonicalEncoding));
         };
@@ -600,18 +680,18 @@ impl<'input> asn1_schema_decode::Decoder for Decoder<'input> {
     }
 
     fn end_addition(&mut self) -> Result<(), DecodeError> {
-        go_on(self.failed)?;
+        go_on(self.failed.is_some())?;
         let Some(behind) = self.scopes.leave_addition() else {
             return Err(self.refuse(DecodeError::NotValidCanonicalEncoding));
         };
         match self.pass_over(Ending::OpenType(behind)) {
             Ok(()) => Ok(()),
-            Err(error) => Err(self.refuse(error)),
+            Err(error) => Err(self.lack(error)),
         }
     }
 
     fn begin_choice(&mut self, _tag: Tag, tables: &TagTables<'_>) -> Result<Chosen, DecodeError> {
-        go_on(self.failed)?;
+        go_on(self.failed.is_some())?;
         if self.levels == 0 {
             return Err(self.refuse(DecodeError::ExceedsMaxParseDepth));
         }
@@ -623,7 +703,7 @@ impl<'input> asn1_schema_decode::Decoder for Decoder<'input> {
         let answer = read_place_of_alternative(
             alloc,
             &mut cursor,
-            self.variant,
+            self.rules,
             root_count,
             extensible,
             added_count,
@@ -641,7 +721,7 @@ impl<'input> asn1_schema_decode::Decoder for Decoder<'input> {
 
     #[inline(always)]
     fn end(&mut self) -> Result<(), DecodeError> {
-        go_on(self.failed)?;
+        go_on(self.failed.is_some())?;
         if self.levels >= self.most {
             return Err(self.refuse(DecodeError::NotValidCanonicalEncoding));
         }
@@ -653,7 +733,7 @@ impl<'input> asn1_schema_decode::Decoder for Decoder<'input> {
                 self.levels += 1;
                 Ok(())
             }
-            Err(error) => Err(self.refuse(error)),
+            Err(error) => Err(self.lack(error)),
         }
     }
 
@@ -664,6 +744,14 @@ impl<'input> asn1_schema_decode::Decoder for Decoder<'input> {
     ghost bag_held = { finds_bag_held };
 
     ghost goes_on = { finds_on };
+
+    ghost few_at_once = { at_once };
+
+    ghost records_carried = { held_records };
+
+    ghost values_carried = { held_values };
+
+    ghost members_carried = { held_members };
 
     ghost none_after = { finds_none };
 

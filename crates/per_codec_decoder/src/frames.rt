@@ -1,17 +1,20 @@
 //! Open scopes.
-ghost use Rattle.std.specs.Prelude.{◌≡◌, ◌∷◌, [], true, false, OnOk, IfOk, IfErr, IfSome, IfNone, MatchBool};
+ghost use Rattle.std.specs.Prelude.{◌≡◌, ◌<◌, ◌+◌, ◌-◌, ◌^◌, ◌∷◌, [], List, true, false, min};
+ghost use Rattle.std.specs.Prelude.{OnOk, IfOk, IfErr, IfSome, IfNone, MatchBool};
 ghost use Rattle.per_codec_fronts.specs.Takes.{NextPresenceBit, NextMember, open_type};
 ghost use Rattle.per_codec_reading.specs.Fronts.{freedoms, is_aligned, IsFresh};
 ghost use Rattle.per_codec_decoder.specs.Members.{NoFurther};
+ghost use Rattle.per_codec_longer.specs.Few.{due};
+ghost use Rattle.per_codec_decoder.specs.declared.frames.Frame.{Frame};
 ghost use Rattle.per_codec_decoder.specs.Scopes.{behind_around, behind_frame, behind_in, behind_of, scope_of};
-ghost use Rattle.per_codec_decoder.specs.Scopes.{scope_around, scopes_in, scopes_of};
+ghost use Rattle.per_codec_decoder.specs.Scopes.{owing, scope_around, scopes_in, scopes_of};
 ghost use Rattle.per_codec_decoder.specs.Scopes.{HasExtensionBit, NoAdditions, Flags, NoFlag, Leaves, LeavesBehind};
 ghost use Rattle.per_codec_decoder.specs.Scopes.{LeavesAddition, NoAdditionEnd, NoEnd, IsAdded};
 
 use crate::additions::Additions;
 use crate::members::DueMembers;
 use asn1_schema_faults::DecodeError;
-use per_codec_reading::{Cursor, Variant};
+use per_codec_reading::{Cursor, PackedRules};
 use per_codec_reading_values::Stretch;
 use std::alloc::{AllocError, Global};
 use std::marker::Model;
@@ -51,6 +54,23 @@ pub enum Ending<'input> {
     Unknown(Stretch<'input>),
     /// The padding of an open type, behind which is this place (X.691 11.2).
     OpenType(Stretch<'input>),
+}
+
+impl<'input> Frame<'input> {
+    /// So many members that are to come, and those of this frame besides, as far as 64 bits count them. None of an open
+    /// type: whatever is within it is there by its length (X.691 11.2).
+    fn add_due(&self, due: usize) -> Option<usize>
+        ensures some { IfSome result (λ n. (fs : List Frame)
+            → min (due + owing (self.now ∷ fs)) (2 ^ 64 - 1) ≡ min (n + owing fs) (2 ^ 64 - 1)) }
+        ensures most { IfSome result (λ n. n < 2 ^ 64) }
+        ensures none { IfNone result ((fs : List Frame) → owing (self.now ∷ fs) ≡ 0) }
+    {
+        match self {
+            Frame::OpenType(_) => None,
+            Frame::Members(members) => Some(due.saturating_add(members.due())),
+            _ => Some(due),
+        }
+    }
 }
 
 impl<'input> Enclosing<'input> {
@@ -162,6 +182,34 @@ impl<'input> Scopes<'input> {
     #[inline(always)]
     pub fn hold_no_memory(&self) -> bool {
         self.enclosing.is_none() && self.innermost.is_none() && self.outer.capacity() == 0
+    }
+
+    /// Closes all scopes.
+    pub fn clear(&mut self)
+        ensures { self.new.scopes ≡ [] }
+    {
+        self.enclosing = None;
+        self.innermost = None;
+        self.outer.clear();
+    }
+
+    /// How many members are to come in the lists and bags that are open outside open types, as far as 64 bits count
+    /// them.
+    #[cold]
+    pub fn due(&self) -> usize
+        ensures { result ≡ min (due self.now.scopes) (2 ^ 64 - 1) }
+    {
+        let Some(innermost) = &self.innermost else {
+            return 0;
+        };
+        let mut due = 0;
+        for frame in self.outer.as_slice() {
+            let Some(more) = frame.add_due(due) else {
+                return due;
+            };
+            due = more;
+        }
+        innermost.add_due(due).unwrap_or(due)
     }
 
     /// Where the memory comes from.
@@ -351,19 +399,19 @@ impl<'input> Scopes<'input> {
     pub fn next_member(
         &mut self,
         cursor: &mut Cursor<'_>,
-        variant: Variant,
+        rules: PackedRules,
     ) -> Result<bool, DecodeError>
-        ensures ok { IfOk result (λ more. NextMember (is_aligned variant)
-            (freedoms variant) more cursor.old self.old.scopes (cursor.new, self.new.scopes)) }
+        ensures ok { IfOk result (λ more. NextMember (is_aligned rules)
+            (freedoms rules) more cursor.old self.old.scopes (cursor.new, self.new.scopes)) }
         ensures behind { OnOk result (self.new.behind ≡ self.old.behind) }
-        ensures only { IfErr result (NoFurther (is_aligned variant) (freedoms variant) cursor.old self.old.scopes) }
+        ensures only { IfErr result (NoFurther (is_aligned rules) (freedoms rules) cursor.old self.old.scopes) }
         ensures fresh { IfErr result IsFresh }
     {
         if self.enclosing.is_some() {
             return Err(DecodeError::NotValidCanonicalEncoding);
         }
         match &mut self.innermost {
-            Some(Frame::Members(members)) => members.next(cursor, variant),
+            Some(Frame::Members(members)) => members.next(cursor, rules),
             _ => Err(DecodeError::NotValidCanonicalEncoding),
         }
     }

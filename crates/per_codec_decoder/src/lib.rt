@@ -3,10 +3,12 @@
 #![tactic(auto)]
 
 mod additions;
+mod bitmaps;
 mod completion;
 pub mod decoder;
 mod frames;
 mod members;
+mod missing;
 pub mod options;
 mod preamble;
 

@@ -1,19 +1,25 @@
 //! How many members a list or bag has (X.691 20 and 22): behind their number, or in fragments.
-ghost use Rattle.std.specs.Prelude.{◌≡◌, ◌+◌, ◌*◌, ◌^◌, ◌≤◌, ◌<◌, ◌∷◌, true, false, None, IsTrue};
-ghost use Rattle.std.specs.Prelude.{◌↔◌, IfOk, IfErr, IfSome, IfNone};
+ghost use Rattle.std.specs.Prelude.{◌≡◌, ◌+◌, ◌*◌, ◌^◌, ◌≤◌, ◌<◌, ◌∷◌, leb, ◌==◌, ◌&&◌, ◌||◌};
+ghost use Rattle.std.specs.Prelude.{true, false, None, IsTrue, ◌↔◌, IfOk, IfErr, IfSome, IfNone};
+ghost use Rattle.asn1_model.specs.Numbers.{is_count_within};
+ghost use Rattle.asn1_model.specs.Per;
 ghost use Rattle.asn1_schema_constraints.specs.Bounds.{members_of};
 ghost use Rattle.asn1_schema_constraints.specs.Terms.{size_of};
 ghost use Rattle.per_codec_fronts.specs.Takes.{MemberDue, NextMember, members, in_all};
 ghost use Rattle.per_codec_reading.specs.Fronts.{freedoms, is_aligned, IsFresh};
 ghost use Rattle.per_codec_reading.specs.Lengths.{IsLength};
-ghost use Rattle.per_codec_reading.specs.Sizes.{admitted};
-ghost use Rattle.per_codec_decoder.specs.Members.{AreBehind, HasMembers, NoFurther, NoMembers, NoneAreBehind};
+ghost use Rattle.per_codec_reading.specs.Sizes.{admitted, may_be_outside};
+ghost use Rattle.per_codec_decoder.specs.Members.{largest_behind, AreBehind, NoneAreBehind};
+ghost use Rattle.per_codec_decoder.specs.Members.{HasMembers, NoFurther, NoMembers};
 
 use asn1_schema_constraints::{Bounded, Sizes};
 use asn1_schema_decode::most_members;
 use asn1_schema_faults::DecodeError;
 use per_codec_reading::lengths::{Length, read_length};
-use per_codec_reading::{Cursor, FRAGMENT, LengthDeterminant, Variant, is_admitted, read_heading};
+use per_codec_reading::{
+    Cursor, FRAGMENT, LengthDeterminant, PackedRules, is_accepted_outside, is_admitted,
+    read_heading,
+};
 use std::alloc::Global;
 use std::marker::Model;
 
@@ -60,17 +66,37 @@ impl Model for DueMembers {
 }
 
 impl Tally {
-    /// Whether there may be as many members as in the fragments so far and so many behind them: the program's type
-    /// holds them, and they are in the root or told to be outside it.
-    fn admits(&self, last: usize) -> bool
-        ensures { IsTrue result ↔ (admitted self.now.held self.now.size.counts self.now.outside
-            (in_all self.now.sizes last) ≡ true) }
+    /// How many members are in the fragments so far and so many behind them, if there may be as many: the program's
+    /// type holds them, and they are in the root or told to be outside it.
+    fn admitted(&self, last: usize) -> Option<usize>
+        ensures some { IfSome result (λ total. total ≡ in_all self.now.sizes last) }
+        ensures admitted { IfSome result (λ total.
+            admitted self.now.held self.now.size.counts self.now.outside total ≡ true) }
+        ensures none { IfNone result (admitted self.now.held self.now.size.counts self.now.outside
+            (in_all self.now.sizes last) ≡ true → ⊥) }
     {
         let _most = most_members(self.held);
         match total_of(&self.fragments, last) {
-            Some(count) => is_admitted(self.sizes.root, self.held, self.is_outside, count),
-            None => false,
+            Some(total) => {
+                if !is_admitted(self.sizes.root, self.held, self.is_outside, total) {
+                    return None;
+                }
+                Some(total)
+            }
+            None => None,
         }
+    }
+
+    /// Whether so many members are accepted: in strict rules a number in the root is not told to be outside it (X.691
+    /// 20.4), and the largest fragments come first (X.691 11.9.3.8).
+    #[inline(always)]
+    fn is_accepted(&self, rules: PackedRules, total: usize) -> bool
+        ensures { result ≡ (may_be_outside (freedoms rules Per.root_told_outside) self.now.outside
+            (is_count_within self.now.size.counts total)
+            && (freedoms rules Per.other_fragments || largest_behind 4 self.now.sizes)) }
+    {
+        is_accepted_outside(rules, self.sizes.root, self.is_outside, total)
+            && (!rules.is_strict() || are_largest_first(&self.fragments))
     }
 
     /// The members behind a length determinant that was read: those of a fragment, or the last ones, by which all
@@ -78,11 +104,12 @@ impl Tally {
     ///
     /// # Errors
     ///
-    /// `SizeConstraintNotSatisfied` if the members are not as many as there may be, and `OutOfMemory`.
-    fn behind(mut self, length: Length) -> Result<DueMembers, DecodeError>
+    /// `SizeConstraintNotSatisfied` if the members are not as many as there may be, `NotValidCanonicalEncoding` if
+    /// strict rules do not accept so many, and `OutOfMemory`.
+    fn behind(mut self, rules: PackedRules, length: Length) -> Result<DueMembers, DecodeError>
         requires { IsLength length }
-        ensures ok { IfOk result (λ members. AreBehind self length members.due members.tally) }
-        ensures only { IfErr result (NoneAreBehind self length) }
+        ensures ok { IfOk result (λ members. AreBehind rules self length members.due members.tally) }
+        ensures only { IfErr result (NoneAreBehind rules self length) }
         ensures fresh { IfErr result IsFresh }
     {
         match length {
@@ -95,8 +122,11 @@ impl Tally {
                 Ok(DueMembers { due, tally })
             }
             Length::Short(due) => {
-                if !self.admits(due) {
+                let Some(total) = self.admitted(due) else {
                     return Err(DecodeError::SizeConstraintNotSatisfied);
+                };
+                if !self.is_accepted(rules, total) {
+                    return Err(DecodeError::NotValidCanonicalEncoding);
                 }
                 Ok(DueMembers { due, tally: None })
             }
@@ -105,6 +135,13 @@ impl Tally {
 }
 
 impl DueMembers {
+    /// How many are due before any further length determinant.
+    pub(crate) fn due(&self) -> usize
+        ensures { result ≡ self.now.due }
+    {
+        self.due
+    }
+
     /// Whether none is due, and no length determinant stands behind.
     #[inline(always)]
     pub(crate) fn is_last(&self) -> bool
@@ -117,18 +154,19 @@ impl DueMembers {
     ///
     /// # Errors
     ///
-    /// Those of a length, and `SizeConstraintNotSatisfied` if the members are not as many as there may be.
+    /// Those of a length, `SizeConstraintNotSatisfied` if the members are not as many as there may be, and
+    /// `NotValidCanonicalEncoding` if strict rules do not accept so many.
     #[inline(always)]
     pub(crate) fn next(
         &mut self,
         cursor: &mut Cursor<'_>,
-        variant: Variant,
+        rules: PackedRules,
     ) -> Result<bool, DecodeError>
         ensures ok { IfOk result (λ more. (k : _)
-            → NextMember (is_aligned variant) (freedoms variant) more cursor.old
+            → NextMember (is_aligned rules) (freedoms rules) more cursor.old
             (members self.old.due self.old.tally ∷ k) (cursor.new, members self.new.due self.new.tally ∷ k)) }
         ensures only { IfErr result (λ e. (k : _)
-            → NoFurther (is_aligned variant) (freedoms variant) cursor.old
+            → NoFurther (is_aligned rules) (freedoms rules) cursor.old
             (members self.old.due self.old.tally ∷ k) e) }
         ensures fresh { IfErr result IsFresh }
     {
@@ -139,8 +177,8 @@ impl DueMembers {
         match self.tally.take() {
             Some(boxed) => {
                 let tally = Box::into_inner(boxed);
-                let length = read_length(cursor, variant)?;
-                *self = tally.behind(length)?;
+                let length = read_length(cursor, rules)?;
+                *self = tally.behind(rules, length)?;
                 Ok(self.take_member())
             }
             None => Ok(false),
@@ -176,6 +214,29 @@ impl DueMembers {
     }
 }
 
+/// Whether a fragment of so many times 16384 members may stand behind another one where the largest ones come first.
+fn may_be_behind(before: u8, multiple: u8) -> bool
+    ensures { result ≡ (before == 4 && (leb 1 multiple && leb multiple 4)) }
+{
+    before == 4 && (1 <= multiple && multiple <= 4)
+}
+
+/// Whether the largest fragments come first: all but the last one have four times 16384 members (X.691 11.9.3.8).
+#[cold]
+#[inline(never)]
+fn are_largest_first(fragments: &[u8]) -> bool
+    ensures { result ≡ largest_behind 4 fragments.now }
+{
+    let mut before: u8 = 4;
+    for fragment in fragments {
+        if !may_be_behind(before, *fragment) {
+            return false;
+        }
+        before = *fragment;
+    }
+    true
+}
+
 /// How many members there are in fragments of so many times 16384 and so many behind them, if 64 bits count them.
 fn total_of(fragments: &[u8], last: usize) -> Option<usize>
     ensures some { IfSome result (λ count. count ≡ in_all fragments.now last) }
@@ -192,22 +253,22 @@ fn total_of(fragments: &[u8], last: usize) -> Option<usize>
 ///
 /// # Errors
 ///
-/// `SizeConstraintNotSatisfied` if the members are not as many as there may be, the errors of a constrained whole
-/// number and of a length, and `OutOfMemory`.
+/// `SizeConstraintNotSatisfied` if the members are not as many as there may be, `NotValidCanonicalEncoding` if strict
+/// rules do not accept so many, the errors of a constrained whole number and of a length, and `OutOfMemory`.
 pub fn read_members(
     alloc: Global,
     cursor: &mut Cursor<'_>,
-    variant: Variant,
+    rules: PackedRules,
     sizes: Sizes,
     held: Bounded<usize>,
 ) -> Result<DueMembers, DecodeError>
-    ensures ok { IfOk result (λ members. HasMembers (is_aligned variant) (freedoms variant)
+    ensures ok { IfOk result (λ members. HasMembers (is_aligned rules) (freedoms rules)
         (size_of sizes) (members_of held) members.due members.tally cursor.old cursor.new) }
-    ensures only { IfErr result (NoMembers (is_aligned variant) (freedoms variant) (size_of sizes)
+    ensures only { IfErr result (NoMembers (is_aligned rules) (freedoms rules) (size_of sizes)
         (members_of held) cursor.old) }
     ensures fresh { IfErr result IsFresh }
 {
-    let heading = read_heading(cursor, variant, sizes)?;
+    let heading = read_heading(cursor, rules, sizes)?;
     match heading.determinant {
         LengthDeterminant::Constrained(due) => {
             if !is_admitted(sizes.root, held, heading.is_outside, due) {
@@ -222,7 +283,7 @@ pub fn read_members(
                 is_outside: heading.is_outside,
                 fragments: Vec::new(alloc),
             };
-            tally.behind(length)
+            tally.behind(rules, length)
         }
     }
 }

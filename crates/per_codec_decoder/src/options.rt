@@ -1,31 +1,49 @@
 //! What a decoder is told besides its input.
 ghost use Rattle.std.specs.Prelude.{◌≡◌};
 
-use per_codec_reading::Variant;
+use per_codec_reading::PackedRules;
 
 /// How a decoder of the packed encoding rules (X.691) reads.
 #[derive(Clone, Copy, Debug)]
 pub struct DecoderOptions {
-    /// The variant of the rules.
-    pub variant: Variant,
+    /// The rules, with a lenient or a strict reader.
+    pub rules: PackedRules,
 }
 
 impl DecoderOptions {
-    /// The aligned variant.
+    /// The aligned variant, all forms.
     pub fn aligned() -> Self
-        ensures { result.variant ≡ Variant.Aligned }
+        ensures { result.rules ≡ PackedRules.Aper }
     {
         DecoderOptions {
-            variant: Variant::Aligned,
+            rules: PackedRules::Aper,
         }
     }
 
-    /// The unaligned variant.
+    /// The unaligned variant, all forms.
     pub fn unaligned() -> Self
-        ensures { result.variant ≡ Variant.Unaligned }
+        ensures { result.rules ≡ PackedRules.Uper }
     {
         DecoderOptions {
-            variant: Variant::Unaligned,
+            rules: PackedRules::Uper,
+        }
+    }
+
+    /// The aligned variant, only the forms that an encoder writes.
+    pub fn aligned_strict() -> Self
+        ensures { result.rules ≡ PackedRules.AperStrict }
+    {
+        DecoderOptions {
+            rules: PackedRules::AperStrict,
+        }
+    }
+
+    /// The unaligned variant, only the forms that an encoder writes.
+    pub fn unaligned_strict() -> Self
+        ensures { result.rules ≡ PackedRules.UperStrict }
+    {
+        DecoderOptions {
+            rules: PackedRules::UperStrict,
         }
     }
 }

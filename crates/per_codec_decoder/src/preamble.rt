@@ -6,10 +6,11 @@ ghost use Rattle.per_codec_reading.specs.Fronts.{freedoms, is_aligned, IsFresh, 
 ghost use Rattle.per_codec_decoder.specs.Preamble.{HasBitmap, HasPreamble, NoBitmap, NoPreamble};
 ghost use Rattle.per_codec_decoder.specs.Scopes.{scope_of, stands_in};
 
+use crate::bitmaps::is_accepted;
 use crate::frames::Frame;
 use asn1_schema_faults::DecodeError;
 use asn1_values_bits::BitStr;
-use per_codec_reading::{RunBits, Variant};
+use per_codec_reading::{PackedRules, RunBits};
 use per_codec_reading_values::{Field, Stretch};
 use std::alloc::Global;
 
@@ -48,19 +49,19 @@ fn read_extension_bit(
 pub fn read_preamble<'input>(
     alloc: Global,
     place: &mut Stretch<'input>,
-    variant: Variant,
+    rules: PackedRules,
     extensible: bool,
     optional: usize,
 ) -> Result<Frame<'input>, DecodeError>
-    ensures ok { IfOk result (λ frame. HasPreamble (freedoms variant) extensible optional
+    ensures ok { IfOk result (λ frame. HasPreamble (freedoms rules) extensible optional
         (scope_of frame) place.old.place place.new.place) }
     ensures storage { OnOk result (place.new.storage ≡ place.old.storage) }
     ensures inner { IfOk result (λ frame. (k : _) → stands_in frame k ≡ k) }
-    ensures only { IfErr result (NoPreamble (freedoms variant) extensible optional place.old.place) }
+    ensures only { IfErr result (NoPreamble (freedoms rules) extensible optional place.old.place) }
     ensures fresh { IfErr result IsFresh }
 {
     let extension_bit = read_extension_bit(place, extensible)?;
-    let presence = place.take_field(alloc, variant, Field::Bits(optional))?;
+    let presence = place.take_field(alloc, rules, Field::Bits(optional))?;
     Ok(Frame::Components(presence, extension_bit))
 }
 
@@ -68,22 +69,26 @@ pub fn read_preamble<'input>(
 ///
 /// # Errors
 ///
-/// `Incomplete` if the bits end early, the errors of a length, and `OutOfMemory`.
+/// `Incomplete` if the bits end early, the errors of a length, `NotValidCanonicalEncoding` if no bit is set, in strict
+/// rules, and `OutOfMemory`.
 pub fn read_bitmap<'input>(
     alloc: Global,
     place: &mut Stretch<'input>,
-    variant: Variant,
+    rules: PackedRules,
     is_extended: bool,
 ) -> Result<Stretch<'input>, DecodeError>
-    ensures ok { IfOk result (λ bitmap. HasBitmap (freedoms variant)
-        (is_aligned variant) is_extended bitmap.place.1 place.old.place place.new.place) }
+    ensures ok { IfOk result (λ bitmap. HasBitmap (freedoms rules)
+        (is_aligned rules) is_extended bitmap.place.1 place.old.place place.new.place) }
     ensures storage { OnOk result (place.new.storage ≡ place.old.storage) }
-    ensures only { IfErr result (NoBitmap (freedoms variant) (is_aligned variant) is_extended place.old.place) }
+    ensures only { IfErr result (NoBitmap (freedoms rules) (is_aligned rules) is_extended place.old.place) }
     ensures fresh { IfErr result IsFresh }
 {
     if !is_extended {
         return Ok(Stretch::new(RunBits::Lent(BitStr::new())));
     }
-    let bitmap = place.take_field(alloc, variant, Field::Bitmap)?;
+    let bitmap = place.take_field(alloc, rules, Field::Bitmap)?;
+    if !is_accepted(rules, bitmap.bits()) {
+        return Err(DecodeError::NotValidCanonicalEncoding);
+    }
     Ok(bitmap)
 }

@@ -16,7 +16,7 @@ use Rattle.per_codec_longer.proofs.Chained.{chain_back}
 use Rattle.per_codec_longer.proofs.Empty.{some}
 
 -- a list in two parts, neither of them too long
-in_two : (n j : ℕ) (e : List Bool) → length e ≤ n + j → (f : List Bool) × (g : List Bool) × (f ++ g ≡ e) × (length f ≤ n) × (length g ≤ j)
+pub in_two : (n j : ℕ) (e : List Bool) → length e ≤ n + j → (f : List Bool) × (g : List Bool) × (f ++ g ≡ e) × (length f ≤ n) × (length g ≤ j)
 in_two zero j e h = ([], e, refl, omega arith, omega arith)
 in_two (suc n) j [] h = ([], [], refl, omega arith, omega arith)
 in_two (suc n) j (x ∷ e) h = let z = in_two n j e (omega arith) in (x ∷ z.0, z.1, ap (λ l. x ∷ l) z.2, omega arith, z.4)

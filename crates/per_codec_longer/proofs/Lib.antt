@@ -5,3 +5,5 @@ pub mod Steady
 pub mod Empty
 pub mod Lacking
 pub mod Lengths
+pub mod Few
+pub mod Levelled

@@ -1,43 +1,78 @@
 -- Parts of forms that stand in front.
-use Rattle.std.proofs.Common.{◌≡◌, inr, ℕ, ◌+◌, ◌<◌, ◌==◌, Bool, true, false, IsTrue, Result, Ok, Err, IfOk, IfErr, List, [], ◌∷◌, ◌++◌, length, refl, ap, sym, ◌∙◌, subst, append_assoc, length-append, arith}
-use Rattle.std.proofs.lemmas.Bool.{eq-eqb, eqb-true}
+use Rattle.std.proofs.Common.{◌≡◌, ◌⊎◌, inl, inr, ℕ, ◌+◌, ◌^◌, ◌<◌, ◌==◌, ◌↔◌, Bool, true, false, not, ◌||◌, IsTrue, Result, Ok, Err, IfOk, IfErr, List, [], ◌∷◌, ◌++◌, length, replicate, take, refl, ap, sym, ◌∙◌, subst, append_assoc, length-append, arith}
+use Rattle.std.proofs.lemmas.Bool.{eq-eqb, eqb-true, false≢true}
+use Rattle.std.proofs.lemmas.List.{take_all}
 use Rattle.asn1_model.specs.Form.{Reads, exactly, only_if}
+use Rattle.asn1_model.specs.Numbers.{binary}
 use Rattle.asn1_model.specs.Per
+use Rattle.asn1_values_bits.proofs.Binary.{binary_zero}
+use Rattle.std.proofs.lemmas.Nat.{pow_pos}
 use Rattle.asn1_schema_faults.specs.declared.DecodeError.{DecodeError}
 use Rattle.asn1_schema_faults.specs.declared.DecodeError.TheVariants.{Incomplete, OutOfMemory, AlreadyFailed}
 use Rattle.asn1_laws_fronts.proofs.Fronts.{agree_placed}
-use Rattle.asn1_laws_fronts.proofs.PerNumbers.{padding_alike}
+use Rattle.asn1_laws_fronts.proofs.PerNumbers.{binary_equal, padding_alike}
 use Rattle.per_codec_fronts.specs.Takes.{Place, Front}
 use Rattle.per_codec_fronts.proofs.Fronts.{of_nothing, nothing_front, split, join}
 use Rattle.per_codec_fronts.proofs.Next.{same_fronts}
-use Rattle.per_codec_limits.specs.declared.variant.Variant.{Variant}
-use Rattle.per_codec_limits.specs.declared.variant.Variant.TheVariants.{Unaligned, Aligned}
-use Rattle.per_codec_reading.specs.Fronts.{freedoms, Leads, NoneStands, IsFresh, Misses, to_octet}
+use Rattle.per_codec_reading.specs.declared.rules.PackedRules.{PackedRules}
+use Rattle.per_codec_reading.specs.declared.rules.PackedRules.TheVariants.{Uper, Aper, UperStrict, AperStrict}
+use Rattle.per_codec_reading.specs.Fronts.{freedoms, is_strict, Leads, NoneStands, IsFresh, ArePadding, Misses, to_octet}
 
--- ---- the freedoms that both variants leave to a reader
-pub any_padding_is_free : (v : Variant) → IsTrue (freedoms v Per.any_padding)
-any_padding_is_free Unaligned = refl
-any_padding_is_free Aligned = refl
+-- ---- the freedoms that the rules leave to a reader
+pub any_padding_is_lenient : (r : PackedRules) → freedoms r Per.any_padding ≡ not (is_strict r)
+any_padding_is_lenient Uper = refl
+any_padding_is_lenient Aper = refl
+any_padding_is_lenient UperStrict = refl
+any_padding_is_lenient AperStrict = refl
 
-pub two_octet_length_is_free : (v : Variant) → IsTrue (freedoms v Per.two_octet_length)
-two_octet_length_is_free Unaligned = refl
-two_octet_length_is_free Aligned = refl
+pub two_octet_length_is_lenient : (r : PackedRules) → freedoms r Per.two_octet_length ≡ not (is_strict r)
+two_octet_length_is_lenient Uper = refl
+two_octet_length_is_lenient Aper = refl
+two_octet_length_is_lenient UperStrict = refl
+two_octet_length_is_lenient AperStrict = refl
 
-pub longer_number_is_free : (v : Variant) → IsTrue (freedoms v Per.longer_number)
-longer_number_is_free Unaligned = refl
-longer_number_is_free Aligned = refl
+pub longer_number_is_lenient : (r : PackedRules) → freedoms r Per.longer_number ≡ not (is_strict r)
+longer_number_is_lenient Uper = refl
+longer_number_is_lenient Aper = refl
+longer_number_is_lenient UperStrict = refl
+longer_number_is_lenient AperStrict = refl
 
-pub root_told_outside_is_free : (v : Variant) → IsTrue (freedoms v Per.root_told_outside)
-root_told_outside_is_free Unaligned = refl
-root_told_outside_is_free Aligned = refl
+pub root_told_outside_is_lenient : (r : PackedRules) → freedoms r Per.root_told_outside ≡ not (is_strict r)
+root_told_outside_is_lenient Uper = refl
+root_told_outside_is_lenient Aper = refl
+root_told_outside_is_lenient UperStrict = refl
+root_told_outside_is_lenient AperStrict = refl
 
-pub other_fragments_are_free : (v : Variant) → IsTrue (freedoms v Per.other_fragments)
-other_fragments_are_free Unaligned = refl
-other_fragments_are_free Aligned = refl
+pub other_fragments_are_lenient : (r : PackedRules) → freedoms r Per.other_fragments ≡ not (is_strict r)
+other_fragments_are_lenient Uper = refl
+other_fragments_are_lenient Aper = refl
+other_fragments_are_lenient UperStrict = refl
+other_fragments_are_lenient AperStrict = refl
 
-pub long_small_number_is_free : (v : Variant) → IsTrue (freedoms v Per.long_small_number)
-long_small_number_is_free Unaligned = refl
-long_small_number_is_free Aligned = refl
+pub long_small_number_is_lenient : (r : PackedRules) → freedoms r Per.long_small_number ≡ not (is_strict r)
+long_small_number_is_lenient Uper = refl
+long_small_number_is_lenient Aper = refl
+long_small_number_is_lenient UperStrict = refl
+long_small_number_is_lenient AperStrict = refl
+
+-- a condition, or the freedom to do without it
+pub or_free : (t b : Bool) → (t || b) ≡ true → (b ≡ true) ⊎ IsTrue t
+or_free true b e = inr refl
+or_free false b e = inl e
+
+pub free_or : (t b : Bool) → (b ≡ true) ⊎ IsTrue t → (t || b) ≡ true
+free_or true b h = refl
+free_or false b (inl e) = e
+free_or false b (inr e) = absurd (false≢true e)
+
+-- ---- zero bits
+-- bits are zero where their number is
+pub zero_bits : (w n : ℕ) (bs : List Bool) → w ≡ length bs → binary w n ≡ take w bs → n < 2 ^ w → IsTrue (n == 0) ↔ (bs ≡ replicate (length bs) false)
+zero_bits w n bs l d h =
+    let all : take w bs ≡ bs = take_all w bs (omega arith) in
+    let zeros : binary w 0 ≡ replicate (length bs) false = binary_zero w ∙ ap (λ k. replicate k false) l in
+    let p : 0 < 2 ^ w = pow_pos w in
+    (λ t. sym all ∙ sym d ∙ ap (binary w) (eqb-true n 0 t) ∙ zeros, λ e. eq-eqb n 0 (binary_equal w n 0 h p (d ∙ all ∙ e ∙ sym zeros)))
 
 -- ---- refusals
 -- One form is missed where another is, if none of the one stands where none of the other does.
@@ -105,11 +140,12 @@ module _ (free : Per.Freedom → Bool) where
       omega arith
 
   -- ---- padding
-  pub padding_in : (w : List Bool) (a b : Place) → IsTrue (free Per.any_padding) → length w ≡ Per.missing a.0 → Leads w a b → Front free to_octet a b
+  pub padding_in : (w : List Bool) (a b : Place) → ArePadding (free Per.any_padding) w → length w ≡ Per.missing a.0 → Leads w a b → Front free to_octet a b
   unfolding Reads Per.padding
   padding_in w a b t l h =
       let has : Reads free (only_if (length w == Per.missing a.0) (exactly w)) a.0 w = rw (eq-eqb _ _ l) refl in
-      record { text = w; has_form = (w, inr t, has); in_front = h.0; moved = h.1 }
+      let zeros : (w ≡ replicate (Per.missing a.0) false) ⊎ IsTrue (free Per.any_padding) = elim t [ inl e ↦ inl (e ∙ ap (λ n. replicate n false) l) | inr e ↦ inr e ] in
+      record { text = w; has_form = (w, zeros, has); in_front = h.0; moved = h.1 }
 
   pub paddings_same : (a b c : Place) → Front free to_octet a b → Front free to_octet a c → b ≡ c
   paddings_same a b c f g = (same_fronts free (agree_placed free (λ p. padding_alike free (Per.missing p))) a b c f g).1
@@ -147,22 +183,31 @@ module _ (free : Per.Freedom → Bool) where
   unfolding Per.at_octet
   unaligned_padding a = nothing_front free a
 
-  padding_one : (b : Bool) (u w : List Bool) (n p : ℕ) → (length u == n) ≡ b → Reads {F = Per.Freedom} {D = Per.Detail} {A = Bool} free (only_if b (exactly u)) p w → length w ≡ n
+  padding_one : (b : Bool) (u w : List Bool) (n p : ℕ) → (length u == n) ≡ b → Reads {F = Per.Freedom} {D = Per.Detail} {A = Bool} free (only_if b (exactly u)) p w → (u ≡ w) × (length w ≡ n)
   unfolding Reads
-  padding_one true u w n p e r = ap length (sym r) ∙ eqb-true (length u) n e
+  padding_one true u w n p e r = (r, ap length (sym r) ∙ eqb-true (length u) n e)
   padding_one false u w n p e r = absurd r
 
-  padding_long : (n p : ℕ) (w : List Bool) → Reads free (Per.padding n) p w → length w ≡ n
+  padding_parts : (n p : ℕ) (w : List Bool) → Reads free (Per.padding n) p w → (length w ≡ n) × ArePadding (free Per.any_padding) w
   unfolding Reads Per.padding
-  padding_long n p w r = padding_one (length r.0 == n) r.0 w n p refl r.2
+  padding_parts n p w r =
+      let q = padding_one (length r.0 == n) r.0 w n p refl r.2 in
+      (q.1, elim r.1 [ inl e ↦ inl (sym q.0 ∙ e ∙ ap (λ k. replicate k false) (sym q.1)) | inr e ↦ inr e ])
 
   pub short_padding : (a : Place) → length a.1 < Per.missing a.0 → (b : Place) → Front free to_octet a b → ⊥
   unfolding Reads
   short_padding a l b f =
-      let n = padding_long (Per.missing a.0) a.0 f.text f.has_form in
+      let n = (padding_parts (Per.missing a.0) a.0 f.text f.has_form).0 in
       let e = ap length f.in_front in
       let k = length-append f.text b.1 in
       omega (arith, l)
+
+  -- bits that the reader does not accept
+  pub not_padding : (w : List Bool) (a b : Place) → length w ≡ Per.missing a.0 → Leads w a b → (ArePadding (free Per.any_padding) w → ⊥) → (c : Place) → Front free to_octet a c → ⊥
+  unfolding Reads
+  not_padding w a b l h n c f =
+      let p = padding_parts (Per.missing a.0) a.0 f.text f.has_form in
+      n (subst (ArePadding (free Per.any_padding)) (leads_same f.text w a c b (p.0 ∙ sym l) (f.in_front, f.moved) h) p.1)
 
   pub none_behind : (a : Place) → ((b : Place) → Front free to_octet a b → ⊥) → NoneStands free (Per.at_octet true) a
   unfolding Per.at_octet

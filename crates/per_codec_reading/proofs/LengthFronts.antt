@@ -1,13 +1,13 @@
 -- What stands in front where a length does.
-use Rattle.std.proofs.Common.{◌≡◌, inl, inr, ◌⊎◌, ℕ, ◌+◌, ◌-◌, ◌*◌, ◌/◌, ◌%◌, ◌^◌, ◌<◌, ◌≤◌, ◌==◌, leb, ltb, ◌&&◌, Bool, true, false, IsTrue, List, [], ◌∷◌, ◌++◌, length, refl, ap, sym, ◌∙◌, subst, cond, append_assoc, length-append, arith}
-use Rattle.std.proofs.lemmas.Bool.{lt-ltb, ltb-true, le-leb, leb-true, and_parts, and_from, eq-eqb, false_from_ne_true}
+use Rattle.std.proofs.Common.{◌≡◌, inl, inr, ◌⊎◌, ℕ, ◌+◌, ◌-◌, ◌*◌, ◌/◌, ◌%◌, ◌^◌, ◌<◌, ◌≤◌, ◌==◌, leb, ltb, ◌&&◌, ◌||◌, Bool, true, false, IsTrue, List, [], ◌∷◌, ◌++◌, length, drop, refl, ap, sym, ◌∙◌, subst, cond, append_assoc, length-append, arith}
+use Rattle.std.proofs.lemmas.Bool.{lt-ltb, ltb-true, le-leb, leb-true, and_parts, and_from, eq-eqb, false_from_ne_true, false≢true}
 use Rattle.std.proofs.lemmas.List.{append-nil}
 use Rattle.asn1_model.specs.Form.{exactly, only_if}
 use Rattle.asn1_model.specs.Numbers.{binary}
 use Rattle.asn1_model.specs.Per
 use Rattle.asn1_values_bits.proofs.Binary.{binary_join, binary_low, length-binary}
 use Rattle.asn1_laws_fronts.proofs.PerNumbers.{Alike, binary_equal, at_octet_alike, bits_apart}
-use Rattle.asn1_laws_fronts.proofs.Fronts.{agree_if_right, agree_first, agree_varied_right}
+use Rattle.asn1_laws_fronts.proofs.Fronts.{fronts_equal, agree_if_right, agree_first, agree_varied_right}
 use Rattle.per_codec_fronts.specs.Takes.{Place, Front}
 use Rattle.per_codec_fronts.proofs.Fronts.{varied_in, varied_out, if_in, if_out}
 use Rattle.per_codec_fronts.proofs.Next.{same_fronts}
@@ -15,7 +15,7 @@ use Rattle.per_codec_reading.specs.declared.lengths.Length.{Length}
 use Rattle.per_codec_reading.specs.declared.lengths.Length.TheVariants.{Short, Fragment}
 use Rattle.per_codec_reading.specs.Fronts.{Leads, NoneStands}
 use Rattle.per_codec_reading.specs.Lengths.{length_form}
-use Rattle.per_codec_reading.proofs.Fronts.{leads_same, leads_join, exactly_in, exactly_out, after_padding, behind_padding, unpadded, unpadded_in}
+use Rattle.per_codec_reading.proofs.Fronts.{or_free, free_or, leads_same, leads_join, exactly_in, exactly_out, after_padding, behind_padding, unpadded, unpadded_in}
 
 -- ---- an octet and its first bits
 bit_is : (x : ℕ) (b : Bool) → (b ≡ true → x ≡ 1) → (b ≡ false → x ≡ 0) → (x == 1) ≡ b
@@ -70,7 +70,7 @@ module _ (free : Per.Freedom → Bool) where
       not_at_least : (n : ℕ) → n < 128 → leb 128 n ≡ false
       not_at_least n l = false_from_ne_true (leb 128 n) (λ e. let g = leb-true 128 n e in omega arith)
 
-  pub long_read : (x m : ℕ) (a b c : Place) → IsTrue (free Per.two_octet_length) → 128 ≤ x → x < 192 → m < 256 → Leads (binary 8 x) a b → Leads (binary 8 m) b c → Front free (length_form false (Short ((x - 128) * 256 + m))) a c
+  pub long_read : (x m : ℕ) (a b c : Place) → (free Per.two_octet_length || leb 128 ((x - 128) * 256 + m)) ≡ true → 128 ≤ x → x < 192 → m < 256 → Leads (binary 8 x) a b → Leads (binary 8 m) b c → Front free (length_form false (Short ((x - 128) * 256 + m))) a c
   unfolding Per.short_length Per.at_octet
   long_read x m a b c t l u v h k =
       let n = (x - 128) * 256 + m in
@@ -78,7 +78,8 @@ module _ (free : Per.Freedom → Bool) where
       let p : 128 + n / 256 ≡ x = omega arith in
       let q : n % 256 ≡ m = omega arith in
       let e : binary 8 x ++ binary 8 m ≡ true ∷ false ∷ binary 14 n = ap (λ y. binary 8 y ++ binary 8 m) (sym p) ∙ ap (λ y. binary 8 (128 + n / 256) ++ binary 8 y) (sym q) ∙ long_octets n s in
-      varied_in free (short_detail n) true (inr t) a c (if_in free (ltb n 16384) _ a c (lt-ltb n 16384 s) (exactly_in free (true ∷ false ∷ binary 14 n) a c (subst (λ w. Leads w a c) e (leads_join (binary 8 x) (binary 8 m) a b c h k))))
+      let may : (true ≡ leb 128 n) ⊎ IsTrue (free Per.two_octet_length) = elim (or_free _ _ t) [ inl i ↦ inl (sym i) | inr i ↦ inr i ] in
+      varied_in free (short_detail n) true may a c (if_in free (ltb n 16384) _ a c (lt-ltb n 16384 s) (exactly_in free (true ∷ false ∷ binary 14 n) a c (subst (λ w. Leads w a c) e (leads_join (binary 8 x) (binary 8 m) a b c h k))))
 
   pub fragment_read : (x : ℕ) (a b : Place) → 193 ≤ x → x ≤ 196 → Leads (binary 8 x) a b → Front free (length_form false (Fragment (x - 192))) a b
   unfolding Per.at_octet
@@ -148,6 +149,35 @@ module _ (free : Per.Freedom → Bool) where
       let e = ap length h.0 in
       let n = length-append (binary 8 x) mid.1 in
       elim i [ inl q ↦ omega arith | inr q ↦ elim q [ inl r ↦ (let v = r.2 in omega arith) | inr r ↦ (let v = r.0 in omega arith) ] ])
+
+  -- two octets that the reader does not accept
+  pub not_two_octets : (x m : ℕ) (a b c : Place) → (free Per.two_octet_length || leb 128 ((x - 128) * 256 + m)) ≡ false → 128 ≤ x → x < 192 → m < 256 → Leads (binary 8 x) a b → Leads (binary 8 m) b c → NoneStands free (length_form false) a
+  unfolding Per.short_length Per.at_octet
+  not_two_octets x m a b c t l u v h k (Fragment j) d f =
+      let i = if_out free (leb 1 j && leb j 4) _ a d f in
+      let w = leb-true j 4 (and_parts (leb 1 j) (leb j 4) i.0).1 in
+      let q = first_octet (192 + j) [] _ a d (omega arith) (append-nil (binary 8 (192 + j)) ∙ head_octet j (omega arith)) i.1 in
+      let e = binary_equal 8 (192 + j) x (omega arith) (omega arith) (leads_same (binary 8 (192 + j)) (binary 8 x) a q.0 b refl q.1 h) in
+      absurd (omega arith)
+  not_two_octets x m a b c t l u v h k (Short n) d f = let y = varied_out free (short_detail n) a d f in go y.0 y.1 y.2
+    where
+      go : (long : Bool) → (long ≡ leb 128 n) ⊎ IsTrue (free Per.two_octet_length) → Front free (short_detail n long) a d → ⊥
+      go true y g =
+          let i = if_out free (ltb n 16384) _ a d g in
+          let s = ltb-true n 16384 i.0 in
+          let o = leads_same (binary 8 x ++ binary 8 m) (true ∷ false ∷ binary 14 n) a c d refl (leads_join (binary 8 x) (binary 8 m) a b c h k) (exactly_out free (true ∷ false ∷ binary 14 n) a d i.1) in
+          let p : binary 8 x ++ binary 8 m ≡ binary 8 (128 + n / 256) ++ binary 8 (n % 256) = o ∙ sym (long_octets n s) in
+          let z = binary_equal 8 x (128 + n / 256) (omega arith) (omega arith) (fronts_equal (binary 8 x) (binary 8 (128 + n / 256)) (binary 8 m) (binary 8 (n % 256)) refl p) in
+          let low : binary 8 m ≡ binary 8 (n % 256) = ap (drop 8) p in
+          let r = binary_equal 8 m (n % 256) (omega arith) (omega arith) low in
+          let e : n ≡ (x - 128) * 256 + m = omega arith in
+          false≢true (sym t ∙ free_or _ _ (elim y [ inl j ↦ inl (ap (leb 128) (sym e) ∙ sym j) | inr j ↦ inr j ]))
+      go false y g =
+          let i = if_out free (ltb n 128) _ a d g in
+          let s = ltb-true n 128 i.0 in
+          let q = first_octet n [] _ a d (omega arith) (append-nil (binary 8 n) ∙ low_octet n s) i.1 in
+          let e = binary_equal 8 n x (omega arith) (omega arith) (leads_same (binary 8 n) (binary 8 x) a q.0 b refl q.1 h) in
+          absurd (omega arith)
 
   pub no_fragment : (x : ℕ) (a mid : Place) → x < 256 → 192 ≤ x → Leads (binary 8 x) a mid → (x ≡ 192) ⊎ (196 < x) → NoneStands free (length_form false) a
   no_fragment x a mid s l h w = none_begun x a mid s h (λ i. elim i [

@@ -1,6 +1,7 @@
 pub mod Fronts
 pub mod HeadingFronts
 pub mod LengthFronts
+pub mod LargestFirst
 pub mod NumberFronts
 pub mod UnitFronts
 pub mod RunFronts

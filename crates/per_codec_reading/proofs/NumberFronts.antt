@@ -1,4 +1,4 @@
--- What stands in front where a number within a bound does, or a constrained whole number.
+-- Bits that begin with a number within a bound, or with a constrained whole number.
 use Rattle.std.proofs.Common.{◌≡◌, inl, inr, ◌⊎◌, ℕ, zero, suc, ◌+◌, ◌-◌, ◌*◌, ◌/◌, ◌^◌, ◌<◌, ◌≤◌, ◌==◌, leb, ltb, not, ◌&&◌, ◌||◌, Bool, true, false, IsTrue, [], ◌∷◌, ◌++◌, length, flat_map, refl, ap, sym, ◌∙◌, subst, cond, arith}
 use Rattle.std.proofs.lemmas.Bool.{lt-ltb, ltb-true, le-leb, leb-true, and_parts, and_from, eq-eqb, false≢true, false_from_ne_true, eqb-true}
 use Rattle.std.proofs.Math.Nat.{pow-le-pow_right}
@@ -9,13 +9,13 @@ use Rattle.asn1_model.specs.Value.{truth, nothing}
 use Rattle.asn1_model.specs.Per
 use Rattle.asn1_values_bits.proofs.Binary.{binary_low, binary_split, length-binary}
 use Rattle.asn1_values_natives.proofs.Widths.{Octets, width-bits, octets-least, octet_width-octets, pow256}
-use Rattle.asn1_laws_fronts.proofs.PerNumbers.{binary_equal, binary_alike}
+use Rattle.asn1_laws_fronts.proofs.PerNumbers.{binary_equal, binary_alike, at_octet_alike}
 use Rattle.per_codec_fronts.specs.Takes.{Place, Front}
 use Rattle.per_codec_fronts.proofs.Fronts.{split, join, varied_in, varied_out, if_in, if_out, nothing_front, of_refused}
 use Rattle.per_codec_fronts.proofs.Next.{same_fronts}
 use Rattle.per_codec_reading.specs.Fronts.{Leads, NoneStands, to_octet}
 use Rattle.per_codec_reading.specs.Lengths.{number_within, aligned_within, one_bit}
-use Rattle.per_codec_reading.proofs.Fronts.{leads_same, exactly_in, exactly_out, too_short, after_padding, behind_padding}
+use Rattle.per_codec_reading.proofs.Fronts.{or_free, free_or, leads_same, exactly_in, exactly_out, too_short, after_padding, behind_padding}
 
 -- ---- numbers and their digits
 digit_bits : (k d : ℕ) → flat_map (binary 8) (digits 256 k d) ≡ binary (8 * k) d
@@ -28,7 +28,7 @@ digit_bits (suc k) d =
 below_width : (d span : ℕ) → d ≤ span → d < 2 ^ width span
 below_width d span h = let b = (width-bits span).below in omega (arith, b)
 
--- so many octets hold a number, or need not be fewer
+-- a number of octets holds a number, or need not be fewer
 least_fits : (k d : ℕ) → 1 ≤ k → d < 2 ^ (8 * k) → least_octets d ≤ k
 least_fits k d h l =
     let m : d < 256 ^ k = rw (pow256 k) l in
@@ -53,7 +53,7 @@ some_octets span h = three (octet_width span) (octet_width-octets span)
     three (suc (suc (suc w))) b = omega arith
 
 module _ (free : Per.Freedom → Bool) where
-  -- ---- a number in so many bits
+  -- ---- a number in a number of bits
   pub within_read : (w most n : ℕ) (a b : Place) → n ≤ most → n < 2 ^ w → Leads (binary w n) a b → Front free (number_within w most n) a b
   within_read w most n a b l h f = if_in free (leb n most && ltb n (2 ^ w)) _ a b (and_from _ _ (le-leb n most l) (lt-ltb n (2 ^ w) h)) (exactly_in free (binary w n) a b f)
 
@@ -82,7 +82,7 @@ module _ (free : Per.Freedom → Bool) where
       let u = i.bound in
       omega arith
 
-  -- ---- behind padding
+  -- ---- after padding
   pub condition_in : (al t : Bool) (x : Per.BitForm) (a b : Place) → t ≡ true → Front free (Per.at_octet al x) a b → Front free (Per.at_octet al (only_if t x)) a b
   condition_in al true x a b e f = f
   condition_in al false x a b e f = absurd (false≢true e)
@@ -124,7 +124,7 @@ module _ (free : Per.Freedom → Bool) where
       (cond u (Per.at_octet al (exactly (binary 16 d)))
       (varied Per.longer_number (least_octets d) (λ k. Per.in_octets_of whole al span d k)))))
 
-  -- one of so few numbers as the bits tell
+  -- a number in the bit-field case
   few_in : (whole : ℕ → ℕ → Per.BitForm) (al s t u : Bool) (span d : ℕ) (a b : Place) → s ≡ true → Front free (number_within (width span) span d) a b → Front free (by_span whole al s t u span d) a b
   few_in whole al true t u span d a b e f = let i = within_out (width span) span d a b f in if_in free (leb d span) _ a b (le-leb d span i.bound) i.stands
   few_in whole al false t u span d a b e f = absurd (false≢true e)
@@ -164,21 +164,22 @@ module _ (free : Per.Freedom → Bool) where
   two_out whole al false true u span d a b e h k l f = absurd (false≢true (sym h))
   two_out whole al false false false span d a b e h k l f = absurd (false≢true k)
 
-  -- so many octets behind their number, less one
+  -- octets after their count, minus one
   pub record Octeted (al : Bool) (span d : ℕ) (a b : Place) : Type 0 where
     pub further : ℕ
+    pub may : (further + 1 ≡ least_octets d) ⊎ IsTrue (free Per.longer_number)
     pub behind : Place
     pub number : Front free (number_within (width (octet_width span - 1)) (octet_width span - 1) further) a behind
     pub octets : Front free (aligned_within al (8 * (further + 1)) span d) behind b
 
-  many_in : (whole : ℕ → ℕ → Per.BitForm) (al s t u : Bool) (span d k : ℕ) (a mid b : Place) → s ≡ false → t ≡ false → u ≡ false → IsTrue (free Per.longer_number) → k + 1 ≤ octet_width span
+  many_in : (whole : ℕ → ℕ → Per.BitForm) (al s t u : Bool) (span d k : ℕ) (a mid b : Place) → s ≡ false → t ≡ false → u ≡ false → (k + 1 ≡ least_octets d) ⊎ IsTrue (free Per.longer_number) → k + 1 ≤ octet_width span
       → Front free (whole (octet_width span - 1) k) a mid → Front free (aligned_within al (8 * (k + 1)) span d) mid b → Front free (by_span whole al s t u span d) a b
   unfolding Per.in_octets_of
   many_in whole al false false false span d k a mid b e h g t l f o =
       let i = aligned_out al (8 * (k + 1)) span d mid b o in
       let m = least_fits (k + 1) d (omega arith) i.fits in
       let s : k + 1 - 1 ≡ k = omega arith in
-      if_in free (leb d span) _ a b (le-leb d span i.bound) (varied_in free (λ n. Per.in_octets_of whole al span d n) (k + 1) (inr t) a b
+      if_in free (leb d span) _ a b (le-leb d span i.bound) (varied_in free (λ n. Per.in_octets_of whole al span d n) (k + 1) t a b
       (if_in free (leb (least_octets d) (k + 1) && leb (k + 1) (octet_width span)) _ a b (and_from _ _ (le-leb (least_octets d) (k + 1) m) (le-leb (k + 1) (octet_width span) l))
       (join free _ _ a mid b (subst (λ x. Front free (whole (octet_width span - 1) x) a mid) (sym s) f) (subst (λ w. Front free (Per.at_octet al (exactly w)) mid b) (sym (digit_bits (k + 1) d)) i.stands))))
   many_in whole al true t u span d k a mid b e h g x l f o = absurd (false≢true (sym e))
@@ -199,7 +200,7 @@ module _ (free : Per.Freedom → Bool) where
       let q = split free _ _ a b j.1 in
       let o : Front free (Per.at_octet al (exactly (binary (8 * (k - 1 + 1)) d))) q.0 b = subst (λ x. Front free (Per.at_octet al (exactly (binary (8 * x) d))) q.0 b) (sym s) (subst (λ w. Front free (Per.at_octet al (exactly w)) q.0 b) (digit_bits k d) q.2) in
       let z : d < 2 ^ (8 * (k - 1 + 1)) = subst (λ x. d < 2 ^ (8 * x)) (sym s) (fits_octets k d m) in
-      record { further = k - 1; behind = q.0; number = n (k - 1) q.0 q.1; octets = aligned_in al (8 * (k - 1 + 1)) span d q.0 b (record { bound = leb-true d span i.0; fits = z; stands = o }) }
+      record { further = k - 1; may = elim v.1 [ inl x ↦ inl (s ∙ x) | inr x ↦ inr x ]; behind = q.0; number = n (k - 1) q.0 q.1; octets = aligned_in al (8 * (k - 1 + 1)) span d q.0 b (record { bound = leb-true d span i.0; fits = z; stands = o }) }
   many_out whole al true t u span d a b e h g n f = absurd (false≢true (sym e))
   many_out whole al false true u span d a b e h g n f = absurd (false≢true (sym h))
   many_out whole al false false true span d a b e h g n f = absurd (false≢true (sym g))
@@ -248,7 +249,7 @@ module _ (free : Per.Freedom → Bool) where
   two_missed false span a e h l n d b f = absurd (false≢true (sym e))
   two_missed true span a e h l n d b f = n d b (two_out (λ s c. Per.constrained_in span true s c) true _ _ _ span d a b (not_few span (omega arith)) (not_256 span h) (lt-ltb span 65536 l) l f)
 
-  -- the number of octets is one of so few
+  -- the count of octets has a small range
   whole_in : (most n k : ℕ) (a b : Place) → 1 ≤ most → n < 255 → Front free (number_within (width n) n k) a b → Front free (Per.constrained_in most true n k) a b
   unfolding Per.constrained_in
   whole_in zero n k a b h l f = absurd (omega arith)
@@ -259,7 +260,7 @@ module _ (free : Per.Freedom → Bool) where
   whole_out zero n k a b h l f = absurd (omega arith)
   whole_out (suc most) n k a b h l f = few_out (λ s c. Per.constrained_in most true s c) true _ _ _ n k a b (few true n (inr l)) f
 
-  pub many_read : (span d k : ℕ) (a mid b : Place) → IsTrue (free Per.longer_number) → 65536 ≤ span → octet_width span ≤ 16 → Front free (number_within (width (octet_width span - 1)) (octet_width span - 1) k) a mid → Front free (aligned_within true (8 * (k + 1)) span d) mid b → Front free (Per.constrained true span d) a b
+  pub many_read : (span d k : ℕ) (a mid b : Place) → (k + 1 ≡ least_octets d) ⊎ IsTrue (free Per.longer_number) → 65536 ≤ span → octet_width span ≤ 16 → Front free (number_within (width (octet_width span - 1)) (octet_width span - 1) k) a mid → Front free (aligned_within true (8 * (k + 1)) span d) mid b → Front free (Per.constrained true span d) a b
   unfolding Per.constrained Per.constrained_in
   many_read span d k a mid b t h w f o =
       let n = some_octets span h in
@@ -273,7 +274,7 @@ module _ (free : Per.Freedom → Bool) where
   pub no_count : (span : ℕ) (a : Place) → 65536 ≤ span → octet_width span ≤ 16 → NoneStands free (number_within (width (octet_width span - 1)) (octet_width span - 1)) a → NoneStands free (Per.constrained true span) a
   no_count span a h w n d b f = let o = many_told span d a b h w f in n o.further o.behind o.number
 
-  -- the number of octets is the one that was read
+  -- the count of octets is the one that was read
   counts_same : (w most k j : ℕ) (a b c : Place) → Front free (number_within w most k) a b → Front free (number_within w most j) a c → (k ≡ j) × (b ≡ c)
   counts_same w most k j a b c f g =
       let i = within_out w most k a b f in
@@ -286,16 +287,30 @@ module _ (free : Per.Freedom → Bool) where
       let s = counts_same (width (octet_width span - 1)) (octet_width span - 1) o.further k a o.behind mid o.number f in
       n d b (subst (λ x. Front free (aligned_within true (8 * (x + 1)) span d) mid b) s.0 (subst (λ m. Front free (aligned_within true (8 * (o.further + 1)) span d) m b) s.1 o.octets))
 
-  -- ---- what read_octets_within finds, whose counts are numbers of the program
+  -- ---- what read_octets_within finds, with counts that are machine numbers
   count_form : (span o w k : ℕ) (a b : Place) → o ≡ octet_width span → w ≡ width (o - 1) → Front free (number_within w (o - 1) k) a b → Front free (number_within (width (octet_width span - 1)) (octet_width span - 1) k) a b
   count_form span o w k a b e f g = subst (λ n. Front free (number_within (width (n - 1)) (n - 1) k) a b) e (subst (λ v. Front free (number_within v (o - 1) k) a b) f g)
 
   none_counted : (span o w : ℕ) (a : Place) → o ≡ octet_width span → w ≡ width (o - 1) → NoneStands free (number_within w (o - 1)) a → NoneStands free (number_within (width (octet_width span - 1)) (octet_width span - 1)) a
   none_counted span o w a e f n = subst (λ m. NoneStands free (number_within (width (m - 1)) (m - 1)) a) e (subst (λ v. NoneStands free (number_within v (o - 1)) a) f n)
 
-  pub octets_read : (al : Bool) (span o w k d : ℕ) (a mid b : Place) → IsTrue (free Per.longer_number) → al ≡ true → 65536 ≤ span → o ≤ 16 → o ≡ octet_width span → w ≡ width (o - 1)
+  pub octets_read : (al : Bool) (span o w k d : ℕ) (a mid b : Place) → (free Per.longer_number || (least_octets d == k + 1)) ≡ true → al ≡ true → 65536 ≤ span → o ≤ 16 → o ≡ octet_width span → w ≡ width (o - 1)
       → Front free (number_within w (o - 1) k) a mid → Front free (aligned_within al (8 * (k + 1)) span d) mid b → Front free (Per.constrained true span d) a b
-  octets_read al span o w k d a mid b t e h u f g x y = many_read span d k a mid b t h (subst (λ n. n ≤ 16) f u) (count_form span o w k a mid f g x) (subst (λ c. Front free (aligned_within c (8 * (k + 1)) span d) mid b) e y)
+  octets_read al span o w k d a mid b t e h u f g x y = many_read span d k a mid b (elim (or_free _ _ t) [ inl i ↦ inl (sym (eqb-true (least_octets d) (k + 1) i)) | inr i ↦ inr i ]) h (subst (λ n. n ≤ 16) f u) (count_form span o w k a mid f g x) (subst (λ c. Front free (aligned_within c (8 * (k + 1)) span d) mid b) e y)
+
+  -- octets that the reader does not accept
+  pub octets_refused : (al : Bool) (span o w k d : ℕ) (a mid b : Place) → (free Per.longer_number || (least_octets d == k + 1)) ≡ false → al ≡ true → 65536 ≤ span → o ≤ 16 → o ≡ octet_width span → w ≡ width (o - 1)
+      → Front free (number_within w (o - 1) k) a mid → Front free (aligned_within al (8 * (k + 1)) span d) mid b → NoneStands free (Per.constrained true span) a
+  octets_refused al span o w k d a mid b t e h u f g x y n c z =
+      let v = subst (λ i. i ≤ 16) f u in
+      let p = many_told span n a c h v z in
+      let s = counts_same (width (octet_width span - 1)) (octet_width span - 1) p.further k a p.behind mid p.number (count_form span o w k a mid f g x) in
+      let q = subst (λ j. Front free (aligned_within true (8 * (j + 1)) span n) mid c) s.0 (subst (λ m. Front free (aligned_within true (8 * (p.further + 1)) span n) m c) s.1 p.octets) in
+      let i = aligned_out true (8 * (k + 1)) span n mid c q in
+      let j = aligned_out true (8 * (k + 1)) span d mid b (subst (λ l. Front free (aligned_within l (8 * (k + 1)) span d) mid b) e y) in
+      let r = (same_fronts free (at_octet_alike free true (binary_alike free (8 * (k + 1)) n d i.fits j.fits)) mid c b i.stands j.stands).0 in
+      let may : ((least_octets d == k + 1) ≡ true) ⊎ IsTrue (free Per.longer_number) = elim p.may [ inl l ↦ inl (eq-eqb _ _ (ap least_octets (sym r) ∙ sym l ∙ ap (λ m. m + 1) s.0)) | inr l ↦ inr l ] in
+      false≢true (sym t ∙ free_or _ _ may)
 
   pub octets_missed : (al : Bool) (span o w k : ℕ) (a mid : Place) → al ≡ true → 65536 ≤ span → o ≤ 16 → o ≡ octet_width span → w ≡ width (o - 1)
       → Front free (number_within w (o - 1) k) a mid → NoneStands free (aligned_within al (8 * (k + 1)) span) mid → NoneStands free (Per.constrained true span) a

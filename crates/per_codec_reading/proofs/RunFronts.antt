@@ -1,7 +1,7 @@
 -- Units of one width behind their number, by what stands in front: a length and as many units, and what is behind a fragment.
-use Rattle.std.proofs.Common.{◌≡◌, ◌⊎◌, inl, inr, ℕ, ◌+◌, ◌*◌, ◌<◌, ◌≤◌, ◌==◌, leb, ltb, cond, ◌&&◌, Bool, true, false, IsTrue, List, [], ◌∷◌, ◌++◌, length, ap, sym, ◌∙◌, subst, arith, length-append}
+use Rattle.std.proofs.Common.{◌≡◌, ◌⊎◌, inl, inr, ℕ, ◌+◌, ◌*◌, ◌<◌, ◌≤◌, ◌==◌, leb, ltb, cond, ◌&&◌, Bool, true, false, List, [], ◌∷◌, ◌++◌, length, ap, sym, ◌∙◌, subst, arith, length-append}
 use Rattle.std.proofs.lemmas.List.{append_cancel_left}
-use Rattle.std.proofs.lemmas.Bool.{leb-true, eqb-true, eq-eqb, and_parts}
+use Rattle.std.proofs.lemmas.Bool.{leb-true, ltb-true, eqb-true, eq-eqb, and_parts}
 use Rattle.asn1_model.specs.Numbers.{binary}
 use Rattle.asn1_model.specs.Form.{exactly, only_if}
 use Rattle.asn1_model.specs.Per
@@ -10,13 +10,14 @@ use Rattle.asn1_laws_fronts.proofs.PerNumbers.{Alike, at_octet_alike, binary_ali
 use Rattle.per_codec_fronts.specs.Takes.{Place, Front}
 use Rattle.per_codec_fronts.proofs.Fronts.{split, join, if_in, if_out, varied_in, varied_out}
 use Rattle.per_codec_fronts.proofs.Next.{place_same}
-use Rattle.per_codec_reading.specs.Fronts.{Leads}
+use Rattle.per_codec_reading.specs.Fronts.{Leads, to_octet}
 use Rattle.per_codec_reading.specs.Lengths.{length_form}
 use Rattle.per_codec_reading.specs.declared.lengths.Length.{Length}
 use Rattle.per_codec_reading.specs.declared.lengths.Length.TheVariants.{Short, Fragment}
 use Rattle.per_codec_reading.proofs.Fronts.{exactly_in, exactly_out}
-use Rattle.per_codec_reading.specs.Units.{units_of, counted_units, count_of, Piece, piece_form}
-use Rattle.per_codec_reading.proofs.UnitFronts.{Divided, last_in, last_out, more_in, more_out}
+use Rattle.per_codec_reading.specs.Units.{units_of, counted_units, count_of, Piece, piece_form, may_follow, length_may_follow}
+use Rattle.per_codec_reading.proofs.LargestFirst.{AreKept, kept_at, kept_last, kept_more, kept_behind, fragment_refused}
+use Rattle.per_codec_reading.proofs.UnitFronts.{Divided, length-units, last_in, last_out, more_in, more_out}
 
 module _ (free : Per.Freedom → Bool) where
   -- ---- one front
@@ -98,18 +99,44 @@ module _ (free : Per.Freedom → Bool) where
       omega arith
 
   -- ---- all units
-  -- so many units stand in front behind their number, in any fragments
+  -- how large lengths in front are
+  last_bound : (long : Bool) (n : ℕ) (a b : Place) → Front free (last long n) a b → n < 16384
+  last_bound true n a b f = ltb-true n 16384 (if_out free (ltb n 16384) _ a b f).0
+  last_bound false n a b f = let l = ltb-true n 128 (if_out free (ltb n 128) _ a b f).0 in omega arith
+
+  short_bound : (al : Bool) (n : ℕ) (a b : Place) → Front free (length_form al (Short n)) a b → n < 16384
+  unfolding Per.short_length Per.at_octet
+  short_bound false n a b f = let v = varied_out free (λ long. last long n) a b f in last_bound v.0 n a b v.2
+  short_bound true n a b f =
+      let s = split free to_octet _ a b f in
+      let v = varied_out free (λ long. last long n) s.0 b s.2 in
+      last_bound v.0 n s.0 b v.2
+
+  multiple_bounds : (al : Bool) (m : ℕ) (a b : Place) → Front free (length_form al (Fragment m)) a b → (1 ≤ m) × (m ≤ 4)
+  multiple_bounds al m a b f =
+      let p = and_parts (leb 1 m) (leb m 4) (if_out free (leb 1 m && leb m 4) _ a b f).0 in
+      (leb-true 1 m p.0, leb-true m 4 p.1)
+
+  -- the units behind a last length
+  pub short_small : (al : Bool) (w n : ℕ) (bs : List Bool) (a b : Place) → Front free (piece_form al w (Short n, bs)) a b → n < 16384
+  short_small al w n bs a b f = let p = piece_out al w (Short n) bs a b f in short_bound al n a p.1 p.2
+
+  -- so many units stand in front behind their number, in fragments that the reader takes
   pub record Run (al : Bool) (w n : ℕ) (bs : List Bool) (a b : Place) : Type 0 where
     pub sizes : List ℕ
     pub divided : Divided free al w sizes n bs a b
+    pub kept : AreKept (free Per.other_fragments) sizes n
 
   pub run_last : (al : Bool) (w n : ℕ) (bs : List Bool) (a b : Place) → Front free (piece_form al w (Short n, bs)) a b → Run al w n bs a b
-  run_last al w n bs a b f = let p = piece_out al w (Short n) bs a b f in record { sizes = []; divided = last_in free al w n bs a p.1 b p.0 p.2 p.3 }
+  run_last al w n bs a b f =
+      let p = piece_out al w (Short n) bs a b f in
+      record { sizes = []; divided = last_in free al w n bs a p.1 b p.0 p.2 p.3; kept = kept_last _ n (short_small al w n bs a b f) }
 
-  pub run_more : (al : Bool) (w m n : ℕ) (xs ys : List Bool) (a mid b : Place) → Front free (piece_form al w (Fragment m, xs)) a mid → Run al w n ys mid b → Run al w (m * 16384 + n) (xs ++ ys) a b
-  run_more al w m n xs ys a mid b f r =
+  pub run_more : (al : Bool) (w m n : ℕ) (xs ys : List Bool) (a mid b : Place) → may_follow (free Per.other_fragments) m n ≡ true → Front free (piece_form al w (Fragment m, xs)) a mid → Run al w n ys mid b → Run al w (m * 16384 + n) (xs ++ ys) a b
+  run_more al w m n xs ys a mid b h f r =
       let p = piece_out al w (Fragment m) xs a mid f in
-      record { sizes = m ∷ r.sizes; divided = more_in free al w m n r.sizes xs ys a p.1 mid b p.2 p.0 p.3 r.divided }
+      let i = multiple_bounds al m a p.1 p.2 in
+      record { sizes = m ∷ r.sizes; divided = more_in free al w m n r.sizes xs ys a p.1 mid b p.2 p.0 p.3 r.divided; kept = kept_more _ m n r.sizes i.0 i.1 h r.kept }
 
   -- a fragment in front, and the units behind it
   pub record Further (al : Bool) (w n : ℕ) (bs : List Bool) (a b : Place) : Type 0 where
@@ -121,15 +148,19 @@ module _ (free : Per.Freedom → Bool) where
     pub count : n ≡ size * 16384 + rest
     pub bits : bs ≡ first ++ further
     pub piece : Front free (piece_form al w (Fragment size, first)) a mid
+    pub follows : may_follow (free Per.other_fragments) size rest ≡ true
+    pub some : 1 ≤ size
     pub behind : Run al w rest further mid b
 
   pub run_cases : (al : Bool) (w n : ℕ) (bs : List Bool) (a b : Place) → Run al w n bs a b → Front free (piece_form al w (Short n, bs)) a b ⊎ Further al w n bs a b
-  run_cases al w n bs a b r = go r.sizes r.divided
+  run_cases al w n bs a b r = go r.sizes r.divided r.kept
     where
-      go : (ms : List ℕ) → Divided free al w ms n bs a b → Front free (piece_form al w (Short n, bs)) a b ⊎ Further al w n bs a b
-      go [] d = let l = last_out free al w n bs a b d in inl (piece_in al w (Short n) bs a l.0 b l.1 l.2 d.size)
-      go (m ∷ ms) d =
+      go : (ms : List ℕ) → Divided free al w ms n bs a b → AreKept (free Per.other_fragments) ms n → Front free (piece_form al w (Short n, bs)) a b ⊎ Further al w n bs a b
+      go [] d k = let l = last_out free al w n bs a b d in inl (piece_in al w (Short n) bs a l.0 b l.1 l.2 d.size)
+      go (m ∷ ms) d k =
           let x = more_out free al w m n ms bs a b d in
+          let i = multiple_bounds al m a x.mid x.head in
+          let j = kept_behind _ m x.rest ms i.0 i.1 (kept_at _ (m ∷ ms) n (m * 16384 + x.rest) x.count k) in
           inr (record {
             size = m;
             rest = x.rest;
@@ -139,7 +170,9 @@ module _ (free : Per.Freedom → Bool) where
             count = x.count;
             bits = x.bits;
             piece = piece_in al w (Fragment m) x.first a x.mid x.next x.head x.leads x.size;
-            behind = record { sizes = ms; divided = x.behind };
+            follows = j.0;
+            some = i.0;
+            behind = record { sizes = ms; divided = x.behind; kept = j.1 };
           })
 
   abbrev pub NoRun : Bool → ℕ → Place → Type 0
@@ -148,19 +181,34 @@ module _ (free : Per.Freedom → Bool) where
   pub no_piece : (al : Bool) (w : ℕ) (a : Place) → ((x : Piece) (b : Place) → Front free (piece_form al w x) a b → ⊥) → NoRun al w a
   no_piece al w a h n bs b r = elim (run_cases al w n bs a b r) [ inl p ↦ h (Short n, bs) b p | inr f ↦ h (Fragment f.size, f.first) f.mid f.piece ]
 
-  pub none_behind : (al : Bool) (w m : ℕ) (xs : List Bool) (a mid : Place) → Front free (piece_form al w (Fragment m, xs)) a mid → NoRun al w mid → NoRun al w a
+  -- no units stand there that may follow a fragment
+  abbrev pub NoneAfter : Bool → ℕ → ℕ → Place → Type 0
+  NoneAfter al w m a = (n : ℕ) (bs : List Bool) (b : Place) → may_follow (free Per.other_fragments) m n ≡ true → Run al w n bs a b → ⊥
+
+  pub none_behind : (al : Bool) (w m : ℕ) (xs : List Bool) (a mid : Place) → Front free (piece_form al w (Fragment m, xs)) a mid → NoneAfter al w m mid → NoRun al w a
   none_behind al w m xs a mid p h n bs b r = elim (run_cases al w n bs a b r) [
     | inl q ↦ let o = piece_one al w (Fragment m) (Short n) xs bs a mid b p q in let e : Fragment m ≡ Short n = o.0 in cc
-    | inr f ↦ let o = piece_one al w (Fragment m) (Fragment f.size) xs f.first a mid f.mid p f.piece in h f.rest f.further b (subst (λ c. Run al w f.rest f.further c b) (sym o.2) f.behind)
+    | inr f ↦
+        let o = piece_one al w (Fragment m) (Fragment f.size) xs f.first a mid f.mid p f.piece in
+        let e : Fragment m ≡ Fragment f.size = o.0 in
+        let s : f.size ≡ m = cc in
+        h f.rest f.further b (subst (λ k. may_follow (free Per.other_fragments) k f.rest ≡ true) s f.follows) (subst (λ c. Run al w f.rest f.further c b) (sym o.2) f.behind)
   ]
 
-  pub run_in : (al : Bool) (w n : ℕ) (bs : List Bool) (a b : Place) → IsTrue (free Per.other_fragments) → Run al w n bs a b → Front free (counted_units al w (n, bs)) a b
+  -- a fragment that may not follow
+  pub none_refused : (al : Bool) (w l m : ℕ) (xs : List Bool) (a mid : Place) → Front free (piece_form al w (Fragment m, xs)) a mid → length_may_follow (free Per.other_fragments) l (Fragment m) ≡ false → NoneAfter al w l a
+  none_refused al w l m xs a mid p h n bs b t r = elim (run_cases al w n bs a b r) [
+    | inl q ↦ let o = piece_one al w (Fragment m) (Short n) xs bs a mid b p q in let e : Fragment m ≡ Short n = o.0 in cc
+    | inr f ↦ let c = f.count in let s = f.some in fragment_refused _ l m n h (omega arith) t
+  ]
+
+  pub run_in : (al : Bool) (w n : ℕ) (bs : List Bool) (a b : Place) → Run al w n bs a b → Front free (counted_units al w (n, bs)) a b
   unfolding Per.counted
-  run_in al w n bs a b t r = if_in free (length bs == n * w) _ a b (eq-eqb _ _ r.divided.size) (varied_in free (λ ms. Per.fragments al ms (units_of w n bs)) r.sizes (inr t) a b r.divided.front)
+  run_in al w n bs a b r = if_in free (length bs == n * w) _ a b (eq-eqb _ _ r.divided.size) (varied_in free (λ ms. Per.fragments al ms (units_of w n bs)) r.sizes (kept_at _ r.sizes n (length (units_of w n bs)) (sym (length-units w n bs)) r.kept) a b r.divided.front)
 
   pub run_out : (al : Bool) (w n : ℕ) (bs : List Bool) (a b : Place) → Front free (counted_units al w (n, bs)) a b → Run al w n bs a b
   unfolding Per.counted
   run_out al w n bs a b f =
       let i = if_out free (length bs == n * w) _ a b f in
       let v = varied_out free (λ ms. Per.fragments al ms (units_of w n bs)) a b i.1 in
-      record { sizes = v.0; divided = record { size = eqb-true _ _ i.0; front = v.2 } }
+      record { sizes = v.0; divided = record { size = eqb-true _ _ i.0; front = v.2 }; kept = kept_at _ v.0 (length (units_of w n bs)) n (length-units w n bs) v.1 }

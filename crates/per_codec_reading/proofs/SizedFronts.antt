@@ -1,5 +1,5 @@
 -- Units of a size that stand in front: an extension bit, and the units behind it.
-use Rattle.std.proofs.Common.{◌≡◌, inr, ℕ, ◌-◌, ◌*◌, ◌≤◌, ◌==◌, leb, ltb, ◌&&◌, ◌||◌, Bool, true, false, cond, IsTrue, Option, Some, None, List, [], ◌∷◌, length, refl, ap, sym, ◌∙◌, subst, arith}
+use Rattle.std.proofs.Common.{◌≡◌, ◌⊎◌, inl, inr, ℕ, ◌-◌, ◌*◌, ◌≤◌, ◌==◌, leb, ltb, not, ◌&&◌, ◌||◌, Bool, true, false, cond, IsTrue, Option, Some, None, List, [], ◌∷◌, length, refl, ap, sym, ◌∙◌, subst, arith}
 use Rattle.std.proofs.lemmas.Bool.{false≢true, leb-true, eqb-true, eq-eqb, and_parts, and_from}
 use Rattle.asn1_model.specs.Schema.{Counts, Size}
 use Rattle.asn1_model.specs.Numbers.{is_count_within}
@@ -9,11 +9,11 @@ use Rattle.asn1_laws_fronts.proofs.PerNumbers.{constrained_alike}
 use Rattle.per_codec_fronts.specs.Takes.{Place, Front}
 use Rattle.per_codec_fronts.proofs.Fronts.{split, join, if_in, if_out, varied_in, varied_out, nothing_front, of_nothing, of_refused}
 use Rattle.per_codec_reading.specs.Fronts.{NoneStands}
-use Rattle.per_codec_reading.proofs.Fronts.{exactly_in, exactly_out}
+use Rattle.per_codec_reading.proofs.Fronts.{or_free, free_or, exactly_in, exactly_out}
 use Rattle.per_codec_reading.specs.Units.{Units, units_of}
 use Rattle.per_codec_fronts.specs.Sizes.{extension_bit, told_highest}
 use Rattle.per_codec_fronts.proofs.Next.{same_extension_bit}
-use Rattle.per_codec_reading.specs.Sizes.{told_count, told_units, units_told, sized_units, admitted, determinant_form, heading_form}
+use Rattle.per_codec_reading.specs.Sizes.{told_count, told_units, units_told, sized_units, admitted, may_be_outside, determinant_form, heading_form}
 use Rattle.per_codec_reading.proofs.HeadingFronts.{units_headed}
 use Rattle.per_codec_reading.proofs.UnitFronts.{length-units, units_in, units_out}
 use Rattle.per_codec_reading.proofs.RunFronts.{one}
@@ -98,13 +98,14 @@ module _ (free : Per.Freedom → Bool) where
     pub bit : Front free (extension_bit z.extensible outside) a mid
     pub units : Front free (units_told al w has_padding z.counts (told_highest outside z.counts.high) us) mid b
     pub may : admitted held z.counts outside us.0 ≡ true
+    pub told : may_be_outside (free Per.root_told_outside) outside (is_count_within z.counts us.0) ≡ true
 
-  with_extension_bit_in : (e outside in_root : Bool) (x y : Per.BitForm) (a mid b : Place) → IsTrue (free Per.root_told_outside) → Front free (extension_bit e outside) a mid → (outside || in_root) ≡ true → (outside ≡ false → Front free x mid b) → (outside ≡ true → Front free y mid b) → Front free (Per.with_extension_bit e in_root x y) a b
+  with_extension_bit_in : (e outside in_root : Bool) (x y : Per.BitForm) (a mid b : Place) → may_be_outside (free Per.root_told_outside) outside in_root ≡ true → Front free (extension_bit e outside) a mid → (outside || in_root) ≡ true → (outside ≡ false → Front free x mid b) → (outside ≡ true → Front free y mid b) → Front free (Per.with_extension_bit e in_root x y) a b
   unfolding Per.with_extension_bit
   with_extension_bit_in false true i x y a mid b t m k f g = absurd (of_refused free a mid m)
   with_extension_bit_in false false i x y a mid b t m k f g = if_in free i x a b k (subst (λ p. Front free x p b) (of_nothing free a mid m) (f refl))
-  with_extension_bit_in true true i x y a mid b t m k f g = varied_in free _ true (inr t) a b (join free (exactly (true ∷ [])) y a mid b m (g refl))
-  with_extension_bit_in true false i x y a mid b t m k f g = varied_in free _ false (inr t) a b (if_in free i _ a b k (join free (exactly (false ∷ [])) x a mid b m (f refl)))
+  with_extension_bit_in true true i x y a mid b t m k f g = varied_in free _ true (elim (or_free _ _ t) [ inl z ↦ inl (sym z) | inr z ↦ inr z ]) a b (join free (exactly (true ∷ [])) y a mid b m (g refl))
+  with_extension_bit_in true false i x y a mid b t m k f g = varied_in free _ false (inl (sym (ap not k))) a b (if_in free i _ a b k (join free (exactly (false ∷ [])) x a mid b m (f refl)))
 
   -- an extension bit, and one of two forms behind it
   record Parts (e in_root : Bool) (x y : Per.BitForm) (a b : Place) : Type 0 where
@@ -112,6 +113,7 @@ module _ (free : Per.Freedom → Bool) where
     pub mid : Place
     pub bit : Front free (extension_bit e outside) a mid
     pub may : (outside || in_root) ≡ true
+    pub told : may_be_outside (free Per.root_told_outside) outside in_root ≡ true
     pub root_form : outside ≡ false → Front free x mid b
     pub outer_form : outside ≡ true → Front free y mid b
 
@@ -119,17 +121,17 @@ module _ (free : Per.Freedom → Bool) where
   unfolding Per.with_extension_bit
   with_extension_bit_out false i x y a b f =
       let k = if_out free i x a b f in
-      record { outside = false; mid = a; bit = nothing_front free a; may = k.0; root_form = λ e. k.1; outer_form = λ e. absurd (false≢true e) }
-  with_extension_bit_out true i x y a b f = let v = varied_out free _ a b f in go v.0 v.2
+      record { outside = false; mid = a; bit = nothing_front free a; may = k.0; told = free_or _ true (inl refl); root_form = λ e. k.1; outer_form = λ e. absurd (false≢true e) }
+  with_extension_bit_out true i x y a b f = let v = varied_out free _ a b f in go v.0 v.1 v.2
     where
-      go : (t : Bool) → Front free (cond t (both (exactly (true ∷ [])) y) (only_if i (both (exactly (false ∷ [])) x))) a b → Parts true i x y a b
-      go true g = let s = split free (exactly (true ∷ [])) y a b g in record { outside = true; mid = s.0; bit = s.1; may = refl; root_form = λ e. absurd (false≢true (sym e)); outer_form = λ e. s.2 }
-      go false g =
+      go : (t : Bool) → (t ≡ not i) ⊎ IsTrue (free Per.root_told_outside) → Front free (cond t (both (exactly (true ∷ [])) y) (only_if i (both (exactly (false ∷ [])) x))) a b → Parts true i x y a b
+      go true z g = let s = split free (exactly (true ∷ [])) y a b g in record { outside = true; mid = s.0; bit = s.1; may = refl; told = free_or _ (not i) (elim z [ inl u ↦ inl (sym u) | inr u ↦ inr u ]); root_form = λ e. absurd (false≢true (sym e)); outer_form = λ e. s.2 }
+      go false z g =
           let k = if_out free i _ a b g in
           let s = split free (exactly (false ∷ [])) x a b k.1 in
-          record { outside = false; mid = s.0; bit = s.1; may = k.0; root_form = λ e. s.2; outer_form = λ e. absurd (false≢true e) }
+          record { outside = false; mid = s.0; bit = s.1; may = k.0; told = free_or _ true (inl refl); root_form = λ e. s.2; outer_form = λ e. absurd (false≢true e) }
 
-  pub sized_in : (al : Bool) (z : Size) (held : Counts) (w : ℕ) (has_padding : ℕ → Counts → Bool) (us : Units) (outside : Bool) (a mid b : Place) → IsTrue (free Per.root_told_outside) → Front free (extension_bit z.extensible outside) a mid → Front free (units_told al w has_padding z.counts (told_highest outside z.counts.high) us) mid b → admitted held z.counts outside us.0 ≡ true → Front free (sized_units al z held w has_padding us) a b
+  pub sized_in : (al : Bool) (z : Size) (held : Counts) (w : ℕ) (has_padding : ℕ → Counts → Bool) (us : Units) (outside : Bool) (a mid b : Place) → may_be_outside (free Per.root_told_outside) outside (is_count_within z.counts us.0) ≡ true → Front free (extension_bit z.extensible outside) a mid → Front free (units_told al w has_padding z.counts (told_highest outside z.counts.high) us) mid b → admitted held z.counts outside us.0 ≡ true → Front free (sized_units al z held w has_padding us) a b
   unfolding Per.sized
   sized_in al z held w has_padding us outside a mid b t m f k =
       let p = and_parts (is_count_within held us.0) (outside || is_count_within z.counts us.0) k in
@@ -151,7 +153,7 @@ module _ (free : Per.Freedom → Bool) where
       let h = subst (λ n. Front free (only_if (is_count_within held n) (Per.with_extension_bit z.extensible (is_count_within z.counts n) x y)) a b) (length-units w us.0 us.1) i.1 in
       let j = if_out free (is_count_within held us.0) (Per.with_extension_bit z.extensible (is_count_within z.counts us.0) x y) a b h in
       let q = with_extension_bit_out z.extensible (is_count_within z.counts us.0) x y a b j.1 in
-      record { outside = q.outside; mid = q.mid; bit = q.bit; units = go q.outside q.may q.mid q.root_form q.outer_form; may = and_from _ _ j.0 q.may }
+      record { outside = q.outside; mid = q.mid; bit = q.bit; units = go q.outside q.may q.mid q.root_form q.outer_form; may = and_from _ _ j.0 q.may; told = q.told }
     where
       go : (o : Bool) → (o || is_count_within z.counts us.0) ≡ true → (m : Place) → (o ≡ false → Front free (Per.sized_root al z.counts z.counts.high (has_padding us.0) (units_of w us.0 us.1)) m b) → (o ≡ true → Front free (Per.counted al (units_of w us.0 us.1)) m b) → Front free (units_told al w has_padding z.counts (told_highest o z.counts.high) us) m b
       go true k m g h = outside_out al w has_padding z.counts z.counts.high us m b (eqb-true _ _ (if_out free (length us.1 == us.0 * w) _ a b f).0) (h refl)
@@ -178,3 +180,13 @@ module _ (free : Per.Freedom → Bool) where
       let v = subst (λ t. Front free (units_told al w has_padding z.counts (told_highest t z.counts.high) us) mid b) (sym o.0) u in
       let n = told_one al w has_padding z.counts (told_highest outside z.counts.high) vs us mid c b h v in
       false≢true (sym d ∙ ap (λ t. admitted held z.counts t vs.0) o.0 ∙ ap (admitted held z.counts m.outside) n ∙ m.may)
+
+  -- an extension bit that the reader does not accept
+  pub not_outside : (al : Bool) (z : Size) (held : Counts) (w : ℕ) (has_padding : ℕ → Counts → Bool) (vs : Units) (outside : Bool) (a mid c : Place) → may_be_outside (free Per.root_told_outside) outside (is_count_within z.counts vs.0) ≡ false → Front free (extension_bit z.extensible outside) a mid → Front free (units_told al w has_padding z.counts (told_highest outside z.counts.high) vs) mid c → NoneStands free (sized_units al z held w has_padding) a
+  not_outside al z held w has_padding vs outside a mid c d k h us b f =
+      let m = sized_out al z held w has_padding us a b f in
+      let o = same_extension_bit free z.extensible outside m.outside a mid m.mid k m.bit in
+      let u = subst (λ p. Front free (units_told al w has_padding z.counts (told_highest m.outside z.counts.high) us) p b) (sym o.1) m.units in
+      let v = subst (λ t. Front free (units_told al w has_padding z.counts (told_highest t z.counts.high) us) mid b) (sym o.0) u in
+      let n = told_one al w has_padding z.counts (told_highest outside z.counts.high) vs us mid c b h v in
+      false≢true (sym d ∙ ap (λ t. may_be_outside (free Per.root_told_outside) t (is_count_within z.counts vs.0)) o.0 ∙ ap (λ i. may_be_outside (free Per.root_told_outside) m.outside (is_count_within z.counts i)) n ∙ m.told)

@@ -1,5 +1,5 @@
--- What stands in front of the items of a size, and units of a size.
-use Rattle.std.specs.Prelude.{ℕ, ◌-◌, ◌*◌, ◌==◌, ◌<◌, leb, ◌&&◌, ◌||◌, Bool, true, List, ◌∷◌, length}
+-- What precedes the units under a size constraint, and those units.
+use Rattle.std.specs.Prelude.{ℕ, ◌-◌, ◌*◌, ◌==◌, ◌<◌, leb, not, ◌&&◌, ◌||◌, Bool, true, List, ◌∷◌, length}
 use Rattle.std.specs.Prelude.{Option, Some, None, false}
 use Rattle.asn1_model.specs.Schema.{Counts, Size}
 use Rattle.asn1_model.specs.Numbers.{is_count_within}
@@ -14,7 +14,7 @@ use Rattle.per_codec_reading.specs.declared.sizes.Heading.{Heading}
 use Rattle.per_codec_reading.specs.declared.sizes.LengthDeterminant.{LengthDeterminant}
 use Rattle.per_codec_reading.specs.declared.sizes.LengthDeterminant.TheVariants.{Constrained, General}
 
--- Whether units behind a number that bounds tell stand at an octet (X.691 16, 17 and 30.5.6).
+-- Whether units after a length determinant that bounds determine are octet-aligned (X.691 16, 17 and 30.5.6).
 abbrev pub contents_have_padding : Contents → ℕ → ℕ → Counts → Bool
 contents_have_padding Strings unit n c = Per.string_has_padding unit n c
 contents_have_padding Characters unit n c = Per.characters_have_padding unit n c
@@ -23,7 +23,7 @@ contents_have_padding Characters unit n c = Per.characters_have_padding unit n c
 abbrev pub told_count : Bool → ℕ → ℕ → ℕ → Per.BitForm
 told_count al low high n = only_if (leb low n && leb n high) (Per.constrained al (high - low) (n - low))
 
--- The first length determinant, by whether a highest number tells its form (X.691 11.9.4).
+-- The first length determinant, by whether an upper bound determines its form (X.691 11.9.4).
 abbrev pub determinant_form : Bool → Counts → Option ℕ → LengthDeterminant → Per.BitForm
 determinant_form al c None (General l) = length_form al l
 determinant_form al c (Some high) (Constrained n) = told_count al c.low high n
@@ -34,40 +34,46 @@ abbrev pub IsDeterminant : LengthDeterminant → Type 0
 IsDeterminant (Constrained n) = n < 65536
 IsDeterminant (General l) = IsLength l
 
--- So many units behind it stand in one run.
+-- A number of units after it is in one run.
 abbrev pub HoldsOneRun : LengthDeterminant → ℕ → Type 0
 HoldsOneRun (Constrained n) k = Unit {0}
 HoldsOneRun (General l) k = k < 16384
 
--- What stands in front of the items of a size: an extension bit, where it has one, and the first length determinant.
+-- What precedes the units under a size constraint: an extension bit, if there is one, and the first length
+-- determinant.
 abbrev pub heading_form : Bool → Size → Heading → Per.BitForm
 heading_form al z h = both (extension_bit z.extensible h.is_outside)
     (determinant_form al z.counts (told_highest h.is_outside z.counts.high) h.determinant)
 
--- The extension bit in front, where a size has one.
+-- The extension bit at the start, if a size has one.
 abbrev pub is_outside : Bool → List Bool → Bool
 is_outside true (b ∷ bs) = b
 is_outside e bs = false
 
--- The highest number, where it tells the form of that which stands in front.
+-- The upper bound, if it determines the form of the length determinant that comes next.
 abbrev pub told_in_front : Size → List Bool → Option ℕ
 told_in_front z bs = told_highest (is_outside z.extensible bs) z.counts.high
 
--- Units behind a number that bounds tell.
+-- Units after a length determinant that bounds determine.
 abbrev pub told_units : Bool → ℕ → (ℕ → Counts → Bool) → Counts → ℕ → Units → Per.BitForm
 told_units al width has_padding c high us = only_if (length us.1 == us.0 * width)
     (both (told_count al c.low high us.0) (Per.at_octet (al && has_padding us.0 c) (exactly us.1)))
 
--- Units behind a number that a highest one tells, or behind a length of the general form.
+-- Units after a length determinant that an upper bound determines, or after a general one.
 abbrev pub units_told : Bool → ℕ → (ℕ → Counts → Bool) → Counts → Option ℕ → Units → Per.BitForm
 units_told al width has_padding c None us = counted_units al width us
 units_told al width has_padding c (Some high) us = told_units al width has_padding c high us
 
--- Units of a size that may be extensible (X.691 16, 17 and 30).
+-- Units under a size constraint that may be extensible (X.691 16, 17 and 30).
 abbrev pub sized_units : Bool → Size → Counts → ℕ → (ℕ → Counts → Bool) → Units → Per.BitForm
 sized_units al z held width has_padding us = only_if (length us.1 == us.0 * width)
     (Per.sized al z held (has_padding us.0) (units_of width us.0 us.1))
 
--- Whether the program's type holds so many items, and they are in the root or told to be outside (X.680 51.5).
+-- Whether an extension bit is accepted: it does not say that a value in the root is outside it, or that is accepted
+-- (X.691 13.1, 16.6, 17.3, 20.4 and 30.4).
+abbrev pub may_be_outside : Bool → Bool → Bool → Bool
+may_be_outside any_bit outside in_root = any_bit || not (outside && in_root)
+
+-- Whether the Rust type holds this many units, and they are in the root or said to be outside it (X.680 51.5).
 abbrev pub admitted : Counts → Counts → Bool → ℕ → Bool
 admitted held root outside n = is_count_within held n && (outside || is_count_within root n)

@@ -1,5 +1,6 @@
 //! Constrained whole numbers (X.691 11.5).
-ghost use Rattle.std.specs.Prelude.{◌≡◌, ◌+◌, ◌-◌, ◌≤◌, ◌<◌, ◌^◌, true, IfOk, IfErr};
+ghost use Rattle.std.specs.Prelude.{◌≡◌, ◌+◌, ◌-◌, ◌≤◌, ◌<◌, ◌^◌, ◌==◌, ◌||◌, true, IfOk, IfErr};
+ghost use Rattle.asn1_model.specs.Numbers as Numbers;
 ghost use Rattle.asn1_model.specs.Per as Per;
 ghost use Rattle.per_codec_fronts.specs.Takes.{Front};
 ghost use Rattle.per_codec_reading.specs.Fronts as fronts;
@@ -7,28 +8,28 @@ ghost use Rattle.per_codec_reading.specs.Fronts.{freedoms, Misses};
 ghost use Rattle.per_codec_reading.specs.Lengths.{aligned_within, number_within};
 
 use crate::padding::read_padding;
-use crate::{Cursor, Variant};
+use crate::{Cursor, PackedRules};
 use asn1_schema_faults::DecodeError;
 use asn1_values_natives::octets::{bit_count, octet_width};
 use per_codec_limits::LONG_SPAN;
 
-/// Reads a number in so many bits, if it is not above a highest one.
+/// Reads a number of `bits` bits that is at most `most`.
 ///
 /// # Errors
 ///
-/// `Incomplete` if there are fewer bits, and `ValueConstraintNotSatisfied` if it is above the highest one.
+/// `Incomplete` if there are fewer bits, and `ValueConstraintNotSatisfied` if the number is above `most`.
 #[inline(always)]
 pub fn read_number_within(
     cursor: &mut Cursor<'_>,
-    variant: Variant,
+    rules: PackedRules,
     bits: usize,
     most: u128,
 ) -> Result<u128, DecodeError>
     requires { bits ≤ 128 }
-    ensures ok { IfOk result (λ number. Front (freedoms variant)
+    ensures ok { IfOk result (λ number. Front (freedoms rules)
         (number_within bits most number) cursor.old cursor.new) }
     ensures bound { IfOk result (λ number. number ≤ most) }
-    ensures only { IfErr result (Misses (freedoms variant) (number_within bits most) cursor.old) }
+    ensures only { IfErr result (Misses (freedoms rules) (number_within bits most) cursor.old) }
 {
     let number = cursor.take_number(bits as u32)?;
     if number > most {
@@ -37,71 +38,96 @@ pub fn read_number_within(
     Ok(number)
 }
 
-/// Reads such a number at an octet in the aligned variant.
+/// The same, octet-aligned in the aligned variant.
 #[inline(always)]
 fn read_aligned_within(
     cursor: &mut Cursor<'_>,
-    variant: Variant,
+    rules: PackedRules,
     bits: usize,
     most: u128,
 ) -> Result<u128, DecodeError>
     requires { bits ≤ 128 }
-    ensures ok { IfOk result (λ number. Front (freedoms variant)
-        (aligned_within (fronts.is_aligned variant) bits most number) cursor.old cursor.new) }
+    ensures ok { IfOk result (λ number. Front (freedoms rules)
+        (aligned_within (fronts.is_aligned rules) bits most number) cursor.old cursor.new) }
     ensures bound { IfOk result (λ number. number ≤ most) }
-    ensures only { IfErr result (Misses (freedoms variant)
-        (aligned_within (fronts.is_aligned variant) bits most) cursor.old) }
+    ensures only { IfErr result (Misses (freedoms rules)
+        (aligned_within (fronts.is_aligned rules) bits most) cursor.old) }
 {
-    read_padding(cursor, variant)?;
-    read_number_within(cursor, variant, bits, most)
+    read_padding(cursor, rules)?;
+    read_number_within(cursor, rules, bits, most)
 }
 
-/// Reads a number of more than 65536 ones in the aligned variant, in octets behind their number; more of them than
-/// needed are taken, as many as the highest number has (X.691 11.5.7.4).
+/// Whether a number has `further + 1` octets at the fewest.
+#[cold]
+#[inline(never)]
+fn needs_octets(number: u128, further: usize) -> bool
+    requires { further < 16 }
+    ensures { result ≡ (Numbers.least_octets number == further + 1) }
+{
+    octet_width(number).max(1) == further + 1
+}
+
+/// Whether a number in `further + 1` octets is accepted: in strict rules only if it needs that many (X.691 11.5.7.4).
+#[inline(always)]
+fn is_accepted(rules: PackedRules, number: u128, further: usize) -> bool
+    requires { further < 16 }
+    ensures { result ≡ (freedoms rules Per.longer_number || (Numbers.least_octets number == further + 1)) }
+{
+    !rules.is_strict() || needs_octets(number, further)
+}
+
+/// Reads a number whose range has more than 65536 values in the aligned variant: octets after their count. More
+/// octets than needed are accepted if the rules are not strict, as many as the largest number has (X.691 11.5.7.4).
 fn read_octets_within(
     cursor: &mut Cursor<'_>,
-    variant: Variant,
+    rules: PackedRules,
     span: u128,
 ) -> Result<u128, DecodeError>
-    requires aligned { fronts.is_aligned variant ≡ true }
+    requires aligned { fronts.is_aligned rules ≡ true }
     requires large { 65536 ≤ span }
-    ensures ok { IfOk result (λ number. Front (freedoms variant)
+    ensures ok { IfOk result (λ number. Front (freedoms rules)
         (Per.constrained true span number) cursor.old cursor.new) }
     ensures bound { IfOk result (λ number. number ≤ span) }
-    ensures only { IfErr result (Misses (freedoms variant) (Per.constrained true span) cursor.old) }
+    ensures only { IfErr result (Misses (freedoms rules) (Per.constrained true span) cursor.old) }
 {
     let most = octet_width(span) as u128 - 1;
-    let further = read_number_within(cursor, variant, bit_count(most), most)? as usize;
-    read_aligned_within(cursor, variant, 8 * (further + 1), span)
+    let further = read_number_within(cursor, rules, bit_count(most), most)? as usize;
+    let number = read_aligned_within(cursor, rules, 8 * (further + 1), span)?;
+    if !is_accepted(rules, number, further) {
+        return Err(DecodeError::NotValidCanonicalEncoding);
+    }
+    Ok(number)
 }
 
-/// Reads a constrained whole number, one of 0 to `span` (X.691 11.5): not aligned, the bits that `span` has; aligned,
-/// the same up to 255 numbers, one octet for 256, two for up to 65536, and more behind their number.
+/// Reads a constrained whole number of 0 to `span` (X.691 11.5). Unaligned, it has the bits of `span`. Aligned, it
+/// has the same for a range of up to 255 values, one octet for 256, two for up to 65536, else octets after their
+/// count.
 ///
 /// # Errors
 ///
-/// `Incomplete` if the bits end early, and `ValueConstraintNotSatisfied` if the number, or that of its octets, is too
-/// large.
+/// `Incomplete` if the bits end early, `ValueConstraintNotSatisfied` if the number, or the count of its octets, is too
+/// large, and in strict rules `InvalidPadding` if a bit of padding is not zero, and `NotValidCanonicalEncoding` if the
+/// number has more octets than it needs.
 #[inline(always)]
 pub fn read_constrained(
     cursor: &mut Cursor<'_>,
-    variant: Variant,
+    rules: PackedRules,
     span: u128,
 ) -> Result<u128, DecodeError>
-    ensures ok { IfOk result (λ number. Front (freedoms variant)
-        (Per.constrained (fronts.is_aligned variant) span number) cursor.old cursor.new) }
+    ensures ok { IfOk result (λ number. Front (freedoms rules)
+        (Per.constrained (fronts.is_aligned rules) span number) cursor.old cursor.new) }
     ensures bound { IfOk result (λ number. number ≤ span) }
-    ensures only { IfErr result (Misses (freedoms variant)
-        (Per.constrained (fronts.is_aligned variant) span) cursor.old) }
+    ensures only { IfErr result (Misses (freedoms rules)
+        (Per.constrained (fronts.is_aligned rules) span) cursor.old) }
 {
-    if !variant.is_aligned() || span < 255 {
-        return read_number_within(cursor, variant, bit_count(span), span);
+    if !rules.is_aligned() || span < 255 {
+        return read_number_within(cursor, rules, bit_count(span), span);
     }
     if span == 255 {
-        return read_aligned_within(cursor, variant, 8, span);
+        return read_aligned_within(cursor, rules, 8, span);
     }
     if span < LONG_SPAN {
-        return read_aligned_within(cursor, variant, 16, span);
+        return read_aligned_within(cursor, rules, 16, span);
     }
-    read_octets_within(cursor, variant, span)
+    read_octets_within(cursor, rules, span)
 }

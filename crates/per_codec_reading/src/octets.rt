@@ -1,4 +1,4 @@
-//! Octets behind their number (X.691 11.9).
+//! Octets after a length determinant (X.691 11.9).
 ghost use Rattle.std.specs.Prelude.{◌≡◌, ◌%◌, true, length, IfOk, IfErr, IsOkAnd, Some};
 ghost use Rattle.std.specs.Cow.{cow_slice_items, IsBorrowedSlice};
 ghost use Rattle.asn1_model.specs.Numbers.{octet_bits};
@@ -12,13 +12,13 @@ ghost use Rattle.per_codec_reading.specs.Fronts as fronts;
 ghost use Rattle.per_codec_reading.specs.Runs.{bits_in, storage_of};
 
 use crate::runs::{Run, RunBits, read_counted};
-use crate::{Cursor, Variant};
+use crate::{Cursor, PackedRules};
 use asn1_schema_faults::DecodeError;
 use asn1_values_bits::{BitBuffer, BitStr};
 use std::alloc::{AllocError, Global};
 use std::borrow::CowSlice;
 
-/// The octets, lent.
+/// The octets, borrowed.
 fn borrowed(octets: &[u8]) -> CowSlice<'_, u8>
     ensures octets { cow_slice_items result ≡ octets.now }
     ensures small { list_all is_octet octets.now ≡ true }
@@ -39,8 +39,7 @@ fn copied_bits(alloc: Global, bits: BitStr<'_>) -> Result<BitBuffer, AllocError>
     Ok(BitBuffer::from_vec(octets))
 }
 
-/// The octets that bits of the input are. Where the bits begin at an octet of the input they are lent, and no memory is
-/// taken.
+/// The octets in bits of the input. Bits that begin at an octet of the input are borrowed, without an allocation.
 #[inline(always)]
 fn lent_octets<'input>(
     alloc: Global,
@@ -58,7 +57,7 @@ fn lent_octets<'input>(
     Ok(CowSlice::Owned(joined_octets(copy)))
 }
 
-/// The octets that joined bits are.
+/// The octets in joined bits.
 fn joined_octets(bits: BitBuffer) -> Vec<u8>
     requires { length bits % 8 ≡ 0 }
     ensures octets { octet_bits result.items ≡ bits }
@@ -68,8 +67,8 @@ fn joined_octets(bits: BitBuffer) -> Vec<u8>
 }
 
 impl<'input> Run<'input> {
-    /// The octets that the units are. Where their bits stand in one piece of the input that begins at an octet they are
-    /// lent, and no memory is taken.
+    /// The units as octets. They are borrowed, without an allocation, if they are one piece of the input that begins
+    /// at an octet.
     #[inline(always)]
     pub fn into_octets(self, alloc: Global) -> Result<CowSlice<'input, u8>, AllocError>
         requires { length (bits_in self.bits) % 8 ≡ 0 }
@@ -87,24 +86,24 @@ impl<'input> Run<'input> {
     }
 }
 
-/// Reads octets behind their number (X.691 11.9). Where up to 16383 of them stand in one piece that begins at an octet
-/// of the input they are lent, and no memory is taken.
+/// Reads octets after a length determinant (X.691 11.9). Up to 16383 octets in one piece that begins at an octet of
+/// the input are borrowed, without an allocation.
 ///
 /// # Errors
 ///
-/// `Incomplete` if the bits end early, the errors of a length, and `OutOfMemory`.
+/// `Incomplete` if the bits end early, the errors of a length determinant, and `OutOfMemory`.
 #[inline(always)]
 pub fn read_counted_octets<'input>(
     alloc: Global,
     cursor: &mut Cursor<'input>,
-    variant: Variant,
+    rules: PackedRules,
 ) -> Result<CowSlice<'input, u8>, DecodeError>
-    ensures ok { IfOk result (λ octets. Front (freedoms variant)
-        (Per.counted_octets (fronts.is_aligned variant) (cow_slice_items octets)) cursor.old cursor.new) }
-    ensures only { IfErr result (Misses (freedoms variant)
-        (Per.counted_octets (fronts.is_aligned variant)) cursor.old) }
+    ensures ok { IfOk result (λ octets. Front (freedoms rules)
+        (Per.counted_octets (fronts.is_aligned rules) (cow_slice_items octets)) cursor.old cursor.new) }
+    ensures only { IfErr result (Misses (freedoms rules)
+        (Per.counted_octets (fronts.is_aligned rules)) cursor.old) }
 {
-    let units = read_counted(alloc, cursor, variant, 8)?;
+    let units = read_counted(alloc, cursor, rules, 8)?;
     let octets = units.into_octets(alloc)?;
     Ok(octets)
 }

@@ -1,4 +1,4 @@
-//! Units of a size (X.691 16, 17 and 30): an extension bit, a length determinant, and the units.
+//! Units under a size constraint (X.691 16, 17 and 30): an extension bit, a length determinant, and the units.
 ghost use Rattle.std.specs.Prelude.{◌≡◌, ◌&&◌, IfOk, OnOk, IfErr, []};
 ghost use Rattle.asn1_model.specs.Per as Per;
 ghost use Rattle.asn1_schema_constraints.specs.Bounds.{counts_of};
@@ -14,14 +14,14 @@ ghost use Rattle.asn1_model.specs.Form.{exactly};
 
 use crate::padding::read_padding;
 use crate::runs::{Run, RunBits, read_units_behind};
-use crate::sizes::{LengthDeterminant, is_admitted, read_heading};
-use crate::{Cursor, Variant};
+use crate::sizes::{LengthDeterminant, is_accepted_outside, is_admitted, read_heading};
+use crate::{Cursor, PackedRules};
 use asn1_schema_constraints::{Bounded, Sizes};
 use asn1_schema_faults::DecodeError;
 use per_codec_limits::{characters_have_padding, string_has_padding};
 use std::alloc::Global;
 
-/// What units make up, which tells where padding stands in front of them.
+/// What the units make up. It determines where padding precedes them.
 #[derive(Clone, Copy, Debug, PartialEq, Eq)]
 pub enum Contents {
     /// A string of bits or of octets (X.691 16 and 17).
@@ -30,8 +30,8 @@ pub enum Contents {
     Characters,
 }
 
-/// Whether units behind a constrained number stand at an octet in the aligned variant (X.691 16.9 to 16.11, 17.6 to
-/// 17.8, 30.5.6 and 30.5.7).
+/// Whether units after a constrained length determinant are octet-aligned in the aligned variant (X.691 16.9 to
+/// 16.11, 17.6 to 17.8, 30.5.6 and 30.5.7).
 #[inline(always)]
 fn has_padding(contents: Contents, width: u32, root: Bounded<usize>, count: usize) -> bool
     ensures { result ≡ contents_have_padding contents width count (counts_of root) }
@@ -42,58 +42,58 @@ fn has_padding(contents: Contents, width: u32, root: Bounded<usize>, count: usiz
     }
 }
 
-/// Goes on to the next octet in the aligned variant, if padding stands in front of what comes.
+/// Skips to the next octet boundary in the aligned variant, if `has_padding`.
 ///
 /// # Errors
 ///
 /// `Incomplete` if there are fewer bits.
 fn read_padding_if(
     cursor: &mut Cursor<'_>,
-    variant: Variant,
+    rules: PackedRules,
     has_padding: bool,
 ) -> Result<(), DecodeError>
-    ensures ok { OnOk result (Front (freedoms variant)
-        (Per.at_octet (fronts.is_aligned variant && has_padding) (exactly [])) cursor.old cursor.new) }
-    ensures only { IfErr result (Misses (freedoms variant)
-        (Per.at_octet (fronts.is_aligned variant && has_padding)) cursor.old) }
+    ensures ok { OnOk result (Front (freedoms rules)
+        (Per.at_octet (fronts.is_aligned rules && has_padding) (exactly [])) cursor.old cursor.new) }
+    ensures only { IfErr result (Misses (freedoms rules)
+        (Per.at_octet (fronts.is_aligned rules && has_padding)) cursor.old) }
 {
     if has_padding {
-        read_padding(cursor, variant)?;
+        read_padding(cursor, rules)?;
     }
     Ok(())
 }
 
-/// Reads the units that stand behind the first length determinant of a size with this root. Behind a constrained number
-/// they are lent.
+/// Reads the units after the first length determinant of a size with this root. After a constrained length
+/// determinant they are borrowed.
 ///
 /// # Errors
 ///
-/// `Incomplete` if the bits end early, the errors of a length, and `OutOfMemory`.
+/// `Incomplete` if the bits end early, the errors of a length determinant, and `OutOfMemory`.
 #[inline(always)]
 fn read_units<'input>(
     alloc: Global,
     cursor: &mut Cursor<'input>,
-    variant: Variant,
+    rules: PackedRules,
     width: u32,
     contents: Contents,
     root: Bounded<usize>,
     determinant: LengthDeterminant,
 ) -> Result<Run<'input>, DecodeError>
     requires { IsDeterminant determinant }
-    ensures ok { IfOk result (λ run. (told : _) → Completes (freedoms variant)
-        (determinant_form (fronts.is_aligned variant) (counts_of root) told determinant)
-        (units_told (fronts.is_aligned variant) width (contents_have_padding contents width) (counts_of root) told
+    ensures ok { IfOk result (λ run. (told : _) → Completes (freedoms rules)
+        (determinant_form (fronts.is_aligned rules) (counts_of root) told determinant)
+        (units_told (fronts.is_aligned rules) width (contents_have_padding contents width) (counts_of root) told
         (units_in run)) cursor.old cursor.new) }
     ensures lent { IfOk result (λ run. HoldsOneRun determinant run.count → IsLent run.bits) }
     ensures last { IfOk result (λ run. EndsWithLent run.bits cursor.old cursor.new) }
-    ensures only { IfErr result (λ e. (told : _) → MissesRest (freedoms variant)
-        (determinant_form (fronts.is_aligned variant) (counts_of root) told determinant)
-        (units_told (fronts.is_aligned variant) width (contents_have_padding contents width) (counts_of root) told)
+    ensures only { IfErr result (λ e. (told : _) → MissesRest (freedoms rules)
+        (determinant_form (fronts.is_aligned rules) (counts_of root) told determinant)
+        (units_told (fronts.is_aligned rules) width (contents_have_padding contents width) (counts_of root) told)
         cursor.old e) }
 {
     match determinant {
         LengthDeterminant::Constrained(count) => {
-            read_padding_if(cursor, variant, has_padding(contents, width, root, count))?;
+            read_padding_if(cursor, rules, has_padding(contents, width, root, count))?;
             let bits = cursor.take(count * width as usize)?;
             Ok(Run {
                 count,
@@ -101,44 +101,44 @@ fn read_units<'input>(
             })
         }
         LengthDeterminant::General(length) => {
-            let run = read_units_behind(alloc, cursor, variant, width, length)?;
+            let run = read_units_behind(alloc, cursor, rules, width, length)?;
             Ok(run)
         }
     }
 }
 
-/// Reads units of so many bits each under a size constraint, in a type of the program that holds so many (X.691 16, 17
-/// and 30).
+/// Reads units of `width` bits under a size constraint, for a Rust type that holds `held` (X.691 16, 17 and 30).
 ///
 /// # Errors
 ///
-/// `SizeConstraintNotSatisfied` if the size or the program's type does not admit as many, `Incomplete` if the bits end
-/// early, the errors of a constrained whole number and of a length, and `OutOfMemory`.
+/// `SizeConstraintNotSatisfied` if the size or the Rust type does not admit their number, `Incomplete` if the bits
+/// end early, `NotValidCanonicalEncoding` if a number in the root is said to be outside it, in strict rules, the
+/// errors of a constrained whole number and of a length determinant, and `OutOfMemory`.
 #[inline(always)]
 pub fn read_sized<'input>(
     alloc: Global,
     cursor: &mut Cursor<'input>,
-    variant: Variant,
+    rules: PackedRules,
     sizes: Sizes,
     held: Bounded<usize>,
     width: u32,
     contents: Contents,
 ) -> Result<Run<'input>, DecodeError>
-    ensures ok { IfOk result (λ run. Front (freedoms variant)
-        (sized_units (fronts.is_aligned variant) (size_of sizes) (counts_of held) width
+    ensures ok { IfOk result (λ run. Front (freedoms rules)
+        (sized_units (fronts.is_aligned rules) (size_of sizes) (counts_of held) width
         (contents_have_padding contents width) (units_in run)) cursor.old cursor.new) }
     ensures lent { IfOk result (λ run. InOneRun (told_in_front (size_of sizes) cursor.old.1) run.count
         → IsLent run.bits) }
     ensures last { IfOk result (λ run. EndsWithLent run.bits cursor.old cursor.new) }
-    ensures only { IfErr result (Misses (freedoms variant)
-        (sized_units (fronts.is_aligned variant) (size_of sizes) (counts_of held) width
+    ensures only { IfErr result (Misses (freedoms rules)
+        (sized_units (fronts.is_aligned rules) (size_of sizes) (counts_of held) width
         (contents_have_padding contents width)) cursor.old) }
 {
-    let heading = read_heading(cursor, variant, sizes)?;
+    let heading = read_heading(cursor, rules, sizes)?;
     let run = read_units(
         alloc,
         cursor,
-        variant,
+        rules,
         width,
         contents,
         sizes.root,
@@ -146,6 +146,9 @@ pub fn read_sized<'input>(
     )?;
     if !is_admitted(sizes.root, held, heading.is_outside, run.count) {
         return Err(DecodeError::SizeConstraintNotSatisfied);
+    }
+    if !is_accepted_outside(rules, sizes.root, heading.is_outside, run.count) {
+        return Err(DecodeError::NotValidCanonicalEncoding);
     }
     Ok(run)
 }

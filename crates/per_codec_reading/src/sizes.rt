@@ -1,4 +1,4 @@
-//! What stands in front of the items of a size (X.691 16, 17, 20, 22 and 30): an extension bit, where the size is
+//! What precedes the units under a size constraint (X.691 16, 17, 20, 22 and 30): an extension bit, if the size is
 //! extensible, and the first length determinant (X.691 11.9).
 ghost use Rattle.std.specs.Prelude.{◌≡◌, ◌≤◌, ◌<◌, IfOk, IfErr, IfSome, Some};
 ghost use Rattle.asn1_model.specs.Per;
@@ -8,36 +8,39 @@ ghost use Rattle.per_codec_fronts.specs.Sizes as fronts_sizes;
 ghost use Rattle.per_codec_fronts.specs.Takes.{Front};
 ghost use Rattle.per_codec_reading.specs.Fronts.{freedoms, Misses};
 ghost use Rattle.per_codec_reading.specs.Fronts as fronts;
+ghost use Rattle.asn1_model.specs.Numbers.{is_count_within};
 ghost use Rattle.per_codec_reading.specs.Sizes.{admitted, determinant_form, heading_form, told_count, IsDeterminant};
+ghost use Rattle.per_codec_reading.specs.Sizes.{may_be_outside};
 
 use crate::lengths::{Length, read_length};
 use crate::numbers::read_constrained;
 use crate::units::read_extension_bit;
-use crate::{Cursor, Variant};
+use crate::{Cursor, PackedRules};
 use asn1_schema_constraints::{Bounded, Sizes};
 use asn1_schema_faults::DecodeError;
 use per_codec_limits::told_highest;
 
-/// The first length determinant in front of the items of a size (X.691 11.9).
+/// The first length determinant under a size constraint (X.691 11.9).
 #[derive(Clone, Copy, Debug, PartialEq, Eq)]
 pub enum LengthDeterminant {
-    /// The number of all items, as a constrained whole number (X.691 11.9.4.1).
+    /// The number of all units, as a constrained whole number (X.691 11.9.4.1).
     Constrained(usize),
-    /// One of the general form (X.691 11.9.3.5 to 11.9.3.8).
+    /// A general one (X.691 11.9.3.5 to 11.9.3.8).
     General(Length),
 }
 
-/// What stands in front of the items of a size.
+/// What precedes the units under a size constraint.
 #[derive(Clone, Copy, Debug, PartialEq, Eq)]
 pub struct Heading {
-    /// The extension bit: whether the number of items is outside the root, or told so. Where there is none it is not.
+    /// The extension bit: whether the number of units is, or is said to be, outside the root. `false` if there is no
+    /// such bit.
     pub is_outside: bool,
-    /// The length determinant behind it.
+    /// The length determinant after it.
     pub determinant: LengthDeterminant,
 }
 
-/// The highest number of items, if it tells the form of the number, and the extension bit does not tell that the number
-/// is outside the root (X.691 11.9.4.1).
+/// The upper bound of the root, if it determines the form of the length determinant, and the extension bit does not
+/// say that the number is outside the root (X.691 11.9.4.1).
 #[inline(always)]
 fn highest_inside(root: Bounded<usize>, is_outside: bool) -> Option<usize>
     ensures highest { result ≡ fronts_sizes.told_highest is_outside ((counts_of root).high) }
@@ -49,20 +52,20 @@ fn highest_inside(root: Bounded<usize>, is_outside: bool) -> Option<usize>
     told_highest(root)
 }
 
-/// Reads a constrained whole number that tells how far a size is above the least one (X.691 11.9.4.1).
+/// Reads a constrained whole number, the offset of a size from the lower bound (X.691 11.9.4.1).
 ///
 /// # Errors
 ///
 /// `Incomplete` if the bits end early, and `SizeConstraintNotSatisfied` if the size is too large.
 #[inline(always)]
-fn read_size(cursor: &mut Cursor<'_>, variant: Variant, span: u128) -> Result<u128, DecodeError>
-    ensures ok { IfOk result (λ number. Front (freedoms variant)
-        (Per.constrained (fronts.is_aligned variant) span number) cursor.old cursor.new) }
+fn read_size(cursor: &mut Cursor<'_>, rules: PackedRules, span: u128) -> Result<u128, DecodeError>
+    ensures ok { IfOk result (λ number. Front (freedoms rules)
+        (Per.constrained (fronts.is_aligned rules) span number) cursor.old cursor.new) }
     ensures bound { IfOk result (λ number. number ≤ span) }
-    ensures only { IfErr result (Misses (freedoms variant)
-        (Per.constrained (fronts.is_aligned variant) span) cursor.old) }
+    ensures only { IfErr result (Misses (freedoms rules)
+        (Per.constrained (fronts.is_aligned rules) span) cursor.old) }
 {
-    match read_constrained(cursor, variant, span) {
+    match read_constrained(cursor, rules, span) {
         Ok(number) => Ok(number),
         Err(DecodeError::ValueConstraintNotSatisfied) => Err(
             DecodeError::SizeConstraintNotSatisfied,
@@ -71,32 +74,32 @@ fn read_size(cursor: &mut Cursor<'_>, variant: Variant, span: u128) -> Result<u1
     }
 }
 
-/// Reads a number from a lowest to a highest one (X.691 11.9.4.1).
+/// Reads a number of `lowest` to `highest` (X.691 11.9.4.1).
 ///
 /// # Errors
 ///
 /// `Incomplete` if the bits end early, and `SizeConstraintNotSatisfied` if there is no such number.
 fn read_told_count(
     cursor: &mut Cursor<'_>,
-    variant: Variant,
+    rules: PackedRules,
     lowest: usize,
     highest: usize,
 ) -> Result<usize, DecodeError>
-    ensures ok { IfOk result (λ count. Front (freedoms variant)
-        (told_count (fronts.is_aligned variant) lowest highest count) cursor.old cursor.new) }
+    ensures ok { IfOk result (λ count. Front (freedoms rules)
+        (told_count (fronts.is_aligned rules) lowest highest count) cursor.old cursor.new) }
     ensures bound { IfOk result (λ count. count ≤ highest) }
-    ensures only { IfErr result (Misses (freedoms variant)
-        (told_count (fronts.is_aligned variant) lowest highest) cursor.old) }
+    ensures only { IfErr result (Misses (freedoms rules)
+        (told_count (fronts.is_aligned rules) lowest highest) cursor.old) }
 {
     if highest < lowest {
         return Err(DecodeError::SizeConstraintNotSatisfied);
     }
-    let number = read_size(cursor, variant, (highest - lowest) as u128)?;
+    let number = read_size(cursor, rules, (highest - lowest) as u128)?;
     Ok(lowest + number as usize)
 }
 
-/// Reads the first length determinant of a size with this root, for a number of items that is told to be outside it
-/// or is not: the number, where the root bounds it below 65536, else one of the general form (X.691 11.9.4).
+/// Reads the first length determinant of a size with this root, for a number of units that is said to be outside it
+/// or is not: the number, if the root bounds it below 65536, else a general length determinant (X.691 11.9.4).
 ///
 /// # Errors
 ///
@@ -104,59 +107,59 @@ fn read_told_count(
 #[inline(always)]
 fn read_determinant(
     cursor: &mut Cursor<'_>,
-    variant: Variant,
+    rules: PackedRules,
     root: Bounded<usize>,
     is_outside: bool,
 ) -> Result<LengthDeterminant, DecodeError>
-    ensures ok { IfOk result (λ determinant. Front (freedoms variant)
-        (determinant_form (fronts.is_aligned variant) (counts_of root)
+    ensures ok { IfOk result (λ determinant. Front (freedoms rules)
+        (determinant_form (fronts.is_aligned rules) (counts_of root)
         (fronts_sizes.told_highest is_outside ((counts_of root).high)) determinant) cursor.old cursor.new) }
     ensures bound { IfOk result IsDeterminant }
-    ensures only { IfErr result (Misses (freedoms variant)
-        (determinant_form (fronts.is_aligned variant) (counts_of root)
+    ensures only { IfErr result (Misses (freedoms rules)
+        (determinant_form (fronts.is_aligned rules) (counts_of root)
         (fronts_sizes.told_highest is_outside ((counts_of root).high))) cursor.old) }
 {
     match highest_inside(root, is_outside) {
         Some(highest) => {
-            let count = read_told_count(cursor, variant, root.minimum(), highest)?;
+            let count = read_told_count(cursor, rules, root.minimum(), highest)?;
             Ok(LengthDeterminant::Constrained(count))
         }
         None => {
-            let length = read_length(cursor, variant)?;
+            let length = read_length(cursor, rules)?;
             Ok(LengthDeterminant::General(length))
         }
     }
 }
 
-/// Reads what stands in front of the items of a size, of a string as of a list or bag: the extension bit, where the
-/// size is extensible, and the first length determinant (X.691 11.9.4, 16.6, 17.3, 20.4 and 30.4). Behind the
-/// items of a fragment [`read_length`] reads the next one.
+/// Reads what precedes the units under a size constraint, in a string as in a list or bag: the extension bit, if the
+/// size is extensible, and the first length determinant (X.691 11.9.4, 16.6, 17.3, 20.4 and 30.4). After the units of
+/// a fragment, [`read_length`] reads the next one.
 ///
 /// # Errors
 ///
 /// `Incomplete` if the bits end early, `SizeConstraintNotSatisfied` if no number is in the root, and the errors of a
-/// constrained whole number and of a length.
+/// constrained whole number and of a length determinant.
 #[inline(always)]
 pub fn read_heading(
     cursor: &mut Cursor<'_>,
-    variant: Variant,
+    rules: PackedRules,
     sizes: Sizes,
 ) -> Result<Heading, DecodeError>
-    ensures ok { IfOk result (λ heading. Front (freedoms variant)
-        (heading_form (fronts.is_aligned variant) (size_of sizes) heading) cursor.old cursor.new) }
+    ensures ok { IfOk result (λ heading. Front (freedoms rules)
+        (heading_form (fronts.is_aligned rules) (size_of sizes) heading) cursor.old cursor.new) }
     ensures bound { IfOk result (λ heading. IsDeterminant heading.determinant) }
-    ensures only { IfErr result (Misses (freedoms variant)
-        (heading_form (fronts.is_aligned variant) (size_of sizes)) cursor.old) }
+    ensures only { IfErr result (Misses (freedoms rules)
+        (heading_form (fronts.is_aligned rules) (size_of sizes)) cursor.old) }
 {
-    let is_outside = read_extension_bit(cursor, variant, sizes.is_extensible)?;
-    let determinant = read_determinant(cursor, variant, sizes.root, is_outside)?;
+    let is_outside = read_extension_bit(cursor, rules, sizes.is_extensible)?;
+    let determinant = read_determinant(cursor, rules, sizes.root, is_outside)?;
     Ok(Heading {
         is_outside,
         determinant,
     })
 }
 
-/// Whether the program's type holds so many items, and they are in the root or told to be outside it (X.680 51.5).
+/// Whether the Rust type holds `count` units, and they are in the root or said to be outside it (X.680 51.5).
 #[inline(always)]
 pub fn is_admitted(
     root: Bounded<usize>,
@@ -168,4 +171,19 @@ pub fn is_admitted(
     ensures members { result ≡ admitted (members_of held) (counts_of root) is_outside count }
 {
     held.holds(count) && (is_outside || root.contains(&count))
+}
+
+/// Whether an extension bit is accepted for `count` units: in strict rules, a number in the root is not said to be
+/// outside it (X.691 16.6, 17.3, 20.4 and 30.4).
+#[inline(always)]
+pub fn is_accepted_outside(
+    rules: PackedRules,
+    root: Bounded<usize>,
+    is_outside: bool,
+    count: usize,
+) -> bool
+    ensures { result ≡ may_be_outside (freedoms rules Per.root_told_outside) is_outside
+        (is_count_within (counts_of root) count) }
+{
+    !is_outside || !rules.is_strict() || !root.contains(&count)
 }

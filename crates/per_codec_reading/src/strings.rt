@@ -12,13 +12,13 @@ ghost use Rattle.per_codec_reading.specs.Runs.{bits_in};
 
 use crate::runs::RunBits;
 use crate::sized::{Contents, read_sized};
-use crate::{Cursor, Variant};
+use crate::{Cursor, PackedRules};
 use asn1_schema_constraints::{Bounded, Sizes};
 use asn1_schema_faults::DecodeError;
 use asn1_values_bit_strings::BitString;
 use std::alloc::{AllocError, Global};
 
-/// A string of the bits that were read, of which only lent ones are copied.
+/// A string of the bits that were read. Only borrowed bits are copied.
 fn string_of(alloc: Global, bits: RunBits<'_>) -> Result<BitString, AllocError>
     ensures { IfOk result (λ string. string ≡ bits_in bits.entry) }
 {
@@ -31,27 +31,27 @@ fn string_of(alloc: Global, bits: RunBits<'_>) -> Result<BitString, AllocError>
     }
 }
 
-/// Reads a string of bits (X.691 16) under a size constraint, in a type of the program that holds so many.
+/// Reads a BIT STRING (X.691 16) under a size constraint, for a Rust type that holds `held`.
 ///
 /// # Errors
 ///
-/// `SizeConstraintNotSatisfied` if the size or the program's type does not admit as many, `Incomplete` if the bits end
-/// early, the errors of a number and of a length, and `OutOfMemory`.
+/// `SizeConstraintNotSatisfied` if the size or the Rust type does not admit the number of bits, `Incomplete` if the
+/// bits end early, the errors of a constrained whole number and of a length determinant, and `OutOfMemory`.
 pub fn read_bit_string(
     alloc: Global,
     cursor: &mut Cursor<'_>,
-    variant: Variant,
+    rules: PackedRules,
     sizes: Sizes,
     held: Bounded<usize>,
 ) -> Result<BitString, DecodeError>
-    ensures ok { IfOk result (λ x. Front (freedoms variant)
-        (Per.form (fronts.is_aligned variant) (Asn1.bit_string (size_of sizes) (counts_of held))
+    ensures ok { IfOk result (λ x. Front (freedoms rules)
+        (Per.form (fronts.is_aligned rules) (Asn1.bit_string (size_of sizes) (counts_of held))
         (Asn1Value.bit_list x)) cursor.old cursor.new) }
-    ensures only { IfErr result (Misses (freedoms variant)
-        (Per.form (fronts.is_aligned variant) (Asn1.bit_string (size_of sizes) (counts_of held)))
+    ensures only { IfErr result (Misses (freedoms rules)
+        (Per.form (fronts.is_aligned rules) (Asn1.bit_string (size_of sizes) (counts_of held)))
         cursor.old) }
 {
-    let units = read_sized(alloc, cursor, variant, sizes, held, 1, Contents::Strings)?;
+    let units = read_sized(alloc, cursor, rules, sizes, held, 1, Contents::Strings)?;
     let string = string_of(alloc, units.bits)?;
     Ok(string)
 }

@@ -10,35 +10,36 @@ ghost use Rattle.per_codec_reading.specs.Fronts.{freedoms, Misses};
 ghost use Rattle.per_codec_reading.specs.Fronts as fronts;
 
 use crate::octets::read_counted_octets;
-use crate::{Cursor, Variant};
+use crate::{Cursor, PackedRules};
 use asn1_schema_constraints::Constraints;
 use asn1_schema_faults::DecodeError;
 use asn1_values_strings::utf8_texts::text_of;
 use std::alloc::Global;
 
-/// Reads a UTF8String (X.691 30), for which size and alphabet count for nothing: its octets behind their number.
+/// Reads a UTF8String (X.691 30): its octets after a length determinant. Size and alphabet constraints do not affect
+/// it.
 ///
 /// # Errors
 ///
-/// `StringConversionFailed` if the octets are not UTF-8, `Incomplete` if the bits end early, the errors of a length,
-/// and `OutOfMemory`.
+/// `StringConversionFailed` if the octets are not UTF-8, `Incomplete` if the bits end early, the errors of a length
+/// determinant, and `OutOfMemory`.
 pub fn read_utf8_string(
     alloc: Global,
     cursor: &mut Cursor<'_>,
-    variant: Variant,
+    rules: PackedRules,
     _constraints: &Constraints,
 ) -> Result<String, DecodeError>
-    ensures ok { IfOk result (λ x. Front (freedoms variant)
-        (Per.form (fronts.is_aligned variant)
+    ensures ok { IfOk result (λ x. Front (freedoms rules)
+        (Per.form (fronts.is_aligned rules)
         (Asn1.character_string Asn1.utf8 (sizes_of _constraints.now.size)
         (alphabet_of _constraints.now.permitted_alphabet) any_count) (Asn1Value.text (string_bytes x))) cursor.old
         cursor.new) }
-    ensures only { IfErr result (Misses (freedoms variant)
-        (Per.form (fronts.is_aligned variant)
+    ensures only { IfErr result (Misses (freedoms rules)
+        (Per.form (fronts.is_aligned rules)
         (Asn1.character_string Asn1.utf8 (sizes_of _constraints.now.size)
         (alphabet_of _constraints.now.permitted_alphabet) any_count)) cursor.old) }
 {
-    let octets = read_counted_octets(alloc, cursor, variant)?;
+    let octets = read_counted_octets(alloc, cursor, rules)?;
     let Some(text) = text_of(octets.as_slice()) else {
         return Err(DecodeError::StringConversionFailed);
     };

@@ -1,6 +1,6 @@
 -- Bits that are taken as a whole, as they stand in front.
-use Rattle.std.proofs.Common.{◌≡◌, inr, ℕ, ◌+◌, ◌-◌, ◌*◌, ◌/◌, ◌^◌, ◌<◌, ◌==◌, leb, ltb, cond, ◌&&◌, Bool, true, false, IsTrue, List, [], ◌∷◌, ◌++◌, length, refl, ap, sym, ◌∙◌, subst, length-append, arith}
-use Rattle.std.proofs.lemmas.Bool.{leb-true, le-leb, lt-ltb, eqb-true, eq-eqb, and_parts, and_from}
+use Rattle.std.proofs.Common.{◌≡◌, ◌⊎◌, inl, inr, ℕ, ◌+◌, ◌-◌, ◌*◌, ◌/◌, ◌^◌, ◌<◌, ◌==◌, leb, ltb, cond, not, ◌&&◌, ◌||◌, Bool, true, false, IsTrue, List, [], ◌∷◌, ◌++◌, length, refl, ap, sym, ◌∙◌, subst, length-append, arith}
+use Rattle.std.proofs.lemmas.Bool.{leb-true, le-leb, lt-ltb, eqb-true, eq-eqb, and_parts, and_from, false≢true}
 use Rattle.asn1_model.specs.Numbers.{binary, octet_bits, packed}
 use Rattle.asn1_model.specs.Strings.{is_octet}
 use Rattle.std.specs.List.{list_all}
@@ -12,7 +12,8 @@ use Rattle.per_codec_fronts.specs.Takes.{Place, Front}
 use Rattle.per_codec_fronts.proofs.Fronts.{split, join, if_in, if_out, varied_in, varied_out}
 use Rattle.per_codec_reading.specs.Fronts.{Leads, NoneStands}
 use Rattle.per_codec_reading.specs.Lengths.{one_bit, number_within}
-use Rattle.per_codec_reading.proofs.Fronts.{exactly_in, exactly_out, too_short, leads_join}
+use Rattle.per_codec_reading.proofs.Fronts.{or_free, free_or, exactly_in, exactly_out, too_short, leads_join}
+use Rattle.per_codec_reading.proofs.RunsOne.{counted_one}
 use Rattle.per_codec_reading.proofs.NumberFronts.{within_out}
 use Rattle.per_codec_reading.specs.Units.{Units, units_of, counted_units}
 use Rattle.per_codec_reading.proofs.OctetFronts.{counted_size, octets_front, length-octet_bits, octet_pieces}
@@ -83,18 +84,20 @@ module _ (free : Per.Freedom → Bool) where
     abbrev long_or_short : List Per.BitForm → Bool → Per.BitForm
     long_or_short us long = cond long (both (exactly (true ∷ [])) (Per.counted al us)) (only_if (Per.is_from_1_to_64 (length us)) (both (exactly (false ∷ binary 6 (length us - 1))) (joined us)))
 
-    pub long_bitmap : (us : Units) (a m b : Place) → IsTrue (free Per.long_small_number) → Front free (one_bit true) a m → Front free (counted_units al 1 us) m b → Front free (few_form al us.1) a b
+    pub long_bitmap : (us : Units) (a m b : Place) → (free Per.long_small_number || not (Per.is_from_1_to_64 us.0)) ≡ true → Front free (one_bit true) a m → Front free (counted_units al 1 us) m b → Front free (few_form al us.1) a b
     unfolding Per.normally_few
     long_bitmap us a m b t f g =
         let n = counted_size free al 1 us.0 us.1 m b g in
         let k : us.0 ≡ length us.1 = omega (arith, n) in
         let i = if_out free (length us.1 == us.0 * 1) (Per.counted al (units_of 1 us.0 us.1)) m b g in
         let h = subst (λ x. Front free (Per.counted al x) m b) (ap (λ j. units_of 1 j us.1) k ∙ bit_pieces us.1) i.1 in
-        varied_in free (λ long. long_or_short (Per.bit_units us.1) long) true (inr t) a b (join free (exactly (true ∷ [])) (Per.counted al (Per.bit_units us.1)) a m b f h)
+        let q : us.0 ≡ length (Per.bit_units us.1) = k ∙ sym (bit_count us.1) in
+        let may : (true ≡ not (Per.is_from_1_to_64 (length (Per.bit_units us.1)))) ⊎ IsTrue (free Per.long_small_number) = elim (or_free _ _ t) [ inl e ↦ inl (sym e ∙ ap (λ j. not (Per.is_from_1_to_64 j)) q) | inr e ↦ inr e ] in
+        varied_in free (λ long. long_or_short (Per.bit_units us.1) long) true may a b (join free (exactly (true ∷ [])) (Per.counted al (Per.bit_units us.1)) a m b f h)
 
-    pub short_bitmap : (n : ℕ) (bs : List Bool) (a m p b : Place) → IsTrue (free Per.long_small_number) → Front free (one_bit false) a m → Front free (number_within 6 63 n) m p → length bs ≡ n + 1 → Leads bs p b → Front free (few_form al bs) a b
+    pub short_bitmap : (n : ℕ) (bs : List Bool) (a m p b : Place) → Front free (one_bit false) a m → Front free (number_within 6 63 n) m p → length bs ≡ n + 1 → Leads bs p b → Front free (few_form al bs) a b
     unfolding Per.normally_few
-    short_bitmap n bs a m p b t f g l h =
+    short_bitmap n bs a m p b f g l h =
         let us = Per.bit_units bs in
         let w = within_out free 6 63 n m p g in
         let q : length us ≡ n + 1 = bit_count bs ∙ l in
@@ -104,7 +107,7 @@ module _ (free : Per.Freedom → Bool) where
         let head : Front free (exactly (false ∷ binary 6 n)) a p = exactly_in free (false ∷ binary 6 n) a p (leads_join (false ∷ []) (binary 6 n) a m p (exactly_out free (false ∷ []) a m f) (exactly_out free (binary 6 n) m p w.stands)) in
         let own : Front free (exactly (false ∷ binary 6 (length us - 1))) a p = subst (λ k. Front free (exactly (false ∷ binary 6 k)) a p) (sym d) head in
         let rest : Front free (joined us) p b = subst (λ x. Front free (joined x) p b) (bit_pieces bs) (units_in free 1 (length bs) bs p b (omega arith) h) in
-        varied_in free (λ long. long_or_short us long) false (inr t) a b (if_in free (Per.is_from_1_to_64 (length us)) _ a b c (join free _ (joined us) a p b own rest))
+        varied_in free (λ long. long_or_short us long) false (inl (sym (ap not c))) a b (if_in free (Per.is_from_1_to_64 (length us)) _ a b c (join free _ (joined us) a p b own rest))
 
     -- what stands behind the bit that tells which
     abbrev Behind : Bool → List Bool → Place → Place → Type 0
@@ -132,12 +135,12 @@ module _ (free : Per.Freedom → Bool) where
         let bits = units_out free 1 (length bs) bs s.0 b (omega arith) (subst (λ x. Front free (joined x) s.0 b) (sym (bit_pieces bs)) s.2) in
         (m, exactly_in free (false ∷ []) a m (h.0, refl), (n, s.0, number, l, bits))
 
-    bitmap_out : (bs : List Bool) (a b : Place) → Front free (few_form al bs) a b → (long : Bool) × (m : Place) × Front free (one_bit long) a m × Behind long bs m b
+    bitmap_out : (bs : List Bool) (a b : Place) → Front free (few_form al bs) a b → (long : Bool) × (m : Place) × Front free (one_bit long) a m × Behind long bs m b × ((long ≡ not (Per.is_from_1_to_64 (length bs))) ⊎ IsTrue (free Per.long_small_number))
     unfolding Per.normally_few
     bitmap_out bs a b f =
         let v = varied_out free (λ long. long_or_short (Per.bit_units bs) long) a b f in
         let c = cases_out v.0 bs a b v.2 in
-        (v.0, c.0, c.1, c.2)
+        (v.0, c.0, c.1, c.2, elim v.1 [ inl e ↦ inl (e ∙ ap (λ j. not (Per.is_from_1_to_64 j)) (bit_count bs)) | inr e ↦ inr e ])
 
     pub no_bitmap_bit : (a : Place) → NoneStands free one_bit a → NoneStands free (few_form al) a
     no_bitmap_bit a n bs b f = let s = bitmap_out bs a b f in n s.0 s.1 s.2
@@ -147,6 +150,15 @@ module _ (free : Per.Freedom → Bool) where
         let s = bitmap_out bs a b g in
         let q = bit_one v s.0 a m s.1 f s.2 in
         subst (λ p. Behind v bs p b) (sym q.1) (subst (λ u. Behind u bs s.1 b) (sym q.0) s.3)
+
+    -- a long form that the reader does not accept
+    pub not_long : (us : Units) (a m b : Place) → (free Per.long_small_number || not (Per.is_from_1_to_64 us.0)) ≡ false → Front free (one_bit true) a m → Front free (counted_units al 1 us) m b → NoneStands free (few_form al) a
+    not_long us a m b t f h bs c g =
+        let s = bitmap_out bs a c g in
+        let q = bit_one true s.0 a m s.1 f s.2 in
+        let e = counted_one free al 1 us (length bs, bs) m b c h (behind_bit true bs a m c f g) in
+        let may : (not (Per.is_from_1_to_64 us.0) ≡ true) ⊎ IsTrue (free Per.long_small_number) = elim s.4 [ inl l ↦ inl (ap (λ j. not (Per.is_from_1_to_64 j)) e ∙ sym l ∙ sym q.0) | inr l ↦ inr l ] in
+        false≢true (sym t ∙ free_or _ _ may)
 
     pub no_long_bitmap : (a m : Place) → Front free (one_bit true) a m → NoneStands free (counted_units al 1) m → NoneStands free (few_form al) a
     no_long_bitmap a m f n bs b g = n (length bs, bs) b (behind_bit true bs a m b f g)

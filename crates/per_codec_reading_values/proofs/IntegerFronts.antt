@@ -1,6 +1,6 @@
--- What stands in front where an INTEGER does.
+-- Bits that begin with an INTEGER.
 use Rattle.asn1_model.specs.Schema.{wide_range}
-use Rattle.std.proofs.Common.{◌≡◌, ℕ, ◌-◌, ◌^◌, not, ℤ, pos, negsuc, Bool, true, false, ◌&&◌, ◌||◌, ◌⊎◌, IsTrue, inl, inr, Option, Some, None, Result, Ok, Err, IfOk, OnOk, IfErr, List, refl, sym, ap, ◌∙◌, subst, arith}
+use Rattle.std.proofs.Common.{◌≡◌, ℕ, ◌-◌, ◌^◌, not, ℤ, pos, negsuc, Bool, true, false, ◌&&◌, ◌||◌, ◌⊎◌, inl, inr, Option, Some, None, Result, Ok, Err, IfOk, OnOk, IfErr, List, refl, sym, ap, ◌∙◌, subst, arith}
 use Rattle.std.proofs.lemmas.Bool.{false≢true, le-leb, and_parts, and_from}
 use Rattle.std.proofs.Math.Bool.{or-true}
 use Rattle.asn1_model.specs.Schema.{Range, integer}
@@ -77,20 +77,20 @@ module _ (free : Per.Freedom → Bool) (al : Bool) where
       (v, (and_parts _ _ i.0).0, i.1)
   plain_out h u a b f = absurd (of_refused free a b f)
 
-  pub no_plain : (h : Range) (a : Place) → NoneStands free (number_octets al) a → NoneStands free (Integer None h) a
+  pub no_plain : (h : Range) (a : Place) → NoneStands free (number_octets (free Per.longer_number) true al) a → NoneStands free (Integer None h) a
   no_plain h a n u b f = let p = plain_out h u a b f in none_signed free al a n p.0 b p.2
 
-  pub plain_read : {X : Type 0} (r : Result X DecodeError) (value : X → ℤ) (h : Range) (os : List ℕ) (a b : Place) → IsTrue (free Per.longer_number) → IfOk r (λ x. value x ≡ signed_number os) → OnOk r (is_within h (signed_number os) ≡ true) → Front free (number_octets al os) a b
+  pub plain_read : {X : Type 0} (r : Result X DecodeError) (value : X → ℤ) (h : Range) (os : List ℕ) (a b : Place) → IfOk r (λ x. value x ≡ signed_number os) → OnOk r (is_within h (signed_number os) ≡ true) → Front free (number_octets (free Per.longer_number) true al os) a b
       → IfOk r (λ x. Front free (Integer None h (number (value x))) a b)
-  plain_read (Ok x) value h os a b t e w f = plain_in h (value x) a b (ap (is_within h) e ∙ w) (number_read free al (value x) os a b t e f)
-  plain_read (Err e) value h os a b t n w f = tt
+  plain_read (Ok x) value h os a b e w f = plain_in h (value x) a b (ap (is_within h) e ∙ w) (number_read free al (value x) os a b e f)
+  plain_read (Err e) value h os a b n w f = tt
 
-  plain_outside : (h : Range) (os : List ℕ) (a b : Place) → is_within h (signed_number os) ≡ false → Front free (number_octets al os) a b → NoneStands free (Integer None h) a
+  plain_outside : (h : Range) (os : List ℕ) (a b : Place) → is_within h (signed_number os) ≡ false → Front free (number_octets (free Per.longer_number) true al os) a b → NoneStands free (Integer None h) a
   plain_outside h os a b w f u c g =
       let p = plain_out h u a c g in
       false≢true (sym w ∙ ap (is_within h) (sym (signed_same free al p.0 os a b c f p.2)) ∙ p.1)
 
-  pub plain_refused : {X : Type 0} (r : Result X DecodeError) (h : Range) (os : List ℕ) (a b : Place) → IfErr r (λ e. (e ≡ OutOfMemory) ⊎ (is_within h (signed_number os) ≡ false)) → IfErr r IsFresh → Front free (number_octets al os) a b → IfErr r (Misses free (Integer None h) a)
+  pub plain_refused : {X : Type 0} (r : Result X DecodeError) (h : Range) (os : List ℕ) (a b : Place) → IfErr r (λ e. (e ≡ OutOfMemory) ⊎ (is_within h (signed_number os) ≡ false)) → IfErr r IsFresh → Front free (number_octets (free Per.longer_number) true al os) a b → IfErr r (Misses free (Integer None h) a)
   plain_refused (Ok x) h os a b n k f = tt
   plain_refused (Err e) h os a b (inl m) k f = subst (Misses free (Integer None h) a) (sym m) tt
   plain_refused (Err e) h os a b (inr m) k f = none_misses free (Integer None h) a e k (plain_outside h os a b m f)

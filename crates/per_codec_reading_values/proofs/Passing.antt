@@ -1,5 +1,5 @@
 -- Octets that are passed over, one fragment after another and one unknown addition after another.
-use Rattle.std.proofs.Common.{◌≡◌, ℕ, ◌+◌, ◌*◌, ◌<◌, Bool, true, false, IsTrue, Some, None, List, [], ◌∷◌, ◌++◌, length, map, refl, ap, sym, subst}
+use Rattle.std.proofs.Common.{◌≡◌, ℕ, ◌+◌, ◌*◌, ◌<◌, Bool, true, false, Some, None, List, [], ◌∷◌, ◌++◌, length, map, refl, ap, sym, subst}
 use Rattle.asn1_model.specs.Numbers as Numbers
 use Rattle.asn1_model.specs.Form.{joined, present_ones}
 use Rattle.std.specs.Prelude.{is_some}
@@ -8,12 +8,14 @@ use Rattle.asn1_laws_fronts.proofs.PerNumbers.{counted_octets_alike}
 use Rattle.asn1_schema_faults.specs.declared.DecodeError.{DecodeError}
 use Rattle.asn1_schema_faults.specs.declared.DecodeError.TheVariants.{OutOfMemory, AlreadyFailed}
 use Rattle.per_codec_fronts.specs.Takes.{Place, Front, Skips, unknown_forms}
-use Rattle.per_codec_fronts.proofs.Fronts.{split, join, nothing_front}
+use Rattle.per_codec_fronts.proofs.Fronts.{split, join, if_in, if_out, nothing_front}
 use Rattle.per_codec_fronts.proofs.Next.{same_fronts}
 use Rattle.per_codec_reading.specs.Fronts.{NoneStands, Misses}
+use Rattle.per_codec_reading.specs.declared.lengths.Length.{Length}
 use Rattle.per_codec_reading.specs.declared.lengths.Length.TheVariants.{Short, Fragment}
-use Rattle.per_codec_reading.specs.Units.{Units, counted_units, piece_form}
-use Rattle.per_codec_reading.proofs.Loops.{Joins, joins_none, joins_more, joins_last, joins_stop, fragment_shortens}
+use Rattle.per_codec_reading.specs.Units.{Units, counted_units, piece_form, units_after, may_follow, length_may_follow}
+use Rattle.per_codec_reading.proofs.Loops.{Joins, joins_none, joins_more, joins_last, joins_stop, joins_refused, fragment_shortens}
+use Rattle.per_codec_reading.proofs.LargestFirst.{follows_four}
 use Rattle.per_codec_reading_values.specs.Fields.{HasPiece, HasUnits, NoSkip}
 use Rattle.per_codec_reading_values.proofs.FieldFronts.{octets_of, units_told}
 
@@ -30,20 +32,35 @@ misses_at free f a b e q m = subst (λ (p : Place). Misses free f p e) q m
 module _ (free : Per.Freedom → Bool) (al : Bool) where
   -- ---- fragments
   -- octets of fragments so far are passed over
-  abbrev pub Passed : Place → Place → Type 0
-  Passed start here = (us : Units) × Joins free al 8 (0, []) start us here
+  abbrev pub Passed : Place → ℕ → Place → Type 0
+  Passed start m here = (us : Units) × Joins free al 8 4 (0, []) start m us here
 
-  pub passed_none : (start : Place) → Passed start start
-  passed_none start = ((0, []), joins_none free al 8 (0, []) start)
+  abbrev any : Bool
+  any = free Per.other_fragments
 
-  pub passed_more : (m : ℕ) (start here next : Place) → Passed start here → HasPiece free al (Fragment m) here next → Passed start next
-  passed_more m start here next j f = ((j.0.0 + m * 16384, j.0.1 ++ f.0), joins_more free al 8 m f.0 (0, []) j.0 start here next j.1 f.1)
+  -- behind a fragment of four times 16384 all units may stand
+  after_four : (start : Place) → NoneStands free (units_after any 4 al 8) start → NoneStands free (counted_units al 8) start
+  after_four start n us b f = n us b (if_in free (may_follow any 4 us.0) _ start b (follows_four any 4 us.0 refl) f)
 
-  pub passed_last : (n : ℕ) (start here next : Place) → IsTrue (free Per.other_fragments) → Passed start here → HasPiece free al (Short n) here next → HasUnits free al start next
-  passed_last n start here next t j f = let c = joins_last free al 8 n f.0 (0, []) j.0 start here next t j.1 f.1 in (c.0, c.3)
+  pub passed_none : (start : Place) → Passed start 4 start
+  passed_none start = ((0, []), joins_none free al 8 4 (0, []) start)
 
-  pub passed_stop : (start here : Place) → Passed start here → NoneStands free (piece_form al 8) here → NoneStands free (counted_units al 8) start
-  passed_stop start here j n = joins_stop free al 8 (0, []) j.0 start here j.1 n
+  pub passed_more : (m k : ℕ) (l : Length) (start here next : Place) → l ≡ Fragment k → length_may_follow any m l ≡ true → Passed start m here → HasPiece free al l here next → Passed start k next
+  passed_more m k l start here next e t j f =
+      let g = subst (λ x. HasPiece free al x here next) e f in
+      ((j.0.0 + k * 16384, j.0.1 ++ g.0), joins_more free al 8 4 m k g.0 (0, []) j.0 start here next (subst (λ x. length_may_follow any m x ≡ true) e t) j.1 g.1)
+
+  pub passed_last : (m n : ℕ) (start here next : Place) → Passed start m here → HasPiece free al (Short n) here next → HasUnits free al start next
+  passed_last m n start here next j f =
+      let c = joins_last free al 8 4 m n f.0 (0, []) j.0 start here next j.1 f.1 in
+      (c.0, (if_out free (may_follow any 4 c.0.0) (counted_units al 8 c.0) start next c.3).1)
+
+  pub passed_stop : (m : ℕ) (start here : Place) → Passed start m here → NoneStands free (piece_form al 8) here → NoneStands free (counted_units al 8) start
+  passed_stop m start here j n = after_four start (joins_stop free al 8 4 m (0, []) j.0 start here j.1 n)
+
+  -- a fragment that may not follow
+  pub passed_refused : (m : ℕ) (l : Length) (start here next : Place) → length_may_follow any m l ≡ false → Passed start m here → HasPiece free al l here next → NoneStands free (counted_units al 8) start
+  passed_refused m l start here next t j f = after_four start (joins_refused free al 8 4 m l f.0 (0, []) j.0 start here next t j.1 f.1)
 
   pub piece_shortens : (m : ℕ) (a b : Place) → HasPiece free al (Fragment m) a b → length b.1 < length a.1
   piece_shortens m a b f = fragment_shortens free al 8 m f.0 a b f.1

@@ -2,7 +2,7 @@
 use Rattle.asn1_model.specs.Schema.{wide_range}
 use Rattle.std.specs.Prelude.{FitsSigned, unsigned_abs, ◌+ℤ◌, ◌-ℤ◌, ◌<ℤ◌, ◌≤ℤ◌}
 use Rattle.std.specs.Int.{w128}
-use Rattle.std.proofs.Common.{◌≡◌, ℕ, ◌-◌, ◌^◌, ◌<◌, leb, not, ℤ, pos, negsuc, Bool, true, false, cond, ◌&&◌, IsTrue, inl, inr, Option, Some, None, Result, Ok, Err, IfOk, OnOk, IfErr, OnErr, [], ◌∷◌, refl, sym, ap, ◌∙◌, subst, arith}
+use Rattle.std.proofs.Common.{◌≡◌, ℕ, ◌-◌, ◌^◌, ◌<◌, leb, not, ℤ, pos, negsuc, Bool, true, false, cond, ◌&&◌, ◌⊎◌, IsTrue, inl, inr, Option, Some, None, Result, Ok, Err, IfOk, OnOk, IfErr, OnErr, [], ◌∷◌, refl, sym, ap, ◌∙◌, subst, arith}
 use Rattle.std.proofs.lemmas.Int.{ints}
 use Rattle.std.proofs.lemmas.Bool.{false≢true, leb-true, lt-ltb, and_parts, and_from}
 use Rattle.asn1_model.specs.Numbers.{above, is_at_most, is_within}
@@ -22,7 +22,8 @@ use Rattle.per_codec_fronts.proofs.Fronts.{split, join, varied_in, varied_out, g
 use Rattle.per_codec_fronts.proofs.Next.{same_fronts}
 use Rattle.per_codec_reading.specs.Fronts.{NoneStands, IsFresh, Misses}
 use Rattle.per_codec_reading.specs.Lengths.{one_bit}
-use Rattle.per_codec_reading.proofs.Fronts.{none_misses}
+use Rattle.per_codec_reading.proofs.Fronts.{or_free, free_or, none_misses}
+use Rattle.per_codec_reading.specs.Sizes.{may_be_outside}
 use Rattle.per_codec_reading_values.specs.Whole.{offset_form, is_offset, in_128_bits, behind_extension_bit, under_constraint}
 use Rattle.std.specs.Option.{option_map_or}
 
@@ -41,6 +42,10 @@ at_most_told a b h = told (b -ℤ a) refl h
 pub wide_told : (v : ℤ) → is_within wide_range v ≡ true → FitsSigned w128 v
 wide_told (pos n) h = let l : pos n ≤ℤ pos (2 ^ 127 - 1) = at_most_told (pos n) (pos (2 ^ 127 - 1)) (and_parts (is_at_most (negsuc (2 ^ 127 - 1)) (pos n)) (is_at_most (pos n) (pos (2 ^ 127 - 1))) h).1 in record { sfits = omega (arith, ints, l) }
 wide_told (negsuc n) h = let l : negsuc (2 ^ 127 - 1) ≤ℤ negsuc n = at_most_told (negsuc (2 ^ 127 - 1)) (negsuc n) (and_parts (is_at_most (negsuc (2 ^ 127 - 1)) (negsuc n)) (is_at_most (negsuc n) (pos (2 ^ 127 - 1))) h).0 in record { sfits = omega (arith, ints, l) }
+
+is_not : (b : Bool) → not b ≡ true → b ≡ false
+is_not true e = absurd (false≢true e)
+is_not false e = refl
 
 -- ---- how far a number is above a bound
 natural_some : (z : ℤ) (d : ℕ) → elim z [ pos n ↦ Some n | negsuc n ↦ None ] ≡ Some d → z ≡ pos d
@@ -228,9 +233,9 @@ module _ (free : Per.Freedom → Bool) where
     abbrev by_extension_bit : Bool → Per.BitForm
     by_extension_bit out = cond out (both (exactly (true ∷ [])) (Per.unconstrained al v)) (only_if (is_within (range_of b) v) (both (exactly (false ∷ [])) root))
 
-    extensible_in : (m out : Bool) (a mid c : Place) → m ≡ true → IsTrue (free Per.root_told_outside) → Front free (one_bit out) a mid → Front free (behind out) mid c → Front free (extensible_form m) a c
+    extensible_in : (m out : Bool) (a mid c : Place) → m ≡ true → may_be_outside (free Per.root_told_outside) out (is_within (range_of b) v) ≡ true → Front free (one_bit out) a mid → Front free (behind out) mid c → Front free (extensible_form m) a c
     unfolding Per.with_extension_bit
-    extensible_in true true a mid c e t f g = varied_in free by_extension_bit true (inr t) a c (join free _ _ a mid c f g)
+    extensible_in true true a mid c e t f g = varied_in free by_extension_bit true (elim (or_free _ _ t) [ inl z ↦ inl (sym z) | inr z ↦ inr z ]) a c (join free _ _ a mid c f g)
     extensible_in true false a mid c e t f g =
         let w = whole_within al (lower b) (upper b) v mid c g in
         varied_in free by_extension_bit false (inl (ap not (sym w))) a c (if_in free (is_within (range_of b) v) _ a c w (join free _ _ a mid c f g))
@@ -248,6 +253,16 @@ module _ (free : Per.Freedom → Bool) where
         let t = bits_same q.0 out a s.0 mid s.1 f in
         subst (λ o. Front free (behind o) mid c) t.0 (subst (λ p. Front free (behind q.0) p c) t.1 s.2)
     extensible_out false out a mid c e f g = absurd (false≢true e)
+
+    -- the extension bit of a number of the root
+    extension_bit_told : (m : Bool) (a mid c : Place) → m ≡ true → Front free (one_bit true) a mid → Front free (extensible_form m) a c → (is_within (range_of b) v ≡ false) ⊎ IsTrue (free Per.root_told_outside)
+    unfolding Per.with_extension_bit
+    extension_bit_told true a mid c e f g =
+        let q = varied_out free by_extension_bit a c g in
+        let s = split_extension_bit q.0 a c q.2 in
+        let t = bits_same q.0 true a s.0 mid s.1 f in
+        elim q.1 [ inl i ↦ inl (is_not (is_within (range_of b) v) (sym i ∙ t.0)) | inr i ↦ inr i ]
+    extension_bit_told false a mid c e f g = absurd (false≢true e)
 
     some_extension_bit : (m : Bool) (a c : Place) → m ≡ true → Front free (extensible_form m) a c → (out : Bool) × (mid : Place) × Front free (one_bit out) a mid
     unfolding Per.with_extension_bit
@@ -270,7 +285,7 @@ module _ (free : Per.Freedom → Bool) where
       let i = if_out free (is_within wide_range v) _ a b f in
       n v b (if_in free (is_within wide_range v) _ a b i.0 (plain_out al c.constraint.value v (has_additions c) a b e i.1))
 
-  pub extensible_read : (al : Bool) (c : Constrained) (out : Bool) (v : ℤ) (a mid b : Place) → has_additions c ≡ true → IsTrue (free Per.root_told_outside) → Front free (one_bit out) a mid → Front free (in_128_bits (behind_extension_bit al out c.constraint.value) v) mid b → Front free (in_128_bits (under_constraint al c) v) a b
+  pub extensible_read : (al : Bool) (c : Constrained) (out : Bool) (v : ℤ) (a mid b : Place) → has_additions c ≡ true → may_be_outside (free Per.root_told_outside) out (is_within (range_of c.constraint.value) v) ≡ true → Front free (one_bit out) a mid → Front free (in_128_bits (behind_extension_bit al out c.constraint.value) v) mid b → Front free (in_128_bits (under_constraint al c) v) a b
   extensible_read al c out v a mid b e t f g =
       let i = if_out free (is_within wide_range v) _ mid b g in
       if_in free (is_within wide_range v) _ a b i.0 (extensible_in al c.constraint.value v (has_additions c) out a mid b e t f i.1)
@@ -279,6 +294,17 @@ module _ (free : Per.Freedom → Bool) where
   extensible_missed al c out a mid e f n v b g =
       let i = if_out free (is_within wide_range v) _ a b g in
       n v b (if_in free (is_within wide_range v) _ mid b i.0 (extensible_out al c.constraint.value v (has_additions c) out a mid b e f i.1))
+
+  -- an extension bit that the reader does not accept
+  pub extensible_refused : (al : Bool) (c : Constrained) (out : Bool) (v : ℤ) (a mid b : Place) → may_be_outside (free Per.root_told_outside) out (is_within (range_of c.constraint.value) v) ≡ false → has_additions c ≡ true → Front free (one_bit out) a mid → Front free (in_128_bits (behind_extension_bit al out c.constraint.value) v) mid b → NoneStands free (in_128_bits (under_constraint al c)) a
+  extensible_refused al c false v a mid b t e f g w d h = false≢true (sym t ∙ free_or (free Per.root_told_outside) true (inl refl))
+  extensible_refused al c true v a mid b t e f g w d h =
+      let i = if_out free (is_within wide_range w) _ a d h in
+      let r = extensible_out al c.constraint.value w (has_additions c) true a mid d e f i.1 in
+      let q = (same_fronts free (unconstrained_alike free al w v) mid d b r (if_out free (is_within wide_range v) _ mid b g).1).0 in
+      let o = extension_bit_told al c.constraint.value w (has_additions c) a mid d e f i.1 in
+      let may : (not (is_within (range_of c.constraint.value) v) ≡ true) ⊎ IsTrue (free Per.root_told_outside) = elim o [ inl z ↦ inl (ap not (ap (is_within (range_of c.constraint.value)) (sym q) ∙ z)) | inr z ↦ inr z ] in
+      false≢true (sym t ∙ free_or _ _ may)
 
   pub extension_bit_missed : (al : Bool) (c : Constrained) (a : Place) → has_additions c ≡ true → NoneStands free one_bit a → NoneStands free (in_128_bits (under_constraint al c)) a
   extension_bit_missed al c a e n v b g =

@@ -3,10 +3,11 @@ ghost use Rattle.asn1_model.specs.Schema.{wide_range};
 ghost use Rattle.std.specs.Prelude.{◌≡◌, ◌+ℤ◌, pos, true, false, Some, None, IfOk, OnOk, IfErr, OnErr};
 ghost use Rattle.asn1_model.specs.Numbers.{is_within};
 ghost use Rattle.asn1_model.specs.Per as Per;
-ghost use Rattle.asn1_schema_constraints.specs.Bounds.{lower, upper};
+ghost use Rattle.asn1_schema_constraints.specs.Bounds.{lower, range_of, upper};
 ghost use Rattle.per_codec_fronts.specs.Takes.{Front};
 ghost use Rattle.per_codec_reading.specs.Fronts as fronts;
 ghost use Rattle.per_codec_reading.specs.Fronts.{freedoms, IsFresh, Misses};
+ghost use Rattle.per_codec_reading.specs.Sizes.{may_be_outside};
 ghost use Rattle.per_codec_reading_values.specs.Whole.{behind_extension_bit, in_128_bits, under_constraint};
 
 use crate::octets::{read_semi_constrained, read_unconstrained};
@@ -14,10 +15,10 @@ use asn1_schema_constraints::{Bounded, Extensible, Value};
 use asn1_schema_faults::DecodeError;
 use per_codec_reading::numbers::read_constrained;
 use per_codec_reading::units::read_bit;
-use per_codec_reading::{Cursor, Variant};
+use per_codec_reading::{Cursor, PackedRules};
 use std::alloc::Global;
 
-/// The number so far above a lower bound, if 128 bits of two's complement hold it.
+/// The number `above` a lower bound, if it fits in 128 bits of two's complement.
 #[inline(always)]
 fn number_above(low: i128, above: u128) -> Result<i128, DecodeError>
     ensures number { IfOk result (λ number. number ≡ low +ℤ pos above) }
@@ -39,62 +40,62 @@ fn number_above(low: i128, above: u128) -> Result<i128, DecodeError>
 #[inline(always)]
 fn read_between(
     cursor: &mut Cursor<'_>,
-    variant: Variant,
+    rules: PackedRules,
     low: i128,
     high: i128,
 ) -> Result<i128, DecodeError>
-    ensures ok { IfOk result (λ number. Front (freedoms variant)
-        (in_128_bits (Per.whole_number (fronts.is_aligned variant) (Some low) (Some high)) number) cursor.old
+    ensures ok { IfOk result (λ number. Front (freedoms rules)
+        (in_128_bits (Per.whole_number (fronts.is_aligned rules) (Some low) (Some high)) number) cursor.old
         cursor.new) }
-    ensures only { IfErr result (Misses (freedoms variant)
-        (in_128_bits (Per.whole_number (fronts.is_aligned variant) (Some low) (Some high))) cursor.old) }
+    ensures only { IfErr result (Misses (freedoms rules)
+        (in_128_bits (Per.whole_number (fronts.is_aligned rules) (Some low) (Some high))) cursor.old) }
 {
     if high < low {
         return Err(DecodeError::ValueConstraintNotSatisfied);
     }
-    let above = read_constrained(cursor, variant, high.abs_diff(low))?;
+    let above = read_constrained(cursor, rules, high.abs_diff(low))?;
     number_above(low, above)
 }
 
-/// Reads a number that has a lower bound alone (X.691 13.2.3).
+/// Reads a number with only a lower bound (X.691 13.2.3).
 ///
 /// # Errors
 ///
-/// `ValueConstraintNotSatisfied` if 128 bits of two's complement do not hold it, and the errors of octets behind their
-/// number.
+/// `ValueConstraintNotSatisfied` if it does not fit in 128 bits of two's complement, and the errors of
+/// [`read_semi_constrained`].
 fn read_from(
     alloc: Global,
     cursor: &mut Cursor<'_>,
-    variant: Variant,
+    rules: PackedRules,
     low: i128,
 ) -> Result<i128, DecodeError>
-    ensures ok { IfOk result (λ number. Front (freedoms variant)
-        (in_128_bits (Per.whole_number (fronts.is_aligned variant) (Some low) None) number) cursor.old cursor.new) }
-    ensures only { IfErr result (Misses (freedoms variant)
-        (in_128_bits (Per.whole_number (fronts.is_aligned variant) (Some low) None)) cursor.old) }
+    ensures ok { IfOk result (λ number. Front (freedoms rules)
+        (in_128_bits (Per.whole_number (fronts.is_aligned rules) (Some low) None) number) cursor.old cursor.new) }
+    ensures only { IfErr result (Misses (freedoms rules)
+        (in_128_bits (Per.whole_number (fronts.is_aligned rules) (Some low) None)) cursor.old) }
 {
-    let above = read_semi_constrained(alloc, cursor, variant)?;
+    let above = read_semi_constrained(alloc, cursor, rules)?;
     number_above(low, above)
 }
 
-/// Reads a number that has an upper bound alone (X.691 13.2.4).
+/// Reads a number with only an upper bound (X.691 13.2.4).
 ///
 /// # Errors
 ///
-/// `ValueConstraintNotSatisfied` if it is above that, or if 128 bits of two's complement do not hold it, and the errors
-/// of octets behind their number.
+/// `ValueConstraintNotSatisfied` if it is above the bound, or does not fit in 128 bits of two's complement, and the
+/// errors of [`read_unconstrained`].
 fn read_up_to(
     alloc: Global,
     cursor: &mut Cursor<'_>,
-    variant: Variant,
+    rules: PackedRules,
     high: i128,
 ) -> Result<i128, DecodeError>
-    ensures ok { IfOk result (λ number. Front (freedoms variant)
-        (in_128_bits (Per.whole_number (fronts.is_aligned variant) None (Some high)) number) cursor.old cursor.new) }
-    ensures only { IfErr result (Misses (freedoms variant)
-        (in_128_bits (Per.whole_number (fronts.is_aligned variant) None (Some high))) cursor.old) }
+    ensures ok { IfOk result (λ number. Front (freedoms rules)
+        (in_128_bits (Per.whole_number (fronts.is_aligned rules) None (Some high)) number) cursor.old cursor.new) }
+    ensures only { IfErr result (Misses (freedoms rules)
+        (in_128_bits (Per.whole_number (fronts.is_aligned rules) None (Some high))) cursor.old) }
 {
-    let number = read_unconstrained(alloc, cursor, variant)?;
+    let number = read_unconstrained(alloc, cursor, rules)?;
     if number > high {
         return Err(DecodeError::ValueConstraintNotSatisfied);
     }
@@ -106,71 +107,91 @@ fn read_up_to(
 fn read_root(
     alloc: Global,
     cursor: &mut Cursor<'_>,
-    variant: Variant,
+    rules: PackedRules,
     bounds: Bounded<i128>,
 ) -> Result<i128, DecodeError>
-    ensures ok { IfOk result (λ number. Front (freedoms variant)
-        (in_128_bits (Per.whole_number (fronts.is_aligned variant) (lower bounds) (upper bounds)) number) cursor.old
+    ensures ok { IfOk result (λ number. Front (freedoms rules)
+        (in_128_bits (Per.whole_number (fronts.is_aligned rules) (lower bounds) (upper bounds)) number) cursor.old
         cursor.new) }
-    ensures only { IfErr result (Misses (freedoms variant)
-        (in_128_bits (Per.whole_number (fronts.is_aligned variant) (lower bounds) (upper bounds))) cursor.old) }
+    ensures only { IfErr result (Misses (freedoms rules)
+        (in_128_bits (Per.whole_number (fronts.is_aligned rules) (lower bounds) (upper bounds))) cursor.old) }
 {
     match bounds {
-        Bounded::None => read_unconstrained(alloc, cursor, variant),
-        Bounded::Single(value) => read_between(cursor, variant, value, value),
+        Bounded::None => read_unconstrained(alloc, cursor, rules),
+        Bounded::Single(value) => read_between(cursor, rules, value, value),
         Bounded::Range { start, end } => match (start, end) {
-            (Some(low), Some(high)) => read_between(cursor, variant, low, high),
-            (Some(low), None) => read_from(alloc, cursor, variant, low),
-            (None, Some(high)) => read_up_to(alloc, cursor, variant, high),
-            (None, None) => read_unconstrained(alloc, cursor, variant),
+            (Some(low), Some(high)) => read_between(cursor, rules, low, high),
+            (Some(low), None) => read_from(alloc, cursor, rules, low),
+            (None, Some(high)) => read_up_to(alloc, cursor, rules, high),
+            (None, None) => read_unconstrained(alloc, cursor, rules),
         },
     }
 }
 
-/// Reads what stands behind an extension bit: a number of the root, or one outside of it (X.691 13.1).
+/// Reads what follows an extension bit: a number of the root, or one outside it (X.691 13.1).
 fn read_behind_extension_bit(
     alloc: Global,
     cursor: &mut Cursor<'_>,
-    variant: Variant,
+    rules: PackedRules,
     is_outside: bool,
     bounds: Bounded<i128>,
 ) -> Result<i128, DecodeError>
-    ensures ok { IfOk result (λ number. Front (freedoms variant)
-        (in_128_bits (behind_extension_bit (fronts.is_aligned variant) is_outside bounds) number)
+    ensures ok { IfOk result (λ number. Front (freedoms rules)
+        (in_128_bits (behind_extension_bit (fronts.is_aligned rules) is_outside bounds) number)
         cursor.old cursor.new) }
-    ensures only { IfErr result (Misses (freedoms variant)
-        (in_128_bits (behind_extension_bit (fronts.is_aligned variant) is_outside bounds)) cursor.old) }
+    ensures only { IfErr result (Misses (freedoms rules)
+        (in_128_bits (behind_extension_bit (fronts.is_aligned rules) is_outside bounds)) cursor.old) }
 {
     if is_outside {
-        return read_unconstrained(alloc, cursor, variant);
+        return read_unconstrained(alloc, cursor, rules);
     }
-    read_root(alloc, cursor, variant, bounds)
+    read_root(alloc, cursor, rules, bounds)
 }
 
-/// Reads a number under a value constraint (X.691 13), which is one of 128 bits: where the constraint is extensible
-/// the extension bit tells whether the bounds count, and numbers within them are also taken where they do not.
+/// Whether an extension bit is accepted for a number: in strict rules, a number within the bounds is not said to be
+/// outside them (X.691 13.1).
+#[inline(always)]
+fn is_accepted_outside(
+    rules: PackedRules,
+    bounds: Bounded<i128>,
+    is_outside: bool,
+    number: i128,
+) -> bool
+    ensures { result ≡ may_be_outside (freedoms rules Per.root_told_outside) is_outside
+        (is_within (range_of bounds) number) }
+{
+    !is_outside || !rules.is_strict() || !bounds.contains(&number)
+}
+
+/// Reads a number of 128 bits under a value constraint (X.691 13). If the constraint is extensible, the extension bit
+/// says whether the bounds apply; numbers within them are accepted in either case if the rules are not strict.
 ///
 /// # Errors
 ///
-/// `Incomplete` if the bits end early, `ZeroLengthOfLength` if the number has no octets, `ValueConstraintNotSatisfied`
-/// if it is outside the bounds, or if 128 bits of two's complement do not hold it, the errors of a length, and
+/// `Incomplete` if the bits end early, `ZeroLengthOfLength` if the number has no octets,
+/// `ValueConstraintNotSatisfied` if it is outside the bounds, or does not fit in 128 bits of two's complement,
+/// `NotValidCanonicalEncoding` if another form is canonical, in strict rules, the errors of a length determinant, and
 /// `OutOfMemory`.
 #[inline(always)]
 pub fn read_bounded(
     alloc: Global,
     cursor: &mut Cursor<'_>,
-    variant: Variant,
+    rules: PackedRules,
     constraint: Extensible<'_, Value>,
 ) -> Result<i128, DecodeError>
-    ensures ok { IfOk result (λ number. Front (freedoms variant)
-        (in_128_bits (under_constraint (fronts.is_aligned variant) constraint.entry) number) cursor.old cursor.new) }
-    ensures only { IfErr result (Misses (freedoms variant)
-        (in_128_bits (under_constraint (fronts.is_aligned variant) constraint.entry)) cursor.old) }
+    ensures ok { IfOk result (λ number. Front (freedoms rules)
+        (in_128_bits (under_constraint (fronts.is_aligned rules) constraint.entry) number) cursor.old cursor.new) }
+    ensures only { IfErr result (Misses (freedoms rules)
+        (in_128_bits (under_constraint (fronts.is_aligned rules) constraint.entry)) cursor.old) }
 {
     let bounds = constraint.constraint.value;
     if constraint.extensible.is_none() {
-        return read_root(alloc, cursor, variant, bounds);
+        return read_root(alloc, cursor, rules, bounds);
     }
-    let is_outside = read_bit(cursor, variant)?;
-    read_behind_extension_bit(alloc, cursor, variant, is_outside, bounds)
+    let is_outside = read_bit(cursor, rules)?;
+    let number = read_behind_extension_bit(alloc, cursor, rules, is_outside, bounds)?;
+    if !is_accepted_outside(rules, bounds, is_outside, number) {
+        return Err(DecodeError::NotValidCanonicalEncoding);
+    }
+    Ok(number)
 }

@@ -1,5 +1,6 @@
 //! Bits that are taken as a whole: presence bits, bitmaps, and the octets of open types.
-ghost use Rattle.std.specs.Prelude.{◌≡◌, ◌%◌, length, IfOk, IfErr};
+ghost use Rattle.std.specs.Prelude.{◌≡◌, ◌%◌, ◌||◌, not, length, IfOk, IfErr};
+ghost use Rattle.asn1_model.specs.Per as Per;
 ghost use Rattle.per_codec_fronts.specs.Takes.{Front};
 ghost use Rattle.per_codec_reading.specs.Fronts as fronts;
 ghost use Rattle.per_codec_reading.specs.Fronts.{freedoms, Misses};
@@ -9,94 +10,106 @@ ghost use Rattle.per_codec_reading_values.specs.Fields.{field_form, few_form, bi
 use asn1_schema_faults::DecodeError;
 use per_codec_reading::numbers::read_number_within;
 use per_codec_reading::units::read_bit;
-use per_codec_reading::{Cursor, RunBits, Variant, read_counted};
+use per_codec_reading::{Cursor, PackedRules, RunBits, read_counted};
 use std::alloc::Global;
 
-/// What is taken as a whole.
+/// A field that is taken as a whole.
 #[derive(Clone, Copy, Debug, PartialEq, Eq)]
 pub enum Field {
-    /// So many bits, such as the presence bits of a preamble (X.691 19.2).
+    /// A number of bits, such as the presence bits of a preamble (X.691 19.2).
     Bits(usize),
-    /// A bitmap behind its normally small length (X.691 19.7 and 19.8).
+    /// A bitmap after its normally small length (X.691 19.7 and 19.8).
     Bitmap,
 }
 
-/// Takes so many bits.
+/// Takes `count` bits.
 #[inline(always)]
 fn read_bits<'input>(
     cursor: &mut Cursor<'input>,
-    variant: Variant,
+    rules: PackedRules,
     count: usize,
 ) -> Result<RunBits<'input>, DecodeError>
-    ensures ok { IfOk result (λ bits. Front (freedoms variant) (bits_form count (bits_in bits)) cursor.old cursor.new) }
-    ensures only { IfErr result (Misses (freedoms variant) (bits_form count) cursor.old) }
+    ensures ok { IfOk result (λ bits. Front (freedoms rules) (bits_form count (bits_in bits)) cursor.old cursor.new) }
+    ensures only { IfErr result (Misses (freedoms rules) (bits_form count) cursor.old) }
 {
     let bits = cursor.take(count)?;
     Ok(RunBits::Lent(bits))
 }
 
-/// Reads bits behind a normally small length (X.691 11.9.3.4): up to 64 of them behind six bits, or any number behind a
-/// general length.
+/// Whether a number of bits after a general length determinant is accepted: in strict rules only if it has no form in
+/// six bits (X.691 11.9.3.4).
+#[inline(always)]
+fn is_accepted(rules: PackedRules, count: usize) -> bool
+    ensures { result ≡ (freedoms rules Per.long_small_number || not (Per.is_from_1_to_64 count)) }
+{
+    !rules.is_strict() || !(1 <= count && count <= 64)
+}
+
+/// Reads bits after a normally small length (X.691 11.9.3.4): up to 64 bits after a length of six bits, or any number
+/// after a general length determinant.
 #[inline(always)]
 fn read_bitmap<'input>(
     alloc: Global,
     cursor: &mut Cursor<'input>,
-    variant: Variant,
+    rules: PackedRules,
 ) -> Result<RunBits<'input>, DecodeError>
-    ensures ok { IfOk result (λ bits. Front (freedoms variant)
-        (few_form (fronts.is_aligned variant) (bits_in bits)) cursor.old cursor.new) }
-    ensures only { IfErr result (Misses (freedoms variant) (few_form (fronts.is_aligned variant)) cursor.old) }
+    ensures ok { IfOk result (λ bits. Front (freedoms rules)
+        (few_form (fronts.is_aligned rules) (bits_in bits)) cursor.old cursor.new) }
+    ensures only { IfErr result (Misses (freedoms rules) (few_form (fronts.is_aligned rules)) cursor.old) }
 {
-    let is_long = read_bit(cursor, variant)?;
+    let is_long = read_bit(cursor, rules)?;
     if is_long {
-        let run = read_counted(alloc, cursor, variant, 1)?;
+        let run = read_counted(alloc, cursor, rules, 1)?;
+        if !is_accepted(rules, run.count) {
+            return Err(DecodeError::NotValidCanonicalEncoding);
+        }
         return Ok(run.bits);
     }
-    let further = read_number_within(cursor, variant, 6, 63)?;
+    let further = read_number_within(cursor, rules, 6, 63)?;
     let bits = cursor.take(further as usize + 1)?;
     Ok(RunBits::Lent(bits))
 }
 
-/// Reads the octets of an open type behind their number (X.691 11.2). Those in one run are lent.
+/// Reads the octets of an open type after their length determinant (X.691 11.2). Those in one run are borrowed.
 ///
 /// # Errors
 ///
-/// `Incomplete` if the bits end early, the errors of a length, and `OutOfMemory`.
+/// `Incomplete` if the bits end early, the errors of a length determinant, and `OutOfMemory`.
 #[inline(always)]
 pub(crate) fn read_octets<'input>(
     alloc: Global,
     cursor: &mut Cursor<'input>,
-    variant: Variant,
+    rules: PackedRules,
 ) -> Result<RunBits<'input>, DecodeError>
-    ensures ok { IfOk result (λ bits. Front (freedoms variant)
-        (octets_form (fronts.is_aligned variant) (bits_in bits)) cursor.old cursor.new) }
+    ensures ok { IfOk result (λ bits. Front (freedoms rules)
+        (octets_form (fronts.is_aligned rules) (bits_in bits)) cursor.old cursor.new) }
     ensures whole { IfOk result (λ bits. length (bits_in bits) % 8 ≡ 0) }
     ensures lent { IfOk result LentInOneRun }
     ensures last { IfOk result (λ bits. EndsWithLent bits cursor.old cursor.new) }
-    ensures only { IfErr result (Misses (freedoms variant) (octets_form (fronts.is_aligned variant)) cursor.old) }
+    ensures only { IfErr result (Misses (freedoms rules) (octets_form (fronts.is_aligned rules)) cursor.old) }
 {
-    let run = read_counted(alloc, cursor, variant, 8)?;
+    let run = read_counted(alloc, cursor, rules, 8)?;
     Ok(run.bits)
 }
 
-/// Takes bits as a whole. What stands in one piece is lent.
+/// Takes a field of bits. Those in one piece are borrowed.
 ///
 /// # Errors
 ///
-/// `Incomplete` if the bits end early, the errors of a length, and `OutOfMemory`.
+/// `Incomplete` if the bits end early, the errors of a length determinant, and `OutOfMemory`.
 #[inline(always)]
 pub(crate) fn read_field<'input>(
     alloc: Global,
     cursor: &mut Cursor<'input>,
-    variant: Variant,
+    rules: PackedRules,
     field: Field,
 ) -> Result<RunBits<'input>, DecodeError>
-    ensures ok { IfOk result (λ bits. Front (freedoms variant)
-        (field_form (fronts.is_aligned variant) field (bits_in bits)) cursor.old cursor.new) }
-    ensures only { IfErr result (Misses (freedoms variant) (field_form (fronts.is_aligned variant) field) cursor.old) }
+    ensures ok { IfOk result (λ bits. Front (freedoms rules)
+        (field_form (fronts.is_aligned rules) field (bits_in bits)) cursor.old cursor.new) }
+    ensures only { IfErr result (Misses (freedoms rules) (field_form (fronts.is_aligned rules) field) cursor.old) }
 {
     match field {
-        Field::Bits(count) => read_bits(cursor, variant, count),
-        Field::Bitmap => read_bitmap(alloc, cursor, variant),
+        Field::Bits(count) => read_bits(cursor, rules, count),
+        Field::Bitmap => read_bitmap(alloc, cursor, rules),
     }
 }

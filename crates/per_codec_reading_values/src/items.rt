@@ -12,10 +12,10 @@ ghost use Rattle.per_codec_reading.specs.Fronts.{freedoms, Misses};
 use crate::places::read_place_of_item;
 use asn1_schema_faults::DecodeError;
 use asn1_schema_variants::{Chosen, Enumerated};
-use per_codec_reading::{Cursor, Variant};
+use per_codec_reading::{Cursor, PackedRules};
 use std::alloc::Global;
 
-/// The item at a place, if there is one.
+/// The item with an enumeration index, if there is one.
 fn item_at<T: Enumerated>(chosen: Chosen) -> Option<T>
     ensures some { IfSome result (λ x. IsPlaced T.roots T.extensible T.additions
         (T.number x) chosen.added chosen.place) }
@@ -27,27 +27,28 @@ fn item_at<T: Enumerated>(chosen: Chosen) -> Option<T>
     T::from_enumeration_index(chosen.place)
 }
 
-/// Reads an item of an enumeration (X.691 14): the place of a root item, or that of an added one behind the extension
+/// Reads an ENUMERATED (X.691 14): the enumeration index in the root, or that of an addition, after the extension
 /// bit.
 ///
 /// # Errors
 ///
-/// `DiscriminantValueNotFound` if there is no item at the place, and the errors of a number.
+/// `DiscriminantValueNotFound` if no item has the index, and the errors of a constrained whole number and of a
+/// normally small number.
 pub fn read_item<T: Enumerated>(
     alloc: Global,
     cursor: &mut Cursor<'_>,
-    variant: Variant,
+    rules: PackedRules,
 ) -> Result<T, DecodeError>
-    ensures ok { IfOk result (λ x. Front (freedoms variant)
-        (Per.form (fronts.is_aligned variant) (Asn1.enumerated T.roots T.extensible T.additions)
+    ensures ok { IfOk result (λ x. Front (freedoms rules)
+        (Per.form (fronts.is_aligned rules) (Asn1.enumerated T.roots T.extensible T.additions)
         (Asn1Value.item (T.number x))) cursor.old cursor.new) }
-    ensures only { IfErr result (Misses (freedoms variant)
-        (Per.form (fronts.is_aligned variant) (Asn1.enumerated T.roots T.extensible T.additions)) cursor.old) }
+    ensures only { IfErr result (Misses (freedoms rules)
+        (Per.form (fronts.is_aligned rules) (Asn1.enumerated T.roots T.extensible T.additions)) cursor.old) }
 {
     let extensible = T::extended_variants().is_some();
     let roots = T::variance();
     let others = T::extended_variance();
-    let chosen = read_place_of_item(alloc, cursor, variant, roots, extensible, others)?;
+    let chosen = read_place_of_item(alloc, cursor, rules, roots, extensible, others)?;
     match item_at(chosen) {
         Some(item) => Ok(item),
         None => Err(DecodeError::DiscriminantValueNotFound),

@@ -1,4 +1,4 @@
-//! The places of items and of alternatives (X.691 14 and 23).
+//! Enumeration and choice indices (X.691 14 and 23).
 ghost use Rattle.std.specs.Prelude.{IfOk, IfErr};
 ghost use Rattle.asn1_model.specs.Per as Per;
 ghost use Rattle.per_codec_fronts.specs.Takes.{Front};
@@ -11,97 +11,103 @@ use asn1_schema_faults::DecodeError;
 use asn1_schema_variants::Chosen;
 use per_codec_reading::numbers::read_constrained;
 use per_codec_reading::units::read_extension_bit;
-use per_codec_reading::{Cursor, Variant};
+use per_codec_reading::{Cursor, PackedRules};
 use std::alloc::Global;
 
-/// The place of one of so many in the root: a constrained whole number.
+/// An index below `count` in the root: a constrained whole number.
 ///
 /// # Errors
 ///
-/// `ValueConstraintNotSatisfied` if there is none at the place, and the errors of a number.
+/// `ValueConstraintNotSatisfied` if it is not below `count`, and the errors of a constrained whole number.
 #[inline(always)]
-fn read_root(cursor: &mut Cursor<'_>, variant: Variant, count: usize) -> Result<usize, DecodeError>
-    ensures ok { IfOk result (λ place. Front (freedoms variant)
-        (root_form (fronts.is_aligned variant) count place) cursor.old cursor.new) }
-    ensures only { IfErr result (Misses (freedoms variant) (root_form (fronts.is_aligned variant) count) cursor.old) }
+fn read_root(
+    cursor: &mut Cursor<'_>,
+    rules: PackedRules,
+    count: usize,
+) -> Result<usize, DecodeError>
+    ensures ok { IfOk result (λ place. Front (freedoms rules)
+        (root_form (fronts.is_aligned rules) count place) cursor.old cursor.new) }
+    ensures only { IfErr result (Misses (freedoms rules) (root_form (fronts.is_aligned rules) count) cursor.old) }
 {
     if count == 0 {
         return Err(DecodeError::ValueConstraintNotSatisfied);
     }
-    let place = read_constrained(cursor, variant, (count - 1) as u128)?;
+    let place = read_constrained(cursor, rules, (count - 1) as u128)?;
     Ok(place as usize)
 }
 
-/// The place of one of so many added ones: a normally small number.
+/// An index below `count` among the additions: a normally small number.
 ///
 /// # Errors
 ///
-/// `ValueConstraintNotSatisfied` if there is none at the place, and the errors of a number.
+/// `ValueConstraintNotSatisfied` if it is not below `count`, and the errors of a normally small number.
 fn read_added(
     alloc: Global,
     cursor: &mut Cursor<'_>,
-    variant: Variant,
+    rules: PackedRules,
     count: usize,
 ) -> Result<usize, DecodeError>
-    ensures ok { IfOk result (λ place. Front (freedoms variant)
-        (added_form (fronts.is_aligned variant) count place) cursor.old cursor.new) }
-    ensures only { IfErr result (Misses (freedoms variant) (added_form (fronts.is_aligned variant) count) cursor.old) }
+    ensures ok { IfOk result (λ place. Front (freedoms rules)
+        (added_form (fronts.is_aligned rules) count place) cursor.old cursor.new) }
+    ensures only { IfErr result (Misses (freedoms rules) (added_form (fronts.is_aligned rules) count) cursor.old) }
 {
-    let place = read_normally_small(alloc, cursor, variant)?;
+    let place = read_normally_small(alloc, cursor, rules)?;
     if place >= count as u128 {
         return Err(DecodeError::ValueConstraintNotSatisfied);
     }
     Ok(place as usize)
 }
 
-/// Reads the place of an item or alternative, of which there are so many in the root and so many behind the extension
-/// marker, if the type has that (X.691 14 and 23).
+/// Reads an enumeration or choice index (X.691 14 and 23): below `roots` in the root, or below `others` among the
+/// additions, if the type is extensible.
 ///
 /// # Errors
 ///
-/// `ValueConstraintNotSatisfied` if there is none at the place, and the errors of a number.
+/// `ValueConstraintNotSatisfied` if the index is out of range, and the errors of a constrained whole number and of a
+/// normally small number.
 #[inline(always)]
 fn read_place(
     alloc: Global,
     cursor: &mut Cursor<'_>,
-    variant: Variant,
+    rules: PackedRules,
     roots: usize,
     extensible: bool,
     others: usize,
 ) -> Result<Chosen, DecodeError>
-    ensures ok { IfOk result (λ place. Front (freedoms variant)
-        (place_form (fronts.is_aligned variant) roots extensible others place) cursor.old cursor.new) }
-    ensures only { IfErr result (Misses (freedoms variant)
-        (place_form (fronts.is_aligned variant) roots extensible others) cursor.old) }
+    ensures ok { IfOk result (λ place. Front (freedoms rules)
+        (place_form (fronts.is_aligned rules) roots extensible others place) cursor.old cursor.new) }
+    ensures only { IfErr result (Misses (freedoms rules)
+        (place_form (fronts.is_aligned rules) roots extensible others) cursor.old) }
 {
-    let is_added = read_extension_bit(cursor, variant, extensible)?;
+    let is_added = read_extension_bit(cursor, rules, extensible)?;
     if is_added {
-        let place = read_added(alloc, cursor, variant, others)?;
+        let place = read_added(alloc, cursor, rules, others)?;
         return Ok(Chosen::addition(place));
     }
-    let place = read_root(cursor, variant, roots)?;
+    let place = read_root(cursor, rules, roots)?;
     Ok(Chosen::root(place))
 }
 
-/// Reads the place of an item of an enumeration (X.691 14).
+/// Reads an enumeration index (X.691 14).
 ///
 /// # Errors
 ///
-/// `DiscriminantValueNotFound` if the type has no item at the place, and the errors of a number.
+/// `DiscriminantValueNotFound` if the type has no item with the index, and the errors of a constrained whole number
+/// and of a normally small number.
 pub(crate) fn read_place_of_item(
     alloc: Global,
     cursor: &mut Cursor<'_>,
-    variant: Variant,
+    rules: PackedRules,
     roots: usize,
     extensible: bool,
     others: usize,
 ) -> Result<Chosen, DecodeError>
-    ensures ok { IfOk result (λ place. Front (freedoms variant)
-        (place_form (fronts.is_aligned variant) roots extensible others place) cursor.old cursor.new) }
-    ensures only { IfErr result (Misses (freedoms variant)
-        (place_form (fronts.is_aligned variant) roots extensible others) cursor.old) }
+    ensures ok { IfOk result (λ place. Front (freedoms rules)
+        (place_form (fronts.is_aligned rules) roots extensible others place) cursor.old cursor.new) }
+    ensures only { IfErr result (Misses (freedoms rules)
+        (place_form (fronts.is_aligned rules) roots extensible others) cursor.old) }
 {
-    match read_place(alloc, cursor, variant, roots, extensible, others) {
+    match read_place(alloc, cursor, rules, roots, extensible, others) {
         Err(DecodeError::ValueConstraintNotSatisfied) => {
             Err(DecodeError::DiscriminantValueNotFound)
         }
@@ -109,26 +115,27 @@ pub(crate) fn read_place_of_item(
     }
 }
 
-/// Reads the place of an alternative of a choice (X.691 23).
+/// Reads a choice index (X.691 23).
 ///
 /// # Errors
 ///
-/// `InvalidTagVariantOnChoice` if the type has no alternative at the place, and the errors of a number.
+/// `InvalidTagVariantOnChoice` if the type has no alternative with the index, and the errors of a constrained whole
+/// number and of a normally small number.
 #[inline(always)]
 pub fn read_place_of_alternative(
     alloc: Global,
     cursor: &mut Cursor<'_>,
-    variant: Variant,
+    rules: PackedRules,
     roots: usize,
     extensible: bool,
     others: usize,
 ) -> Result<Chosen, DecodeError>
-    ensures ok { IfOk result (λ place. Front (freedoms variant)
-        (place_form (fronts.is_aligned variant) roots extensible others place) cursor.old cursor.new) }
-    ensures only { IfErr result (Misses (freedoms variant)
-        (place_form (fronts.is_aligned variant) roots extensible others) cursor.old) }
+    ensures ok { IfOk result (λ place. Front (freedoms rules)
+        (place_form (fronts.is_aligned rules) roots extensible others place) cursor.old cursor.new) }
+    ensures only { IfErr result (Misses (freedoms rules)
+        (place_form (fronts.is_aligned rules) roots extensible others) cursor.old) }
 {
-    match read_place(alloc, cursor, variant, roots, extensible, others) {
+    match read_place(alloc, cursor, rules, roots, extensible, others) {
         Err(DecodeError::ValueConstraintNotSatisfied) => {
             Err(DecodeError::InvalidTagVariantOnChoice)
         }

@@ -1,4 +1,4 @@
-//! Unknown additions, which are passed over by their lengths (X.691 19.8 and 19.9).
+//! Unknown additions, skipped by their length determinants (X.691 19.8 and 19.9).
 ghost use Rattle.std.specs.Prelude.{IfOk, OnOk, IfErr};
 ghost use Rattle.per_codec_fronts.specs.Takes.{Front, Skips};
 ghost use Rattle.per_codec_reading.specs.Fronts as fronts;
@@ -9,52 +9,59 @@ ghost use Rattle.per_codec_reading_values.specs.Fields.{HasPiece, HasUnits, NoSk
 use crate::stretches::Stretch;
 use asn1_schema_faults::DecodeError;
 use per_codec_reading::lengths::{Length, read_length};
-use per_codec_reading::{Cursor, Variant};
+use per_codec_reading::{Cursor, PackedRules};
 
-/// Passes over a length, and as many octets behind it.
-fn skip_piece(cursor: &mut Cursor<'_>, variant: Variant) -> Result<Length, DecodeError>
-    ensures ok { IfOk result (λ length. HasPiece (freedoms variant)
-        (fronts.is_aligned variant) length cursor.old cursor.new) }
-    ensures only { IfErr result (Misses (freedoms variant) (piece_form (fronts.is_aligned variant) 8) cursor.old) }
+/// Skips a length determinant and its octets.
+fn skip_piece(cursor: &mut Cursor<'_>, rules: PackedRules) -> Result<Length, DecodeError>
+    ensures ok { IfOk result (λ length. HasPiece (freedoms rules)
+        (fronts.is_aligned rules) length cursor.old cursor.new) }
+    ensures only { IfErr result (Misses (freedoms rules) (piece_form (fronts.is_aligned rules) 8) cursor.old) }
 {
-    let length = read_length(cursor, variant)?;
+    let length = read_length(cursor, rules)?;
     let _octets = cursor.take(length.count() * 8)?;
     Ok(length)
 }
 
-/// Passes over octets behind their number, in one piece or in fragments (X.691 11.9). No memory is taken.
-fn skip_octets(cursor: &mut Cursor<'_>, variant: Variant) -> Result<(), DecodeError>
-    ensures ok { OnOk result (HasUnits (freedoms variant) (fronts.is_aligned variant) cursor.old cursor.new) }
-    ensures only { IfErr result (Misses (freedoms variant) (counted_units (fronts.is_aligned variant) 8) cursor.old) }
+/// Skips octets after a length determinant, in one piece or in fragments (X.691 11.9). It does not allocate.
+fn skip_octets(cursor: &mut Cursor<'_>, rules: PackedRules) -> Result<(), DecodeError>
+    ensures ok { OnOk result (HasUnits (freedoms rules) (fronts.is_aligned rules) cursor.old cursor.new) }
+    ensures only { IfErr result (Misses (freedoms rules) (counted_units (fronts.is_aligned rules) 8) cursor.old) }
 {
+    // Any fragment may be the first, as after one of 65536 octets.
+    let mut last = 4;
     'fragments: loop {
-        let length = skip_piece(cursor, variant)?;
-        if let Length::Short(_) = length {
-            return Ok(());
+        let length = skip_piece(cursor, rules)?;
+        if !length.may_follow(rules, last) {
+            return Err(DecodeError::NotValidCanonicalEncoding);
+        }
+        match length {
+            Length::Short(_) => return Ok(()),
+            Length::Fragment(multiple) => last = multiple,
         }
     }
 }
 
-/// Passes over unknown additions by their lengths, as the presence bits tell which are there (X.691 19.8). No memory is
-/// taken.
+/// Skips the unknown additions whose presence bits are set, by their length determinants (X.691 19.8). It does not
+/// allocate.
 ///
 /// # Errors
 ///
-/// `Incomplete` if the bits end early, and the errors of a length.
+/// `Incomplete` if the bits end early, `NotValidCanonicalEncoding` if the largest fragments are not first, in strict
+/// rules, and the errors of a length determinant.
 pub fn skip_unknown(
     cursor: &mut Cursor<'_>,
-    variant: Variant,
+    rules: PackedRules,
     mut presence_bits: Stretch<'_>,
 ) -> Result<(), DecodeError>
-    ensures ok { OnOk result (Skips (fronts.is_aligned variant)
-        (freedoms variant) presence_bits.entry.place.1 cursor.old cursor.new) }
-    ensures only { IfErr result (NoSkip (freedoms variant) (fronts.is_aligned variant)
+    ensures ok { OnOk result (Skips (fronts.is_aligned rules)
+        (freedoms rules) presence_bits.entry.place.1 cursor.old cursor.new) }
+    ensures only { IfErr result (NoSkip (freedoms rules) (fronts.is_aligned rules)
         presence_bits.entry.place.1 cursor.old) }
     ensures fresh { IfErr result IsFresh }
 {
     while let Some(is_there) = presence_bits.next_bit() {
         if is_there {
-            skip_octets(cursor, variant)?;
+            skip_octets(cursor, rules)?;
         }
     }
     Ok(())

@@ -1,6 +1,6 @@
-//! A stretch of bits, and how far it is read.
+//! A range of bits with a read position.
 ghost use Rattle.std.specs.Prelude.{◌≡◌, ◌≤◌, ◌<◌, ◌+◌, ◌-◌, ◌^◌, ◌∷◌, [], length, take, drop, Some, None, IsTrue, ◌↔◌};
-ghost use Rattle.std.specs.Prelude.{OnOk, IfOk, IfErr, IfSome, IfNone};
+ghost use Rattle.std.specs.Prelude.{OnOk, OnErr, IfOk, IfErr, IfSome, IfNone};
 ghost use Rattle.std.specs.Cow.{cow_slice_items, IsBorrowedSlice};
 ghost use Rattle.asn1_model.specs.Numbers.{octet_bits};
 ghost use Rattle.asn1_model.specs.Per as Per;
@@ -22,12 +22,13 @@ use crate::octet_strings::take_octet_string;
 use asn1_schema_constraints::{Bounded, Sizes};
 use asn1_schema_faults::{DecodeError, MOST_OCTETS};
 use asn1_values_bits::{BitBuffer, BitStr};
-use per_codec_reading::{Cursor, RunBits, Variant};
+use per_codec_reading::{Cursor, PackedRules, RunBits};
 use std::alloc::{AllocError, Global};
 use std::borrow::CowSlice;
 use std::marker::Model;
 
-/// The bits of a message or of an open type, presence bits or a bitmap, lent or held, and how many of them are read.
+/// The bits of a message or open type, presence bits or a bitmap, borrowed or owned, and the number of them that have
+/// been read.
 #[derive(Drop)]
 pub struct Stretch<'input> {
     bits: RunBits<'input>,
@@ -51,7 +52,7 @@ impl<'input> Model for Stretch<'input> {
         × (stretch.count ≡ length (bits_in stretch.bits)) };
 }
 
-/// The bits, lent by what holds them.
+/// The bits, borrowed from their owner.
 #[inline(always)]
 fn lent<'a>(bits: &'a RunBits<'_>) -> BitStr<'a>
     ensures { bit_strs.bits_of result ≡ bits_in bits.now }
@@ -62,7 +63,7 @@ fn lent<'a>(bits: &'a RunBits<'_>) -> BitStr<'a>
     }
 }
 
-/// The bits, held.
+/// The bits, owned.
 fn held(alloc: Global, bits: RunBits<'_>) -> Result<BitBuffer, AllocError>
     ensures { IfOk result (λ buffer. buffer ≡ bits_in bits.entry) }
 {
@@ -76,109 +77,110 @@ fn held(alloc: Global, bits: RunBits<'_>) -> Result<BitBuffer, AllocError>
     }
 }
 
-/// Takes bits as a whole behind so many of the bits, and tells the position behind them. They are lent where the bits
-/// are, and held where those are.
+/// Takes a field at a position of the bits. Returns it with the position after it. It is borrowed if the bits are,
+/// and owned if they are owned.
 #[inline(always)]
 fn take_field<'input>(
     alloc: Global,
     bits: &RunBits<'input>,
     position: usize,
-    variant: Variant,
+    rules: PackedRules,
     field: Field,
 ) -> Result<(RunBits<'input>, usize), DecodeError>
     requires { position ≤ length (bits_in bits.now) }
-    ensures ok { IfOk result (λ taken. EndsAt (freedoms variant)
-        (field_form (fronts.is_aligned variant) field (bits_in taken.0))
+    ensures ok { IfOk result (λ taken. EndsAt (freedoms rules)
+        (field_form (fronts.is_aligned rules) field (bits_in taken.0))
         (position, drop position (bits_in bits.now)) taken.1) }
-    ensures only { IfErr result (Misses (freedoms variant) (field_form (fronts.is_aligned variant) field)
+    ensures only { IfErr result (Misses (freedoms rules) (field_form (fronts.is_aligned rules) field)
         (position, drop position (bits_in bits.now))) }
 {
     match bits {
         RunBits::Lent(bits) => {
             let mut cursor = Cursor::behind(*bits, position);
-            let taken = read_field(alloc, &mut cursor, variant, field)?;
+            let taken = read_field(alloc, &mut cursor, rules, field)?;
             Ok((taken, cursor.position()))
         }
         RunBits::Joined(bits) => {
             let mut cursor = Cursor::behind(bits.as_bitslice(), position);
-            let taken = read_field(alloc, &mut cursor, variant, field)?;
+            let taken = read_field(alloc, &mut cursor, rules, field)?;
             let buffer = held(alloc, taken)?;
             Ok((RunBits::Joined(buffer), cursor.position()))
         }
     }
 }
 
-/// Takes octets behind their number, behind so many lent bits, and tells the position behind them. In one run the same
-/// octets lend them.
+/// Takes octets after a length determinant, at a position of borrowed bits. Returns them with the position after
+/// them. In one run they are borrowed from the same octets.
 #[inline(always)]
 fn take_lent_octets<'input>(
     alloc: Global,
     bits: BitStr<'input>,
     position: usize,
-    variant: Variant,
+    rules: PackedRules,
 ) -> Result<(RunBits<'input>, usize), DecodeError>
     requires { position ≤ length (bit_strs.bits_of bits) }
-    ensures ok { IfOk result (λ taken. EndsAt (freedoms variant)
-        (octets_form (fronts.is_aligned variant) (bits_in taken.0))
+    ensures ok { IfOk result (λ taken. EndsAt (freedoms rules)
+        (octets_form (fronts.is_aligned rules) (bits_in taken.0))
         (position, drop position (bit_strs.bits_of bits.entry)) taken.1) }
     ensures storage { IfOk result (λ taken. storage_of taken.0 ≡ storage_inside (Some (bit_strs.offset_of bits.entry))
         (length (bits_in taken.0)) taken.1) }
-    ensures only { IfErr result (Misses (freedoms variant) (octets_form (fronts.is_aligned variant))
+    ensures only { IfErr result (Misses (freedoms rules) (octets_form (fronts.is_aligned rules))
         (position, drop position (bit_strs.bits_of bits.entry))) }
 {
     let mut cursor = Cursor::behind(bits, position);
-    let octets = read_octets(alloc, &mut cursor, variant)?;
+    let octets = read_octets(alloc, &mut cursor, rules)?;
     let end = cursor.position();
     Ok((lent_by(bits, end, octets), end))
 }
 
-/// Takes octets behind their number, behind so many held bits, and tells the position behind them. They are held.
+/// Takes octets after a length determinant, at a position of owned bits. Returns them, owned, with the position after
+/// them.
 fn take_held_octets(
     alloc: Global,
     bits: &BitBuffer,
     position: usize,
-    variant: Variant,
+    rules: PackedRules,
 ) -> Result<(BitBuffer, usize), DecodeError>
     requires { position ≤ length bits.now }
-    ensures ok { IfOk result (λ taken. EndsAt (freedoms variant) (octets_form (fronts.is_aligned variant) taken.0)
+    ensures ok { IfOk result (λ taken. EndsAt (freedoms rules) (octets_form (fronts.is_aligned rules) taken.0)
         (position, drop position bits.now) taken.1) }
-    ensures only { IfErr result (Misses (freedoms variant) (octets_form (fronts.is_aligned variant))
+    ensures only { IfErr result (Misses (freedoms rules) (octets_form (fronts.is_aligned rules))
         (position, drop position bits.now)) }
 {
     let mut cursor = Cursor::behind(bits.as_bitslice(), position);
-    let octets = read_octets(alloc, &mut cursor, variant)?;
+    let octets = read_octets(alloc, &mut cursor, rules)?;
     let buffer = held(alloc, octets)?;
     Ok((buffer, cursor.position()))
 }
 
-/// Takes octets behind their number, behind so many of the bits, and tells the position behind them.
+/// Takes octets after a length determinant, at a position of the bits. Returns them with the position after them.
 #[inline(always)]
 fn take_octets<'input>(
     alloc: Global,
     bits: &RunBits<'input>,
     position: usize,
-    variant: Variant,
+    rules: PackedRules,
 ) -> Result<(RunBits<'input>, usize), DecodeError>
     requires { position ≤ length (bits_in bits.now) }
-    ensures ok { IfOk result (λ taken. EndsAt (freedoms variant)
-        (octets_form (fronts.is_aligned variant) (bits_in taken.0))
+    ensures ok { IfOk result (λ taken. EndsAt (freedoms rules)
+        (octets_form (fronts.is_aligned rules) (bits_in taken.0))
         (position, drop position (bits_in bits.now)) taken.1) }
     ensures storage { IfOk result (λ taken. storage_of taken.0 ≡ storage_inside (storage_of bits.now)
         (length (bits_in taken.0)) taken.1) }
-    ensures only { IfErr result (Misses (freedoms variant) (octets_form (fronts.is_aligned variant))
+    ensures only { IfErr result (Misses (freedoms rules) (octets_form (fronts.is_aligned rules))
         (position, drop position (bits_in bits.now))) }
 {
     match bits {
-        RunBits::Lent(bits) => take_lent_octets(alloc, *bits, position, variant),
+        RunBits::Lent(bits) => take_lent_octets(alloc, *bits, position, rules),
         RunBits::Joined(bits) => {
-            let (buffer, end) = take_held_octets(alloc, bits, position, variant)?;
+            let (buffer, end) = take_held_octets(alloc, bits, position, rules)?;
             Ok((RunBits::Joined(buffer), end))
         }
     }
 }
 
 impl<'input> Stretch<'input> {
-    /// Before these bits.
+    /// At the start of these bits.
     #[inline(always)]
     pub fn new(bits: RunBits<'input>) -> Self
         ensures { result ≡ record { place = (0, bits_in bits.entry); storage = storage_of bits.entry } }
@@ -191,7 +193,7 @@ impl<'input> Stretch<'input> {
         }
     }
 
-    /// Before these octets: an encoding has fewer than 2^60, and of more of them the first 2^60 - 1 alone are read.
+    /// At the start of these octets. An encoding has fewer than 2^60 octets, so only the first 2^60 - 1 are read.
     #[inline(always)]
     pub fn from_octets(input: &'input [u8]) -> Self
         ensures place { result.place ≡ (0, octet_bits (take (2 ^ 60 - 1) input.entry.now)) }
@@ -201,13 +203,13 @@ impl<'input> Stretch<'input> {
         Stretch::new(RunBits::Lent(BitStr::from_slice(&input[..count])))
     }
 
-    /// Whether the input lends the bits.
+    /// Whether the bits are borrowed from the input.
     #[inline(always)]
     pub fn is_lent(&self) -> bool {
         matches!(&self.bits, RunBits::Lent(_))
     }
 
-    /// The place that is reached.
+    /// A cursor at the current position.
     #[inline(always)]
     pub fn cursor(&self) -> Cursor<'_>
         ensures { result ≡ self.now.place }
@@ -224,8 +226,8 @@ impl<'input> Stretch<'input> {
         unread
     }
 
-    /// Goes on to a later position, which a reader reached that began at this place. Where the position is in front of
-    /// this place or behind the last bit, nothing changes.
+    /// Moves to a later position, which a reader reached from the current one. A position before the current one or
+    /// after the last bit changes nothing.
     #[inline(always)]
     pub fn move_to(&mut self, position: usize)
         ensures place { (w : _) (b : Place) → b.0 ≡ position → Leads w self.old.place b → self.new.place ≡ b }
@@ -264,7 +266,7 @@ impl<'input> Stretch<'input> {
         Some(bit)
     }
 
-    /// Whether all bits are read.
+    /// Whether all bits have been read.
     #[inline(always)]
     pub fn is_empty(&self) -> bool
         ensures { IsTrue result ↔ (self.now.place.1 ≡ []) }
@@ -272,88 +274,89 @@ impl<'input> Stretch<'input> {
         self.bits().is_empty()
     }
 
-    /// Takes bits as a whole.
+    /// Takes a field of bits.
     ///
     /// # Errors
     ///
-    /// `Incomplete` if the bits end early, the errors of a length, and `OutOfMemory`.
+    /// `Incomplete` if the bits end early, the errors of a length determinant, and `OutOfMemory`.
     #[inline(always)]
     pub fn take_field(
         &mut self,
         alloc: Global,
-        variant: Variant,
+        rules: PackedRules,
         field: Field,
     ) -> Result<Stretch<'input>, DecodeError>
         ensures start { IfOk result (λ taken. taken.place.0 ≡ 0) }
-        ensures ok { IfOk result (λ taken. Front (freedoms variant)
-            (field_form (fronts.is_aligned variant) field taken.place.1) self.old.place self.new.place) }
+        ensures ok { IfOk result (λ taken. Front (freedoms rules)
+            (field_form (fronts.is_aligned rules) field taken.place.1) self.old.place self.new.place) }
         ensures storage { OnOk result (self.new.storage ≡ self.old.storage) }
-        ensures only { IfErr result (Misses (freedoms variant)
-            (field_form (fronts.is_aligned variant) field) self.old.place) }
+        ensures only { IfErr result (Misses (freedoms rules)
+            (field_form (fronts.is_aligned rules) field) self.old.place) }
     {
-        let (bits, position) = take_field(alloc, &self.bits, self.position, variant, field)?;
+        let (bits, position) = take_field(alloc, &self.bits, self.position, rules, field)?;
         self.move_to(position);
         Ok(Stretch::new(bits))
     }
 
-    /// Takes the octets of an open type behind their number (X.691 11.2). In one run they are lent where the bits are;
-    /// those in fragments are joined.
+    /// Takes the octets of an open type after their length determinant (X.691 11.2). In one run they are borrowed if
+    /// the bits are; those in fragments are joined.
     ///
     /// # Errors
     ///
-    /// `Incomplete` if the bits end early, the errors of a length, and `OutOfMemory`.
+    /// `Incomplete` if the bits end early, the errors of a length determinant, and `OutOfMemory`.
     #[inline(always)]
     pub fn take_open_type(
         &mut self,
         alloc: Global,
-        variant: Variant,
+        rules: PackedRules,
     ) -> Result<Stretch<'input>, DecodeError>
         ensures start { IfOk result (λ inside. inside.place.0 ≡ 0) }
-        ensures ok { IfOk result (λ inside. Front (freedoms variant)
-            (octets_form (fronts.is_aligned variant) inside.place.1) self.old.place self.new.place) }
+        ensures ok { IfOk result (λ inside. Front (freedoms rules)
+            (octets_form (fronts.is_aligned rules) inside.place.1) self.old.place self.new.place) }
         ensures inside { IfOk result (λ inside. inside.storage ≡ storage_inside self.old.storage
             (length inside.place.1) self.new.place.0) }
         ensures storage { OnOk result (self.new.storage ≡ self.old.storage) }
-        ensures only { IfErr result (Misses (freedoms variant)
-            (octets_form (fronts.is_aligned variant)) self.old.place) }
+        ensures stays { OnErr result (self.new.place ≡ self.old.place) }
+        ensures only { IfErr result (Misses (freedoms rules)
+            (octets_form (fronts.is_aligned rules)) self.old.place) }
     {
-        let (bits, position) = take_octets(alloc, &self.bits, self.position, variant)?;
+        let (bits, position) = take_octets(alloc, &self.bits, self.position, rules)?;
         self.move_to(position);
         Ok(Stretch::new(bits))
     }
 
-    /// Takes a string of octets (X.691 17) under a size constraint, in a type of the program that holds so many. Where
-    /// they stand in one run that ends, and so begins, at an octet of the bits' storage they are lent, and no memory is
-    /// taken.
+    /// Takes an OCTET STRING (X.691 17) under a size constraint, for a Rust type that holds `held`. Octets in one run
+    /// that ends, and so begins, at an octet of the bits' storage are borrowed, without an allocation.
     ///
     /// # Errors
     ///
-    /// `SizeConstraintNotSatisfied` if the size or the program's type does not admit as many, `Incomplete` if the bits
-    /// end early, the errors of a number and of a length, and `OutOfMemory`.
+    /// `SizeConstraintNotSatisfied` if the size or the Rust type does not admit their number, `Incomplete` if the
+    /// bits end early, the errors of a constrained whole number and of a length determinant, and `OutOfMemory`.
     #[inline(always)]
     pub fn take_octet_string(
         &mut self,
         alloc: Global,
-        variant: Variant,
+        rules: PackedRules,
         sizes: Sizes,
         held: Bounded<usize>,
     ) -> Result<CowSlice<'input, u8>, DecodeError>
-        ensures ok { IfOk result (λ octets. Front (freedoms variant)
-            (Per.form (fronts.is_aligned variant) (Asn1.octet_string (size_of sizes) (counts_of held))
+        ensures ok { IfOk result (λ octets. Front (freedoms rules)
+            (Per.form (fronts.is_aligned rules) (Asn1.octet_string (size_of sizes) (counts_of held))
             (Asn1Value.octet_list (cow_slice_items octets))) self.old.place self.new.place) }
         ensures lent { IfOk result (λ octets. InOneRun (told_in_front (size_of sizes) self.old.place.1)
             (length (cow_slice_items octets)) → EndsAtOctet self.old.storage self.new.place.0
             → IsBorrowedSlice octets) }
         ensures storage { OnOk result (self.new.storage ≡ self.old.storage) }
-        ensures only { IfErr result (Misses (freedoms variant)
-            (Per.form (fronts.is_aligned variant) (Asn1.octet_string (size_of sizes) (counts_of held)))
+        ensures stays { OnErr result (self.new.place ≡ self.old.place) }
+        ensures only { IfErr result (Misses (freedoms rules)
+            (Per.form (fronts.is_aligned rules) (Asn1.octet_string (size_of sizes) (counts_of held)))
             self.old.place) }
     {
         let (octets, position) = take_octet_string(
             alloc,
             &self.bits,
             self.position,
-            variant,
+            rules,
             sizes,
             held,
         )?;

@@ -4,7 +4,7 @@ ghost use Rattle.std.specs.Cow.{cow_slice_items};
 ghost use Rattle.asn1_model.specs.Strings.{is_of_octets as holds_octets};
 ghost use Rattle.asn1_values_alphabets.specs.Permitted.{permits_all};
 ghost use Rattle.per_codec_alphabets.specs.Octets.{is_encoded_as_octets as as_octets};
-ghost use Rattle.per_codec_limits.specs.Variants.{is_aligned};
+ghost use Rattle.per_codec_reading.specs.Fronts.{is_aligned};
 ghost use Rattle.per_codec_reading_values.specs.Spelled.{Spells, IsRefused};
 ghost use Rattle.per_codec_reading_values.specs.Texts.{Stands, MissesString};
 ghost use Rattle.per_codec_reading.specs.Fronts.{IsFresh};
@@ -15,7 +15,9 @@ use asn1_schema_constraints::{Bounded, Constraints};
 use asn1_schema_faults::DecodeError;
 use asn1_values_alphabets::{PermittedAlphabetError, StaticPermittedAlphabet};
 use per_codec_alphabets::{EffectiveAlphabet, is_encoded_as_octets, is_of_octets};
-use per_codec_reading::{Contents, Cursor, Run, RunBits, Variant, read_counted_octets, read_sized};
+use per_codec_reading::{
+    Contents, Cursor, PackedRules, Run, RunBits, read_counted_octets, read_sized,
+};
 use std::alloc::Global;
 
 /// The string of these octets, each of which is a character.
@@ -32,25 +34,25 @@ fn string_of_octets<S: StaticPermittedAlphabet>(
     Ok(string)
 }
 
-/// Reads the octets of a string whose characters have no fixed width, behind their number (X.691 30).
+/// Reads the octets of a string whose characters have no fixed width, after a length determinant (X.691 30).
 fn read_octets<S: StaticPermittedAlphabet>(
     alloc: Global,
     cursor: &mut Cursor<'_>,
-    variant: Variant,
+    rules: PackedRules,
     _constraints: &Constraints,
 ) -> Result<S, DecodeError>
     requires kind { holds_octets S.kind ≡ true }
-    ensures ok { IfOk result (λ s. Stands variant S.kind _constraints.now (S.characters s) cursor.old cursor.new) }
-    ensures only { IfErr result (MissesString variant S.kind _constraints.now cursor.old) }
+    ensures ok { IfOk result (λ s. Stands rules S.kind _constraints.now (S.characters s) cursor.old cursor.new) }
+    ensures only { IfErr result (MissesString rules S.kind _constraints.now cursor.old) }
 {
-    let octets = read_counted_octets(alloc, cursor, variant)?;
+    let octets = read_counted_octets(alloc, cursor, rules)?;
     match string_of_octets(alloc, octets.as_slice()) {
         Ok(string) => Ok(string),
         Err(_) => Err(DecodeError::OutOfMemory),
     }
 }
 
-/// The string of these octets, if each of them is a character that it may hold.
+/// The string of these octets, if each is a character of the string type.
 fn string_of_characters<S: StaticPermittedAlphabet>(
     alloc: Global,
     octets: &[u8],
@@ -69,19 +71,19 @@ fn string_of_characters<S: StaticPermittedAlphabet>(
     }
 }
 
-/// Reads a string that is encoded as the octets that its characters are, behind their number (X.691 30.5).
+/// Reads a string that is encoded as the octets of its characters, after a length determinant (X.691 30.5).
 fn read_octet_codes<S: StaticPermittedAlphabet>(
     alloc: Global,
     cursor: &mut Cursor<'_>,
-    variant: Variant,
+    rules: PackedRules,
     _constraints: &Constraints,
 ) -> Result<S, DecodeError>
-    requires codes { as_octets (is_aligned variant) S.kind _constraints.now.size _constraints.now.permitted_alphabet
+    requires codes { as_octets (is_aligned rules) S.kind _constraints.now.size _constraints.now.permitted_alphabet
         ≡ true }
-    ensures ok { IfOk result (λ s. Stands variant S.kind _constraints.now (S.characters s) cursor.old cursor.new) }
-    ensures only { IfErr result (MissesString variant S.kind _constraints.now cursor.old) }
+    ensures ok { IfOk result (λ s. Stands rules S.kind _constraints.now (S.characters s) cursor.old cursor.new) }
+    ensures only { IfErr result (MissesString rules S.kind _constraints.now cursor.old) }
 {
-    let octets = read_counted_octets(alloc, cursor, variant)?;
+    let octets = read_counted_octets(alloc, cursor, rules)?;
     match string_of_characters(alloc, octets.as_slice()) {
         Ok(string) => Ok(string),
         Err(error) => Err(error),
@@ -109,24 +111,28 @@ fn string_of_run<S: StaticPermittedAlphabet>(
     string_of(alloc, alphabet, codes, run.count)
 }
 
-/// Reads the characters of a string by their codes, behind their number (X.691 30.5).
+/// Reads the characters of a string by their codes, after a length determinant (X.691 30.5).
 #[inline(always)]
 fn read_codes<S: StaticPermittedAlphabet>(
     alloc: Global,
     cursor: &mut Cursor<'_>,
-    variant: Variant,
+    rules: PackedRules,
     constraints: &Constraints,
 ) -> Result<S, DecodeError>
     requires kind { holds_octets S.kind ≡ false }
-    ensures ok { IfOk result (λ s. Stands variant S.kind constraints.now (S.characters s) cursor.old cursor.new) }
-    ensures only { IfErr result (MissesString variant S.kind constraints.now cursor.old) }
+    ensures ok { IfOk result (λ s. Stands rules S.kind constraints.now (S.characters s) cursor.old cursor.new) }
+    ensures only { IfErr result (MissesString rules S.kind constraints.now cursor.old) }
     ensures fresh { IfErr result IsFresh }
 {
-    let alphabet = EffectiveAlphabet::new::<S>(alloc, variant, constraints.permitted_alphabet)?;
+    let alphabet = EffectiveAlphabet::new::<S>(
+        alloc,
+        rules.variant(),
+        constraints.permitted_alphabet,
+    )?;
     let run = read_sized(
         alloc,
         cursor,
-        variant,
+        rules,
         constraints.sizes(),
         Bounded::None,
         alphabet.width(),
@@ -138,29 +144,30 @@ fn read_codes<S: StaticPermittedAlphabet>(
     }
 }
 
-/// Reads a character string of a kind with an alphabet of its own (X.691 30), under a size constraint, which counts its
-/// characters, and a permitted alphabet.
+/// Reads a restricted character string other than UTF8String (X.691 30), under a size constraint, which counts its
+/// characters, and a permitted-alphabet constraint.
 ///
 /// # Errors
 ///
-/// `PermittedAlphabet` if a code stands for no permitted character; `SizeConstraintNotSatisfied` if the size does not
-/// admit as many, `Incomplete` if the bits end early, the errors of a number and of a length, and `OutOfMemory`.
+/// `PermittedAlphabet` if a code has no permitted character, `SizeConstraintNotSatisfied` if the size does not admit
+/// the number of characters, `Incomplete` if the bits end early, the errors of a constrained whole number and of a
+/// length determinant, and `OutOfMemory`.
 #[inline(always)]
 pub fn read_characters<S: StaticPermittedAlphabet>(
     alloc: Global,
     cursor: &mut Cursor<'_>,
-    variant: Variant,
+    rules: PackedRules,
     constraints: &Constraints,
 ) -> Result<S, DecodeError>
-    ensures ok { IfOk result (λ s. Stands variant S.kind constraints.now (S.characters s) cursor.old cursor.new) }
-    ensures only { IfErr result (MissesString variant S.kind constraints.now cursor.old) }
+    ensures ok { IfOk result (λ s. Stands rules S.kind constraints.now (S.characters s) cursor.old cursor.new) }
+    ensures only { IfErr result (MissesString rules S.kind constraints.now cursor.old) }
     ensures fresh { IfErr result IsFresh }
 {
     if is_of_octets::<S>() {
-        return read_octets(alloc, cursor, variant, constraints);
+        return read_octets(alloc, cursor, rules, constraints);
     }
-    if is_encoded_as_octets::<S>(variant, constraints) {
-        return read_octet_codes(alloc, cursor, variant, constraints);
+    if is_encoded_as_octets::<S>(rules.variant(), constraints) {
+        return read_octet_codes(alloc, cursor, rules, constraints);
     }
-    read_codes(alloc, cursor, variant, constraints)
+    read_codes(alloc, cursor, rules, constraints)
 }

@@ -1,4 +1,4 @@
-//! Each kind without components, and lists, behind 0 to 7 bits, unaligned and aligned.
+//! Values of each type without components, and lists, after 0 to 7 bits, unaligned and aligned.
 use crate::spelled::push_spelled;
 use asn1_schema_constraints::{Bounded, Constraints, Extensible, Size, Value as Range};
 use asn1_schema_decode::{Decode, Decoder as _};
@@ -30,27 +30,27 @@ enum Value {
     Bmp(&'static str),
     Identifier(&'static [u32]),
     Numbers(&'static [i64]),
-    /// Lists of so many members each, all of them true.
+    /// Lists with these numbers of members, all of them true.
     Lists(&'static [usize]),
 }
 
-/// The size that a value is constrained to, or the last number of a range from 0 on.
+/// The size that a value is constrained to, or the upper bound of a range from 0.
 #[derive(Clone, Copy)]
 enum Limit {
     Any,
     Most(i128),
     Fixed(usize),
     UpTo(usize),
-    /// From one to another, with an extension marker.
+    /// A range of sizes, with an extension marker.
     Extensible(usize, usize),
 }
 
-/// A value, what it is constrained to, and its bits: in both variants, or before a stroke in the unaligned one and
-/// behind it in the aligned one.
+/// A value, its constraint, and its bits: in both variants, or before a slash in the unaligned one and after it in
+/// the aligned one.
 type Row = (Value, Limit, &'static str);
 
-/// Truth values, nothing, and numbers (X.691 11.5, 12, 13 and 24). A message of no bits has an octet. A range of 256
-/// numbers and one of 65536 take whole octets; of a wider one the number of octets comes first in the aligned variant.
+/// BOOLEAN, NULL, and numbers (X.691 11.5, 12, 13 and 24). A message without bits has an octet. Ranges of 256 and of
+/// 65536 values take whole octets; for a wider one the number of octets comes first in the aligned variant.
 const NUMBERS: [Row; 8] = [
     (Value::Truth(true), Limit::Any, "b1"),
     (Value::Nothing, Limit::Any, ""),
@@ -70,7 +70,8 @@ const NUMBERS: [Row; 8] = [
     ),
 ];
 
-/// Strings behind their length (X.691 16, 17, 24 and 30). Characters of seven bits have eight in the aligned variant.
+/// Strings after a length determinant (X.691 16, 17, 24 and 30). Characters of seven bits have eight in the aligned
+/// variant.
 const STRINGS: [Row; 10] = [
     (Value::Bits("FF b010000"), Limit::Any, "| 0E FF b010000"),
     (Value::Bits("b11111"), Limit::Any, "| 05 b11111"),
@@ -96,8 +97,8 @@ const STRINGS: [Row; 10] = [
     ),
 ];
 
-/// Strings under a size (X.691 16, 17 and 30). Up to 16 bits of a fixed size, and up to two octets of one, stand right
-/// behind what is before them. Of characters whose number of octets is not known a size counts for nothing.
+/// Strings under a size constraint (X.691 16, 17 and 30). Strings of a fixed size of up to 16 bits, and of up to two
+/// octets, are not aligned. A size does not affect strings whose characters have no fixed number of octets.
 const SIZED: [Row; 12] = [
     (Value::General("abc"), Limit::Fixed(2), "| 03 61 62 63"),
     (Value::Bits("FF FF"), Limit::Fixed(16), "FF FF"),
@@ -121,7 +122,7 @@ const SIZED: [Row; 12] = [
     ),
 ];
 
-/// Lists (X.691 20). Behind the bits of a member the next one is padded again.
+/// Lists (X.691 20). After the bits of a member the next one is padded again.
 const LISTS: [Row; 2] = [
     (Value::Numbers(&[1, 2]), Limit::Any, "| 02 01 01 01 02"),
     (Value::Lists(&[1, 3]), Limit::Any, "| 02 | 01 b1 | 03 b111"),
@@ -150,7 +151,7 @@ fn constraints_of(limit: Limit) -> Option<Constraints<'static>> {
     }
 }
 
-/// Writes so many set bits.
+/// Writes `count` one bits.
 fn write_bits(encoder: &mut Encoder, count: usize) -> Result<(), EncodeError> {
     for _ in 0..count {
         encoder.encode_bool(Tag::BOOL, true, Identifier::EMPTY)?;
@@ -166,7 +167,7 @@ fn write<T: Encode>(encoder: &mut Encoder, value: &T, limit: Limit) -> Result<()
     }
 }
 
-/// Writes so many set bits and the value behind them.
+/// Writes `count` one bits and then the value.
 fn write_behind<T: Encode>(
     encoder: &mut Encoder,
     count: usize,
@@ -177,7 +178,7 @@ fn write_behind<T: Encode>(
     write(encoder, value, limit)
 }
 
-/// The message of so many set bits and the value behind them.
+/// The message of a number of one bits and then the value.
 fn message<T: Encode>(
     alloc: Global,
     (variant, count): (Variant, usize),
@@ -193,7 +194,7 @@ fn message<T: Encode>(
     encoder.output_into_vec()
 }
 
-/// Reads so many bits.
+/// Reads `count` bits.
 fn skip(decoder: &mut Decoder<'_>, count: usize) -> Result<(), DecodeError> {
     for _ in 0..count {
         decoder.decode_bool(Tag::BOOL)?;
@@ -222,7 +223,7 @@ fn read<T: Decode>(
     }
 }
 
-/// Reads a value, and whether it is this one.
+/// Reads a value. Returns whether it is this one.
 fn reads<T: Decode + PartialEq>(
     alloc: Global,
     decoder: &mut Decoder<'_>,
@@ -233,7 +234,7 @@ fn reads<T: Decode + PartialEq>(
     Ok(read == *value)
 }
 
-/// Reads so many bits, and whether this value stands behind them, and nothing behind it.
+/// Reads `count` bits. Returns whether this value follows them, and nothing follows it.
 fn reads_behind<T: Decode + PartialEq>(
     alloc: Global,
     decoder: &mut Decoder<'_>,
@@ -247,7 +248,7 @@ fn reads_behind<T: Decode + PartialEq>(
     Ok(is_value && decoder.input().is_empty())
 }
 
-/// Whether the message of so many set bits and the value behind them is these octets.
+/// Whether the message of a number of one bits and then the value is these octets.
 fn is_written_behind<T: Encode>(
     alloc: Global,
     front: (Variant, usize),
@@ -259,7 +260,7 @@ fn is_written_behind<T: Encode>(
     Ok(written.as_slice() == octets)
 }
 
-/// So many set bits and these: padding follows up to whole octets, of which there is one at least.
+/// A number of one bits and these bits, padded to whole octets, at least one.
 fn expected(
     alloc: Global,
     (variant, count): (Variant, usize),
@@ -274,7 +275,18 @@ fn expected(
     Ok(message.into_vec())
 }
 
-/// Whether the value has these bits behind so many others in one variant, and is read back.
+/// The lenient and the strict reader of a variant.
+fn readers(variant: Variant) -> [DecoderOptions; 2] {
+    match variant {
+        Variant::Unaligned => [
+            DecoderOptions::unaligned(),
+            DecoderOptions::unaligned_strict(),
+        ],
+        Variant::Aligned => [DecoderOptions::aligned(), DecoderOptions::aligned_strict()],
+    }
+}
+
+/// Whether the value has these bits after a number of others in one variant, and is read back, leniently and strictly.
 fn stands_behind<T: Encode + Decode + PartialEq>(
     alloc: Global,
     front: (Variant, usize),
@@ -284,13 +296,16 @@ fn stands_behind<T: Encode + Decode + PartialEq>(
 ) -> Result<bool, Fail> {
     let (variant, count) = front;
     let octets = expected(alloc, front, spelled)?;
-    let is_written = is_written_behind(alloc, front, value, limit, &octets)?;
-    let mut decoder = Decoder::new(alloc, octets.as_slice(), DecoderOptions { variant });
-    let is_read = reads_behind(alloc, &mut decoder, count, value, limit);
-    Ok(is_written && is_read == Ok(true))
+    for options in readers(variant) {
+        let mut decoder = Decoder::new(alloc, octets.as_slice(), options);
+        if reads_behind(alloc, &mut decoder, count, value, limit) != Ok(true) {
+            return Ok(false);
+        }
+    }
+    Ok(is_written_behind(alloc, front, value, limit, &octets)?)
 }
 
-/// Whether the value stands as its row says behind 0 to 7 bits, and is read back.
+/// Whether the value has the bits of its row after 0 to 7 bits, and is read back.
 fn stands<T: Encode + Decode + PartialEq>(
     alloc: Global,
     value: T,
@@ -329,7 +344,7 @@ fn numbers(alloc: Global, members: &[i64]) -> Result<Vec<Integer>, AllocError> {
     Ok(list)
 }
 
-/// Lists of so many members each, all of them true.
+/// Lists with these numbers of members, all of them true.
 fn lists(alloc: Global, counts: &[usize]) -> Result<Vec<Vec<bool>>, AllocError> {
     let mut lists = Vec::new(alloc);
     for count in counts {
@@ -339,7 +354,7 @@ fn lists(alloc: Global, counts: &[usize]) -> Result<Vec<Vec<bool>>, AllocError> 
     Ok(lists)
 }
 
-/// Whether a value that is no character string stands as its row says.
+/// Whether a value that is no character string is as its row says.
 fn is_right(alloc: Global, (value, limit, spelled): &Row) -> Result<bool, Fail> {
     let row = (*limit, *spelled);
     match value {
@@ -356,7 +371,7 @@ fn is_right(alloc: Global, (value, limit, spelled): &Row) -> Result<bool, Fail> 
     }
 }
 
-/// Whether a character string stands as its row says.
+/// Whether a character string is as its row says.
 fn is_right_text(alloc: Global, value: &Value, row: (Limit, &str)) -> Result<bool, Fail> {
     match value {
         Value::Numeric(text) => stands(alloc, NumericString::from_text(alloc, text)?, row),
@@ -367,7 +382,7 @@ fn is_right_text(alloc: Global, value: &Value, row: (Limit, &str)) -> Result<boo
     }
 }
 
-/// The place of the first row of a table that is wrong, if one is.
+/// The index of the first wrong row of a table, if there is one.
 fn wrong_row(alloc: Global, rows: &[Row]) -> Result<Option<usize>, Fail> {
     for place in 0..rows.len() {
         if !is_right(alloc, &rows[place])? {

@@ -1,4 +1,5 @@
-//! What the calls leave in a buffer, what they lend, and which values they do not write.
+//! What the calls leave in a buffer, what they lend, and the values that they refuse.
+use crate::reading::PACKED;
 use asn1_schema_constraints::{Bounded, Constraint, Constraints, Extensible, Size, Value};
 use asn1_schema_encode::Encode;
 use asn1_schema_faults::{DecodeError, EncodeError};
@@ -9,12 +10,12 @@ use asn1_values_strings::VisibleString;
 use per_codec::reading::decode_with_remainder;
 use per_codec::{aper, uper};
 use per_codec_packing::Packing;
-use per_codec_reading::Variant;
+use per_codec_reading::{PackedRules, Variant};
 use per_codec_writing::push_identifier;
 use std::alloc::Global;
 use std::test::Fail;
 
-/// Writes a value in the place of what a buffer holds.
+/// Encodes a value into a buffer, in place of its contents.
 fn put<T: Encode>(
     alloc: Global,
     variant: Variant,
@@ -27,8 +28,7 @@ fn put<T: Encode>(
     }
 }
 
-/// Whether each truth value takes the place of what the buffer holds, and a number past its bounds leaves nothing in
-/// it.
+/// Whether each BOOLEAN replaces the contents of the buffer, and a number outside its bounds leaves it empty.
 fn is_replaced(alloc: Global, variant: Variant, buffer: &mut Vec<u8>) -> Result<bool, EncodeError> {
     put(alloc, variant, &true, buffer)?;
     let first = buffer.as_slice() == [0x80].as_slice();
@@ -53,28 +53,28 @@ fn a_buffer_is_replaced(rt: HostRuntime) -> Result<(), Fail> {
     Ok(())
 }
 
-/// Whether true, and in another message nothing, is read with these octets behind it.
+/// Whether true, and NULL in another message, are read, with these octets after them.
 fn lends(
     alloc: Global,
-    variant: Variant,
+    rules: PackedRules,
     (truth, nothing): (&[u8], &[u8]),
     behind: &[u8],
 ) -> Result<bool, DecodeError> {
-    let (value, behind_truth) = decode_with_remainder::<bool>(alloc, truth, variant)?;
-    let (_, behind_nothing) = decode_with_remainder::<()>(alloc, nothing, variant)?;
+    let (value, behind_truth) = decode_with_remainder::<bool>(alloc, truth, rules)?;
+    let (_, behind_nothing) = decode_with_remainder::<()>(alloc, nothing, rules)?;
     Ok(value && behind_truth == behind && behind_nothing == behind)
 }
 
 #[test]
 fn what_stands_behind_a_message_is_lent(rt: HostRuntime) -> Result<(), Fail> {
-    for variant in [Variant::Unaligned, Variant::Aligned] {
+    for rules in PACKED {
         let messages: (&[u8], &[u8]) = (&[0x80, 0x07, 0x08], &[0x00, 0x07, 0x08]);
-        assert!(rt; lends(rt.alloc(), variant, messages, &[0x07, 0x08])?);
+        assert!(rt; lends(rt.alloc(), rules, messages, &[0x07, 0x08])?);
     }
     Ok(())
 }
 
-/// Whether neither variant writes a value under constraints, for this reason.
+/// Whether both variants refuse a value under constraints, with this error.
 fn is_unwritten<T: Encode>(
     alloc: Global,
     constraint: Constraint<'_>,
@@ -86,7 +86,7 @@ fn is_unwritten<T: Encode>(
         && aper::encode_with_constraints(alloc, &constraints, value).err() == Some(error)
 }
 
-/// Numbers, and bounds that they are not in.
+/// Numbers, and bounds that they are outside of.
 const NUMBERS: [(i64, i128, i128); 4] = [
     (6, -5, 5),
     (255, 256, 1234567),
@@ -94,7 +94,7 @@ const NUMBERS: [(i64, i128, i128); 4] = [
     (256, 0, 255),
 ];
 
-/// Whether a number outside its bounds is not written.
+/// Whether a number outside its bounds is refused.
 fn is_outside(alloc: Global, (number, low, high): (i64, i128, i128)) -> bool {
     let bounds = Constraint::Value(Extensible::new(Value::new(Bounded::const_new(low, high))));
     is_unwritten(
@@ -105,7 +105,7 @@ fn is_outside(alloc: Global, (number, low, high): (i64, i128, i128)) -> bool {
     )
 }
 
-/// Whether 2 to 128 is not written behind a lower bound, with an extension marker behind it.
+/// Whether 2^128 is refused above a lower bound with an extension marker.
 fn is_past_128_bits(alloc: Global) -> Result<bool, Fail> {
     let octets = [1, 0, 0, 0, 0, 0, 0, 0, 0, 0, 0, 0, 0, 0, 0, 0, 0];
     let number = Integer::from_signed_octets(alloc, &octets)?;
@@ -114,7 +114,7 @@ fn is_past_128_bits(alloc: Global) -> Result<bool, Fail> {
     Ok(is_unwritten(alloc, Constraint::Value(bounds), &number, error))
 }
 
-/// Whether a text of three characters, and one octet, are not written where there are to be two.
+/// Whether a string of three characters, and one octet, are refused where the size is two.
 fn are_not_two(alloc: Global) -> Result<bool, Fail> {
     let two = Constraint::Size(Extensible::new(Size::new(Bounded::Single(2))));
     let error = EncodeError::SizeConstraintNotSatisfied;
@@ -123,7 +123,7 @@ fn are_not_two(alloc: Global) -> Result<bool, Fail> {
     Ok(is_unwritten(alloc, two, &text, error) && is_unwritten(alloc, two, &octets, error))
 }
 
-/// Whether an identifier of one arc is not written.
+/// Whether an identifier of one arc is refused.
 fn is_no_identifier(alloc: Global, arcs: &[u32]) -> Result<bool, Fail> {
     let lone = Oid::new(arcs).ok_or("no identifier")?;
     let answer = push_identifier(&mut Packing::new(alloc), Variant::Aligned, alloc, &lone);

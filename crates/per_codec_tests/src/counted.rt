@@ -1,17 +1,17 @@
-//! Octets behind their number, in one piece and in fragments, behind 0 to 7 bits (X.691 11.9), and what is lent of
-//! them.
+//! Octets after a length determinant, in one piece and in fragments, after 0 to 7 bits (X.691 11.9), and what is lent
+//! of them.
 use crate::spelled::octets;
 use asn1_schema_faults::{DecodeError, EncodeError};
 use asn1_values_bits::BitBuffer;
 use per_codec_packing::Packing;
-use per_codec_reading::{Cursor, Variant, read_counted_octets};
+use per_codec_reading::{Cursor, PackedRules, Variant, read_counted_octets};
 use per_codec_writing::push_counted_octets;
 use std::alloc::{AllocError, Global};
 use std::borrow::CowSlice;
 use std::test::Fail;
 
-/// Octets, those that they have behind their number, and whether they are written so: at the borders between two forms,
-/// and beside them.
+/// Octets, their encoding with a length determinant, and whether it is the canonical one: at the limits between two
+/// forms, and next to them.
 const ROWS: [(&str, &str, bool); 13] = [
     ("", "00", true),
     ("A5", "01 A5", true),
@@ -28,7 +28,15 @@ const ROWS: [(&str, &str, bool); 13] = [
     ("A5*65536 3C*14464", "C4 A5*65536 B8 80 3C*14464", true),
 ];
 
-/// So many set bits, and in the aligned variant padding, and these octets.
+/// The rules that accept all forms of a variant.
+fn rules_of(variant: Variant) -> PackedRules {
+    match variant {
+        Variant::Unaligned => PackedRules::Uper,
+        Variant::Aligned => PackedRules::Aper,
+    }
+}
+
+/// A number of one bits, padding in the aligned variant, and these octets.
 fn behind(
     alloc: Global,
     (variant, count): (Variant, usize),
@@ -44,8 +52,7 @@ fn behind(
     Ok(bits)
 }
 
-/// Whether octets are read from these behind so many bits, and no bits stand behind them but the padding of the
-/// last octet.
+/// Whether octets are read from these after a number of bits, and only the padding of the last octet follows.
 fn is_read(
     alloc: Global,
     (variant, count): (Variant, usize),
@@ -54,18 +61,18 @@ fn is_read(
 ) -> Result<bool, DecodeError> {
     let mut cursor = Cursor::new(input);
     cursor.take(count)?;
-    let found = read_counted_octets(alloc, &mut cursor, variant)?;
+    let found = read_counted_octets(alloc, &mut cursor, rules_of(variant))?;
     Ok(found.as_slice() == octets && cursor.len() < 8)
 }
 
-/// So many set bits.
+/// `count` one bits.
 fn set_bits(alloc: Global, count: usize) -> Result<Packing, AllocError> {
     let mut output = Packing::new(alloc);
     output.resize(count, true)?;
     Ok(output)
 }
 
-/// Writes octets behind their number, at a place that is known from the beginning.
+/// Writes octets after a length determinant, at a position that is known from the start.
 fn placed(
     alloc: Global,
     (variant, count): (Variant, usize),
@@ -76,14 +83,14 @@ fn placed(
     Ok(output)
 }
 
-/// Octets behind their number at a place that is not known.
+/// Octets after a length determinant at an unknown position.
 fn unplaced(alloc: Global, variant: Variant, octets: &[u8]) -> Result<Packing, EncodeError> {
     let mut text = Packing::unplaced(alloc);
     push_counted_octets(&mut text, variant, octets)?;
     Ok(text)
 }
 
-/// Writes octets behind their number at a place that is not known, and puts them there then.
+/// Writes octets after a length determinant at an unknown position, and then puts them in place.
 fn placed_later(
     alloc: Global,
     (variant, count): (Variant, usize),
@@ -95,7 +102,7 @@ fn placed_later(
     Ok(output)
 }
 
-/// Whether octets are written as these bits, at a place that is known or not.
+/// Whether octets are written as these bits, at a known and at an unknown position.
 fn is_written(
     alloc: Global,
     front: (Variant, usize),
@@ -108,7 +115,7 @@ fn is_written(
     Ok(early.as_bits().as_bitslice() == bits && late.as_bits().as_bitslice() == bits)
 }
 
-/// Whether octets are read from these bits, and written as these if they are written so.
+/// Whether octets are read from these bits, and written as these if they are canonical.
 fn stands_in(
     alloc: Global,
     front: (Variant, usize),
@@ -121,7 +128,7 @@ fn stands_in(
     Ok(is_read(alloc, front, bits.as_bytes(), octets)?)
 }
 
-/// Whether octets are read behind so many bits, and written if they are written so.
+/// Whether octets are read after a number of bits, and written if they are canonical.
 fn stands_behind(
     alloc: Global,
     front: (Variant, usize),
@@ -131,7 +138,7 @@ fn stands_behind(
     stands_in(alloc, front, &bits, (octets, is_canonical))
 }
 
-/// Whether octets stand as their row says behind 0 to 7 bits.
+/// Whether octets are as their row says after 0 to 7 bits.
 fn stands_anywhere(
     alloc: Global,
     (contents, counted, is_canonical): (&str, &str, bool),
@@ -157,7 +164,7 @@ fn octets_behind_bits(rt: HostRuntime) -> Result<(), Fail> {
     Ok(())
 }
 
-/// Octets behind their number, the octets themselves, and whether they are lent.
+/// Octets with a length determinant, the octets alone, and whether they are lent.
 const LENT: [(Variant, &str, &str, bool); 5] = [
     (Variant::Aligned, "03 01 02 03", "01 02 03", true),
     (Variant::Unaligned, "80 03 01 02 03", "01 02 03", true),
@@ -176,21 +183,21 @@ const LENT: [(Variant, &str, &str, bool); 5] = [
     ),
 ];
 
-/// Whether octets in front are these, and lent, or not.
+/// Whether the octets at the start are these, and lent or not.
 fn is_lent(
     alloc: Global,
     (variant, counted, contents, is_lent): (Variant, &str, &str, bool),
 ) -> Result<bool, Fail> {
     let wanted = octets(alloc, contents)?;
     let input = octets(alloc, counted)?;
-    let is_found = match read_counted_octets(alloc, &mut Cursor::new(&input), variant)? {
+    let is_found = match read_counted_octets(alloc, &mut Cursor::new(&input), rules_of(variant))? {
         CowSlice::Borrowed(found) => is_lent && found == wanted.as_slice(),
         CowSlice::Owned(found) => !is_lent && found.as_slice() == wanted.as_slice(),
     };
     Ok(is_found)
 }
 
-/// Octets in one piece are lent, those of fragments joined.
+/// Octets in one piece are lent; fragments are joined.
 #[test]
 fn what_is_lent(rt: HostRuntime) -> Result<(), Fail> {
     for row in LENT {

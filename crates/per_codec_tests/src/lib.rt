@@ -1,6 +1,6 @@
-//! Tests of UPER and APER: what is no row of octets of one message, as values and parts of encodings behind bits, texts
-//! at places that come to be known later, codes of characters, errors of calls, and what is lent. The rows are lines of
-//! `asn1_relay_vectors`.
+//! Tests of UPER and APER beyond the octets of one message, which are lines of `asn1_relay_vectors`: values and parts
+//! of encodings after bits, texts at positions that become known later, codes of characters, errors of calls, and
+//! what is lent.
 #![tactic(auto)]
 
 #[cfg(test)]
@@ -12,6 +12,8 @@ mod calls;
 #[cfg(test)]
 mod counted;
 #[cfg(test)]
+mod needed;
+#[cfg(test)]
 mod packing;
 #[cfg(test)]
 mod parts;
@@ -19,3 +21,5 @@ mod parts;
 mod reading;
 #[cfg(test)]
 mod spelled;
+#[cfg(test)]
+mod strict;

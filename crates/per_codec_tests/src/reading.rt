@@ -9,23 +9,31 @@ use per_codec::uper::{Decoder, DecoderOptions};
 use per_codec_reading::lengths::{Length, read_length};
 use per_codec_reading::numbers::read_constrained;
 use per_codec_reading::units::{read_boolean, read_null};
-use per_codec_reading::{Cursor, Variant};
+use per_codec_reading::{Cursor, PackedRules};
 use std::alloc::Global;
 use std::borrow::CowSlice;
 use std::test::Fail;
 
-/// Whether two truth values are read from two bits of an octet, which leaves six.
+/// Both variants, read leniently and strictly.
+pub const PACKED: [PackedRules; 4] = [
+    PackedRules::Uper,
+    PackedRules::Aper,
+    PackedRules::UperStrict,
+    PackedRules::AperStrict,
+];
+
+/// Whether two BOOLEANs are read from two bits of an octet, which leaves six.
 fn leaves_six_bits(cursor: &mut Cursor<'_>) -> Result<bool, DecodeError> {
-    let first = read_boolean(cursor, Variant::Aligned)?;
-    let second = read_boolean(cursor, Variant::Unaligned)?;
+    let first = read_boolean(cursor, PackedRules::Aper)?;
+    let second = read_boolean(cursor, PackedRules::Uper)?;
     Ok(first && !second && cursor.len() == 6)
 }
 
-/// Whether nothing, and a number of one, take no bits.
+/// Whether NULL, and a number in a range of one value, take no bits.
 fn takes_no_bits(input: &[u8]) -> Result<bool, DecodeError> {
     let mut cursor = Cursor::new(input);
-    read_null(&mut cursor, Variant::Unaligned)?;
-    let number = read_constrained(&mut cursor, Variant::Unaligned, 0)?;
+    read_null(&mut cursor, PackedRules::Uper)?;
+    let number = read_constrained(&mut cursor, PackedRules::Uper, 0)?;
     Ok(number == 0 && cursor.len() == input.len().saturating_mul(8))
 }
 
@@ -34,22 +42,22 @@ fn bits_that_are_left(rt: HostRuntime) -> Result<(), Fail> {
     assert!(rt; leaves_six_bits(&mut Cursor::new(&[0x80]))?);
     assert!(rt; takes_no_bits(&[0x01])?);
     assert!(rt; takes_no_bits(&[])?);
-    let empty = read_boolean(&mut Cursor::new(&[]), Variant::Unaligned);
+    let empty = read_boolean(&mut Cursor::new(&[]), PackedRules::Uper);
     assert!(rt; empty == Err(DecodeError::Incomplete));
     Ok(())
 }
 
-/// Whether a length stands behind so many bits, right behind them in the unaligned variant, and at the next octet in
-/// the aligned one.
+/// Whether a length determinant is read after a number of bits: immediately in the unaligned rules, and at the next
+/// octet boundary in the aligned one.
 fn is_length_behind(used: u32) -> Result<bool, DecodeError>
     requires { used < 8 }
 {
     let mut unaligned = Cursor::new(&[0x00, 0x05]);
     unaligned.take(used as usize)?;
-    let near = read_length(&mut unaligned, Variant::Unaligned)?;
+    let near = read_length(&mut unaligned, PackedRules::Uper)?;
     let mut aligned = Cursor::new(&[0xFF, 0x05, 0x05]);
     aligned.take(used as usize + 1)?;
-    let far = read_length(&mut aligned, Variant::Aligned)?;
+    let far = read_length(&mut aligned, PackedRules::Aper)?;
     let shifted = Length::Short(5 >> (8 - used));
     Ok(near == shifted && far == Length::Short(5) && aligned.position() == 16)
 }
@@ -62,19 +70,19 @@ fn lengths_behind_bits(rt: HostRuntime) -> Result<(), Fail> {
     Ok(())
 }
 
-/// Reads a truth value in front by a decoder of its own, of which no call was refused before.
-fn truth_in_front(alloc: Global, variant: Variant, octets: &[u8]) -> Result<bool, DecodeError>
+/// Reads a BOOLEAN at the start with a new decoder, which has not failed.
+fn truth_in_front(alloc: Global, rules: PackedRules, octets: &[u8]) -> Result<bool, DecodeError>
     ensures fresh { IfErr result (λ e. e ≡ DecodeError.AlreadyFailed → ⊥) }
 {
-    let mut decoder = Decoder::new(alloc, octets, DecoderOptions { variant });
+    let mut decoder = Decoder::new(alloc, octets, DecoderOptions { rules });
     decoder.decode_bool(Tag::BOOL)
 }
 
 #[test]
 fn decoders_that_have_not_failed(rt: HostRuntime) {
-    for variant in [Variant::Unaligned, Variant::Aligned] {
-        assert!(rt; truth_in_front(rt.alloc(), variant, &[0x80]) == Ok(true));
-        assert!(rt; truth_in_front(rt.alloc(), variant, &[]) == Err(DecodeError::Incomplete));
+    for rules in PACKED {
+        assert!(rt; truth_in_front(rt.alloc(), rules, &[0x80]) == Ok(true));
+        assert!(rt; truth_in_front(rt.alloc(), rules, &[]) == Err(DecodeError::Incomplete));
     }
 }
 
@@ -99,7 +107,7 @@ const THIRD: Tag = Tag {
     value: 2,
 };
 
-/// The tags [0] to [2], at the places of their numbers.
+/// The tags [0] to [2], with their numbers as indices.
 const PLACES: [TagPlace; 3] = [
     TagPlace {
         tag: FIRST,
@@ -125,7 +133,7 @@ fn lacks_an_alternative(decoder: &mut Decoder<'_>) -> bool {
         && decoder.end() == Err(DecodeError::AlreadyFailed)
 }
 
-/// Whether 128 sequences may begin in one another, and no further one.
+/// Whether 128 nested sequences may begin, and no further one.
 fn nests_128_levels(decoder: &mut Decoder<'_>) -> Result<bool, DecodeError> {
     for _ in 0..128 {
         decoder.begin_sequence(Tag::SEQUENCE, false, 0)?;
@@ -139,16 +147,16 @@ fn nests_128_levels(decoder: &mut Decoder<'_>) -> Result<bool, DecodeError> {
     )
 }
 
-/// What a decoder is to do.
+/// What a decoder must do.
 #[derive(Clone, Copy, Debug)]
 enum Duty {
-    /// Fail where a bit is lacking.
+    /// Fail at a missing bit.
     Bit,
-    /// Fail where an alternative is none of three.
+    /// Fail at an index that none of three alternatives has.
     Alternative,
-    /// Take 128 levels, and not one more.
+    /// Accept 128 levels, and not one more.
     Levels,
-    /// Tell by which rules it reads.
+    /// Return the rules in which it reads.
     Rules,
 }
 
@@ -163,26 +171,28 @@ fn does(decoder: &mut Decoder<'_>, duty: Duty) -> bool {
 }
 
 /// Whether a decoder of these octets does it.
-fn is_done(alloc: Global, variant: Variant, octets: &[u8], duty: Duty) -> bool {
-    let mut decoder = Decoder::new(alloc, octets, DecoderOptions { variant });
+fn is_done(alloc: Global, rules: PackedRules, octets: &[u8], duty: Duty) -> bool {
+    let mut decoder = Decoder::new(alloc, octets, DecoderOptions { rules });
     does(&mut decoder, duty)
 }
 
 #[test]
 fn decoders_that_have_failed(rt: HostRuntime) {
     let alloc = rt.alloc();
-    let rows: [(Variant, &[u8], Duty); 4] = [
-        (Variant::Unaligned, &[], Duty::Bit),
-        (Variant::Unaligned, &[0xC0], Duty::Alternative),
-        (Variant::Aligned, &[0x00], Duty::Levels),
-        (Variant::Aligned, &[], Duty::Rules),
+    let rows: [(PackedRules, &[u8], Duty); 6] = [
+        (PackedRules::Uper, &[], Duty::Bit),
+        (PackedRules::UperStrict, &[], Duty::Bit),
+        (PackedRules::Uper, &[0xC0], Duty::Alternative),
+        (PackedRules::Aper, &[0x00], Duty::Levels),
+        (PackedRules::Aper, &[], Duty::Rules),
+        (PackedRules::AperStrict, &[], Duty::Rules),
     ];
-    for (variant, octets, duty) in rows {
-        assert!(rt; is_done(alloc, variant, octets, duty), "{duty:?}");
+    for (rules, octets, duty) in rows {
+        assert!(rt; is_done(alloc, rules, octets, duty), "{duty:?}");
     }
 }
 
-/// Whether a string is lent, and is these octets.
+/// Whether a string is lent, and has these octets.
 fn is_lent(found: &CowSlice<u8, Global>, octets: &[u8]) -> bool {
     match found {
         CowSlice::Borrowed(found) => *found == octets,
@@ -190,14 +200,14 @@ fn is_lent(found: &CowSlice<u8, Global>, octets: &[u8]) -> bool {
     }
 }
 
-/// Whether the string of octets that comes next is lent by the message, and is these octets.
+/// Whether the OCTET STRING that comes next is borrowed from the message, and has these octets.
 fn lends(alloc: Global, decoder: &mut Decoder<'_>, octets: &[u8]) -> Result<bool, DecodeError> {
     let tag = Tag::OCTET_STRING;
     let found = decoder.decode_octet_string(alloc, tag, &Constraints::NONE, Bounded::None)?;
     Ok(is_lent(&found, octets))
 }
 
-/// Whether a true comes next, and a string of octets that is lent behind it.
+/// Whether a true comes next, and a borrowed OCTET STRING after it.
 fn lends_behind_true(
     alloc: Global,
     decoder: &mut Decoder<'_>,
@@ -207,13 +217,13 @@ fn lends_behind_true(
     Ok(lends(alloc, decoder, octets)? && first)
 }
 
-/// Whether a string of octets is lent behind one bit.
+/// Whether an OCTET STRING is borrowed after one bit.
 fn lends_behind_a_bit(alloc: Global, input: &[u8], octets: &[u8]) -> Result<bool, DecodeError> {
     let mut decoder = Decoder::new(alloc, input, DecoderOptions::aligned());
     lends_behind_true(alloc, &mut decoder, octets)
 }
 
-/// Begins a choice of the alternatives [0] and, behind its extension marker, [1].
+/// Begins a choice of the alternatives [0] and, after its extension marker, [1].
 fn begin_extensible(decoder: &mut Decoder<'_>) -> Result<(), DecodeError> {
     let Some(tables) = TagTables::checked(&[FIRST], true, &[SECOND], &PLACES[..2]) else {
         return Err(DecodeError::OutOfMemory);
@@ -222,7 +232,7 @@ fn begin_extensible(decoder: &mut Decoder<'_>) -> Result<(), DecodeError> {
     Ok(())
 }
 
-/// Whether a string of octets is lent in the open type of an added alternative, and another one behind it.
+/// Whether an OCTET STRING is borrowed in the open type of an added alternative, and another one after it.
 fn lends_both(
     alloc: Global,
     decoder: &mut Decoder<'_>,
@@ -234,14 +244,14 @@ fn lends_both(
     Ok(lends(alloc, decoder, behind)? && first)
 }
 
-/// Whether they are so in a message.
+/// Whether both are in a message.
 fn lends_in_an_open_type(
     alloc: Global,
-    variant: Variant,
+    rules: PackedRules,
     input: &[u8],
     strings: (&[u8], &[u8]),
 ) -> Result<bool, DecodeError> {
-    let mut decoder = Decoder::new(alloc, input, DecoderOptions { variant });
+    let mut decoder = Decoder::new(alloc, input, DecoderOptions { rules });
     lends_both(alloc, &mut decoder, strings)
 }
 
@@ -253,13 +263,13 @@ fn an_aligned_message_lends_its_octets(rt: HostRuntime) -> Result<(), Fail> {
     Ok(())
 }
 
-/// The extension bit and the place of an added alternative take eight bits (X.691 11.6 and 23.8), so that its open type
-/// (11.2) begins at an octet in each variant.
+/// The extension bit and the index of an added alternative have eight bits (X.691 11.6 and 23.8), so that its open
+/// type (11.2) begins at an octet boundary in each variant.
 #[test]
 fn octets_in_open_types_are_lent(rt: HostRuntime) {
     let input = [0x80, 0x04, 0x03, 0x01, 0x02, 0x03, 0x02, 0x04, 0x05];
-    for variant in [Variant::Unaligned, Variant::Aligned] {
+    for rules in PACKED {
         let strings: (&[u8], &[u8]) = (&[1, 2, 3], &[4, 5]);
-        assert!(rt; lends_in_an_open_type(rt.alloc(), variant, &input, strings) == Ok(true));
+        assert!(rt; lends_in_an_open_type(rt.alloc(), rules, &input, strings) == Ok(true));
     }
 }

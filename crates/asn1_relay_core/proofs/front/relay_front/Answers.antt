@@ -1,5 +1,5 @@
 use Rattle.std.proofs.Common.{◌-◌, length, take, ltb, refl, ap, sym, subst, arith}
-use Rattle.asn1_schema_decode.specs.Messages.{NoMessage, Tells}
+use Rattle.asn1_schema_decode.specs.Messages.{NeedsMore, NoMessage, Tells}
 use Rattle.asn1_relay_core.specs.Coding.{rules_of}
 use Rattle.asn1_relay_core.specs.Fronts.{Tries}
 use Rattle.asn1_relay_core.proofs.Trying.{tried_none, tried_relayed, tried_nothing}
@@ -7,8 +7,13 @@ use Rattle.asn1_relay_core.proofs.front.relay_front.Goals as goal
 
 pub returns-in-Err : goal.returns-in-Err
 returns-in-Err g c =
-    let w = subst (λ k. NoMessage (rules_of c.args.way.from) g.T.Described.schema (take k c.args.unread.now) c.in-Err.error) c.min.ensures c.in-Err.ensures.only in
-    let t = tried_none (rules_of c.args.way.from) (rules_of c.args.way.to) g.T.Described.schema c.args.way.limit c.args.unread.now c.in-Err.error (ltb c.args.way.limit (length c.args.unread.now)) c.args.out.now.items c.args.out.now.items refl refl w in
+    let e = c.in-Err.refusal.error in
+    let n = c.in-Err.refusal.needed in
+    let number = c.saturating_add-number.result in
+    let least = c.saturating_add-number.ensures in
+    let w = subst (λ k. NoMessage (rules_of c.args.way.from) g.T.Described.schema (take k c.args.unread.now) e) c.min.ensures c.in-Err.ensures.only in
+    let m = subst (λ k. NeedsMore (rules_of c.args.way.from) g.T.Described.schema (take k c.args.unread.now) n e) c.min.ensures c.in-Err.ensures.needed in
+    let t = tried_none (rules_of c.args.way.from) (rules_of c.args.way.to) g.T.Described.schema c.args.way.limit c.args.unread.now e n number (ltb c.args.way.limit (length c.args.unread.now)) c.args.out.now.items c.args.out.now.items refl (omega arith) refl w m in
     subst (λ f. Tries (rules_of c.args.way.from) (rules_of c.args.way.to) (g.T.Described.schema 128) c.args.way.limit c.args.unread.now c.args.out.now.items c.args.out.now.items f) (sym c.without_message.ensures) t
 
 pub returns-in-Ok-write : goal.returns-in-Ok-write

@@ -1,13 +1,18 @@
-use Rattle.std.proofs.Common.{◌∙◌, ◌%◌, ap, sym}
+use Rattle.std.proofs.Common.{◌≡◌, ◌∙◌, ◌%◌, ◌||◌, ◌==◌, false, true, ap, sym, subst}
+use Rattle.asn1_model.specs.Per
 use Rattle.asn1_schema_presented.proofs.Joined.{raised}
-use Rattle.per_codec_decoder.proofs.Closing.{closes, no_completion, no_octets_left}
+use Rattle.per_codec_reading.specs.Fronts.{freedoms}
+use Rattle.per_codec_decoder.proofs.Closing.{closes, no_completion, no_octets_left, surplus_octets}
 use Rattle.per_codec_decoder.proofs.completion.read_to_end.Goals as goal
 
 pub returns-in_err-read_completion-clause-only : goal.returns-in_err-read_completion-clause-only
-returns-in_err-read_completion-clause-only c = raised _ _ _ c.from_residual.ensures.1 (no_completion c.args.cursor.now c.in_err-read_completion.ensures.only)
+returns-in_err-read_completion-clause-only c = raised _ _ _ c.from_residual.ensures.1 (no_completion (freedoms c.args.rules) c.args.cursor.now c.in_err-read_completion.ensures.only)
 
-pub returns-then-len-ne0-clause-only : goal.returns-then-len-ne0-clause-only
-returns-then-len-ne0-clause-only c = no_octets_left c.args.cursor.now c.read_completion.new.cursor c.in_ok-read_completion.ensures.ok (λ e. c.if-len-ne0.true (ap (λ n. n % 8) c.len.ensures ∙ e))
+pub returns-then-left-ne0-clause-only : goal.returns-then-left-ne0-clause-only
+returns-then-left-ne0-clause-only c = no_octets_left (freedoms c.args.rules) c.args.cursor.now c.read_completion.new.cursor c.in_ok-read_completion.ensures.ok (λ e. c.if-left-ne0.true (ap (λ n. n % 8) c.len-left.ensures ∙ e))
+
+pub returns-then-not-may_be_left-clause-only : goal.returns-then-not-may_be_left-clause-only
+returns-then-not-may_be_left-clause-only c = surplus_octets (freedoms c.args.rules) c.args.cursor.now c.read_completion.new.cursor c.in_ok-read_completion.ensures.ok (subst (λ n. (freedoms c.args.rules Per.octets_behind || n == 0) ≡ false) c.len-left.ensures (sym c.if-not-may_be_left.ensures))
 
 pub returns-clause-ok : goal.returns-clause-ok
-returns-clause-ok c = closes c.args.cursor.now c.read_completion.new.cursor c.in_ok-read_completion.ensures.ok (sym (ap (λ n. n % 8) c.len.ensures) ∙ c.if-len-ne0.false)
+returns-clause-ok c = closes (freedoms c.args.rules) c.args.cursor.now c.read_completion.new.cursor c.in_ok-read_completion.ensures.ok (sym (ap (λ n. n % 8) c.len-left.ensures) ∙ c.if-left-ne0.false) (subst (λ n. (freedoms c.args.rules Per.octets_behind || n == 0) ≡ true) c.len-left.ensures (sym c.if-not-may_be_left.ensures))

@@ -11,15 +11,15 @@ use Rattle.per_codec_reading.proofs.identifiers.read_object_identifier.Goals as 
 pub returns-in_err-octets-clause-only : goal.returns-in_err-octets-clause-only
 returns-in_err-octets-clause-only c =
     let p = err_from_is_err_and c.from_residual.result c.from_residual.ensures.1 in
-    let f = freedoms c.args.variant in
-    let al = is_aligned c.args.variant in
+    let f = freedoms c.args.rules in
+    let al = is_aligned c.args.rules in
     let a = c.args.cursor.now in
     rw (p.1, p.2) (misses_also f (Per.counted_octets al) (Per.form al object_identifier) a a _ (no_identifier_octets f al a) c.in_err-octets.ensures.only)
 
 pub returns-in-Ok-clause-ok : goal.returns-in-Ok-clause-ok
 returns-in-Ok-clause-ok c =
-    let f = freedoms c.args.variant in
-    let al = is_aligned c.args.variant in
+    let f = freedoms c.args.rules in
+    let al = is_aligned c.args.rules in
     let a = c.args.cursor.now in
     let b = c.read_counted_octets.new.cursor in
     let front = subst (λ os. Front f (Per.counted_octets al os) a b) (sym c.as_slice.ensures.value) c.in_ok-octets.ensures.ok in
@@ -27,8 +27,8 @@ returns-in-Ok-clause-ok c =
 
 pub returns-clause-only : goal.returns-clause-only
 returns-clause-only c =
-    let f = freedoms c.args.variant in
-    let al = is_aligned c.args.variant in
+    let f = freedoms c.args.rules in
+    let al = is_aligned c.args.rules in
     let a = c.args.cursor.now in
     let b = c.read_counted_octets.new.cursor in
     let front = subst (λ os. Front f (Per.counted_octets al os) a b) (sym c.as_slice.ensures.value) c.in_ok-octets.ensures.ok in

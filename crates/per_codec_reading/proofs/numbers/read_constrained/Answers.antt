@@ -10,8 +10,8 @@ use Rattle.per_codec_reading.proofs.numbers.read_constrained.Goals as goal
 
 pub returns-then-not-is_aligned-clause-ok : goal.returns-then-not-is_aligned-clause-ok
 returns-then-not-is_aligned-clause-ok c =
-    let f = freedoms c.args.variant in
-    let al = is_aligned c.args.variant in
+    let f = freedoms c.args.rules in
+    let al = is_aligned c.args.rules in
     let a = c.args.cursor.now in
     let b = c.read_number_within.new.cursor in
     let few : (al ≡ false) ⊎ (c.args.span < 255) = elim c.then-not-is_aligned.branch [
@@ -22,8 +22,8 @@ returns-then-not-is_aligned-clause-ok c =
 
 pub returns-then-not-is_aligned-clause-only : goal.returns-then-not-is_aligned-clause-only
 returns-then-not-is_aligned-clause-only c =
-    let f = freedoms c.args.variant in
-    let al = is_aligned c.args.variant in
+    let f = freedoms c.args.rules in
+    let al = is_aligned c.args.rules in
     let a = c.args.cursor.now in
     let few : (al ≡ false) ⊎ (c.args.span < 255) = elim c.then-not-is_aligned.branch [
       | then-not-is_aligned-via-then-not-is_aligned w ↦ inl (sym w.if-not-is_aligned.ensures)
@@ -34,12 +34,12 @@ returns-then-not-is_aligned-clause-only c =
 pub returns-then-span-eq255-clause-ok : goal.returns-then-span-eq255-clause-ok
 returns-then-span-eq255-clause-ok c =
     let l = c.if-span-eq255.true in
-    ok_also c.read_aligned_within.result (λ n. one_read (freedoms c.args.variant) (is_aligned c.args.variant) c.args.span n c.args.cursor.now c.read_aligned_within.new.cursor c.if-not-is_aligned.ensures l) c.read_aligned_within.ensures.ok
+    ok_also c.read_aligned_within.result (λ n. one_read (freedoms c.args.rules) (is_aligned c.args.rules) c.args.span n c.args.cursor.now c.read_aligned_within.new.cursor c.if-not-is_aligned.ensures l) c.read_aligned_within.ensures.ok
 
 pub returns-then-span-eq255-clause-only : goal.returns-then-span-eq255-clause-only
 returns-then-span-eq255-clause-only c =
-    let f = freedoms c.args.variant in
-    let al = is_aligned c.args.variant in
+    let f = freedoms c.args.rules in
+    let al = is_aligned c.args.rules in
     let a = c.args.cursor.now in
     let s = c.args.span in
     let l = c.if-span-eq255.true in
@@ -49,12 +49,12 @@ pub returns-then-span-lt-LONG_SPAN-clause-ok : goal.returns-then-span-lt-LONG_SP
 returns-then-span-lt-LONG_SPAN-clause-ok c =
     let g = c.if-span-lt255.false in
     let n = c.if-span-eq255.false in
-    ok_also c.read_aligned_within-then-span-lt-LONG_SPAN.result (λ d. two_read (freedoms c.args.variant) (is_aligned c.args.variant) c.args.span d c.args.cursor.now c.read_aligned_within-then-span-lt-LONG_SPAN.new.cursor c.if-not-is_aligned.ensures (omega arith) c.if-span-lt-LONG_SPAN.true) c.read_aligned_within-then-span-lt-LONG_SPAN.ensures.ok
+    ok_also c.read_aligned_within-then-span-lt-LONG_SPAN.result (λ d. two_read (freedoms c.args.rules) (is_aligned c.args.rules) c.args.span d c.args.cursor.now c.read_aligned_within-then-span-lt-LONG_SPAN.new.cursor c.if-not-is_aligned.ensures (omega arith) c.if-span-lt-LONG_SPAN.true) c.read_aligned_within-then-span-lt-LONG_SPAN.ensures.ok
 
 pub returns-then-span-lt-LONG_SPAN-clause-only : goal.returns-then-span-lt-LONG_SPAN-clause-only
 returns-then-span-lt-LONG_SPAN-clause-only c =
-    let f = freedoms c.args.variant in
-    let al = is_aligned c.args.variant in
+    let f = freedoms c.args.rules in
+    let al = is_aligned c.args.rules in
     let a = c.args.cursor.now in
     let s = c.args.span in
     let g = c.if-span-lt255.false in
@@ -62,7 +62,7 @@ returns-then-span-lt-LONG_SPAN-clause-only c =
     err_also c.read_aligned_within-then-span-lt-LONG_SPAN.result (λ e. misses_also f (aligned_within al 16 s) (Per.constrained al s) a a e (two_missed f al s a c.if-not-is_aligned.ensures (omega arith) c.if-span-lt-LONG_SPAN.true)) c.read_aligned_within-then-span-lt-LONG_SPAN.ensures.only
 
 pub returns-clause-ok : goal.returns-clause-ok
-returns-clause-ok c = ok_also c.read_octets_within.result (λ d x. subst (λ al. Front (freedoms c.args.variant) (Per.constrained al c.args.span d) c.args.cursor.now c.read_octets_within.new.cursor) c.if-not-is_aligned.ensures x) c.read_octets_within.ensures.ok
+returns-clause-ok c = ok_also c.read_octets_within.result (λ d x. subst (λ al. Front (freedoms c.args.rules) (Per.constrained al c.args.span d) c.args.cursor.now c.read_octets_within.new.cursor) c.if-not-is_aligned.ensures x) c.read_octets_within.ensures.ok
 
 pub returns-clause-only : goal.returns-clause-only
-returns-clause-only c = subst (λ al. IfErr c.read_octets_within.result (Misses (freedoms c.args.variant) (Per.constrained al c.args.span) c.args.cursor.now)) c.if-not-is_aligned.ensures c.read_octets_within.ensures.only
+returns-clause-only c = subst (λ al. IfErr c.read_octets_within.result (Misses (freedoms c.args.rules) (Per.constrained al c.args.span) c.args.cursor.now)) c.if-not-is_aligned.ensures c.read_octets_within.ensures.only

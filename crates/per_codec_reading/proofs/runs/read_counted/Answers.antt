@@ -11,8 +11,8 @@ use Rattle.per_codec_reading.proofs.runs.read_counted.Goals as goal
 pub returns-in_err-length-clause-only : goal.returns-in_err-length-clause-only
 returns-in_err-length-clause-only c =
     let p = err_from_is_err_and c.from_residual.result c.from_residual.ensures.1 in
-    let f = freedoms c.args.variant in
-    let al = is_aligned c.args.variant in
+    let f = freedoms c.args.rules in
+    let al = is_aligned c.args.rules in
     let w = c.args.width in
     let a = c.args.cursor.now in
     rw (p.1, p.2) (misses_also f (length_form al) (counted_units al w) a a _ (λ n. no_first f al w a (no_length f al w a n)) c.in_err-length.ensures.only)
@@ -24,4 +24,4 @@ pub returns-clause-only : goal.returns-clause-only
 returns-clause-only c = err_also c.read_units_behind.result (λ e g. g c.args.cursor.now c.in_ok-length.ensures.ok) c.read_units_behind.ensures.only
 
 pub returns-clause-last : goal.returns-clause-last
-returns-clause-last c = ok_also c.read_units_behind.result (λ run g. lent_behind (freedoms c.args.variant) _ run.bits c.args.cursor.now c.read_length.new.cursor c.read_units_behind.new.cursor c.in_ok-length.ensures.ok g) c.read_units_behind.ensures.last
+returns-clause-last c = ok_also c.read_units_behind.result (λ run g. lent_behind (freedoms c.args.rules) _ run.bits c.args.cursor.now c.read_length.new.cursor c.read_units_behind.new.cursor c.in_ok-length.ensures.ok g) c.read_units_behind.ensures.last

@@ -5,19 +5,19 @@ use Rattle.asn1_schema_constraints.specs.Terms.{size_of}
 use Rattle.per_codec_fronts.specs.Sizes.{extension_bit, told_highest}
 use Rattle.per_codec_fronts.proofs.Fronts.{split}
 use Rattle.per_codec_reading.specs.Fronts.{freedoms, is_aligned}
-use Rattle.per_codec_reading.proofs.Fronts.{misses_also, root_told_outside_is_free}
+use Rattle.per_codec_reading.proofs.Fronts.{misses_also}
 use Rattle.per_codec_reading.specs.Runs.{units_in, InOneRun}
 use Rattle.per_codec_reading.specs.Sizes.{contents_have_padding, determinant_form, heading_form, sized_units, units_told}
 use Rattle.per_codec_reading.proofs.LastFronts.{lent_behind}
 use Rattle.per_codec_reading.proofs.HeadingFronts.{in_one_run, bit_in_front}
-use Rattle.per_codec_reading.proofs.SizedFronts.{sized_in, no_heading, no_units, not_admitted}
+use Rattle.per_codec_reading.proofs.SizedFronts.{sized_in, no_heading, no_units, not_admitted, not_outside}
 use Rattle.per_codec_reading.proofs.sized.read_sized.Goals as goal
 
 pub returns-in_err-heading-clause-only : goal.returns-in_err-heading-clause-only
 returns-in_err-heading-clause-only c =
     let p = err_from_is_err_and c.from_residual.result c.from_residual.ensures.1 in
-    let f = freedoms c.args.variant in
-    let al = is_aligned c.args.variant in
+    let f = freedoms c.args.rules in
+    let al = is_aligned c.args.rules in
     let z = size_of c.args.sizes in
     let h = counts_of c.args.held in
     let has_padding = contents_have_padding c.args.contents c.args.width in
@@ -27,8 +27,8 @@ returns-in_err-heading-clause-only c =
 pub returns-in_err-run-clause-only : goal.returns-in_err-run-clause-only
 returns-in_err-run-clause-only c =
     let p = err_from_is_err_and c.from_residual-in_err-run.result c.from_residual-in_err-run.ensures.1 in
-    let f = freedoms c.args.variant in
-    let al = is_aligned c.args.variant in
+    let f = freedoms c.args.rules in
+    let al = is_aligned c.args.rules in
     let z = size_of c.args.sizes in
     let h = counts_of c.args.held in
     let w = c.args.width in
@@ -41,8 +41,8 @@ returns-in_err-run-clause-only c =
 
 pub returns-then-not-is_admitted-clause-only : goal.returns-then-not-is_admitted-clause-only
 returns-then-not-is_admitted-clause-only c =
-    let f = freedoms c.args.variant in
-    let al = is_aligned c.args.variant in
+    let f = freedoms c.args.rules in
+    let al = is_aligned c.args.rules in
     let z = size_of c.args.sizes in
     let h = counts_of c.args.held in
     let w = c.args.width in
@@ -55,10 +55,10 @@ returns-then-not-is_admitted-clause-only c =
     let s = split f (extension_bit z.extensible o) (determinant_form al z.counts (told_highest o z.counts.high) heading.determinant) a c.read_heading.new.cursor c.in_ok-heading.ensures.ok in
     not_admitted f al z h w has_padding us o a s.0 b s.1 (c.in_ok-run.ensures.ok (told_highest o z.counts.high) s.0 s.2) (sym c.if-not-is_admitted.ensures.counts)
 
-pub returns-clause-ok : goal.returns-clause-ok
-returns-clause-ok c =
-    let f = freedoms c.args.variant in
-    let al = is_aligned c.args.variant in
+pub returns-then-not-is_accepted_outside-clause-only : goal.returns-then-not-is_accepted_outside-clause-only
+returns-then-not-is_accepted_outside-clause-only c =
+    let f = freedoms c.args.rules in
+    let al = is_aligned c.args.rules in
     let z = size_of c.args.sizes in
     let h = counts_of c.args.held in
     let w = c.args.width in
@@ -69,12 +69,28 @@ returns-clause-ok c =
     let a = c.args.cursor.now in
     let b = c.read_units.new.cursor in
     let s = split f (extension_bit z.extensible o) (determinant_form al z.counts (told_highest o z.counts.high) heading.determinant) a c.read_heading.new.cursor c.in_ok-heading.ensures.ok in
-    sized_in f al z h w has_padding us o a s.0 b (root_told_outside_is_free c.args.variant) s.1 (c.in_ok-run.ensures.ok (told_highest o z.counts.high) s.0 s.2) (sym c.if-not-is_admitted.ensures.counts)
+    not_outside f al z h w has_padding us o a s.0 b (sym c.if-not-is_accepted_outside.ensures) s.1 (c.in_ok-run.ensures.ok (told_highest o z.counts.high) s.0 s.2)
+
+pub returns-clause-ok : goal.returns-clause-ok
+returns-clause-ok c =
+    let f = freedoms c.args.rules in
+    let al = is_aligned c.args.rules in
+    let z = size_of c.args.sizes in
+    let h = counts_of c.args.held in
+    let w = c.args.width in
+    let has_padding = contents_have_padding c.args.contents c.args.width in
+    let heading = c.in_ok-heading.heading in
+    let o = heading.is_outside in
+    let us = units_in c.in_ok-run.run' in
+    let a = c.args.cursor.now in
+    let b = c.read_units.new.cursor in
+    let s = split f (extension_bit z.extensible o) (determinant_form al z.counts (told_highest o z.counts.high) heading.determinant) a c.read_heading.new.cursor c.in_ok-heading.ensures.ok in
+    sized_in f al z h w has_padding us o a s.0 b (sym c.if-not-is_accepted_outside.ensures) s.1 (c.in_ok-run.ensures.ok (told_highest o z.counts.high) s.0 s.2) (sym c.if-not-is_admitted.ensures.counts)
 
 pub returns-clause-lent : goal.returns-clause-lent
 returns-clause-lent c = λ one.
-    let f = freedoms c.args.variant in
-    let al = is_aligned c.args.variant in
+    let f = freedoms c.args.rules in
+    let al = is_aligned c.args.rules in
     let z = size_of c.args.sizes in
     let heading = c.in_ok-heading.heading in
     let o = heading.is_outside in
@@ -86,4 +102,4 @@ returns-clause-lent c = λ one.
     c.in_ok-run.ensures.lent (in_one_run f al z.counts (told_highest o z.counts.high) heading.determinant us.count s.0 m s.2 told)
 
 pub returns-clause-last : goal.returns-clause-last
-returns-clause-last c = lent_behind (freedoms c.args.variant) _ c.in_ok-run.run'.bits c.args.cursor.now c.read_heading.new.cursor c.read_units.new.cursor c.in_ok-heading.ensures.ok c.in_ok-run.ensures.last
+returns-clause-last c = lent_behind (freedoms c.args.rules) _ c.in_ok-run.run'.bits c.args.cursor.now c.read_heading.new.cursor c.read_units.new.cursor c.in_ok-heading.ensures.ok c.in_ok-run.ensures.last

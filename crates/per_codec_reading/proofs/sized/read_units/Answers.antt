@@ -14,8 +14,8 @@ use Rattle.asn1_model.specs.Form.{exactly}
 pub returns-in_err-read_padding_if-in-Constrained-clause-only : goal.returns-in_err-read_padding_if-in-Constrained-clause-only
 returns-in_err-read_padding_if-in-Constrained-clause-only c =
     let p = err_from_is_err_and c.from_residual.result c.from_residual.ensures.1 in
-    let f = freedoms c.args.variant in
-    let al = is_aligned c.args.variant in
+    let f = freedoms c.args.rules in
+    let al = is_aligned c.args.rules in
     let w = c.args.width in
     let has_padding = contents_have_padding c.args.contents w in
     let root = counts_of c.args.root in
@@ -25,8 +25,8 @@ returns-in_err-read_padding_if-in-Constrained-clause-only c =
 pub returns-in_err-bits-in-Constrained-clause-only : goal.returns-in_err-bits-in-Constrained-clause-only
 returns-in_err-bits-in-Constrained-clause-only c =
     let p = err_from_is_err_and c.from_residual-in_err-bits-in-Constrained.result c.from_residual-in_err-bits-in-Constrained.ensures.1 in
-    let f = freedoms c.args.variant in
-    let al = is_aligned c.args.variant in
+    let f = freedoms c.args.rules in
+    let al = is_aligned c.args.rules in
     let w = c.args.width in
     let has_padding = contents_have_padding c.args.contents w in
     let root = counts_of c.args.root in
@@ -39,8 +39,8 @@ returns-in_err-bits-in-Constrained-clause-only c =
 pub returns-in_err-run-in-General-clause-only : goal.returns-in_err-run-in-General-clause-only
 returns-in_err-run-in-General-clause-only c =
     let p = err_from_is_err_and c.from_residual-in_err-run-in-General.result c.from_residual-in_err-run-in-General.ensures.1 in
-    let f = freedoms c.args.variant in
-    let al = is_aligned c.args.variant in
+    let f = freedoms c.args.rules in
+    let al = is_aligned c.args.rules in
     let w = c.args.width in
     let has_padding = contents_have_padding c.args.contents w in
     let root = counts_of c.args.root in
@@ -49,8 +49,8 @@ returns-in_err-run-in-General-clause-only c =
 
 pub returns-in_ok-bits-in-Constrained-clause-ok : goal.returns-in_ok-bits-in-Constrained-clause-ok
 returns-in_ok-bits-in-Constrained-clause-ok c =
-    let f = freedoms c.args.variant in
-    let al = is_aligned c.args.variant in
+    let f = freedoms c.args.rules in
+    let al = is_aligned c.args.rules in
     let w = c.args.width in
     let has_padding = contents_have_padding c.args.contents w in
     let root = counts_of c.args.root in
@@ -65,8 +65,8 @@ returns-in_ok-bits-in-Constrained-clause-ok c =
 
 pub returns-in_ok-run-in-General-clause-ok : goal.returns-in_ok-run-in-General-clause-ok
 returns-in_ok-run-in-General-clause-ok c =
-    let f = freedoms c.args.variant in
-    let al = is_aligned c.args.variant in
+    let f = freedoms c.args.rules in
+    let al = is_aligned c.args.rules in
     let w = c.args.width in
     let has_padding = contents_have_padding c.args.contents w in
     let root = counts_of c.args.root in

@@ -14,8 +14,8 @@ use Rattle.per_codec_reading.proofs.sizes.read_determinant.Goals as goal
 pub returns-in_err-count-in-Some-clause-only : goal.returns-in_err-count-in-Some-clause-only
 returns-in_err-count-in-Some-clause-only c =
     let p = err_from_is_err_and c.from_residual.result c.from_residual.ensures.1 in
-    let f = freedoms c.args.variant in
-    let al = is_aligned c.args.variant in
+    let f = freedoms c.args.rules in
+    let al = is_aligned c.args.rules in
     let root = counts_of c.args.root in
     let a = c.args.cursor.now in
     let e = sym c.in-Some.is ∙ c.highest_inside.ensures.highest in
@@ -26,8 +26,8 @@ returns-in_err-count-in-Some-clause-only c =
 pub returns-in_err-length-in-None-clause-only : goal.returns-in_err-length-in-None-clause-only
 returns-in_err-length-in-None-clause-only c =
     let p = err_from_is_err_and c.from_residual-in_err-length-in-None.result c.from_residual-in_err-length-in-None.ensures.1 in
-    let f = freedoms c.args.variant in
-    let al = is_aligned c.args.variant in
+    let f = freedoms c.args.rules in
+    let al = is_aligned c.args.rules in
     let root = counts_of c.args.root in
     let a = c.args.cursor.now in
     let e = sym c.in-None.is ∙ c.highest_inside.ensures.highest in
@@ -35,8 +35,8 @@ returns-in_err-length-in-None-clause-only c =
 
 pub returns-in_ok-count-in-Some-clause-ok : goal.returns-in_ok-count-in-Some-clause-ok
 returns-in_ok-count-in-Some-clause-ok c =
-    let f = freedoms c.args.variant in
-    let al = is_aligned c.args.variant in
+    let f = freedoms c.args.rules in
+    let al = is_aligned c.args.rules in
     let root = counts_of c.args.root in
     let a = c.args.cursor.now in
     let b = c.read_told_count.new.cursor in
@@ -47,8 +47,8 @@ returns-in_ok-count-in-Some-clause-ok c =
 
 pub returns-in_ok-length-in-None-clause-ok : goal.returns-in_ok-length-in-None-clause-ok
 returns-in_ok-length-in-None-clause-ok c =
-    let f = freedoms c.args.variant in
-    let al = is_aligned c.args.variant in
+    let f = freedoms c.args.rules in
+    let al = is_aligned c.args.rules in
     let root = counts_of c.args.root in
     let e = sym c.in-None.is ∙ c.highest_inside.ensures.highest in
     subst (λ t. Front f (determinant_form al root t (General c.in_ok-length-in-None.length)) c.args.cursor.now c.read_length.new.cursor) e c.in_ok-length-in-None.ensures.ok

@@ -17,8 +17,8 @@ use Rattle.per_codec_reading.proofs.strings.read_bit_string.Goals as goal
 pub returns-in_err-units-clause-only : goal.returns-in_err-units-clause-only
 returns-in_err-units-clause-only c =
     let p = err_from_is_err_and c.from_residual.result c.from_residual.ensures.1 in
-    let f = freedoms c.args.variant in
-    let al = is_aligned c.args.variant in
+    let f = freedoms c.args.rules in
+    let al = is_aligned c.args.rules in
     let z = size_of c.args.sizes in
     let h = counts_of c.args.held in
     let a = c.args.cursor.now in
@@ -26,8 +26,8 @@ returns-in_err-units-clause-only c =
 
 pub returns-clause-ok : goal.returns-clause-ok
 returns-clause-ok c =
-    let f = freedoms c.args.variant in
-    let al = is_aligned c.args.variant in
+    let f = freedoms c.args.rules in
+    let al = is_aligned c.args.rules in
     let z = size_of c.args.sizes in
     let h = counts_of c.args.held in
     let a = c.args.cursor.now in

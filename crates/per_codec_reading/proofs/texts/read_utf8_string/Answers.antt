@@ -14,8 +14,8 @@ use Rattle.per_codec_reading.proofs.texts.read_utf8_string.Goals as goal
 pub returns-in_err-octets-clause-only : goal.returns-in_err-octets-clause-only
 returns-in_err-octets-clause-only c =
     let p = err_from_is_err_and c.from_residual.result c.from_residual.ensures.1 in
-    let f = freedoms c.args.variant in
-    let al = is_aligned c.args.variant in
+    let f = freedoms c.args.rules in
+    let al = is_aligned c.args.rules in
     let z = sizes_of c.args._constraints.now.size in
     let l = alphabet_of c.args._constraints.now.permitted_alphabet in
     let a = c.args.cursor.now in
@@ -23,8 +23,8 @@ returns-in_err-octets-clause-only c =
 
 pub returns-in_default-clause-only : goal.returns-in_default-clause-only
 returns-in_default-clause-only c =
-    let f = freedoms c.args.variant in
-    let al = is_aligned c.args.variant in
+    let f = freedoms c.args.rules in
+    let al = is_aligned c.args.rules in
     let a = c.args.cursor.now in
     let b = c.read_counted_octets.new.cursor in
     let front = subst (λ os. Front f (Per.counted_octets al os) a b) (sym c.as_slice.ensures.value) c.in_ok-octets.ensures.ok in
@@ -32,8 +32,8 @@ returns-in_default-clause-only c =
 
 pub returns-clause-ok : goal.returns-clause-ok
 returns-clause-ok c =
-    let f = freedoms c.args.variant in
-    let al = is_aligned c.args.variant in
+    let f = freedoms c.args.rules in
+    let al = is_aligned c.args.rules in
     let z = sizes_of c.args._constraints.now.size in
     let l = alphabet_of c.args._constraints.now.permitted_alphabet in
     let a = c.args.cursor.now in

@@ -3,4 +3,4 @@ use Rattle.per_codec_reading.proofs.NumberFronts.{nothing_stands}
 use Rattle.per_codec_reading.proofs.units.read_null.Goals as goal
 
 pub returns-clause-ok : goal.returns-clause-ok
-returns-clause-ok c = nothing_stands (freedoms c.args.variant) (is_aligned c.args.variant) c.args.cursor.now
+returns-clause-ok c = nothing_stands (freedoms c.args.rules) (is_aligned c.args.rules) c.args.cursor.now

@@ -15,13 +15,13 @@ returns-then-high-low-clause-only c =
     let low = c.ranges.low in
     let high = c.ranges.high in
     let l : c.args.high <ℤ c.args.low = grind (arith, ints, c.if-high-low.true) in
-    none_between (freedoms c.args.variant) (is_aligned c.args.variant) c.args.low c.args.high c.args.cursor.now l
+    none_between (freedoms c.args.rules) (is_aligned c.args.rules) c.args.low c.args.high c.args.cursor.now l
 
 pub returns-in_err-above-clause-only : goal.returns-in_err-above-clause-only
 returns-in_err-above-clause-only c =
     let p = err_from_is_err_and c.from_residual.result c.from_residual.ensures.1 in
-    let f = freedoms c.args.variant in
-    let al = is_aligned c.args.variant in
+    let f = freedoms c.args.rules in
+    let al = is_aligned c.args.rules in
     let a = c.args.cursor.now in
     let low = c.ranges.low in
     let high = c.ranges.high in
@@ -37,7 +37,7 @@ returns-clause-ok c =
     let n : c.args.low ≤ℤ c.args.high = grind (arith, ints, c.if-high-low.false) in
     let s = simp to_z-of_z at c.abs_diff.ensures in
     let e = span_told c.args.low c.args.high c.abs_diff.result n s in
-    between_answer (freedoms c.args.variant) (is_aligned c.args.variant) c.number_above.result c.args.low _ c.args.high c.abs_diff.result c.in_ok-above.above c.args.cursor.now c.read_constrained.new.cursor (to_z-of_z w128 c.args.low c.ranges.low) e c.number_above.ensures.number c.number_above.ensures.held c.in_ok-above.ensures.ok
+    between_answer (freedoms c.args.rules) (is_aligned c.args.rules) c.number_above.result c.args.low _ c.args.high c.abs_diff.result c.in_ok-above.above c.args.cursor.now c.read_constrained.new.cursor (to_z-of_z w128 c.args.low c.ranges.low) e c.number_above.ensures.number c.number_above.ensures.held c.in_ok-above.ensures.ok
 
 pub returns-clause-only : goal.returns-clause-only
 returns-clause-only c =
@@ -46,4 +46,4 @@ returns-clause-only c =
     let n : c.args.low ≤ℤ c.args.high = grind (arith, ints, c.if-high-low.false) in
     let s = simp to_z-of_z at c.abs_diff.ensures in
     let e = span_told c.args.low c.args.high c.abs_diff.result n s in
-    between_refused (freedoms c.args.variant) (is_aligned c.args.variant) c.number_above.result c.args.low _ c.args.high c.abs_diff.result c.in_ok-above.above c.args.cursor.now c.read_constrained.new.cursor (to_z-of_z w128 c.args.low c.ranges.low) e c.number_above.ensures.refused c.number_above.ensures.fresh c.in_ok-above.ensures.ok
+    between_refused (freedoms c.args.rules) (is_aligned c.args.rules) c.number_above.result c.args.low _ c.args.high c.abs_diff.result c.in_ok-above.above c.args.cursor.now c.read_constrained.new.cursor (to_z-of_z w128 c.args.low c.ranges.low) e c.number_above.ensures.refused c.number_above.ensures.fresh c.in_ok-above.ensures.ok

@@ -14,15 +14,15 @@ use Rattle.per_codec_reading_values.proofs.bounded.read_up_to.Goals as goal
 pub returns-in_err-number-clause-only : goal.returns-in_err-number-clause-only
 returns-in_err-number-clause-only c =
     let p = err_from_is_err_and c.from_residual.result c.from_residual.ensures.1 in
-    let f = freedoms c.args.variant in
-    let al = is_aligned c.args.variant in
+    let f = freedoms c.args.rules in
+    let al = is_aligned c.args.rules in
     let a = c.args.cursor.now in
     rw (p.1, p.2) (misses_also f (in_128_bits (Per.unconstrained al)) (in_128_bits (Per.whole_number al None (Some c.args.high))) a a _ (up_to_missed f al c.args.high a) c.in_err-number.ensures.only)
 
 pub returns-then-number-high-clause-only : goal.returns-then-number-high-clause-only
 returns-then-number-high-clause-only c =
-    let f = freedoms c.args.variant in
-    let al = is_aligned c.args.variant in
+    let f = freedoms c.args.rules in
+    let al = is_aligned c.args.rules in
     let high = c.ranges.high in
     let number = wide_in_front f (Per.unconstrained al) c.in_ok-number.number c.args.cursor.now c.read_unconstrained.new.cursor c.in_ok-number.ensures.ok in
     let l : c.args.high <ℤ c.in_ok-number.number = grind (arith, ints, c.if-number-high.true) in
@@ -30,8 +30,8 @@ returns-then-number-high-clause-only c =
 
 pub returns-clause-ok : goal.returns-clause-ok
 returns-clause-ok c =
-    let f = freedoms c.args.variant in
-    let al = is_aligned c.args.variant in
+    let f = freedoms c.args.rules in
+    let al = is_aligned c.args.rules in
     let a = c.args.cursor.now in
     let b = c.read_unconstrained.new.cursor in
     let high = c.ranges.high in

@@ -11,17 +11,17 @@ use Rattle.per_codec_reading_values.proofs.FieldFronts.{octets_read, no_octets_f
 use Rattle.per_codec_reading_values.proofs.fields.read_octets.Goals as goal
 
 pub returns-in_err-run-clause-only : goal.returns-in_err-run-clause-only
-returns-in_err-run-clause-only c = raised _ _ _ c.from_residual.ensures.1 (misses_also (freedoms c.args.variant) (counted_units (is_aligned c.args.variant) 8) (octets_form (is_aligned c.args.variant)) c.args.cursor.now c.args.cursor.now _ (no_octets_form (freedoms c.args.variant) (is_aligned c.args.variant) c.args.cursor.now) c.in_err-run.ensures.only)
+returns-in_err-run-clause-only c = raised _ _ _ c.from_residual.ensures.1 (misses_also (freedoms c.args.rules) (counted_units (is_aligned c.args.rules) 8) (octets_form (is_aligned c.args.rules)) c.args.cursor.now c.args.cursor.now _ (no_octets_form (freedoms c.args.rules) (is_aligned c.args.rules) c.args.cursor.now) c.in_err-run.ensures.only)
 
 pub returns-clause-whole : goal.returns-clause-whole
 returns-clause-whole c =
-    let n = counted_size (freedoms c.args.variant) (is_aligned c.args.variant) 8 c.in_ok-run.run'.count (bits_in c.in_ok-run.run'.bits) c.args.cursor.now c.read_counted.new.cursor c.in_ok-run.ensures.ok in
+    let n = counted_size (freedoms c.args.rules) (is_aligned c.args.rules) 8 c.in_ok-run.run'.count (bits_in c.in_ok-run.run'.bits) c.args.cursor.now c.read_counted.new.cursor c.in_ok-run.ensures.ok in
     omega (arith, n)
 
 pub returns-clause-lent : goal.returns-clause-lent
 returns-clause-lent c =
-    let n = counted_size (freedoms c.args.variant) (is_aligned c.args.variant) 8 c.in_ok-run.run'.count (bits_in c.in_ok-run.run'.bits) c.args.cursor.now c.read_counted.new.cursor c.in_ok-run.ensures.ok in
+    let n = counted_size (freedoms c.args.rules) (is_aligned c.args.rules) 8 c.in_ok-run.run'.count (bits_in c.in_ok-run.run'.bits) c.args.cursor.now c.read_counted.new.cursor c.in_ok-run.ensures.ok in
     (λ l. let k = c.in_ok-run.ensures.joined l in omega (arith, n, k), λ l. c.in_ok-run.ensures.lent (omega (arith, n, l)))
 
 pub returns-clause-ok : goal.returns-clause-ok
-returns-clause-ok c = octets_read (freedoms c.args.variant) (is_aligned c.args.variant) (units_in c.in_ok-run.run') c.args.cursor.now c.read_counted.new.cursor c.in_ok-run.ensures.ok
+returns-clause-ok c = octets_read (freedoms c.args.rules) (is_aligned c.args.rules) (units_in c.in_ok-run.run') c.args.cursor.now c.read_counted.new.cursor c.in_ok-run.ensures.ok

@@ -22,8 +22,8 @@ use Rattle.per_codec_reading_values.proofs.octet_strings.read_octet_string.Goals
 
 pub returns-in_err-units-clause-only : goal.returns-in_err-units-clause-only
 returns-in_err-units-clause-only c =
-    let f = freedoms c.args.variant in
-    let al = is_aligned c.args.variant in
+    let f = freedoms c.args.rules in
+    let al = is_aligned c.args.rules in
     let z = size_of c.args.sizes in
     let h = counts_of c.args.held in
     let a = c.behind-cursor.result in
@@ -40,14 +40,14 @@ lent_by-requires c =
 pub into_octets-requires : goal.into_octets-requires
 into_octets-requires c =
     let us = units_in c.in_ok-units.units in
-    let n = sized_size (freedoms c.args.variant) (is_aligned c.args.variant) (size_of c.args.sizes) (counts_of c.args.held) 8 (contents_have_padding Strings 8) us c.behind-cursor.result c.read_sized.new.cursor c.in_ok-units.ensures.ok in
+    let n = sized_size (freedoms c.args.rules) (is_aligned c.args.rules) (size_of c.args.sizes) (counts_of c.args.held) 8 (contents_have_padding Strings 8) us c.behind-cursor.result c.read_sized.new.cursor c.in_ok-units.ensures.ok in
     let l : length (bits_in c.lent_by.result) ≡ length us.1 = ap length c.lent_by.ensures.same in
     omega (arith, n, l)
 
 pub returns-clause-ok : goal.returns-clause-ok
 returns-clause-ok c =
-    let f = freedoms c.args.variant in
-    let al = is_aligned c.args.variant in
+    let f = freedoms c.args.rules in
+    let al = is_aligned c.args.rules in
     let z = size_of c.args.sizes in
     let h = counts_of c.args.held in
     let us = units_in c.in_ok-units.units in
@@ -61,7 +61,7 @@ returns-clause-lent c = λ one end.
     let z = size_of c.args.sizes in
     let us = units_in c.in_ok-units.units in
     let os = cow_slice_items c.in_ok-octets.octets in
-    let n = sized_size (freedoms c.args.variant) (is_aligned c.args.variant) z (counts_of c.args.held) 8 (contents_have_padding Strings 8) us c.behind-cursor.result c.read_sized.new.cursor c.in_ok-units.ensures.ok in
+    let n = sized_size (freedoms c.args.rules) (is_aligned c.args.rules) z (counts_of c.args.held) 8 (contents_have_padding Strings 8) us c.behind-cursor.result c.read_sized.new.cursor c.in_ok-units.ensures.ok in
     let l = length-octet_bits os in
     let m : length (bits_in c.lent_by.result) ≡ length us.1 = ap length c.lent_by.ensures.same in
     let o = ap length c.in_ok-octets.ensures.octets in

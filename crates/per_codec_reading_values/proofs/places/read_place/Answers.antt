@@ -7,16 +7,16 @@ use Rattle.per_codec_reading_values.proofs.PlaceFronts.{added_place, root_place,
 use Rattle.per_codec_reading_values.proofs.places.read_place.Goals as goal
 
 pub returns-in_err-is_added-clause-only : goal.returns-in_err-is_added-clause-only
-returns-in_err-is_added-clause-only c = raised _ _ _ c.from_residual.ensures.1 (misses_also (freedoms c.args.variant) (extension_bit c.args.extensible) (place_form (is_aligned c.args.variant) c.args.roots c.args.extensible c.args.others) c.args.cursor.now c.args.cursor.now _ (no_place_extension_bit (freedoms c.args.variant) (is_aligned c.args.variant) c.args.roots c.args.extensible c.args.others c.args.cursor.now) c.in_err-is_added.ensures.only)
+returns-in_err-is_added-clause-only c = raised _ _ _ c.from_residual.ensures.1 (misses_also (freedoms c.args.rules) (extension_bit c.args.extensible) (place_form (is_aligned c.args.rules) c.args.roots c.args.extensible c.args.others) c.args.cursor.now c.args.cursor.now _ (no_place_extension_bit (freedoms c.args.rules) (is_aligned c.args.rules) c.args.roots c.args.extensible c.args.others c.args.cursor.now) c.in_err-is_added.ensures.only)
 
 pub returns-in_err-place-clause-only : goal.returns-in_err-place-clause-only
-returns-in_err-place-clause-only c = raised _ _ _ c.from_residual-in_err-place.ensures.1 (misses_also (freedoms c.args.variant) (added_form (is_aligned c.args.variant) c.args.others) (place_form (is_aligned c.args.variant) c.args.roots c.args.extensible c.args.others) c.read_extension_bit.new.cursor c.args.cursor.now _ (no_added_place (freedoms c.args.variant) (is_aligned c.args.variant) c.args.roots c.args.extensible c.args.others c.in_ok-is_added.is_added c.args.cursor.now c.read_extension_bit.new.cursor c.if-is_added.true c.in_ok-is_added.ensures.ok) c.in_err-place.ensures.only)
+returns-in_err-place-clause-only c = raised _ _ _ c.from_residual-in_err-place.ensures.1 (misses_also (freedoms c.args.rules) (added_form (is_aligned c.args.rules) c.args.others) (place_form (is_aligned c.args.rules) c.args.roots c.args.extensible c.args.others) c.read_extension_bit.new.cursor c.args.cursor.now _ (no_added_place (freedoms c.args.rules) (is_aligned c.args.rules) c.args.roots c.args.extensible c.args.others c.in_ok-is_added.is_added c.args.cursor.now c.read_extension_bit.new.cursor c.if-is_added.true c.in_ok-is_added.ensures.ok) c.in_err-place.ensures.only)
 
 pub returns-then-is_added-clause-ok : goal.returns-then-is_added-clause-ok
-returns-then-is_added-clause-ok c = added_place (freedoms c.args.variant) (is_aligned c.args.variant) c.args.roots c.args.extensible c.args.others c.in_ok-place.place c.in_ok-is_added.is_added c.addition.result c.args.cursor.now c.read_extension_bit.new.cursor c.read_added.new.cursor c.if-is_added.true c.addition.ensures c.in_ok-is_added.ensures.ok c.in_ok-place.ensures.ok
+returns-then-is_added-clause-ok c = added_place (freedoms c.args.rules) (is_aligned c.args.rules) c.args.roots c.args.extensible c.args.others c.in_ok-place.place c.in_ok-is_added.is_added c.addition.result c.args.cursor.now c.read_extension_bit.new.cursor c.read_added.new.cursor c.if-is_added.true c.addition.ensures c.in_ok-is_added.ensures.ok c.in_ok-place.ensures.ok
 
 pub returns-in_err-place-2-clause-only : goal.returns-in_err-place-2-clause-only
-returns-in_err-place-2-clause-only c = raised _ _ _ c.from_residual-in_err-place-2.ensures.1 (misses_also (freedoms c.args.variant) (root_form (is_aligned c.args.variant) c.args.roots) (place_form (is_aligned c.args.variant) c.args.roots c.args.extensible c.args.others) c.read_extension_bit.new.cursor c.args.cursor.now _ (no_root_place (freedoms c.args.variant) (is_aligned c.args.variant) c.args.roots c.args.extensible c.args.others c.in_ok-is_added.is_added c.args.cursor.now c.read_extension_bit.new.cursor c.if-is_added.false c.in_ok-is_added.ensures.ok) c.in_err-place-2.ensures.only)
+returns-in_err-place-2-clause-only c = raised _ _ _ c.from_residual-in_err-place-2.ensures.1 (misses_also (freedoms c.args.rules) (root_form (is_aligned c.args.rules) c.args.roots) (place_form (is_aligned c.args.rules) c.args.roots c.args.extensible c.args.others) c.read_extension_bit.new.cursor c.args.cursor.now _ (no_root_place (freedoms c.args.rules) (is_aligned c.args.rules) c.args.roots c.args.extensible c.args.others c.in_ok-is_added.is_added c.args.cursor.now c.read_extension_bit.new.cursor c.if-is_added.false c.in_ok-is_added.ensures.ok) c.in_err-place-2.ensures.only)
 
 pub returns-clause-ok : goal.returns-clause-ok
-returns-clause-ok c = root_place (freedoms c.args.variant) (is_aligned c.args.variant) c.args.roots c.args.extensible c.args.others c.in_ok-place-2.place c.in_ok-is_added.is_added c.root.result c.args.cursor.now c.read_extension_bit.new.cursor c.read_root.new.cursor c.if-is_added.false c.root.ensures c.in_ok-is_added.ensures.ok c.in_ok-place-2.ensures.ok
+returns-clause-ok c = root_place (freedoms c.args.rules) (is_aligned c.args.rules) c.args.roots c.args.extensible c.args.others c.in_ok-place-2.place c.in_ok-is_added.is_added c.root.result c.args.cursor.now c.read_extension_bit.new.cursor c.read_root.new.cursor c.if-is_added.false c.root.ensures c.in_ok-is_added.ensures.ok c.in_ok-place-2.ensures.ok

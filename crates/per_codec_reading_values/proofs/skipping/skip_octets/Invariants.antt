@@ -3,9 +3,9 @@ use Rattle.per_codec_reading.specs.Fronts.{freedoms, is_aligned}
 use Rattle.per_codec_reading_values.proofs.Passing.{Passed}
 use Rattle.per_codec_reading_values.proofs.skipping.skip_octets.Given as goal
 
--- the fragments so far are passed over
+-- the fragments so far are skipped
 abbrev pub invariant-fragments : goal.invariant-fragments
-invariant-fragments l = Passed (freedoms l.variant) (is_aligned l.variant) l.fn.cursor l.cursor
+invariant-fragments l = Passed (freedoms l.rules) (is_aligned l.rules) l.fn.cursor l.last l.cursor
 
 abbrev pub decreases-fragments : goal.decreases-fragments
 decreases-fragments l = length l.cursor.1

@@ -11,7 +11,7 @@ use Rattle.per_codec_reading_values.proofs.Inside.{lent_inside}
 use Rattle.per_codec_reading_values.proofs.stretches.take_lent_octets.Goals as goal
 
 pub returns-in_err-octets-clause-only : goal.returns-in_err-octets-clause-only
-returns-in_err-octets-clause-only c = raised _ _ _ c.from_residual.ensures.1 (misses_at (freedoms c.args.variant) (octets_form (is_aligned c.args.variant)) _ _ _ c.behind-cursor.ensures c.in_err-octets.ensures.only)
+returns-in_err-octets-clause-only c = raised _ _ _ c.from_residual.ensures.1 (misses_at (freedoms c.args.rules) (octets_form (is_aligned c.args.rules)) _ _ _ c.behind-cursor.ensures c.in_err-octets.ensures.only)
 
 pub lent_by-requires : goal.lent_by-requires
 lent_by-requires c =

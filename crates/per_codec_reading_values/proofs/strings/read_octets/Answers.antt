@@ -16,8 +16,8 @@ pub returns-in_err-octets-clause-only : goal.returns-in_err-octets-clause-only
 returns-in_err-octets-clause-only g c =
     let p = err_from_is_err_and c.from_residual.result c.from_residual.ensures.1 in
     let S = g.S.StaticPermittedAlphabet in
-    let f = freedoms c.args.variant in
-    let al = is_aligned c.args.variant in
+    let f = freedoms c.args.rules in
+    let al = is_aligned c.args.rules in
     let z = sizes_of c.args._constraints.now.size in
     let l = alphabet_of c.args._constraints.now.permitted_alphabet in
     let a = c.args.cursor.now in
@@ -26,8 +26,8 @@ returns-in_err-octets-clause-only g c =
 pub returns-in-Ok-clause-ok : goal.returns-in-Ok-clause-ok
 returns-in-Ok-clause-ok g c =
     let S = g.S.StaticPermittedAlphabet in
-    let f = freedoms c.args.variant in
-    let al = is_aligned c.args.variant in
+    let f = freedoms c.args.rules in
+    let al = is_aligned c.args.rules in
     let z = sizes_of c.args._constraints.now.size in
     let l = alphabet_of c.args._constraints.now.permitted_alphabet in
     let a = c.args.cursor.now in

@@ -1,13 +1,44 @@
-use Rattle.std.proofs.Common.{◌≡◌, ◌⊎◌, ◌∙◌, ◌≤◌, ℕ, eqb, eqb-true, length, List, [], true, false, sym, ap, subst, Some, arith}
+use Rattle.std.proofs.Common.{◌≡◌, ◌⊎◌, ◌∙◌, ◌≤◌, ℕ, ◌++◌, eqb, eqb-true, length, List, [], true, false, sym, ap, subst, Some, arith}
 use Rattle.std.proofs.lemmas.List.{nil_from_length}
 use Rattle.asn1_laws_across.specs.Relayed.{Stop, StopsAt}
 use Rattle.asn1_relay_core.specs.Coding.{rules_of}
 use Rattle.asn1_relay_core.specs.declared.fault.RelayFaultKind.TheVariants as kind
 use Rattle.asn1_relay_core.specs.declared.codec.Codec.{Codec}
-use Rattle.asn1_relay_core.specs.Relaying.{Relaying, kind_of_stop}
-use Rattle.asn1_relay_core.specs.Fronts.{RelaysOne}
-use Rattle.asn1_relay_core.proofs.Feeding.{SoFar, one_more, stopped, grown_alike, nothing_fed}
+use Rattle.asn1_relay_core.specs.Relaying.{Relaying, kind_of_stop, onwards}
+use Rattle.asn1_relay_core.specs.Fronts.{Awaits, RelaysOne}
+use Rattle.asn1_relay_core.proofs.Feeding.{SoFar, one_more, stopped, grown_alike, nothing_fed, waited, awaits_on}
 use Rattle.asn1_relay_core.proofs.relay.Relay.feed.Goals as goal
+
+pub invariant_of-self-then-len-self : goal.invariant_of-self-then-len-self
+invariant_of-self-then-len-self g c =
+    let s = g.T.Described.schema 128 in
+    let way = c.self.inside.way in
+    let awaited = c.self.inside.awaited in
+    let here = awaits_on (rules_of way.from) s way.limit c.self.inside.unread.items c.args.piece.now awaited c.self.invariant.1 in
+    (c.self.invariant.0, subst (λ u. Awaits (rules_of way.from) s way.limit u awaited) (sym c.in-Ok.ensures.ok) here)
+
+pub returns-then-len-self-clause-ok : goal.returns-then-len-self-clause-ok
+returns-then-len-self-clause-ok g c =
+    let s = g.T.Described.schema 128 in
+    let way = c.self.inside.way in
+    let old = c.args.self.now in
+    let piece = c.args.piece.now in
+    let had : old.failed ≡ false = sym (ap (λ (r : Relaying). r.failed) c.self.view_is) ∙ c.if-self.false in
+    let unread : c.self.inside.unread.items ≡ old.unread = ap (λ (r : Relaying). r.unread) c.self.view_is in
+    let limit : way.limit ≡ old.limit = ap (λ (r : Relaying). r.limit) c.self.view_is in
+    let number : old.number ≡ c.self.inside.number = sym (ap (λ (r : Relaying). r.number) c.self.view_is) in
+    let ranges = c.self.ranges in
+    let most : old.number ≤ 18446744073709551615 = omega arith in
+    let grown : c.extend_from_slice.new.self.items ≡ old.unread ++ piece = c.in-Ok.ensures.ok ∙ ap (λ l. l ++ piece) unread in
+    let longer = ap length grown in
+    let now = ap (λ (u : List ℕ). let r : Relaying = record { from = way.from; to = way.to; limit = way.limit; unread = u; number = c.self.inside.number; failed = c.self.inside.failed } in r) c.in-Ok.ensures.ok
+    ∙ (ap (λ (r : Relaying). onwards r (r.unread ++ piece) r.number r.failed) c.self.view_is ∙ ap (λ b. onwards old (old.unread ++ piece) old.number b) had) in
+    let w : Awaits (rules_of old.from) s old.limit old.unread c.self.inside.awaited = subst (λ (r : Relaying). Awaits (rules_of r.from) s r.limit r.unread c.self.inside.awaited) c.self.view_is c.self.invariant.1 in
+    let few = c.if-len-awaited.true in
+    let first = c.len.ensures.value in
+    let within = c.if-len-self.true in
+    let second = c.len-then-len-awaited.ensures.value in
+    waited s old _ piece c.args.out.now.items c.self.inside.awaited had now most w (omega arith) (omega arith)
 
 pub loop-self-preserved : goal.loop-self-preserved
 loop-self-preserved g c =

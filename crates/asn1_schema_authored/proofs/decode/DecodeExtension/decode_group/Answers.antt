@@ -11,9 +11,9 @@ returns-in_err-begin_group-clause-only g c =
 
 pub returns-in_err-group-clause-only : goal.returns-in_err-group-clause-only
 returns-in_err-group-clause-only g c =
-    let one = g.met.Self.Decoder.one_record in
+    let one = g.met.Self.Decoder.one_record in let carries = g.met.Self.Decoder.records_carried in
     let law = g.met.G.Group in
-    raised _ _ _ c.from_residual-in_err-group.ensures.1 (unread_group g.G.Group.plain (c.number_of_optional_and_default_fields-optional.ensures ∙ count_presence_bits _ _ (rw law.same_components at c.fields.ensures)) one c.in_ok-begin_group.ensures.level c.in_ok-begin_group.ensures.ok (rw law.same_components at c.in_err-group.ensures.only))
+    raised _ _ _ c.from_residual-in_err-group.ensures.1 (unread_group g.G.Group.plain (c.number_of_optional_and_default_fields-optional.ensures ∙ count_presence_bits _ _ (rw law.same_components at c.fields.ensures)) one carries c.in_ok-begin_group.ensures.level c.in_ok-begin_group.ensures.ok (rw law.same_components at c.in_err-group.ensures.only))
 
 pub returns-clause-ok : goal.returns-clause-ok
 returns-clause-ok g c =

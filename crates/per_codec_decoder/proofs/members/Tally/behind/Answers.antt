@@ -1,13 +1,26 @@
-use Rattle.std.proofs.Common.{refl, subst}
+use Rattle.std.proofs.Common.{◌<◌, sym, subst}
 use Rattle.per_codec_reading.specs.Fronts.{freedoms, is_aligned}
 use Rattle.per_codec_fronts.specs.Takes.{Front}
-use Rattle.per_codec_reading.specs.Lengths.{length_form}
-use Rattle.per_codec_reading.proofs.Fronts.{other_fragments_are_free, root_told_outside_is_free}
-use Rattle.per_codec_decoder.proofs.Counting.{last_determinant, other_last, untrue}
+use Rattle.per_codec_reading.specs.Lengths.{length_form, IsLength}
+use Rattle.per_codec_decoder.proofs.Counting.{last_determinant, other_last, not_accepted}
 use Rattle.per_codec_decoder.proofs.members.Tally.behind.Goals as goal
 
-pub returns-then-not-admits-clause-only : goal.returns-then-not-admits-clause-only
-returns-then-not-admits-clause-only c = λ v a b front. other_last (freedoms v) (is_aligned v) c.args.self a b c.in-Short.due _ (subst (λ l. Front (freedoms v) (length_form (is_aligned v) l) a b) c.in-Short.is front) (λ m. untrue (c.if-not-admits.ensures.1 m))
+pub returns-in_default-clause-only : goal.returns-in_default-clause-only
+returns-in_default-clause-only c =
+    let free = freedoms c.args.rules in
+    let al = is_aligned c.args.rules in
+    λ a b front. other_last free al c.args.self a b c.in-Short.due _ (subst (λ l. Front free (length_form al l) a b) c.in-Short.is front) c.in_default.ensures.none
 
-pub returns-else-not-admits-clause-ok : goal.returns-else-not-admits-clause-ok
-returns-else-not-admits-clause-ok c = λ v a b front. last_determinant (freedoms v) (is_aligned v) c.args.self a b c.in-Short.due (root_told_outside_is_free v) (other_fragments_are_free v) (subst (λ l. Front (freedoms v) (length_form (is_aligned v) l) a b) c.in-Short.is front) (c.if-not-admits.ensures.0 refl)
+pub returns-then-not-is_accepted-clause-only : goal.returns-then-not-is_accepted-clause-only
+returns-then-not-is_accepted-clause-only c =
+    let free = freedoms c.args.rules in
+    let al = is_aligned c.args.rules in
+    let few : c.in-Short.due < 16384 = subst IsLength c.in-Short.is c.requires in
+    λ a b front. not_accepted free al c.args.self a b c.in-Short.due c.in-Some.total _ few c.in-Some.ensures.some (sym c.if-not-is_accepted.ensures) (subst (λ l. Front free (length_form al l) a b) c.in-Short.is front)
+
+pub returns-else-not-is_accepted-clause-ok : goal.returns-else-not-is_accepted-clause-ok
+returns-else-not-is_accepted-clause-ok c =
+    let free = freedoms c.args.rules in
+    let al = is_aligned c.args.rules in
+    let few : c.in-Short.due < 16384 = subst IsLength c.in-Short.is c.requires in
+    λ a b front. last_determinant free al c.args.self a b c.in-Short.due c.in-Some.total few c.in-Some.ensures.some c.in-Some.ensures.admitted (sym c.if-not-is_accepted.ensures) (subst (λ l. Front free (length_form al l) a b) c.in-Short.is front)

@@ -7,4 +7,4 @@ use Rattle.per_codec_reading_values.proofs.Passing.{misses_at}
 use Rattle.per_codec_reading_values.proofs.stretches.Stretch.take_open_type.Goals as goal
 
 pub returns-in_err-bits-clause-only : goal.returns-in_err-bits-clause-only
-returns-in_err-bits-clause-only c = raised _ _ _ c.from_residual.ensures.1 (misses_at (freedoms c.args.variant) (octets_form (is_aligned c.args.variant)) _ _ _ (ap (λ (s : Stretched). s.place) c.self.view_is) c.in_err-bits.ensures.only)
+returns-in_err-bits-clause-only c = raised _ _ _ c.from_residual.ensures.1 (misses_at (freedoms c.args.rules) (octets_form (is_aligned c.args.rules)) _ _ _ (ap (λ (s : Stretched). s.place) c.self.view_is) c.in_err-bits.ensures.only)

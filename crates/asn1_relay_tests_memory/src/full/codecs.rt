@@ -1,0 +1,154 @@
+//! Calls of codecs and of relays that take no memory, and the test of all such calls.
+use crate::full::memory::{is_taken, take_memory};
+use crate::full::values::wrong_values;
+use asn1_relay_core::{Codec, DecodeError, EncodeError, Relay, RelayFault, RelayFaultKind};
+use asn1_relay_types::Small;
+use asn1_schema::records::{Item, RecordDecoder, RecordEncoder};
+use asn1_schema::{CodecKind, Decoder, Encoder, Identifier, Tag};
+use oer_codec::oer;
+use per_codec::uper;
+use std::alloc::{AllocError, Global};
+use std::process::Abort;
+
+/// Whether a decoder finds TRUE, NULL and nothing behind them.
+fn finds_both<D: Decoder>(decoder: &mut D) -> bool {
+    decoder.decode_bool(Tag::BOOL) == Ok(true)
+        && decoder.decode_null(Tag::NULL) == Ok(())
+        && decoder.decode_bool(Tag::BOOL) == Err(DecodeError::Incomplete)
+        && decoder.decode_null(Tag::NULL) == Err(DecodeError::AlreadyFailed)
+}
+
+/// Whether a decoder of octets does.
+fn are_octets_found(alloc: Global, options: oer::DecoderOptions) -> bool {
+    let mut decoder = oer::Decoder::new(alloc, &[0xFF], options);
+    finds_both(&mut decoder)
+}
+
+/// Whether a decoder of one bit does.
+fn is_bit_found(alloc: Global, options: uper::DecoderOptions) -> bool {
+    let mut decoder = uper::Decoder::new(alloc, &[0x80], options);
+    decoder.decode_bool(Tag::BOOL) == Ok(true)
+        && decoder.decode_null(Tag::NULL) == Ok(())
+        && decoder.input().len() == 7
+}
+
+/// Whether the plain decoder does.
+fn are_records_found(records: Vec<Item>) -> bool {
+    let mut decoder = RecordDecoder::new(records, CodecKind::Uper);
+    finds_both(&mut decoder)
+}
+
+/// The records of TRUE and NULL.
+fn records(alloc: Global) -> Result<Vec<Item>, EncodeError> {
+    let mut encoder = RecordEncoder::new(alloc, CodecKind::Uper);
+    encoder.encode_bool(Tag::BOOL, true, Identifier::EMPTY)?;
+    encoder.encode_null(Tag::NULL, Identifier::EMPTY)?;
+    Ok(encoder.into_items())
+}
+
+/// Whether options are made.
+fn are_options() -> bool {
+    uper::EncoderOptions::aligned().is_aligned() && !uper::EncoderOptions::unaligned().is_aligned()
+}
+
+/// The fault of the first message.
+fn at_first(kind: RelayFaultKind) -> Result<(), RelayFault> {
+    Err(RelayFault { number: 0, kind })
+}
+
+/// Whether a new relay tells what it has, and an empty piece changes nothing.
+fn is_idle(relay: &mut Relay<Small>, out: &mut Vec<u8>) -> bool {
+    relay.unread_len() == 0
+        && !relay.has_failed()
+        && relay.finish() == Ok(())
+        && relay.feed(&[], out) == Ok(())
+}
+
+/// Whether a relay that is new does so.
+fn is_new_idle(alloc: Global) -> bool {
+    let mut relay = Relay::new(alloc, Codec::Coer, Codec::Uper, 1);
+    is_idle(&mut relay, &mut Vec::new(alloc))
+}
+
+/// Whether a relay that waits for more than an octet tells that.
+fn is_waiting(relay: &Relay<Small>) -> bool {
+    relay.unread_len() == 1
+        && !relay.has_failed()
+        && relay.finish() == at_first(RelayFaultKind::NoForm)
+}
+
+/// Whether a relay that has stopped for want of memory tells that.
+fn is_stopped(relay: &Relay<Small>) -> bool {
+    relay.has_failed() && relay.finish() == at_first(RelayFaultKind::AlreadyFailed)
+}
+
+/// What the calls are made on, which took memory.
+#[derive(Drop)]
+struct Prepared {
+    records: Vec<Item>,
+    relay: Relay<Small>,
+}
+
+/// It, with a relay that waits.
+fn prepare(alloc: Global) -> Result<Prepared, EncodeError> {
+    let records = records(alloc)?;
+    let mut relay = Relay::new(alloc, Codec::Coer, Codec::Uper, 1);
+    match relay.feed(&[0x06], &mut Vec::new(alloc)) {
+        Ok(()) => Ok(Prepared { records, relay }),
+        Err(_) => Err(EncodeError::OutOfMemory),
+    }
+}
+
+/// The first calls of codecs and relays that are not right, if there are such.
+fn wrong_calls(alloc: Global, prepared: Prepared) -> Option<&'static str> {
+    let found = [
+        ("oer", are_octets_found(alloc, oer::DecoderOptions::oer())),
+        ("coer", are_octets_found(alloc, oer::DecoderOptions::coer())),
+        (
+            "uper",
+            is_bit_found(alloc, uper::DecoderOptions::unaligned()),
+        ),
+        ("aper", is_bit_found(alloc, uper::DecoderOptions::aligned())),
+        ("options", are_options()),
+        ("a new relay", is_new_idle(alloc)),
+        ("a waiting relay", is_waiting(&prepared.relay)),
+        ("records", are_records_found(prepared.records)),
+    ];
+    for (name, is_right) in found {
+        if !is_right {
+            return Some(name);
+        }
+    }
+    wrong_values(alloc)
+}
+
+/// The first calls that are not right with ample memory.
+fn wrong_first(alloc: Global) -> Option<&'static str> {
+    match prepare(alloc) {
+        Ok(prepared) => wrong_calls(alloc, prepared),
+        Err(_) => Some("no memory"),
+    }
+}
+
+/// The first calls that are not right where all memory is taken.
+fn wrong_when_taken(alloc: Global, prepared: Prepared) -> Option<&'static str> {
+    match take_memory(alloc) {
+        Ok(_taken) if is_taken(alloc) => wrong_calls(alloc, prepared),
+        _ => Some("memory"),
+    }
+}
+
+/// Ends the test, and shows what is wrong, unless nothing is.
+fn assert_none(rt: &impl Abort, wrong: &Option<&'static str>) {
+    assert!(rt; wrong.is_none(), "{wrong:?}");
+}
+
+/// They are made with ample memory first, so that the stack has grown.
+#[test]
+fn calls_that_take_no_memory(rt: HostRuntime) {
+    assert_none(&rt, &wrong_first(rt.alloc()));
+    match prepare(rt.alloc()) {
+        Ok(prepared) => assert_none(&rt, &wrong_when_taken(rt.alloc(), prepared)),
+        Err(_) => assert_none(&rt, &Some("no memory")),
+    }
+}

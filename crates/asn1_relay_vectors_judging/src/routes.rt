@@ -1,0 +1,150 @@
+//! Whether messages arrive by routes, or are refused at a hop, as a line says.
+mod every;
+
+use crate::cuts::{Front, Input, Inputs};
+use crate::judged::Judged;
+use asn1_relay_core::{Codec, Hop, RouteFault, RouteFaultKind, Version};
+use asn1_relay_vectors_lines::limits::Limits;
+use asn1_relay_vectors_lines::line::{LineError, Verdict};
+use asn1_relay_vectors_lines::octets::shown;
+use asn1_relay_vectors_lines::route::{Arrival, Route};
+use std::alloc::Global;
+use std::fmt::Write;
+
+/// By which hops a message is sent, and the rules that it is in before the first of them.
+#[derive(Clone, Copy)]
+pub struct Way<'a> {
+    /// The rules of the message.
+    pub from: Codec,
+    /// The hops.
+    pub hops: &'a [Hop],
+}
+
+/// A pair of versions.
+pub trait Versions {
+    /// Sends octets by hops; none if there is no hop.
+    fn send(&self, alloc: Global, way: Way<'_>, octets: &[u8]) -> Option<Arrival>;
+
+    /// What is to come of the encoding of the sample at a place, sent by hops. Where there is no hop, it is this
+    /// encoding. None if there is no such sample.
+    fn foretell(&self, alloc: Global, place: usize, way: Way<'_>) -> Option<Arrival>;
+}
+
+/// What a line says of a pair of versions.
+#[derive(Drop)]
+pub enum Claim<'a> {
+    /// A message of the pair of this name arrives by a route, or is refused.
+    One(&'a str, Route),
+    /// Messages go by every short list of hops as their values foretell.
+    Every,
+}
+
+/// Judges what is said of a pair of versions.
+///
+/// # Errors
+///
+/// `Otherwise` where the library does not do what is said, `Form` where a route has no hop, and `Memory` for want of
+/// memory.
+pub fn judge(
+    inputs: &mut Inputs,
+    of: &dyn Versions,
+    older: &dyn Judged,
+    newer: &dyn Judged,
+    claim: &Claim<'_>,
+) -> Verdict {
+    let alloc = inputs.alloc();
+    match claim {
+        Claim::One(pair, route) => {
+            let hops = route.hops.as_slice();
+            for from in route.source.rules.iter() {
+                let way = Way { from: *from, hops };
+                arrives(
+                    alloc,
+                    of,
+                    way,
+                    route.source.octets.as_slice(),
+                    &route.arrival,
+                )?;
+            }
+            judge_cuts(inputs, older, Version::Old, pair, route)?;
+            judge_cuts(inputs, newer, Version::New, pair, route)
+        }
+        Claim::Every => every::judge_every(alloc, of),
+    }
+}
+
+/// Tries a message where it is cut, as one of a version. The first hop reads it by rules of its own.
+fn judge_cuts(
+    inputs: &mut Inputs,
+    of: &dyn Judged,
+    version: Version,
+    pair: &str,
+    route: &Route,
+) -> Verdict {
+    let name = format!(in inputs.alloc(); "{pair} {version:?}")?;
+    let input = Input {
+        name: name.as_str(),
+        limits: &Limits::NONE,
+        octets: route.source.octets.as_slice(),
+    };
+    let rules = match route.hops.first() {
+        Some(hop) if hop.version == version => route.source.rules.as_slice(),
+        _ => &[],
+    };
+    inputs.judge(of, input, rules, front_of(&route.arrival))
+}
+
+/// What the first hop finds in front of a message, as what becomes of it tells.
+fn front_of(arrival: &Arrival) -> Front {
+    match arrival {
+        Err(
+            RouteFault {
+                hop: 0,
+                kind: RouteFaultKind::Read(error),
+            },
+        ) => Front::Missing(*error),
+        Err(
+            RouteFault {
+                hop: 0,
+                kind: RouteFaultKind::Surplus,
+            },
+        ) => Front::Part,
+        _ => Front::Whole,
+    }
+}
+
+/// A message that goes by hops arrives as what is wanted, or is refused where and as it is to be.
+fn arrives(
+    alloc: Global,
+    of: &dyn Versions,
+    way: Way<'_>,
+    octets: &[u8],
+    wanted: &Arrival,
+) -> Verdict {
+    let found = of.send(alloc, way, octets).ok_or(LineError::Form)?;
+    let is_wanted = match (&found, wanted) {
+        (Ok(found), Ok(wanted)) => found.as_slice() == wanted.as_slice(),
+        (Err(found), Err(wanted)) => *found == *wanted,
+        _ => false,
+    };
+    if is_wanted {
+        return Ok(());
+    }
+    let found = match &found {
+        Ok(octets) => shown(alloc, octets.as_slice())?,
+        Err(fault) => format!(in alloc; "{fault:?}")?,
+    };
+    let route = route_shown(alloc, way, octets)?;
+    let found = format!(in alloc; "{route} gives {found}")?;
+    Err(LineError::Otherwise(found))
+}
+
+/// A message and its route, in the form of a line.
+fn route_shown(alloc: Global, way: Way<'_>, octets: &[u8]) -> Result<String, LineError> {
+    let octets = shown(alloc, octets)?;
+    let mut text = format!(in alloc; "{:?} {octets}", way.from)?;
+    for hop in way.hops {
+        write!(text, " {:?}:{:?}", hop.version, hop.to)?;
+    }
+    Ok(text)
+}

@@ -1,0 +1,334 @@
+//! What a line says.
+ghost use Rattle.std.specs.Prelude.{◌≤◌};
+
+use crate::limits::Limits;
+use crate::octets::push_octets;
+use asn1_relay_core::{Codec, DecodeError, EncodeError, RecodeFault, RelayFault, RelayFaultKind};
+use std::alloc::{AllocError, Global};
+use std::fmt::Debug;
+use thiserror::Error;
+
+/// Why a line is wrong.
+#[derive(Debug, Drop, Error)]
+pub enum LineError {
+    /// It begins with no name of a type and what is said of it.
+    #[error("a line is a type, what is said of it, and a remark behind #")]
+    Form,
+    /// A word is neither an octet nor many of one.
+    #[error("octets are two hexadecimal digits each, and NN*COUNT for many of one")]
+    Octets,
+    /// A word names no rules.
+    #[error("rules are uper, aper, uper-strict, aper-strict, oer and coer, with a comma between two of them")]
+    Rules,
+    /// What stands behind the name of a type is no constraint.
+    #[error("constraints are (0..255), (SIZE(1..3)) and (FROM(\"01\")), with ,... at the end for an extension marker")]
+    Limits,
+    /// A word is no limit of a stream.
+    #[error("a limit is a number of octets, at least 1")]
+    Limit,
+    /// A word is the name of no error, or of none that stands there.
+    #[error("there is no such error")]
+    NoError,
+    /// No type has this name.
+    #[error("there is no such type")]
+    NoType,
+    /// What came of octets, of a stream or of a route is not what the line says.
+    #[error("{0}")]
+    Otherwise(String),
+    /// No pair of versions has this name.
+    #[error("there is no such pair of versions")]
+    NoPair,
+    /// Of a pair of versions there are no values to send.
+    #[error("there are no samples of this pair of versions")]
+    NoSample,
+    /// No memory was left.
+    #[error("out of memory")]
+    Memory,
+}
+
+/// Whether a line is right, or why it is wrong.
+pub type Verdict = Result<(), LineError>;
+
+impl From<AllocError> for LineError {
+    fn from(_refused: AllocError) -> LineError {
+        LineError::Memory
+    }
+}
+
+/// Octets, and the rules of which they are said.
+#[derive(Drop)]
+pub struct Spelled {
+    /// The rules.
+    pub rules: Vec<Codec>,
+    /// The rules by which the octets are read: of canonical octets also the strict ones that are written alike.
+    pub readers: Vec<Codec>,
+    /// The octets.
+    pub octets: Vec<u8>,
+}
+
+/// How many octets a message may have: one or more.
+#[derive(Clone, Copy)]
+pub struct Limit {
+    /// So many.
+    pub octets: usize,
+    pub ghost some: { 1 ≤ octets },
+}
+
+impl Limit {
+    /// A limit of so many octets, if there are any.
+    pub fn new(octets: usize) -> Option<Limit> {
+        if octets == 0 {
+            return None;
+        }
+        Some(Limit { octets })
+    }
+}
+
+/// What a line says of its type.
+#[derive(Drop)]
+pub enum Claim {
+    /// All of these are the canonical encodings of one value.
+    Same(Vec<Spelled>),
+    /// The former are translated to the latter.
+    Becomes(Spelled, Spelled),
+    /// The octets are refused for this reason.
+    Refused(Spelled, RecodeFault),
+    /// The octets are an encoding of a value that has none by these rules, for this reason.
+    NoTarget(Spelled, Vec<Codec>, RecodeFault),
+    /// All of these are streams of the canonical encodings of the same values, each of no more octets than the limit.
+    Streams(Limit, Vec<Spelled>),
+    /// The former, as a stream, is translated to the latter, up to where it stops, if it does.
+    Stream(Limit, Spelled, Spelled, Result<(), RelayFault>),
+}
+
+/// A type, and what is said of it.
+#[derive(Drop)]
+pub struct Line<'a> {
+    /// The name of the type.
+    pub kind: &'a str,
+    /// The name of the type, and its constraints as they are written.
+    pub constrained: &'a str,
+    /// Its constraints.
+    pub limits: Limits,
+    /// What is said of it.
+    pub claim: Claim,
+}
+
+impl<'a> Line<'a> {
+    /// Reads a line, without the remark at its end.
+    ///
+    /// # Errors
+    ///
+    /// `Form`, `Rules`, `Octets`, `Limits`, `Limit` or `NoError` where it has not the form of a line, and `Memory` for
+    /// want of memory.
+    pub fn read(alloc: Global, said: &'a str) -> Result<Line<'a>, LineError> {
+        let (kind, text) = said.split_once(' ').ok_or(LineError::Form)?;
+        if kind == "stream" {
+            let (kind, text) = text.split_once(' ').ok_or(LineError::Form)?;
+            let claim = read_stream(alloc, text)?;
+            return Ok(Line {
+                kind,
+                constrained: kind,
+                limits: Limits::NONE,
+                claim,
+            });
+        }
+        let constrained = kind;
+        let (kind, constraints) = match kind.find('(') {
+            Some(place) => kind.split_at(place),
+            None => (kind, ""),
+        };
+        let limits = Limits::read(alloc, constraints)?;
+        let claim = read_claim(alloc, text)?;
+        Ok(Line {
+            kind,
+            constrained,
+            limits,
+            claim,
+        })
+    }
+}
+
+/// Reads what is said of a type.
+fn read_claim(alloc: Global, text: &str) -> Result<Claim, LineError> {
+    match text.split_once("->") {
+        Some((source, answer)) => read_answer(alloc, source, answer),
+        None => Ok(Claim::Same(read_all(alloc, text)?)),
+    }
+}
+
+/// Reads encodings with `=` between two of them.
+fn read_all(alloc: Global, text: &str) -> Result<Vec<Spelled>, LineError> {
+    let mut encodings = Vec::new(alloc);
+    for part in text.split('=') {
+        encodings
+            .push(read_canonical(alloc, part)?)
+            .map_err(AllocError::from)?;
+    }
+    Ok(encodings)
+}
+
+/// Reads what octets are said to become.
+fn read_answer(alloc: Global, source: &str, answer: &str) -> Result<Claim, LineError> {
+    let source = read_spelled(alloc, source)?;
+    let answer = answer.trim();
+    match answer.split_once(' ') {
+        None if answer == "Surplus" => Ok(Claim::Refused(source, RecodeFault::Surplus)),
+        None if is_reason(answer) => {
+            let error = named(alloc, answer, &READING_ERRORS)?;
+            Ok(Claim::Refused(source, RecodeFault::NotAnEncoding(error)))
+        }
+        Some((rules, reason)) if is_reason(reason) => {
+            let error = named(alloc, reason, &WRITING_ERRORS)?;
+            let rules = read_rules(alloc, rules)?;
+            Ok(Claim::NoTarget(source, rules, RecodeFault::NoTarget(error)))
+        }
+        _ => Ok(Claim::Becomes(source, read_canonical(alloc, answer)?)),
+    }
+}
+
+/// Reads a limit, and what streams are said to become.
+fn read_stream(alloc: Global, text: &str) -> Result<Claim, LineError> {
+    let (limit, text) = text.split_once(' ').ok_or(LineError::Form)?;
+    let limit = limit.parse::<usize>().ok().and_then(Limit::new);
+    let limit = limit.ok_or(LineError::Limit)?;
+    let Some((source, answer)) = text.split_once("->") else {
+        return Ok(Claim::Streams(limit, read_all(alloc, text)?));
+    };
+    let (target, answer) = match answer.split_once(';') {
+        Some((target, stop)) => (target, Err(read_stop(alloc, stop.trim())?)),
+        None => (answer, Ok(())),
+    };
+    let source = read_spelled(alloc, source)?;
+    let target = read_canonical(alloc, target)?;
+    Ok(Claim::Stream(limit, source, target, answer))
+}
+
+/// Reads why a stream stops, and at which message.
+fn read_stop(alloc: Global, text: &str) -> Result<RelayFault, LineError> {
+    let (name, number) = text.split_once(' ').ok_or(LineError::Form)?;
+    Ok(RelayFault {
+        number: number.parse::<u64>().map_err(|_| LineError::Form)?,
+        kind: named(alloc, name, &STREAM_FAULTS)?,
+    })
+}
+
+/// Whether a word may be the name of an error: letters alone, more than there are in an octet, and the first of them
+/// a capital.
+fn is_reason(word: &str) -> bool {
+    let is_capital = word
+        .bytes()
+        .next()
+        .is_some_and(|letter| letter.is_ascii_uppercase());
+    word.len() > 2 && is_capital && word.bytes().all(|letter| letter.is_ascii_alphabetic())
+}
+
+/// Why octets may be refused.
+pub const READING_ERRORS: [DecodeError; 23] = [
+    DecodeError::Incomplete,
+    DecodeError::SurplusOctets,
+    DecodeError::SizeConstraintNotSatisfied,
+    DecodeError::ValueConstraintNotSatisfied,
+    DecodeError::PermittedAlphabet,
+    DecodeError::StringConversionFailed,
+    DecodeError::DiscriminantValueNotFound,
+    DecodeError::InvalidTagVariantOnChoice,
+    DecodeError::InvalidTagNumberOnChoice,
+    DecodeError::ZeroLengthOfLength,
+    DecodeError::LengthExceedsPlatformWidth,
+    DecodeError::IntegerOverflow,
+    DecodeError::InvalidBool,
+    DecodeError::InvalidBitString,
+    DecodeError::InvalidPreamble,
+    DecodeError::InvalidExtensionHeader,
+    DecodeError::RequiredExtensionNotPresent,
+    DecodeError::NotValidCanonicalEncoding,
+    DecodeError::InvalidObjectIdentifier,
+    DecodeError::InvalidPadding,
+    DecodeError::ExceedsMaxParseDepth,
+    DecodeError::MissingTagClassOrValue,
+    DecodeError::TypeNotExtensible,
+];
+
+/// Why a value may have no encoding.
+pub const WRITING_ERRORS: [EncodeError; 4] = [
+    EncodeError::ValueConstraintNotSatisfied,
+    EncodeError::SizeConstraintNotSatisfied,
+    EncodeError::AlphabetConstraintNotSatisfied,
+    EncodeError::TooLongValue,
+];
+
+/// Why a stream may stop.
+const STREAM_FAULTS: [RelayFaultKind; 4] = [
+    RelayFaultKind::NoneWithinLimit,
+    RelayFaultKind::EmptyMessage,
+    RelayFaultKind::NoTarget,
+    RelayFaultKind::NoForm,
+];
+
+/// The one of these that has this name.
+pub fn named<T: Copy + Debug>(alloc: Global, name: &str, all: &[T]) -> Result<T, LineError> {
+    for one in all {
+        if format!(in alloc; "{one:?}")?.as_str() == name {
+            return Ok(*one);
+        }
+    }
+    Err(LineError::NoError)
+}
+
+/// Reads rules, and the canonical octets behind them, which are read strictly too.
+fn read_canonical(alloc: Global, text: &str) -> Result<Spelled, LineError> {
+    let mut spelled = read_spelled(alloc, text)?;
+    add_strict(&mut spelled.readers)?;
+    Ok(spelled)
+}
+
+/// Rules that are read leniently, and those that are written alike and read strictly.
+const STRICT: [(Codec, Codec); 2] = [
+    (Codec::Uper, Codec::UperStrict),
+    (Codec::Aper, Codec::AperStrict),
+];
+
+/// Adds the strict rules of PER where the rules that are written alike are named.
+fn add_strict(rules: &mut Vec<Codec>) -> Result<(), LineError> {
+    for (lenient, strict) in STRICT {
+        if rules.contains(&lenient) && !rules.contains(&strict) {
+            rules.push(strict).map_err(AllocError::from)?;
+        }
+    }
+    Ok(())
+}
+
+/// Reads rules, and the octets behind them.
+fn read_spelled(alloc: Global, text: &str) -> Result<Spelled, LineError> {
+    let mut words = text.split_whitespace();
+    let rules = read_rules(alloc, words.next().ok_or(LineError::Form)?)?;
+    let mut octets = Vec::new(alloc);
+    for word in words {
+        push_octets(&mut octets, word)?;
+    }
+    let readers = Vec::from_slice(alloc, rules.as_slice())?;
+    Ok(Spelled {
+        rules,
+        readers,
+        octets,
+    })
+}
+
+/// Reads names of rules with a comma between two of them.
+pub fn read_rules(alloc: Global, text: &str) -> Result<Vec<Codec>, LineError> {
+    let mut rules = Vec::new(alloc);
+    for name in text.split(',') {
+        let codec = match name {
+            "uper" => Codec::Uper,
+            "aper" => Codec::Aper,
+            "uper-strict" => Codec::UperStrict,
+            "aper-strict" => Codec::AperStrict,
+            "oer" => Codec::Oer,
+            "coer" => Codec::Coer,
+            _ => return Err(LineError::Rules),
+        };
+        rules.push(codec).map_err(AllocError::from)?;
+    }
+    Ok(rules)
+}

@@ -1,0 +1,5 @@
+pub mod Lists
+pub mod Refused
+pub mod TagLaws
+pub mod Unlawful
+pub mod Sound

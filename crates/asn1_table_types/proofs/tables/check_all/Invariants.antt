@@ -1,0 +1,7 @@
+use Rattle.std.proofs.Common.{◌≡◌, ℕ, ◌<◌, true}
+use Rattle.asn1_table_types.specs.Flaws.{is_sound}
+use Rattle.asn1_table_types.specs.Meaning.{type_at}
+use Rattle.asn1_table_types.proofs.tables.check_all.Given as goal
+
+abbrev pub invariant-loop-place : goal.invariant-loop-place
+invariant-loop-place l = (i : ℕ) → i < l.place → is_sound (type_at l.nodes 2 i) ≡ true

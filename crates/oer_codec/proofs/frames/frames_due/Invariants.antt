@@ -1,0 +1,10 @@
+use Rattle.std.proofs.Common.{◌≡◌, ◌<◌, List, ◌++◌, ◌+◌, ◌-◌, ◌^◌, min, drop}
+use Rattle.oer_codec.specs.declared.frames.Frame.{Frame}
+use Rattle.oer_codec.specs.Scopes.{owing}
+use Rattle.oer_codec.proofs.frames.frames_due.Given as goal
+
+-- what is due of the frames that were passed, and of the others, is what is due of all
+abbrev pub invariant-loop-frame : goal.invariant-loop-frame
+invariant-loop-frame l =
+    ((fs : List Frame) → min (l.due + owing (drop l.frame-index l.frames ++ fs)) (2 ^ 64 - 1) ≡ min (owing (l.frames ++ fs)) (2 ^ 64 - 1))
+    × (l.due < 2 ^ 64)

@@ -1,0 +1,3 @@
+pub mod Finds
+pub mod Lifting
+pub mod Carried
