@@ -1,4 +1,5 @@
 pub mod Lists
+pub mod Orders
 pub mod Refused
 pub mod TagLaws
 pub mod Unlawful
