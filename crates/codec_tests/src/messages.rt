@@ -349,8 +349,16 @@ fn are_read(
     octets: &[u8],
 ) -> Result<bool, DecodeError> {
     match rules {
-        Rules::Uper => are_packed(alloc, uper::DecoderOptions::unaligned(), calls, octets),
-        Rules::Aper => are_packed(alloc, uper::DecoderOptions::aligned(), calls, octets),
+        Rules::Uper => {
+            let is_lenient = are_packed(alloc, uper::DecoderOptions::unaligned(), calls, octets)?;
+            let strict = uper::DecoderOptions::unaligned_strict();
+            Ok(is_lenient && are_packed(alloc, strict, calls, octets)?)
+        }
+        Rules::Aper => {
+            let is_lenient = are_packed(alloc, uper::DecoderOptions::aligned(), calls, octets)?;
+            let strict = uper::DecoderOptions::aligned_strict();
+            Ok(is_lenient && are_packed(alloc, strict, calls, octets)?)
+        }
         Rules::Oer => are_in_octets(alloc, coer::DecoderOptions::oer(), calls, octets),
         Rules::Coer => {
             let is_basic = are_in_octets(alloc, coer::DecoderOptions::oer(), calls, octets)?;
