@@ -1,5 +1,5 @@
-/* What the work in code that asn1c generates shares: a value is written behind the octets of a buffer, and read from in front of an input. buffer.h
- * stands before it. */
+/* Shared by the works in code that asn1c generates: a value is appended to a buffer, and read from the beginning of an
+ * input. Include buffer.h first. */
 #include <asn_application.h>
 #include <per_decoder.h>
 #include <per_encoder.h>

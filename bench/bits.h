@@ -1,11 +1,11 @@
-/* The bits, lengths and numbers of the packed encoding rules in plain C, unaligned or, with ALIGNED, aligned; buffer.h stands before it. */
+/* The bits, lengths and numbers of PER in plain C, unaligned or, with ALIGNED, aligned. Include buffer.h first. */
 #ifdef ALIGNED
 #define IS_ALIGNED 1
 #else
 #define IS_ALIGNED 0
 #endif
 
-/* Bits behind those of a buffer: its last octet is not full where some are free. */
+/* Bits after those of a buffer. Its last octet is not full if some bits are free. */
 struct bits {
     struct buffer *buffer;
     unsigned free;
@@ -61,7 +61,7 @@ static void push_padding(struct bits *o)
         o->free = 0;
 }
 
-/* How many bits a number takes. */
+/* The width of a number in bits. */
 static unsigned width_of(unsigned number)
 {
     unsigned width = 0;
@@ -70,7 +70,7 @@ static unsigned width_of(unsigned number)
     return width;
 }
 
-/* A number between bounds that differ by the largest number of so many octets: 1, 2, 4 or 8. */
+/* A constrained number; its range less one is the largest number of 1, 2, 4 or 8 octets. */
 static int put_constrained(struct bits *o, uint64_t number, unsigned octets)
 {
     if (IS_ALIGNED && octets > 2) {
@@ -99,7 +99,7 @@ static int put_header(struct bits *o, size_t multiple)
     return put_bits(o, (uint32_t)(0xC0 | multiple), 8);
 }
 
-/* How many units the next fragment of so many has, or all of them. */
+/* The number of units in the next fragment, or all of them. */
 static size_t fragment_of(size_t count)
 {
     size_t multiple = count / 16384;
@@ -176,7 +176,7 @@ static int get_constrained(struct input *in, unsigned octets, uint64_t *number)
     return 1;
 }
 
-/* How many units come, and whether more follow behind them. */
+/* The number of units that come next, and whether more follow them. */
 static int get_count(struct input *in, size_t *count, int *more)
 {
     uint32_t first, second;

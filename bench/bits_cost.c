@@ -1,4 +1,5 @@
-/* The works of bits_cost.in in plain C, each in a function of its own: bits and octets by the unaligned code of bits.h, over memory that is reserved. */
+/* The works of bits_cost.in in plain C, each in a function of its own: bits and octets by the unaligned code of bits.h,
+ * in reserved memory. */
 #include "buffer.h"
 #include "bits.h"
 
@@ -108,7 +109,7 @@ static int appended(struct buffer *b)
     return reserve(b, TURNS * 16) && append_bits(&o) && append_11(&o) && append_16(&o) && append_64(&o);
 }
 
-/* What the bits and the numbers of each width say, and the octets. */
+/* Sums of the bits and numbers of each width, and of the octets. */
 static int numbers(uint64_t *read, uint64_t *octets)
 {
     struct buffer b = { 0 };

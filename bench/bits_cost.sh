@@ -1,7 +1,7 @@
 #!/bin/sh
-# bench/bits_cost.sh [FOLDER]: builds the program of bits_cost.in, and that of bits_cost.c, in a folder of its own, and prints how many instructions
-# each work takes in C and here, a bit, a number or an octet. valgrind counts them; RT and CC are those of shared.sh. It ends with an error where what
-# both say differs.
+# bench/bits_cost.sh [FOLDER]: builds the programs of bits_cost.in and bits_cost.c in a folder of its own, and prints
+# how many instructions each work takes in C and here, for each bit, number or octet. valgrind counts them; RT and CC
+# are as in shared.sh. It ends with an error if the outputs of the two programs differ.
 here=$(cd "$(dirname "$0")" && pwd)
 work=${1:-$(mktemp -d)}
 . "$here/shared.sh"
@@ -10,7 +10,7 @@ make_package bench_common '' lib=common.in
 make_package bits_cost 'asn1_values_bits bench_common anyhow' main=bits_cost.in
 prove bits_cost
 compile "$here/bits_cost.c"
-# counted WHO PROGRAM: a line for each work, with what it takes.
+# counted WHO PROGRAM: a line for each work, with its instructions.
 counted() {
     valgrind --tool=callgrind --callgrind-out-file="$work/counted" "$2" > "$work/said.$1" 2> "$work/log"
     callgrind_annotate --inclusive=yes --threshold=100 "$work/counted" | awk -v who="$1" '

@@ -1,14 +1,14 @@
-/* What the work in C shares: octets that grow, and octets that are read. */
+/* Shared by the works in C: octets that grow, and octets that are read. */
 #include "common.h"
 
-/* Octets that double where they are too few. */
+/* Octets; their capacity doubles if it is too small. */
 struct buffer {
     uint8_t *octets;
     size_t room;
     size_t count;
 };
 
-/* Has room for so many octets in all. */
+/* Reserves room for a number of octets in all. */
 static int reserve(struct buffer *b, size_t octets)
 {
     size_t room = b->room * 2 > octets ? b->room * 2 : octets;
@@ -23,7 +23,7 @@ static int reserve(struct buffer *b, size_t octets)
     return 1;
 }
 
-/* Has room for so many octets more. */
+/* Reserves room for more octets. */
 static int grow(struct buffer *b, size_t count)
 {
     return b->room - b->count >= count || reserve(b, b->count + count);
@@ -46,14 +46,14 @@ static int put_octets(struct buffer *b, const uint8_t *octets, size_t count)
     return 1;
 }
 
-/* Octets that are still to be read, and in the packed rules how many bits of the first of them were. */
+/* Octets that are still unread, and in PER how many bits of the first of them were read. */
 struct input {
     const uint8_t *octets;
     size_t count;
     unsigned bits;
 };
 
-/* How many octets a number takes, at least one. */
+/* The length of a number in octets, at least one. */
 static unsigned octets_of(uint64_t number)
 {
     unsigned width = 1;

@@ -1,12 +1,12 @@
-/* What all benchmarks in C share: octets without a pattern, sums and times. */
+/* Shared by all benchmarks in C: pseudorandom octets, sums and times. */
 #include <stdint.h>
 #include <stdio.h>
 #include <stdlib.h>
 #include <string.h>
 #include <time.h>
 
-/* How many values, members of lists and members of bags are written and read, and how many octets; a hundredth of them where instructions are
- * counted. */
+/* How many values, and elements of SEQUENCE OF and SET OF, are written and read, and how many octets; a hundredth of
+ * them if instructions are counted. */
 #ifdef FEW
 #define COUNT 10000u
 #define OCTETS ((size_t)64 * 1024 * 1024 / 100)
@@ -41,7 +41,7 @@ static void tell(const char *name, double time, uint64_t sum)
     printf("%s %.0f %llu\n", name, time, (unsigned long long)sum);
 }
 
-/* Fills so many octets, each from the next number behind a state, and returns the last number. */
+/* Fills octets, each from the next number after a state, and returns the last number. */
 static uint64_t fill_octets(uint8_t *octets, size_t count, uint64_t state)
 {
     size_t i;

@@ -1,6 +1,6 @@
-# The instructions of each work as tables in Markdown: for each set of rules those of plain C, of the proved code, and how many times the first the second
-# takes; for UPER also those of asn1c, where it was run. A translation stands beside one read and one write by themselves. It ends with an error
-# where the sums of one work differ, or where one program did not say a work.
+# The instructions of each work as tables in Markdown: for each set of rules, those of plain C, those of the proved code
+# and the ratio; for UPER also those of asn1c, if it was run. A translation is compared with one read and one write by
+# themselves. It ends with an error if the sums of a work differ, or if a program did not print a work.
 BEGIN {
     text["sequences"] = "a sequence"
     text["list"] = "a number of a list"

@@ -1,14 +1,15 @@
 #!/bin/sh
-# bench/cost.sh [FOLDER [RULES..]]: builds the programs of «Types», «Scalars» and «Kinds» and the works in C in a folder of its own, and prints as tables in Markdown
-# how many instructions each work takes by each set of rules, or by those that are named (coer, oer, uper, aper, recode, recode_aligned). valgrind
-# counts them, over a hundredth of the values; RT and CC are those of shared.sh.
+# bench/cost.sh [FOLDER [RULES..]]: builds the programs of «Types», «Scalars» and «Kinds» and the works in C in a folder
+# of its own. It prints, as tables in Markdown, how many instructions each work takes by each set of rules, or by those
+# that are named (coer, oer, uper, aper, recode, recode_aligned). valgrind counts them, over a hundredth of the values;
+# RT and CC are as in shared.sh.
 here=$(cd "$(dirname "$0")" && pwd)
 work=${1:-$(mktemp -d)}
 [ $# -eq 0 ] || shift
 wanted=${*:-coer oer uper aper recode recode_aligned}
 . "$here/shared.sh"
 
-# flags RULES: those of the C code for a set of rules.
+# flags RULES: the flags of the C code for a set of rules.
 flags() {
     case $1 in
         coer | recode) ;;
@@ -20,7 +21,8 @@ flags() {
     esac
 }
 
-# count WHO RULES COMMAND..: the instructions of each work that a program says, which are those between one look at the clock and the next.
+# count WHO RULES COMMAND..: the instructions of each work that a program prints: those between two readings of the
+# clock.
 count() {
     who=$1
     rules=$2

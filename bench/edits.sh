@@ -1,11 +1,12 @@
 #!/bin/sh
-# Tries edits that the prover has to refuse and the gate does not try: bench/edits/PACKAGE/*.edit, written as those in must-fail/ of a package.
+# Tries edits that the prover has to refuse and the gate does not try: bench/edits/PACKAGE/*.edit, in the format of
+# must-fail/ of a package.
 #
 #   bench/edits.sh [PACKAGE..]
 #
-# Each is tried, or those of the packages that are named, over a copy of the crates as they are committed, in which they stand in
-# must-fail/ alone. The packages, and what they need below them, are proved there by rt ci, which takes up what it passed earlier on this
-# machine. The last line says how many packages were proved and edits refused, and how many not.
+# It tries the edits of the named packages, or of all, on a copy of the committed crates, whose folders must-fail/ have
+# only these edits. rt ci proves the packages there, and those below them, and reuses what it passed earlier on this
+# machine. The last line says how many packages were proved and edits refused, and how many were not.
 here=$(cd "$(dirname "$0")/.." && pwd)
 [ $# -gt 0 ] || set -- $(cd "$here/bench/edits" && ls)
 copy=$(mktemp -d)

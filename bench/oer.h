@@ -1,5 +1,5 @@
-/* The lengths, numbers and truth values of the octet encoding rules in plain C; buffer.h stands before it. The readers take canonical encodings
- * alone, or with BASIC those of the basic rules too. */
+/* The lengths, numbers and BOOLEAN of OER in plain C. Include buffer.h first. The readers accept canonical encodings
+ * only, or with BASIC also those of basic OER. */
 #ifdef BASIC
 #define IS_BASIC 1
 #else
@@ -23,7 +23,7 @@ static int oer_put_length(struct buffer *b, uint64_t length)
     return put_octet(b, (uint8_t)(0x80 + width)) && oer_put_number(b, length, width);
 }
 
-/* How many members a list has. */
+/* Writes the number of elements of a SEQUENCE OF. */
 static int oer_put_quantity(struct buffer *b, uint64_t quantity)
 {
     unsigned width = octets_of(quantity);
@@ -62,7 +62,7 @@ static int oer_get_number(struct input *in, unsigned width, uint64_t *number)
     return 1;
 }
 
-/* A number in so many octets, in the canonical rules the fewest. */
+/* A number of a given width in octets, in canonical OER the smallest width. */
 static int oer_get_wide(struct input *in, unsigned width, uint64_t *number)
 {
     while (IS_BASIC && width > 8 && in->count > 0 && in->octets[0] == 0) {
@@ -96,7 +96,7 @@ static int oer_get_truth(struct input *in, int *truth)
     return 1;
 }
 
-/* Octets behind their length, which are lent. */
+/* Octets after their length determinant, borrowed from the input. */
 static const uint8_t *oer_get_string(struct input *in, uint64_t *length)
 {
     return oer_get_length(in, length) ? oer_take(in, *length) : NULL;

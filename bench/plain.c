@@ -1,17 +1,18 @@
-/* The work of bits_bench in plain C: octets at an octet's beginning are copied, all others shifted an octet at a time. */
+/* The work of bits_bench in plain C: octets at an octet boundary are copied, all others are shifted one octet at a
+ * time. */
 #include "buffer.h"
 
 #define FIELDS 10000000u
 
 typedef unsigned __int128 u128;
 
-/* Bits from the first on, zero behind the last one. */
+/* Bits from the first on; the bits after the last one are zero. */
 struct bits {
     struct buffer buffer;
     size_t count;
 };
 
-/* Has room for so many bits more. */
+/* Reserves room for more bits. */
 static int make_room(struct bits *b, size_t bits)
 {
     return reserve(&b->buffer, (b->count + bits + 7) / 8);

@@ -1,20 +1,20 @@
 #!/bin/sh
-# Refuses each request for memory in turn, in the tests of each package that is named, or of those of values and of the
-# relay, and prints for each call how many requests it makes, and what came of it.
+# Refuses each request for memory in turn, in the tests of each named package, or of those of values and of the relay.
+# For each call it prints how many requests the call makes, and the result of refusing them.
 #
 #   bench/refused.sh [PACKAGE..]
 #
 # With N from 1 on, all tests of a package are run with the Nth request of each refused. The tests named refused_* and
-# want_of_memory* have to pass each time; a package without one is an error, as nothing would be judged. A test ample_X
-# makes the same requests as refused_X, and fails where one was refused: a package is done with the first N from which
-# on, twice in a row, all of its ample_* tests pass, or where it has none, all of its tests. So refused_X has then met
-# each request of ample_X. What a test takes to begin with counts as its requests too. Tests of other names are run
-# too, and not judged where there are ample_* tests: those of asn1_relay_tests_memory that take all memory fail here, as
-# a sanitizer's heap never ends. Each run builds the tests anew, which takes a minute and a half of a processor in a
-# package of the relay. Nothing is proved.
+# want_of_memory* have to pass each time. A package without such a test is an error, because nothing would be checked. A
+# test ample_X makes the same requests as refused_X, and fails if one was refused. A package is done with the first N
+# from which on, twice in a row, all of its ample_* tests pass, or all of its tests if it has none. So refused_X has
+# then met each request of ample_X. The requests of a test before its call count as its requests too. Tests of other
+# names are run too, but are not checked if there are ample_* tests: those of asn1_relay_tests_memory that take all
+# memory fail here, because a sanitizer's heap has no limit. Each run builds the tests anew, which takes a minute and a
+# half of a processor in a package of the relay. Nothing is proved.
 #
-#   RT     what runs them, where it is not rt
-#   JOBS   how many runs stand side by side, where it is not one
+#   RT     the command that runs them, if it is not rt
+#   JOBS   the number of parallel runs, if it is not one
 here=$(cd "$(dirname "$0")/.." && pwd)
 rt=${RT:-rt}
 jobs=${JOBS:-1}
@@ -24,7 +24,7 @@ logs=$(mktemp -d)
 trap 'rm -rf "$logs"' EXIT
 status=0
 
-# Whether the run with request $1 refused has an answer, and each test that judges a refusal has passed.
+# Whether the run with request $1 refused has ended, and each test that checks a refusal has passed.
 is_right() {
     if ! grep -q '^test result: ' "$logs/$1"; then
         echo "$package: request $1: no answer"
@@ -41,7 +41,7 @@ is_right() {
     fi
 }
 
-# Whether no test that tells a refusal has met one.
+# Whether no test that notices a refusal has met one.
 has_met_none() {
     ! grep -E "^test ([a-z0-9_]+::)*$last \.\.\. " "$logs/$1" | grep -qv ' \.\.\. ok$'
 }

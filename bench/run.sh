@@ -1,6 +1,7 @@
 #!/bin/sh
-# bench/run.sh [FOLDER]: builds the benchmark of bits and the same work in C in a folder of its own, runs both five times in turn, and prints the
-# best time of each in milliseconds, and how many times the one in C it takes, as a table. RT, CC and RUN are those of shared.sh.
+# bench/run.sh [FOLDER]: builds the benchmark of bits and the same work in C in a folder of its own, runs both five
+# times in turn, and prints the best time of each in milliseconds, and the ratio to C, as a table. RT, CC and RUN are as
+# in shared.sh.
 here=$(cd "$(dirname "$0")" && pwd)
 work=${1:-$(mktemp -d)}
 . "$here/shared.sh"

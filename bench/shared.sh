@@ -1,7 +1,8 @@
-# What the benchmarks share. A script that reads this file has set here to the folder bench, and work to a folder in which all is built.
+# Shared by the benchmarks. A script that reads this file has set here to the folder bench, and work to the folder in
+# which everything is built.
 #
-# RT is the command that proves and builds, rt if it is not given; CC the compiler of C, clang; RUN a command that starts each program that is timed,
-# as taskset -c 3, and none is needed.
+# RT is the command that proves and builds, rt by default; CC the compiler of C, clang by default; RUN a command that
+# starts each program that is timed, such as taskset -c 3, empty by default.
 set -e
 top=$here/..
 generated=
@@ -21,8 +22,8 @@ reached() {
         END { count = split(wanted, names, " "); for (i = 1; i <= count; i++) reach(names[i]) }' "$top/crates.txt"
 }
 
-# take_packages NAME..: copies of these packages and of all that they use, and links to what is built of them where that is newer than the copy's; rt
-# makes such a folder anew when it builds.
+# take_packages NAME..: copies these packages and all that they use, and links to their libraries if these are newer
+# than the copy's. rt makes such a folder anew when it builds.
 take_packages() {
     reached "$@" > "$work/crates.txt"
     for name in $(sed 's/[ :].*//' "$work/crates.txt"); do
@@ -40,7 +41,7 @@ take_packages() {
     done
 }
 
-# make_package NAME USES MODULE=FILE..: a package of the benchmark's own, each of whose modules is a file below bench.
+# make_package NAME USES MODULE=FILE..: a package of the benchmark itself; each of its modules is a file below bench.
 make_package() {
     name=$1
     echo "$name: $2" >> "$work/crates.txt"
@@ -52,7 +53,7 @@ make_package() {
     done
 }
 
-# What the types of «Types» and «Kinds» stand on, those of «Scalars», constraints of these, and the codecs.
+# The packages below the types of «Types» and «Kinds», those of «Scalars», constraints of these, and the codecs.
 schema='asn1_model asn1_schema_authored asn1_schema_constraints asn1_schema_constructed asn1_schema_decode asn1_schema_encode'
 schema="$schema asn1_schema_faults asn1_schema_presented asn1_schema_tags asn1_schema_types asn1_schema_variants asn1_schema_wrapped asn1_values_octets"
 scalars='asn1_schema_example asn1_values_bit_strings asn1_values_identifiers asn1_values_integers asn1_values_octets'
@@ -60,7 +61,8 @@ scalars="$scalars asn1_values_strings"
 constraints='asn1_model asn1_schema_constraints asn1_schema_presented asn1_schema_types asn1_schema_wrapped'
 codecs='asn1_schema_decode asn1_schema_encode asn1_schema_faults oer_codec per_codec'
 
-# make_bench_common, make_bench_rules, make_types_bench, make_scalars_bench, make_kinds_types, make_kinds_bench, make_kinds_recode: the packages of these names.
+# make_bench_common, make_bench_rules, make_types_bench, make_scalars_bench, make_kinds_types, make_kinds_bench,
+# make_kinds_recode: the packages with these names.
 make_bench_common() {
     make_package bench_common '' lib=common.in
 }
@@ -89,7 +91,7 @@ compile() {
     ${CC:-clang} -O2 -o "$work/plain" "$@"
 }
 
-# generate FOLDER SCHEMA [FLAG..]: the work in the code that asn1c generates of a schema, where asn1c is there.
+# generate FOLDER SCHEMA [FLAG..]: the work in the code that asn1c generates from a schema, if asn1c is installed.
 generate() {
     command -v asn1c > "$work/found" || return 0
     rm -rf "$work/generated"
@@ -106,7 +108,7 @@ prove() {
     (cd "$work/crates/$1" && ${RT:-rt} run -- nothing > "$work/first" 2> "$work/log") || { tail -20 "$work/log" >&2; exit 1; }
 }
 
-# timed WHO COMMAND..: the lines that a program says of its works, behind who says them.
+# timed WHO COMMAND..: the lines that a program prints for its works, each after WHO.
 timed() {
     who=$1
     shift
@@ -114,7 +116,8 @@ timed() {
     sed "s/^/$who /" "$work/said" >> "$work/times"
 }
 
-# measure PROGRAM [WORD]: runs the work in C, in generated code and in the proved program, five times in turn, and prints the best times as a table.
+# measure PROGRAM [WORD]: runs the work in C, in generated code and in the proved program five times in turn, and prints
+# the best times as a table.
 measure() {
     : > "$work/times"
     for round in 1 2 3 4 5; do

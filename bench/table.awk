@@ -1,6 +1,7 @@
-# The best time of each work as a table in Markdown: in milliseconds of plain C and of the proved code, how many times the first the second takes,
-# and that of asn1c where it was run. Behind it, of bags of n members, nanoseconds for each member divided by log2 n. A translation stands beside one
-# read and one write by themselves. It ends with an error where the sums of one work differ, or where one program did not say a work.
+# The best time of each work as a table in Markdown: in milliseconds of plain C and of the proved code, the ratio, and
+# that of asn1c if it was run. After it, for SET OF with n elements, nanoseconds per element divided by log2 n. A
+# translation is compared with one read and one write by themselves. It ends with an error if the sums of a work differ,
+# or if a program did not print a work.
 BEGIN {
     text["append_fields"] = "10^7 fields of 1 to 128 bits appended"
     text["read_fields"] = "the same fields read"

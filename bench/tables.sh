@@ -1,6 +1,6 @@
 #!/bin/sh
-# bench/tables.sh [FOLDER]: runs all benchmarks of speed, one behind the other, in a folder of its own, and prints their times as tables in
-# Markdown. RT, CC and RUN are those of shared.sh.
+# bench/tables.sh [FOLDER]: runs all benchmarks of speed, one after another, in a folder of its own, and prints their
+# times as tables in Markdown. RT, CC and RUN are as in shared.sh.
 set -e
 here=$(cd "$(dirname "$0")" && pwd)
 work=${1:-$(mktemp -d)}

@@ -1,6 +1,7 @@
 #!/bin/sh
-# bench/growth/run.sh [FOLDER]: how many instructions an octet takes in messages that a sender may choose, through a relay, in pieces that he may choose, for a size and
-# for twice that size. Where the cost is linear, both figures are the same. valgrind counts them; RT is that of shared.sh.
+# bench/growth/run.sh [FOLDER]: how many instructions per octet a relay takes for messages that a sender may choose, in
+# pieces that the sender may choose, for a size and for twice that size. If the cost is linear, both figures are the
+# same. valgrind counts them; RT is as in shared.sh.
 here=$(cd "$(dirname "$0")/.." && pwd)
 work=${1:-$(mktemp -d)}
 . "$here/shared.sh"
@@ -9,7 +10,7 @@ make_bench_common
 make_package growth_bench "$schema bench_common asn1_relay_core asn1_relay_types anyhow" main=growth/main.in sample=types/sample.in
 prove growth_bench
 
-# an_octet SHAPE SIZE PIECE: the instructions of the relay, for each octet of the message.
+# an_octet SHAPE SIZE PIECE: the instructions of the relay, divided by the octets of the message.
 an_octet() {
     rm -f "$work"/counted*
     valgrind --tool=callgrind --dump-before='clock_gettime*' --callgrind-out-file="$work/counted" \

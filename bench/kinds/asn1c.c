@@ -1,5 +1,5 @@
-/* The types of the benchmark in the unaligned packed encoding rules, written and read by what asn1c generates of kinds.asn1. It has no writer of
- * SET OF, so that bags are read alone. */
+/* The types of the benchmark in UPER, written and read by the code that asn1c generates from kinds.asn1. It has no
+ * writer of SET OF, so SET OF values are only read. */
 #include "kinds.h"
 #include "times.h"
 #include "per.h"
@@ -8,7 +8,7 @@
 #include <Grown.h>
 #include <Pick.h>
 
-/* What generated code calls to write a bag, and asn1c lacks. */
+/* Generated code calls this to write a SET OF, and asn1c lacks it. */
 asn_enc_rval_t SET_OF_encode_uper(asn_TYPE_descriptor_t *type, asn_per_constraints_t *constraints, void *value, asn_per_outp_t *output)
 {
     asn_enc_rval_t none = {-1, type, value};
@@ -17,7 +17,7 @@ asn_enc_rval_t SET_OF_encode_uper(asn_TYPE_descriptor_t *type, asn_per_constrain
     return none;
 }
 
-/* Alternatives of one type stand at the same place. */
+/* Alternatives of one type have the same address. */
 static int put_pick(struct buffer *b, const void *value)
 {
     const struct pick *p = value;

@@ -1,14 +1,14 @@
-/* What the benchmarks of a choice, a sequence with additions and bags in C share: the types, values without a pattern, and sums of what these
- * hold. */
+/* Shared by the benchmarks of a CHOICE, a SEQUENCE with additions and SET OF in C: the types, pseudorandom values, and
+ * sums of what these hold. */
 #include "../buffer.h"
 
 #define TAGS 20u
 #define ADDITIONS 8u
 
-/* What has its kind and its codec at hand as constants is inlined, so that their functions are called as any others. */
+/* A function whose kind and codec are constants is inlined, so that their functions are called directly. */
 #define INLINED static inline __attribute__((always_inline))
 
-/* Under each third tag from 0 on a number, from 1 on octets, and from 2 on a truth value. */
+/* A number with tag 0, octets with tag 1, a BOOLEAN with tag 2, and so on in turn. */
 struct pick {
     unsigned tag;
     uint16_t number;
@@ -28,7 +28,7 @@ struct bag {
     size_t count;
 };
 
-/* A value of whichever kind, or one of generated code. */
+/* A value of any kind, or one of generated code. */
 union value {
     struct pick pick;
     struct grown grown;
@@ -36,7 +36,8 @@ union value {
     void *generated;
 };
 
-/* How values of one kind are made, of a number and with so many members where they have members, and how they are let go. */
+/* How values of one kind are made, from a number and with a number of elements if they have elements, and how they are
+ * freed. */
 struct kind {
     size_t size;
     int (*make)(void *value, uint64_t state, size_t members);
@@ -80,7 +81,7 @@ static void free_pick(void *value)
     free(((struct pick *)value)->octets);
 }
 
-/* Three of the eight additions are there. */
+/* Three of the eight additions are present. */
 static int make_grown(void *value, uint64_t state, size_t members)
 {
     struct grown *g = value;
@@ -103,7 +104,7 @@ static uint64_t sum_grown(uint64_t sum, const void *value)
     return sum;
 }
 
-/* Such a sequence takes no memory of its own. */
+/* Such a SEQUENCE takes no memory of its own. */
 static void free_grown(void *value)
 {
     (void)value;
@@ -139,7 +140,7 @@ static void free_bag(void *value)
     free(((struct bag *)value)->members);
 }
 
-/* A member more, of which there are so many, behind room for so many. */
+/* Appends an element to a SET OF; room is its capacity in elements. */
 static int put_member(struct bag *b, size_t *room, uint16_t member)
 {
     if (b->count == *room) {
@@ -154,13 +155,13 @@ static int put_member(struct bag *b, size_t *room, uint16_t member)
     return 1;
 }
 
-/* A member's encoding is a number of two octets in all rules. */
+/* The encoding of an element has two octets in all rules. */
 static int compare_members(const void *a, const void *b)
 {
     return memcmp(a, b, 2);
 }
 
-/* The encodings of a bag's members in their order; to be freed. */
+/* The encodings of the elements in ascending order; to be freed. */
 static uint8_t *sorted_members(const struct bag *b)
 {
     uint8_t *octets = malloc(2 * b->count + 1);

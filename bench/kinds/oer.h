@@ -1,4 +1,4 @@
-/* The octet encoding rules in plain C: writers and readers of a choice, a sequence with additions and a bag. */
+/* OER in plain C: writers and readers of a CHOICE, a SEQUENCE with additions and a SET OF. */
 #include "../oer.h"
 
 static int oer_put_pick(struct buffer *b, const void *value)
@@ -80,7 +80,7 @@ static int oer_get_pick(struct input *in, void *value)
     }
 }
 
-/* Additions that the type lacks are passed over. */
+/* Skips additions that the type does not know. */
 static int oer_get_additions(struct input *in, struct grown *g)
 {
     const uint8_t *bitmap;

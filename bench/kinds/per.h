@@ -1,5 +1,5 @@
-/* The packed encoding rules in plain C, unaligned or, with ALIGNED, aligned: writers and readers of a choice, a sequence with additions and a
- * bag. */
+/* PER in plain C, unaligned or, with ALIGNED, aligned: writers and readers of a CHOICE, a SEQUENCE with additions and a
+ * SET OF. */
 #include "../bits.h"
 
 static int per_put_pick(struct buffer *b, const void *value)
@@ -99,7 +99,7 @@ static int per_get_pick(struct input *in, void *value)
     return skip_padding(in);
 }
 
-/* So many octets of an open type, which the type lacks. */
+/* Skips the octets of an open type that the type does not know. */
 static int per_pass(struct input *in, size_t count)
 {
     if (in->count < count + (in->bits > 0))
@@ -127,7 +127,7 @@ static int per_get_presence(struct input *in, unsigned *count, uint64_t *presenc
     return 1;
 }
 
-/* Additions that the type lacks are passed over. */
+/* Skips additions that the type does not know. */
 static int per_get_additions(struct input *in, struct grown *g)
 {
     uint64_t presence, number;

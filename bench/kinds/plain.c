@@ -1,4 +1,5 @@
-/* A choice, a sequence with additions and bags written and read by one set of rules in plain C: OER, or with PACKED those of PER. */
+/* A CHOICE, a SEQUENCE with additions and SET OF values written and read by one set of rules in plain C: OER, or with
+ * PACKED those of PER. */
 #include "kinds.h"
 #include "times.h"
 

@@ -1,5 +1,5 @@
-/* Messages of a choice, of a sequence with additions and of bags translated in plain C, between COER and UPER, or between OER and APER with BASIC and
- * ALIGNED: each is read, and what was read is written. */
+/* Messages of a CHOICE, of a SEQUENCE with additions and of SET OF, translated in plain C between COER and UPER, or
+ * between OER and APER with BASIC and ALIGNED: each is read, and what was read is written. */
 #include "kinds.h"
 #include "oer.h"
 #include "per.h"
@@ -12,7 +12,7 @@
 #define TO_OCTETS "_to_coer"
 #endif
 
-/* The messages of so many values, one behind the other. */
+/* The messages of a number of values, one after another. */
 INLINED int make_messages(struct buffer *b, const struct kind *kind, const struct codec *codec, size_t count, size_t members)
 {
     union value value;
@@ -27,7 +27,7 @@ INLINED int make_messages(struct buffer *b, const struct kind *kind, const struc
     return 1;
 }
 
-/* Translates the messages of so many values from one set of rules to another. */
+/* Translates the messages of a number of values from one set of rules to another. */
 INLINED int time_recode(const char *name, const struct kind *kind, const struct codec *from, const struct codec *to, size_t count, size_t members)
 {
     struct buffer messages = {0}, b = {0};

@@ -1,7 +1,8 @@
 #!/bin/sh
-# bench/kinds/run.sh coer|oer|uper|aper|recode|recode_aligned [FOLDER]: times a choice, a sequence with additions and bags by one set of rules, or their
-# translation between COER and UPER or between OER and APER, beside the same work in C, and in UPER beside the code that asn1c generates, where it is
-# there; the rest as in bench/run.sh.
+# bench/kinds/run.sh coer|oer|uper|aper|recode|recode_aligned [FOLDER]: times a CHOICE, a SEQUENCE with additions and
+# SET OF values by one set of rules, or their translation between COER and UPER or between OER and APER, and compares
+# the times with those of the same work in C, and in UPER of the code that asn1c generates, if it is installed. The rest
+# is as in bench/run.sh.
 here=$(cd "$(dirname "$0")/.." && pwd)
 rules=${1:-coer}
 work=${2:-$(mktemp -d)}

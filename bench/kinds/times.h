@@ -1,4 +1,4 @@
-/* Times values of one kind that are written one behind the other, and then read. */
+/* Times values of one kind: they are written one after another, and then read. */
 
 INLINED int write_values(struct buffer *b, const struct kind *kind, const struct codec *codec, const char *values, size_t count)
 {
@@ -24,7 +24,8 @@ INLINED int read_values(const struct buffer *b, const struct codec *codec, size_
     return 1;
 }
 
-/* The work of a kind: so many values, with so many members each. Nothing is told of the writing where it has no name. */
+/* The work of a kind: a number of values, with a number of elements each. The time of writing is not printed if it has
+ * no name. */
 INLINED int time_values(const char *to_write, const char *to_read, const struct kind *kind, const struct codec *codec, size_t count, size_t members)
 {
     char *values = malloc(count * kind->size);

@@ -1,6 +1,6 @@
 #!/bin/sh
-# bench/routes/run.sh [FOLDER]: times routes of 10^6 messages over one, two and three hops beside the same translations by `recode`. The rest as in
-# bench/run.sh.
+# bench/routes/run.sh [FOLDER]: times routes of 10^6 messages over one, two and three hops, and compares them with the
+# same translations by `recode`. The rest is as in bench/run.sh.
 here=$(cd "$(dirname "$0")/.." && pwd)
 work=${1:-$(mktemp -d)}
 . "$here/shared.sh"

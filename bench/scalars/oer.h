@@ -1,4 +1,4 @@
-/* The octet encoding rules in plain C: writers and readers of scalar types. */
+/* OER in plain C: writers and readers of scalar types. */
 #include "../oer.h"
 
 #define STATE struct buffer
@@ -112,7 +112,7 @@ static int get_visible(struct input *in, struct scalar *s)
     return get_run_of(in, s) && are_visible(s->octets, s->count);
 }
 
-/* A permitted alphabet counts for nothing. */
+/* A permitted alphabet has no effect. */
 static int put_digits(struct buffer *b, const struct scalar *s)
 {
     return s->count <= DIGITS && put_run_of(b, s);

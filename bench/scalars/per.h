@@ -1,4 +1,4 @@
-/* The packed encoding rules in plain C, unaligned or, with ALIGNED, aligned: writers and readers of scalar types. */
+/* PER in plain C, unaligned or, with ALIGNED, aligned: writers and readers of scalar types. */
 #include "../bits.h"
 
 #define STATE struct bits
@@ -53,7 +53,7 @@ static int get_number_64(struct input *in, struct scalar *s)
     return get_constrained(in, 8, &s->number);
 }
 
-/* A number of so many octets. */
+/* A number of a given width in octets. */
 static int put_wide(struct bits *o, uint64_t number, unsigned octets)
 {
     if (octets > 4 && !put_bits(o, (uint32_t)(number >> 32), 8 * (octets - 4)))
@@ -82,7 +82,7 @@ static int get_integer(struct input *in, struct scalar *s)
     return signed_octets_of(s->number) == width;
 }
 
-/* Two items of the root, and one behind the extension marker. */
+/* Two items of the root, and one extension addition. */
 static int put_item(struct bits *o, const struct scalar *s)
 {
     return s->number < 2 ? put_bits(o, (uint32_t)s->number, 2) : put_bits(o, 0x80 | (uint32_t)(s->number - 2), 8);
@@ -150,7 +150,7 @@ static int get_run_of(struct input *in, struct scalar *s)
     return in->count >= s->count && (s->octets = malloc(s->count + 1)) && get_run(in, s->octets, s->count);
 }
 
-/* Of seven bits each, or in the aligned variant of eight. */
+/* Characters of seven bits each, or of eight in the aligned variant. */
 static int put_visible(struct bits *o, const struct scalar *s)
 {
     size_t i;
@@ -183,7 +183,7 @@ static int get_visible(struct input *in, struct scalar *s)
     return are_visible(s->octets, s->count);
 }
 
-/* Of four bits each, behind their number in five. */
+/* Characters of four bits each, after their count in five bits. */
 static int put_digits(struct bits *o, const struct scalar *s)
 {
     size_t i;

@@ -17,7 +17,7 @@ struct kind {
     uint64_t (*sum)(uint64_t sum, const struct scalar *s);
 };
 
-/* Members in fragments where the rules have them. */
+/* The elements, in fragments if the rules have them. */
 INLINED int put_list(struct buffer *b, const struct kind *kind, const struct scalar *list, size_t count)
 {
 #ifdef PACKED

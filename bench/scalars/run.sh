@@ -1,6 +1,6 @@
 #!/bin/sh
-# bench/scalars/run.sh coer|oer|uper|aper [FOLDER]: times lists of values of each scalar type by one set of rules beside
-# the same work in C; the rest as in bench/run.sh.
+# bench/scalars/run.sh coer|oer|uper|aper [FOLDER]: times lists of values of each scalar type by one set of rules, and
+# compares them with the same work in C. The rest is as in bench/run.sh.
 here=$(cd "$(dirname "$0")/.." && pwd)
 rules=${1:-coer}
 work=${2:-$(mktemp -d)}

@@ -1,12 +1,12 @@
-/* What the benchmarks of lists of scalar types in C share: values without a pattern, and sums of what they hold. A set of
+/* Shared by the benchmarks of lists of scalar types in C: pseudorandom values, and sums of what they hold. A set of
  * rules defines put_count_of, get_count_of and put_* and get_* of each kind. */
 #include "../buffer.h"
 
 #define ARCS 5u
 #define DIGITS 16u
 
-/* A value of whichever kind: a truth value, a number or an item, or octets, of which there are so many bits, or the arcs
- * of an identifier. */
+/* A value of any kind: a BOOLEAN, a number or an enumeration item, or octets with a number of bits, or the arcs of an
+ * OBJECT IDENTIFIER. */
 struct scalar {
     uint64_t number;
     uint8_t *octets;
@@ -38,7 +38,7 @@ static int make_number_64(struct scalar *s, uint64_t state)
     return 1;
 }
 
-/* Of 1 to 7 octets, and not negative. */
+/* 1 to 7 octets, not negative. */
 static int make_integer(struct scalar *s, uint64_t state)
 {
     unsigned shift = 9 + 8 * (unsigned)(state >> 32 & 7);
@@ -80,7 +80,7 @@ static int make_digits(struct scalar *s, uint64_t state)
     return make_masked(s, state, 0x07, 0x30);
 }
 
-/* From 1 to 16 octets without their last three bits. */
+/* 1 to 16 octets without their last three bits. */
 static int make_bits(struct scalar *s, uint64_t state)
 {
     if (!make_run(s, state))
@@ -122,7 +122,7 @@ static uint64_t sum_arcs(uint64_t sum, const struct scalar *s)
     return sum;
 }
 
-/* Takes memory of its own for octets. */
+/* Copies octets into memory of the value. */
 static int own(struct scalar *s, const uint8_t *octets, uint64_t count)
 {
     if (!octets || !(s->octets = malloc(count + 1)))
@@ -142,7 +142,7 @@ static int are_visible(const uint8_t *octets, size_t count)
     return 1;
 }
 
-/* How many octets of a character of UTF-8 come behind its first one; 4 where none begins so. */
+/* How many octets of a UTF-8 character follow its first octet; 4 if no character begins with it. */
 static unsigned octets_behind(uint8_t first)
 {
     if (first < 0x80)
@@ -173,14 +173,14 @@ static int are_utf8(const uint8_t *octets, size_t count)
     return 1;
 }
 
-/* The octets of a number that is not negative in two's complement, of which there are the fewest. */
+/* The length in octets of the shortest two's complement of a non-negative number. */
 static unsigned signed_octets_of(uint64_t number)
 {
     unsigned width = octets_of(number);
     return width < 8 && number >> (8 * width - 1) ? width + 1 : width;
 }
 
-/* The octets of an identifier's arcs; how many there are. */
+/* Writes the octets of an identifier's arcs, and returns their number. */
 static size_t octets_of_arcs(const uint32_t *arcs, size_t count, uint8_t *octets)
 {
     size_t i, n = 0;

@@ -1,5 +1,6 @@
-/* Messages of the benchmark's sequence that are strung together, translated in plain C between COER and UPER: 10^6 of them in memory, or, with the words
- * `run FROM TO`, those of standard input, in blocks of 4096 octets, to standard output; with `make RULES COUNT` that many messages are written there. */
+/* Messages of the benchmark's SEQUENCE, one after another, translated in plain C between COER and UPER: 10^6 of them in
+ * memory, or, with the words `run FROM TO`, those of standard input, in blocks of 4096 octets, to standard output. With
+ * `make RULES COUNT`, that many messages are written to standard output. */
 #include "../types/work.h"
 
 #define put_sample octets_put_sample
@@ -69,7 +70,7 @@ static int time_translation(const char *name, const struct codec *from, const st
     return 1;
 }
 
-/* Reads blocks, and writes the translation of each message that is whole. */
+/* Reads blocks, and writes the translation of each whole message. */
 static int run(const struct codec *from, const struct codec *to)
 {
     static uint8_t window[BLOCK + LIMIT];

@@ -1,6 +1,7 @@
 #!/bin/sh
-# bench/streams/run.sh [FOLDER]: times a relay over 10^6 messages that are strung together, from COER to UPER and back, in pieces of several lengths, beside
-# `recode` of the same messages one by one and the same work in C; then a run over a file of 64 MiB of such messages. The rest as in bench/run.sh.
+# bench/streams/run.sh [FOLDER]: times a relay over 10^6 messages in sequence, from COER to UPER and back, in pieces of
+# several lengths, and compares it with `recode` of the same messages one by one and the same work in C; then times a
+# run over a file of 64 MiB of such messages. The rest is as in bench/run.sh.
 here=$(cd "$(dirname "$0")/.." && pwd)
 work=${1:-$(mktemp -d)}
 . "$here/shared.sh"
@@ -17,7 +18,7 @@ done
 awk -f "$here/streams/table.awk" "$work/times"
 "$work/plain" make coer 1400000 > "$work/messages.coer"
 "$work/plain" run coer uper < "$work/messages.coer" > "$work/messages.uper"
-# run_file WHO FROM TO PROGRAM: translates the file, and says how many of its octets a second.
+# run_file WHO FROM TO PROGRAM: translates the file, and prints how many of its octets per second.
 run_file() {
     best=
     for round in 1 2 3 4 5; do

@@ -1,5 +1,5 @@
-# The best times of streams as a table in Markdown, in milliseconds: C, `recode` of each message by itself, and a relay in pieces of several lengths, with how
-# many times `recode` it takes. It ends with an error where the sums of one way differ.
+# The best times of streams as a table in Markdown, in milliseconds: C, `recode` of each message by itself, and a relay
+# in pieces of several lengths, with the ratio to `recode`. It ends with an error if the sums of one direction differ.
 {
     match($2, /_to_[a-z]+$/)
     way = substr($2, RSTART + 4)

@@ -1,4 +1,4 @@
-/* The sequences of the benchmark in the unaligned packed encoding rules, written and read by what asn1c generates of sample.asn1. */
+/* The sequences of the benchmark in UPER, written and read by the code that asn1c generates from sample.asn1. */
 #include "work.h"
 #include "../asn1c.h"
 #include <Sample.h>

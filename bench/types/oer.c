@@ -1,4 +1,4 @@
-/* Times the octet encoding rules in plain C. */
+/* Times OER in plain C. */
 #include "work.h"
 #include "oer_types.h"
 #include "times.h"

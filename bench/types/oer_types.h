@@ -1,4 +1,5 @@
-/* The octet encoding rules in plain C, canonical or, with BASIC, basic: a writer and a reader of the types of the benchmark; work.h stands before it. */
+/* OER in plain C, canonical or, with BASIC, basic: a writer and a reader of the types of the benchmark. Include work.h
+ * first. */
 #include "../oer.h"
 
 static int put_sample(struct buffer *b, const struct sample *s)

@@ -1,4 +1,4 @@
-/* Times the packed encoding rules in plain C. */
+/* Times PER in plain C. */
 #include "work.h"
 #include "per_types.h"
 #include "times.h"

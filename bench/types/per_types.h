@@ -1,5 +1,5 @@
-/* The packed encoding rules in plain C, unaligned or, with ALIGNED, aligned: a writer and a reader of the types of the benchmark; work.h stands before
- * it. */
+/* PER in plain C, unaligned or, with ALIGNED, aligned: a writer and a reader of the types of the benchmark. Include
+ * work.h first. */
 #include "../bits.h"
 
 static int put_sample(struct buffer *b, const struct sample *s)

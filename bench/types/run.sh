@@ -1,6 +1,7 @@
 #!/bin/sh
-# bench/types/run.sh coer|oer|uper|aper [FOLDER]: times sequences, a list and octets by one set of rules beside the same work in C, and for the
-# sequences in UPER beside the code that asn1c generates, where it is there; the rest as in bench/run.sh.
+# bench/types/run.sh coer|oer|uper|aper [FOLDER]: times sequences, a list and octets by one set of rules, and compares
+# them with the same work in C, and for the sequences in UPER with the code that asn1c generates, if it is installed.
+# The rest is as in bench/run.sh.
 here=$(cd "$(dirname "$0")/.." && pwd)
 rules=${1:-coer}
 work=${2:-$(mktemp -d)}

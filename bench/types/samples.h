@@ -1,4 +1,5 @@
-/* Times the sequences by a set of rules: put_sample adds one to a buffer, get_sample takes one from in front of an input. */
+/* Times the sequences by a set of rules: put_sample appends one to a buffer, get_sample takes one from the beginning of
+ * an input. */
 static int time_samples(void)
 {
     struct sample *samples = make_samples(), s;

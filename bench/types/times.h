@@ -1,4 +1,4 @@
-/* Times the work of a set of rules: put_* add to a buffer, get_* take the octets from in front of an input. */
+/* Times the work of a set of rules: put_* append to a buffer, get_* take the octets from the beginning of an input. */
 #include "samples.h"
 
 static int time_list(void)

@@ -1,5 +1,5 @@
-/* What the benchmarks of sequences, lists and strings in C share: values without a pattern. A set of rules defines put_sample, get_sample, put_list,
- * get_list, put_string and get_string, and includes this file first. */
+/* Shared by the benchmarks of sequences, lists and strings in C: pseudorandom values. A set of rules defines
+ * put_sample, get_sample, put_list, get_list, put_string and get_string, and includes this file first. */
 #include "../buffer.h"
 
 struct sample {

@@ -41,7 +41,7 @@ module _ (a b c : Option (List ℕ)) (ps : Texts) (n : ℕ) (d : Bor (List ℕ))
       let whole : first ++ (text ++ rest) ≡ joined ps = sym (append_assoc first text rest) ∙ (ap (λ l. l ++ rest) (sym further) ∙ sym (joined_split ps (n + 1))) in
       (first ++ h.0, h.1 ++ rest, seam ∙ whole, Appends-trans a b c first h.0 before h.3)
 
--- ---- the line of a fault
+-- ---- the line of an error
 
 begun : Option Place → List ℕ → List ℕ
 begun p text = codes "asn1_relay: " ++ behind_place p (text ++ (10 ∷ []))

@@ -33,7 +33,7 @@ translating_app name =
     with_rule (with_rule (with_rule (new_app name) (option_rule (codes "from"))) (option_rule (codes "to")))
     (option_rule (codes "type"))
 
--- --limit NUMBER, a whole number from 1 to 4294967295
+-- --limit NUMBER, an integer from 1 to 4294967295
 abbrev pub limit_rule : Rule
 limit_rule = record (option_rule (codes "limit")) { parser = Some (vp.Signed (pos 1) (pos 4294967295)) }
 
@@ -127,7 +127,7 @@ hops_by_names [] = Some []
 hops_by_names (name ∷ names) =
     option_and_then (λ h. option_map (λ hs. h ∷ hs) (hops_by_names names)) (hop_by_name name)
 
--- a whole number from 1 to 4294967295, in decimal digits
+-- an integer from 1 to 4294967295, in decimal digits
 abbrev pub limit_by_text : Text → Option ℕ
 limit_by_text text =
     if is_unsigned_in 1 4294967295 text then Some (digits_value 10 (without_leading_plus text)) else None
@@ -202,13 +202,13 @@ task_in_command (Some c) =
     else (if bytes_eq c.0 (codes "route") then route_in_rows c.1
     else None))
 
--- a message of a stream may have an octet, and a route has a hop
+-- the limit for a message is at least one octet, and a route has a hop
 abbrev pub CanBeDone : Task → Type 0
 CanBeDone (once t) = ⊤
 CanBeDone (stream t limit) = 1 ≤ limit
 CanBeDone (route r) = r.hops ≢ []
 
--- what words request that match the grammar
+-- what words request, if they match the grammar
 abbrev pub unless_fault : Kinds → Option Task → Option Task
 unless_fault [] task = task
 unless_fault (fault ∷ faults) task = None

@@ -144,11 +144,11 @@ pub record IsRunFault (t : Translation) (limit : ℕ) (unread unread' held held'
 
 -- ---- one message along a route
 
--- what comes of a message on a route
+-- what becomes of a message on a route
 abbrev pub ComesAs : Schema → Schema → Codec → List Hop → List ℕ → Outcome → Type 0
 ComesAs old new from hops message outcome = IsOutcome old new (rules_of from) (hops_of hops) message outcome
 
--- there is such a hop, and those before it succeed
+-- there is a hop with this index, and those before it succeed
 abbrev pub ReachesAs : Schema → Schema → Codec → List Hop → List ℕ → ℕ → Type 0
 ReachesAs old new from hops message i = Reaches old new (rules_of from) (hops_of hops) message i
 
@@ -204,7 +204,7 @@ StopsRouteBy r unread unread' held held' fault.ReadFailed = Keeps held held'
 StopsRouteBy r unread unread' held held' fault.WriteFailed = IsCutOff (IsSent r unread unread') held held'
 StopsRouteBy r unread unread' held held' _ = ⊥
 
--- ---- what was asked for
+-- ---- what was requested
 
 abbrev pub Does : Task → Known → Known → Known → Known → Type 0
 Does (once t) unread unread' held held' = DoesOnce t unread unread' held held'

@@ -72,7 +72,7 @@ impl Fault {
     ///
     /// # Errors
     ///
-    /// Those of the writer. It has then taken a prefix of the line.
+    /// Those of the writer. It has then accepted a prefix of the line.
     pub fn write_line<E: Write>(self, errors: &mut E) -> io::Result<()>
         ensures all { OnOk result (Appends (E.contents errors.old) (E.contents errors.new) (line_of self)) }
         ensures begins { BeginsToAppend (E.contents errors.old) (E.contents errors.new) (line_of self) }
@@ -160,7 +160,7 @@ fn text_at_hop(fault: HopFault) -> &'static str
     }
 }
 
-/// Writes texts in sequence. After an error the writer has taken a prefix of them.
+/// Writes texts in sequence. After an error the writer has accepted a prefix of them.
 fn write_parts<W: Write>(parts: &[&str], writer: &mut W) -> io::Result<()>
     ensures all { OnOk result (Appends (W.contents writer.old) (W.contents writer.new) (joined parts.now)) }
     ensures begins { BeginsToAppend (W.contents writer.old) (W.contents writer.new) (joined parts.now) }

@@ -83,7 +83,7 @@ pub enum Order {
     Stream {
         /// How each message is translated.
         translation: Translation,
-        /// The most octets that a message may have, 1 or more.
+        /// The maximum length of a message in octets, 1 or more.
         limit: u32,
     },
     /// Send one message, the whole input, along a route.
@@ -149,14 +149,14 @@ fn pair_named(name: &str) -> Option<Pair>
     }
 }
 
-/// A hop of this version that writes in these rules.
+/// A hop of this version that encodes by these rules.
 fn hop(version: Version, to: Codec) -> Option<Hop>
     ensures { result ≡ Some (record { version = version; to = to }) }
 {
     Some(Hop { version, to })
 }
 
-/// The hop with this name: a version, and the rules in which it writes.
+/// The hop with this name: a version, and the rules by which it encodes.
 fn hop_named(name: &str) -> Option<Hop>
     ensures { result ≡ hop_by_name name.now }
 {
@@ -370,7 +370,7 @@ fn route_in(alloc: Global, options: &ArgMatches<'_>) -> Result<Option<Order>, Al
     Ok(route_by(options, hops))
 }
 
-/// What words that match the grammar request, if each of them names something.
+/// What words that match the grammar request, if each option names something.
 fn order_in(alloc: Global, matches: &ArgMatches<'_>) -> Result<Option<Order>, AllocError>
     ensures task { IfOk result (λ order. option_map task_of order ≡ task_in_command (subcommand_rows_of matches.now)) }
     ensures sound { IfOk result (λ order. IfSome order (λ o. CanBeDone (task_of o))) }
@@ -391,7 +391,7 @@ fn order_in(alloc: Global, matches: &ArgMatches<'_>) -> Result<Option<Order>, Al
 ///
 /// # Errors
 ///
-/// If the line requests nothing that the program does, also for the help text. The kind is `OutOfMemory` if memory
+/// If the line requests nothing that the program can do, or requests the help text. The kind is `OutOfMemory` if memory
 /// ran out.
 pub fn read_order<S: AsStr>(alloc: Global, words: &[S]) -> Result<Order, Error>
     ensures ok { IfOk result (λ order. asked_by (map S.text words.now) ≡ Some (task_of order)) }

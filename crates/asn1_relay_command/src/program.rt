@@ -221,7 +221,7 @@ pub fn translate_all(
     )
 }
 
-/// Translates a stream of messages of the type `T`, and writes each as it comes.
+/// Translates a stream of messages of the type `T`, and writes each once it is complete.
 fn stream_of<T: Encode + Decode, R: Read, W: Write>(
     alloc: Global,
     translation: Translation,
@@ -248,7 +248,7 @@ fn stream_of<T: Encode + Decode, R: Read, W: Write>(
     )
 }
 
-/// Translates a stream of messages, and writes each as it comes.
+/// Translates a stream of messages, and writes each once it is complete.
 fn stream<R: Read, W: Write>(
     alloc: Global,
     translation: Translation,
@@ -285,7 +285,7 @@ fn send_as<Older: Encode + Decode, Newer: Encode + Decode + Extends<Older>>(
     Ok(octets)
 }
 
-/// Sends a message from hop to hop.
+/// Sends a message from hop to hop, with the type of a pair of versions.
 fn send_all(
     alloc: Global,
     from: Codec,

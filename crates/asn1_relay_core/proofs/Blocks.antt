@@ -1,4 +1,4 @@
--- That what is written block by block is what becomes of all that is read.
+-- What is written block by block is the translation of all that is read.
 use Rattle.std.proofs.Common.{◌≡◌, ◌≢◌, inl, ℕ, ◌+◌, ◌≤◌, false, List, [], ◌++◌, length, Some, None, refl, ap, sym, ◌∙◌, subst, append_assoc, arith}
 use Rattle.std.specs.Io.KnownBytes.{Appends, Consumes, Keeps, IsAtEnd}
 use Rattle.std.proofs.KnownBytes.{Appends-nil, Appends-trans, Consumes-nil, Consumes-trans}
@@ -17,9 +17,9 @@ use Rattle.asn1_relay_core.specs.Running.{Ends, Moves, Fails, block, RelaysBlock
 use Rattle.asn1_relay_core.proofs.Feeding.{none_of_none}
 use Rattle.asn1_relay_core.proofs.Known.{kept_added, kept_read}
 
--- ---- one block after the other
+-- ---- one block after another
 
--- All that was read is relayed as far as it goes, and written; no call failed.
+-- All that was read is relayed as far as possible, and written; no call failed.
 pub record RunSoFar (from to : Codec) (s : Schema) (limit : ℕ) (old now : Ends) (relay : Relaying) : Type 0 where
   pub got : List ℕ
   pub put : List ℕ
@@ -52,7 +52,7 @@ module _ (from to : Codec) (s : Schema) (limit : ℕ) where
     counts : relay.number ≡ capped h.number
     counts = ap (λ r. r.number) h.is
 
-    -- a further block is read
+    -- another block is read
     reads_more : (next : Ends) (octets : List ℕ) → Consumes now.coming next.coming octets → Consumes old.coming next.coming (h.got ++ octets)
     reads_more next octets c = Consumes-trans old.coming now.coming next.coming h.got octets h.moves.reads c
 
@@ -104,7 +104,7 @@ module _ (from to : Codec) (s : Schema) (limit : ℕ) where
         let r : RelaysFront source target s limit p.messages p.put p.rest (relay.unread ++ octets) = here (λ x y l. RelaysFront x y s l p.messages p.put p.rest (relay.unread ++ octets)) p.front in
         record { got = h.got ++ octets; put = h.put ++ p.put; rest = p.rest; messages = h.relays.messages ++ p.messages; moves = record { reads = reads_more next octets c; writes = writes_more next p.put p.writes }; front = joins source target s limit h.relays.messages p.messages h.put p.put (relay.unread ++ octets) p.rest (h.got ++ octets) (longer source target s limit h.relays.messages h.put relay.unread h.got octets h.relays.front) r; fails = record { of_reader = omega arith; of_writer = omega arith } }
 
-    -- the reader tells its end
+    -- the reader reports its end
     module _ (next : Ends) (c : Consumes now.coming next.coming []) (ended : IsAtEnd next.coming) (f : next.reads_failed ≡ now.reads_failed) where
       all_read : Consumes old.coming next.coming h.got
       all_read = subst (λ l. Consumes old.coming next.coming l) (append-nil h.got) (reads_more next [] c)

@@ -1,4 +1,4 @@
--- What comes of the canonical encoding of a value of the newer version, whatever depth its type is unfolded to.
+-- What becomes of the canonical encoding of a value of the newer version, at any depth of unfolding of its type.
 use Rattle.std.proofs.Common.{◌≡◌, ◌≢◌, ◌⊎◌, inl, inr, ℕ, zero, suc, ◌≤◌, List, [], ◌∷◌, Option, Some, None, IfSome, arith, refl, sym, ◌∙◌, ap, subst}
 use Rattle.asn1_model.specs.Schema.{Schema}
 use Rattle.asn1_model.specs.Value.{Value, depth}
@@ -51,10 +51,10 @@ module _ (old new s t : Schema) (k : IsTidy old) (l : IsTidy new) (k' : IsTidy s
   outcome_alike from hops w (arrived out) p = arrives_alike from hops w out p
   outcome_alike from hops w (refused i a) p = refuses_alike from hops w i a p
 
--- ---- what the value tells
+-- ---- what follows from the value
 
 module _ (old new : Schema) (v : Value) where
-  -- one encoding at most is what the last hop writes
+  -- the last hop writes one encoding at most
   written_once : (p : Passed) (h : Hop) (x y : List ℕ) → Writes old new p h v (Some x) → Writes old new p h v (Some y) → x ≡ y
   written_once p h x y a b = let e : a.0 ≡ b.0 = some_is (sym a.1 ∙ b.1) in some_is (sym a.2 ∙ (ap (λ u. canonical h.to (schema_of old new h.version) u) e ∙ b.2))
 
@@ -63,8 +63,8 @@ module _ (old new : Schema) (v : Value) where
   last_once p (h ∷ []) x y a b = written_once p.passed h x y a b
   last_once p (h ∷ g ∷ hops) x y a b = last_once (behind p h) (g ∷ hops) x y a b
 
--- The octets are the canonical encoding of a value of the newer version. Both types are unfolded as deep as is wanted for it, and agree with those of the
--- hops in what these read.
+-- The octets are the canonical encoding of a value of the newer version. Both types are unfolded as deep as the value
+-- needs, and agree with those of the hops in what these read.
 record IsUnfolded (old new : Schema) (from : Rules) (w : List ℕ) (s t : Schema) (v : Value) : Type 0 where
   is_lawful_older : IsLawful s
   is_lawful_newer : IsLawful t
@@ -76,12 +76,12 @@ record IsUnfolded (old new : Schema) (from : Rules) (w : List ℕ) (s t : Schema
   is_encoding : canonical from t v ≡ Some w
 
 module _ (old new : Schema) (k : IsTidy old) (l : IsTidy new) (from : Rules) (hops : List Hop) (w : List ℕ) (some : hops ≢ []) (s t : Schema) (v : Value) (c : IsUnfolded old new from w s t v) where
-  -- what comes of the octets is what the value tells
+  -- what becomes of the octets follows from the value
   told_of : (o : Outcome) → IsOutcome s t from hops w o → IsTold s t from hops v o
   told_of (arrived out) p = (arrives_free s t c.is_lawful_older c.is_lawful_newer c.extends v from hops w c.is_encoding out p, arrives_last s t c.is_lawful_older c.is_lawful_newer c.extends v from hops w c.is_encoding some out p)
   told_of (refused i a) p = refuses_fails s t c.is_lawful_older c.is_lawful_newer c.extends v from hops w c.is_encoding i a p
 
-  -- and the other way round
+  -- and vice versa
   of_told : (o : Outcome) → IsTold s t from hops v o → IsOutcome s t from hops w o
   of_told (arrived out) p = last (free_arrives s t c.is_lawful_older c.is_lawful_newer c.extends v from hops w c.is_encoding p.0)
     where

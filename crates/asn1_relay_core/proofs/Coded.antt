@@ -1,4 +1,4 @@
--- What was read and written, as the answer to a message.
+-- What was read and written is the result for a message.
 use Rattle.std.proofs.Common.{◌≡◌, ◌≢◌, ◌≤◌, ◌⊎◌, inl, inr, ℕ, ◌==◌, true, false, length, List, [], ◌∷◌, ◌++◌, Option, Some, None, option_and_then, Result, Ok, Err, Vec, Global, IfSome, refl, sym, ◌∙◌, ap, subst, arith}
 use Rattle.std.proofs.lemmas.Bool.{eqb-true}
 use Rattle.std.proofs.lemmas.List.{append-nil}
@@ -50,7 +50,7 @@ module _ (source target : Rules) (schema : ℕ → Schema) (v : Value) (input re
 pub is_no_encoding : (source target : Rules) (schema : ℕ → Schema) (input : List ℕ) → ((v : Value) (rest : List ℕ) → HasMessage source (schema 128) v input rest → ⊥) → IsAnswer source target (schema 128) input not_an_encoding
 is_no_encoding source target schema input h front behind v e m = h v behind (record { message = front; in_front = e; encoding = m.0; levels = m.1 })
 
--- ---- what was answered is right, and nothing else is
+-- ---- what was returned is right, and nothing else is
 
 pub record IsRight (c d : Codec) (s : Schema) (w : List ℕ) (x : Result (Vec ℕ Global) RecodeFault) : Type 0 where
   pub right : IfSome (answer_of x) (IsAnswer (rules_of c) (rules_of d) s w)
@@ -102,7 +102,7 @@ module _ (c d : Codec) (schema : ℕ → Schema) (w : List ℕ) (lawful : IsLawf
       pub right_not_written : (x : EncodeError) (f : RecodeFault) → NotWritten (rules_of d) schema v x → f ≡ target_fault_of x → Rights (Err f)
       right_not_written x f h j = subst (λ y. Rights (Err y)) (sym j) (not_written x h)
 
--- ---- what is left
+-- ---- no octets remain
 
 pub none_left : (l : List ℕ) → (length l == 0) ≡ true → l ≡ []
 none_left [] e = refl
@@ -111,7 +111,7 @@ none_left (x ∷ l) e = let i = eqb-true (length (x ∷ l)) 0 e in absurd (omega
 pub some_left : (l : List ℕ) → (length l == 0) ≡ false → l ≢ []
 some_left l e h = let k : true ≡ false = sym (ap (λ (m : List ℕ). length m == 0) h) ∙ e in cc
 
--- ---- want of memory
+-- ---- out of memory
 
 pub source_names_memory : (e : DecodeError) (f : RecodeFault) → f ≡ source_fault_of e → NamesMemoryAlone f
 source_names_memory e f h = subst NamesMemoryAlone (sym h) (at e)
@@ -127,7 +127,7 @@ target_names_memory e f h = subst NamesMemoryAlone (sym h) (at e)
     at Encoding.OutOfMemory = tt
     at e = tt
 
--- ---- earlier refusals
+-- ---- earlier errors
 
 pub source_names_none : (e : DecodeError) (f : RecodeFault) → f ≡ source_fault_of e → ¬ (e ≡ Decoding.AlreadyFailed) → NamesNoEarlierRefusal f
 source_names_none e f h n = subst NamesNoEarlierRefusal (sym h) (at e n)
@@ -145,7 +145,7 @@ target_names_none e f h n = subst NamesNoEarlierRefusal (sym h) (at e n)
     at Encoding.AlreadyFailed n = n refl
     at e n = tt
 
--- ---- calls out of their place
+-- ---- misplaced calls
 
 pub source_names_no_call : (e : DecodeError) (f : RecodeFault) → f ≡ source_fault_of e → NamesNoMisplacedCall f
 source_names_no_call e f h = subst NamesNoMisplacedCall (sym h) (at e)

@@ -1,4 +1,4 @@
--- That a detour changes no answer.
+-- A detour changes no result.
 use Rattle.std.proofs.Common.{◌≡◌, ℕ, List, [], sym, ◌∙◌, arith}
 use Rattle.asn1_model.specs.Schema.{Schema}
 use Rattle.asn1_model.specs.Value.{Value}
@@ -21,7 +21,7 @@ module _ (from via : Codec) (s : Schema) (w octets : List ℕ) (lawful : IsLawfu
       let b = first.1.1 in
       (canonical_is_read (rules_of via) s first.0 octets first.2, omega arith)
 
-  -- what a value on the way is written as is what the first is written as
+  -- a value on the way is written exactly as the first value is
   kept : (to : Codec) (u : Value) → IsMessage (rules_of via) s u octets → canonical (rules_of to) s u ≡ canonical (rules_of to) s first.0
   kept to u m = detours (rules_of to) (rules_of via) s first.0 u octets lawful first.2 m.0
 

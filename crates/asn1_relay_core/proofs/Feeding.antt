@@ -1,4 +1,4 @@
--- That the messages which were relayed one after the other are those in front of all octets.
+-- The messages that were relayed one after another are those with which all octets begin.
 use Rattle.std.proofs.Common.{◌≡◌, ◌⊎◌, inl, inr, ℕ, ◌+◌, ◌≤◌, ◌<◌, min, true, false, List, [], ◌∷◌, ◌++◌, length, drop, Some, None, refl, ap, sym, ◌∙◌, subst, append_assoc, arith}
 use Rattle.std.proofs.Math.Seq.{drop-append_seam}
 use Rattle.std.proofs.lemmas.List.{length-append, append-nil}
@@ -14,7 +14,7 @@ use Rattle.asn1_relay_core.specs.declared.fault.RelayFaultKind.TheVariants as ki
 use Rattle.asn1_relay_core.specs.Relaying.{Relaying, capped, kind_of_stop, onwards, IsFed, FaultOf}
 use Rattle.asn1_relay_core.specs.Fronts.{Awaits, RelaysOne}
 
--- no message is in front of nothing
+-- no octets begin with no message
 pub none_of_none : (r : Rules) (s : Schema) (limit : ℕ) → HasNoMessage r s limit []
 none_of_none r s limit = λ m x e i.
     let a = length-append m.octets x in
@@ -25,7 +25,7 @@ none_of_none r s limit = λ m x e i.
 pub waits_at_end : (source target : Rules) (s : Schema) (limit : ℕ) (w : List ℕ) → w ≡ [] → StopsAt source target s limit w None
 waits_at_end source target s limit w e = subst (λ l. StopsAt source target s limit l None) (sym e) (none_of_none source s limit, inl refl)
 
--- What is relayed so far of the octets that were unread and the piece.
+-- What has been relayed so far of the octets that were unread and the piece.
 pub record SoFar (s : Schema) (old now : Relaying) (piece before after : List ℕ) : Type 0 where
   pub messages : List Message
   pub written : List ℕ
@@ -40,7 +40,7 @@ module _ (s : Schema) (old : Relaying) (piece before : List ℕ) where
   abbrev Front : List Message → List ℕ → List ℕ → Type 0
   Front ms out rest = RelaysFront (rules_of old.from) (rules_of old.to) s old.limit ms out rest (old.unread ++ piece)
 
-  -- ---- one message after the other
+  -- ---- one message after another
 
   pub begun : (now : Relaying) (after : List ℕ) → now ≡ onwards old (old.unread ++ piece) old.number false → old.number ≤ most → after ≡ before → SoFar s old now piece before after
   begun now after e n g =
@@ -53,7 +53,7 @@ module _ (s : Schema) (old : Relaying) (piece before : List ℕ) where
   grown_alike now after later h e = record { messages = h.messages; written = h.written; front = h.front; grows = e ∙ h.grows; is = h.is }
 
   module _ (now : Relaying) (after : List ℕ) (h : SoFar s old now piece before after) where
-    -- the rules and the limit are the first ones
+    -- the rules and the limit do not change
     abbrev Here : (Rules → Rules → ℕ → Type 0) → Relaying → Type 0
     Here P r = P (rules_of r.from) (rules_of r.to) r.limit
 
@@ -103,7 +103,7 @@ module _ (s : Schema) (old : Relaying) (piece before : List ℕ) where
           let w : StopsAt (rules_of old.from) (rules_of old.to) s old.limit now.unread (Some y.0) = here (λ a b l. StopsAt a b s l now.unread (Some y.0)) y.2 in
           inr (inl (had, y.0, record { count = length h.messages; written = h.written; rest = now.unread; relays = record { messages = h.messages; counted = refl; front = h.front; stops = w }; grows = h.grows; is = fault_as (kind_of_stop y.0) y.1; stops = stopped_as }))
 
--- a relay that awaits more octets than are unread
+-- a relay that waits for more octets than are unread
 pub waited : (s : Schema) (old now : Relaying) (piece before : List ℕ) (awaited : ℕ) → old.failed ≡ false → now ≡ onwards old (old.unread ++ piece) old.number false → old.number ≤ most
     → Awaits (rules_of old.from) s old.limit old.unread awaited → length (old.unread ++ piece) < awaited → length (old.unread ++ piece) ≤ old.limit → IsFed s old now piece before before
 waited s old now piece before awaited had e n w k l =
@@ -113,7 +113,7 @@ waited s old now piece before awaited had e n w k l =
     let there : StopsAt (rules_of now.from) (rules_of now.to) s now.limit now.unread None = subst (λ (r : Relaying). StopsAt (rules_of r.from) (rules_of r.to) s r.limit r.unread None) (sym e) here in
     fed s old piece before now before (begun s old piece before now before e n refl) had there
 
--- it awaits as many behind the piece
+-- it waits for as many octets after the piece
 pub awaits_on : (source : Rules) (s : Schema) (limit : ℕ) (unread piece : List ℕ) (awaited : ℕ) → Awaits source s limit unread awaited → Awaits source s limit (unread ++ piece) awaited
 awaits_on source s limit unread piece awaited w more less =
     let a = length-append unread piece in
@@ -121,11 +121,11 @@ awaits_on source s limit unread piece awaited w more less =
     let t = w (piece ++ more) (omega arith) in
     (t.0, subst (λ x. HasNoMessage source s limit x) (sym (append_assoc unread piece more)) t.1)
 
--- nothing is awaited where no number is
+-- it waits for no octets if the number is 0
 pub awaits_none : (source : Rules) (s : Schema) (limit : ℕ) (unread : List ℕ) → Awaits source s limit unread 0
 awaits_none source s limit unread more less = absurd (omega arith)
 
--- a relay that holds nothing is fed nothing
+-- a relay without unread octets receives an empty piece
 pub nothing_fed : (s : Schema) (old : Relaying) (piece before : List ℕ) → old.failed ≡ false → old.unread ≡ [] → piece ≡ [] → old.number ≤ most → IsFed s old old piece before before
 nothing_fed s old piece before had u p n =
     let w : old.unread ≡ old.unread ++ piece = subst (λ l. old.unread ≡ old.unread ++ l) (sym p) (sym (append-nil old.unread)) in

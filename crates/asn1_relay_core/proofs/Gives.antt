@@ -1,4 +1,4 @@
--- What a reader of memory gives.
+-- What a reader in memory returns.
 use Rattle.std.proofs.Common.{◌≡◌, ℕ, ◌+◌, ◌-◌, ◌<◌, min, List, [], ◌∷◌, ◌++◌, length, take, drop, refl, ap, sym, ◌∙◌, subst, arith}
 use Rattle.std.proofs.Math.Nat.{min-le_left}
 use Rattle.std.proofs.Math.Seq.{take-append_seam, take-length}
@@ -8,7 +8,7 @@ none_long : (l : List ℕ) → length l ≡ 0 → l ≡ []
 none_long [] e = refl
 none_long (x ∷ l) e = absurd (omega (arith, e))
 
--- what is left of octets, as a slice from a place on
+-- the remaining octets, as a slice from a position on
 pub left_of : (given : ℕ) (octets l : List ℕ) → l ≡ octets → take (length l - given) (drop given l) ≡ drop given octets
 left_of given octets l e = subst (λ n. take n (drop given l) ≡ drop given l) (length-drop given l) (take-length (drop given l)) ∙ ap (drop given) e
 

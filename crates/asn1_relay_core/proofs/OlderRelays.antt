@@ -1,4 +1,4 @@
--- What a relay of the older version does to messages of the newer one, in whatever depth their values nest.
+-- What a relay of the older version does with messages of the newer one, at any depth of nesting.
 use Rattle.std.proofs.Common.{◌≡◌, ◌⊎◌, inl, inr, ℕ, ◌≤◌, List, [], ◌∷◌, length, Option, Some, None, sym, ◌∙◌, subst, arith}
 use Rattle.asn1_model.specs.Schema.{Schema}
 use Rattle.asn1_model.specs.Value.{Value}
@@ -70,7 +70,7 @@ module _ (s t : Schema) (k : IsTidy s) (l : IsTidy t) (h : AgreesTo 128 s t) (so
     stops = stop_alike rest why q.stops;
   }
 
--- ---- what the values tell
+-- ---- what follows from the values
 
 module _ (old new : ℕ → Schema) (k : (n : ℕ) → IsLawful (old n)) (l : (n : ℕ) → IsLawful (new n)) (i : (n : ℕ) → IsTidy (old n)) (x : ExtendsFrom 128 old new) (y : Unfolds old) where
   pub older_told : (source target : Rules) (limit n number : ℕ) (vs : List Value) (w out rest : List ℕ) (why : Option Stop) → 128 ≤ n → AreJoined source (new n) vs w → Relays source target (old 128) limit w number out rest why

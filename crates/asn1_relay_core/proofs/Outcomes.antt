@@ -1,4 +1,5 @@
--- What comes of a message on a route: one outcome at most, and what comes of what is left is what comes of the whole.
+-- What becomes of a message on a route: one outcome at most, and the outcome of the remaining hops is that of the whole
+-- route.
 use Rattle.std.proofs.Common.{◌≡◌, ◌≢◌, ◌⊎◌, inl, inr, ℕ, suc, ◌+◌, ◌<◌, ◌≤◌, List, [], ◌∷◌, length, drop, get_or, Option, Some, None, IfSome, option_map, Result, Ok, Err, IsErrAnd, Vec, refl, sym, ◌∙◌, ap, subst, add-one, drop-cons, arith}
 use Rattle.std.proofs.lemmas.List.{drop_all}
 use Rattle.asn1_model.specs.Schema.{Schema}
@@ -18,27 +19,28 @@ use Rattle.asn1_relay_core.specs.declared.hop.Hop.{Hop}
 use Rattle.asn1_relay_core.specs.declared.hop.Version.TheVariants.{Old}
 use Rattle.asn1_relay_core.specs.Routing.{hop_of, hops_of, Outcome, arrived, refused, IsOutcome, Reaches, answer_of_kind, outcome_of}
 
--- Two outcomes that are right are one.
+-- Two outcomes that are right are equal.
 pub one_outcome : (old new : Schema) → IsLawful old → IsLawful new → (from : Rules) (hops : List Model.Hop) (w : List ℕ) (x y : Outcome) → IsOutcome old new from hops w x → IsOutcome old new from hops w y → x ≡ y
 one_outcome old new k l from hops w (arrived x) (arrived y) p q = ap arrived (arrives_once old new k l from hops w x y p q)
 one_outcome old new k l from hops w (arrived x) (refused j b) p q = absurd (not_both old new k l from hops w x j b p q)
 one_outcome old new k l from hops w (refused i a) (arrived y) p q = absurd (not_both old new k l from hops w y i a q p)
 one_outcome old new k l from hops w (refused i a) (refused j b) p q = let e = refused_once old new k l from hops w i j a b p q in cc
 
--- ---- what is left behind some hops
+-- ---- what remains after some hops
 
--- What comes of octets behind so many hops, as what comes of the octets in front of them.
+-- The outcome after a number of hops, as the outcome of the whole route.
 abbrev pub later : ℕ → Outcome → Outcome
 later i (arrived out) = arrived out
 later i (refused j a) = refused (i + j) a
 
--- Behind so many hops these octets stand, written by these rules, in front of the hops that are left: what comes of them is what comes of the whole.
+-- After this number of hops the message is these octets, written by these rules, and these hops remain: their outcome
+-- is that of the whole route.
 pub record HasPassed (old new : Schema) (from : Rules) (all : List Model.Hop) (input : List ℕ) (rules : Rules) (left : List Model.Hop) (octets : List ℕ) (i : ℕ) : Type 0 where
   pub outcome : (o : Outcome) → IsOutcome old new rules left octets o → IsOutcome old new from all input (later i o)
   pub reaches : (j : ℕ) → Reaches old new rules left octets j → Reaches old new from all input (i + j)
 
 module _ (old new : Schema) (from : Rules) (all : List Model.Hop) (input : List ℕ) where
-  -- one hop more
+  -- one more hop
   pub one_more : (rules : Rules) (h : Model.Hop) (left : List Model.Hop) (octets x : List ℕ) (i : ℕ) → HasPassed old new from all input rules (h ∷ left) octets i → HopAnswers old new rules h octets (answered x) → HasPassed old new from all input h.to left x (i + 1)
   one_more rules h left octets x i p a = record {
     outcome = λ o. at o;
@@ -49,7 +51,7 @@ module _ (old new : Schema) (from : Rules) (all : List Model.Hop) (input : List 
       at (arrived out) q = p.outcome (arrived out) (x, a, q)
       at (refused j b) q = subst (λ n. RefusesAt old new from all input n b) (let z : i + suc j ≡ (i + 1) + j = omega arith in z) (p.outcome (refused (suc j) b) (x, a, q))
 
-  -- in front of the first
+  -- before the first
   pub none_passed : HasPassed old new from all input from all input 0
   none_passed = record {
     outcome = λ o. at o;
@@ -62,7 +64,7 @@ module _ (old new : Schema) (from : Rules) (all : List Model.Hop) (input : List 
 
 -- ---- hops as the program has them
 
--- Any hop, where there is none at a place.
+-- Any hop, if there is none at an index.
 abbrev pub any_hop : Hop
 any_hop = record { version = Old; to = Uper }
 
@@ -79,15 +81,15 @@ as_err P (Ok x) f e q = absurd e
 as_err P (Err y) f e q = subst (λ y. IfSome (option_map (λ a. refused y.hop a) (answer_of_kind y.kind)) P) (sym e) q
 
 module _ (old new : Schema) (from : Codec) (hops : List Hop) (input : List ℕ) where
-  -- Behind so many hops.
+  -- After this number of hops.
   abbrev pub PassedBy : Codec → List ℕ → ℕ → Type 0
   PassedBy rules octets i = HasPassed old new (rules_of from) (hops_of hops) input (rules_of rules) (hops_of (drop i hops)) octets i
 
-  -- What comes of the input.
+  -- What becomes of the input.
   abbrev pub ComesOf : Outcome → Type 0
   ComesOf o = IsOutcome old new (rules_of from) (hops_of hops) input o
 
-  -- the hop that is next
+  -- the next hop
   abbrev at_place : ℕ → Hop
   at_place i = get_or hops i any_hop
 
@@ -105,15 +107,15 @@ module _ (old new : Schema) (from : Codec) (hops : List Hop) (input : List ℕ) 
       q.outcome (arrived octets) refl
 
   module _ (rules : Codec) (octets : List ℕ) (i : ℕ) (l : i < length hops) (p : PassedBy rules octets i) (read : List ℕ) (is_read : read ≡ octets) where
-    -- What the hop that is next answers.
+    -- What the next hop returns.
     abbrev Answers : Answer → Type 0
     Answers a = HopAnswers old new (rules_of rules) (hop_of (at_place i)) read a
 
-    -- it answers octets
+    -- it returns octets
     pub next_passed : (x : List ℕ) → Answers (answered x) → PassedBy (at_place i).to x (i + 1)
     next_passed x a = one_more old new (rules_of from) (hops_of hops) input (rules_of rules) (hop_of (at_place i)) (hops_of (drop (i + 1) hops)) octets x i (next_is rules octets i l p) (subst (λ w. HopAnswers old new (rules_of rules) (hop_of (at_place i)) w (answered x)) is_read a)
 
-    -- it refuses
+    -- it rejects them
     stops : (a : Answer) → IsRefusal a → Answers a → RefusesAt old new (rules_of from) (hops_of hops) input i a
     stops a r q =
         let q' : HopAnswers old new (rules_of rules) (hop_of (at_place i)) octets a = subst (λ w. HopAnswers old new (rules_of rules) (hop_of (at_place i)) w a) is_read q in

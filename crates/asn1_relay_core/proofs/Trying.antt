@@ -1,4 +1,4 @@
--- That the message in front of octets is found in the first ones of the limit.
+-- A message with which octets begin is found within the limit.
 use Rattle.std.proofs.Common.{◌≡◌, ◌≢◌, ◌⊎◌, inl, inr, ℕ, ◌+◌, ◌-◌, ◌≤◌, ◌<◌, ltb, min, Bool, true, false, List, [], ◌∷◌, ◌++◌, length, take, drop, Option, Some, None, refl, ap, sym, ◌∙◌, subst, append_assoc, arith}
 use Rattle.std.proofs.Math.Nat.{min-le_left, min-le_right, le-min}
 use Rattle.std.proofs.lemmas.Bool.{ltb-true, ltb-false}
@@ -40,7 +40,7 @@ module _ (source target : Rules) (schema : ℕ → Schema) (limit : ℕ) (u : Li
   unfolding behind
   all_of_it = take-append-drop (min limit (length u)) u
 
-  -- ---- no message is told
+  -- ---- there is no message
 
   module _ (none : (v : Value) (rest : List ℕ) → HasMessage source (schema 128) v window rest → ⊥) where
     pub has_none : HasNoMessage source (schema 128) limit u
@@ -78,7 +78,7 @@ module _ (source target : Rules) (schema : ℕ → Schema) (limit : ℕ) (u : Li
       let l : length u ≤ limit = ltb-false limit (length u) (sym p) in
       (g, (has_none m, inr (has_no_empty m, l)), awaited e n number (λ q. cc) l k w)
 
-  -- ---- a message is told
+  -- ---- there is a message
 
   module _ (v : Value) (rest : List ℕ) (t : Tells source schema v window rest) (is : IsValue schema v) where
     abbrev told : Message

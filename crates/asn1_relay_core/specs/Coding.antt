@@ -1,4 +1,4 @@
--- What the calls of a codec answer, in one set of rules.
+-- What the calls of a codec return, in one set of rules.
 use Rattle.std.specs.Prelude.{ℕ, List, [], ◌∷◌, Option}
 use Rattle.asn1_model.specs.Schema.{Schema}
 use Rattle.asn1_model.specs.Value.{Value}
@@ -19,7 +19,7 @@ rules_of AperStrict = aper_strict
 rules_of Oer = oer
 rules_of Coer = coer
 
--- The same as the traits of the schema name them.
+-- The rules as the traits of the schema name them.
 abbrev pub kind_of : Codec → CodecKind
 kind_of Uper = Kind.Uper
 kind_of Aper = Kind.Aper
@@ -28,11 +28,11 @@ kind_of AperStrict = Kind.Aper
 kind_of Oer = Kind.Oer
 kind_of Coer = Kind.Coer
 
--- This is the canonical encoding of a value, or there is none, in whatever depth its type is unfolded: `IsWrittenIn`
--- for these rules alone.
+-- This is the canonical encoding of a value, or there is none, at any depth of unfolding of its type: `IsWrittenIn` for
+-- these rules alone.
 abbrev pub IsWritten : Rules → (ℕ → Schema) → Value → Option (List ℕ) → Type 0
 IsWritten r schema v w = IsWrittenIn (r ∷ []) schema v w
 
--- Why it is not written: `NotWrittenIn` for the same.
+-- Why it is not written: `NotWrittenIn` for these rules alone.
 abbrev pub NotWritten : Rules → (ℕ → Schema) → Value → EncodeError → Type 0
 NotWritten r schema v e = NotWrittenIn (r ∷ []) schema v e

@@ -1,4 +1,4 @@
--- What readers and writers count and tell.
+-- What readers and writers count and reveal.
 use Rattle.std.specs.Prelude.{◌≡◌, ℕ, ◌+◌, ◌<◌, ◌≤◌, List, ◌++◌, length, take, Option, Result, Ok, Err}
 use Rattle.std.specs.Io.KnownBytes.{Appends, Consumes, IsAtEnd}
 
@@ -7,11 +7,11 @@ abbrev pub counted : {A E : Type 0} → Result A E → ℕ → ℕ
 counted (Ok a) n = n
 counted (Err e) n = n + 1
 
--- A beginning of the octets is taken behind those that were, where it is told which these are.
+-- A prefix of the octets is accepted after the earlier ones, if these are known.
 abbrev pub BeginsToAppend : Option (List ℕ) → Option (List ℕ) → List ℕ → Type 0
 BeginsToAppend old new octets = (front : List ℕ) × (back : List ℕ) × (front ++ back ≡ octets) × Appends old new front
 
--- The front of a room is filled with the next octets, so many. With room, none means that none is to come.
+-- A prefix of the room, of this length, is filled with the next octets. If the room is not empty, 0 means the end.
 pub record Gives (old new : Option (List ℕ)) (room : List ℕ) (count : ℕ) : Type 0 where
   pub bound : count ≤ length room
   pub octets : Consumes old new (take count room)

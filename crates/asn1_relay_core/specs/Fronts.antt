@@ -1,4 +1,4 @@
--- What a relay does to the message in front of its unread octets.
+-- What a relay does with the message with which its unread octets begin.
 use Rattle.std.specs.Prelude.{◌≡◌, ◌≢◌, ◌⊎◌, ℕ, ◌+◌, ◌<◌, Bool, List, [], ◌++◌, length, Some, None, if◌then◌else◌}
 use Rattle.asn1_model.specs.Schema.{Schema}
 use Rattle.asn1_model.specs.Value.{Value}
@@ -14,7 +14,7 @@ use Rattle.asn1_relay_core.specs.declared.front.Front.TheVariants as front
 use Rattle.asn1_relay_core.specs.Coding.{IsWritten}
 use Rattle.asn1_relay_core.specs.Relaying.{kind_of_stop}
 
--- The message of so many octets is in front, and its translation, which is not empty, was written.
+-- The octets begin with a message of this length, and its translation, which is not empty, was written.
 pub record RelaysOne (source target : Rules) (s : Schema) (limit : ℕ) (w before after : List ℕ) (count : ℕ) : Type 0
   where
     pub message : Message
@@ -34,24 +34,24 @@ pub record AddsText (target : Rules) (schema : ℕ → Schema) (v : Value) (befo
   pub is_some : text ≢ []
   pub grows : after ≡ before ++ text
 
--- Nothing is written: for want of memory, as there is no canonical encoding, or as it is empty.
+-- Nothing is written: memory ran out, or the canonical encoding does not exist, or it is empty.
 pub record AddsNothing (target : Rules) (schema : ℕ → Schema) (v : Value) (before after : List ℕ)
     (k : RelayFaultKind) : Type 0 where
   pub same : after ≡ before
   pub why : (k ≡ kind.Memory) ⊎ ((k ≡ kind.NoTarget) × IsWritten target schema v None)
       ⊎ ((k ≡ kind.EmptyMessage) × IsWritten target schema v (Some []))
 
--- While octets follow these, but fewer than the number in all, no message stands in front.
+-- While more octets are appended, but fewer than `number` in total, the octets do not begin with a message.
 abbrev pub Awaits : Rules → Schema → ℕ → List ℕ → ℕ → Type 0
 Awaits source s limit w number = (more : List ℕ) → length w + length more < number
     → ¬ (HasEmptyMessage source s) × HasNoMessage source s limit (w ++ more)
 
--- What comes of octets in front of which no message is read, where one has at least so many.
+-- The result for octets that do not begin with a message, and that need `number` octets in total before they may.
 abbrev pub unread_front : DecodeError → ℕ → Bool → Front
 unread_front Decoding.OutOfMemory number past = front.Stops kind.Memory
 unread_front e number past = if past then front.Stops kind.NoneWithinLimit else front.Waits number
 
--- What came of a try: nothing is written but by the first kind, and each of the others comes at its cause alone.
+-- The result of an attempt: only the first variant writes anything, and each other variant occurs only for its cause.
 abbrev pub Tries : Rules → Rules → Schema → ℕ → List ℕ → List ℕ → List ℕ → Front → Type 0
 Tries source target s limit w before after (front.Relayed count) = RelaysOne source target s limit w before after count
 Tries source target s limit w before after (front.Waits number) =

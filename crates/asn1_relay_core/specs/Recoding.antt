@@ -1,4 +1,4 @@
--- What the translation of a message is.
+-- The translation of a message.
 use Rattle.std.specs.Prelude.{ℕ, List, Option, Some, None, Result, Ok, Err, Vec}
 use Rattle.asn1_model.specs.Schema.{Schema}
 use Rattle.asn1_model.specs.Lawful.{IsLawful}
@@ -13,7 +13,7 @@ use Rattle.asn1_relay_core.specs.declared.translation.RecodeFault.{RecodeFault}
 use Rattle.asn1_relay_core.specs.declared.translation.RecodeFault.TheVariants.{NotAnEncoding, Surplus, NoTarget, Memory}
 use Rattle.asn1_relay_core.specs.Coding.{rules_of}
 
--- What was answered, where memory was left.
+-- The result, unless memory ran out.
 abbrev pub answer_of : {Z : Type 0} → Result (Vec ℕ Z) RecodeFault → Option Answer
 answer_of (Ok octets) = Some (answered octets.items)
 answer_of (Err (NotAnEncoding e)) = Some not_an_encoding
@@ -21,31 +21,31 @@ answer_of (Err Surplus) = Some surplus
 answer_of (Err (NoTarget e)) = Some no_target
 answer_of (Err Memory) = None
 
--- Want of memory is a fault of its own, and stands within no other.
+-- Out of memory is an error of its own, and is nested in no other.
 abbrev pub NamesMemoryAlone : RecodeFault → Type 0
 NamesMemoryAlone (NotAnEncoding Decoding.OutOfMemory) = ⊥
 NamesMemoryAlone (NoTarget Encoding.OutOfMemory) = ⊥
 NamesMemoryAlone f = Unit {0}
 
--- Codecs begin anew with each message: a refusal before it stands within no fault.
+-- Codecs start afresh with each message: no error nests one of an earlier call.
 abbrev pub NamesNoEarlierRefusal : RecodeFault → Type 0
 NamesNoEarlierRefusal (NotAnEncoding Decoding.AlreadyFailed) = ⊥
 NamesNoEarlierRefusal (NoTarget Encoding.AlreadyFailed) = ⊥
 NamesNoEarlierRefusal f = Unit {0}
 
--- Codecs refuse no call of their own: a call out of its place stands within no fault.
+-- The codecs make no misplaced call themselves: no error nests one of a misplaced call.
 abbrev pub NamesNoMisplacedCall : RecodeFault → Type 0
 NamesNoMisplacedCall (NoTarget Encoding.CallOutOfPlace) = ⊥
 NamesNoMisplacedCall f = Unit {0}
 
--- Each length that a codec writes fits the platform: one that does not stands within no fault.
+-- Each length that a codec writes fits the platform: no error nests one of a length that does not.
 abbrev pub NamesNoPlatformSize : RecodeFault → Type 0
 NamesNoPlatformSize (NoTarget Encoding.LengthExceedsPlatformSize) = ⊥
 NamesNoPlatformSize f = Unit {0}
 
--- ---- faults
+-- ---- errors
 
--- The faults of a translation that these are.
+-- The errors of a translation that these become.
 abbrev pub source_fault_of : DecodeError → RecodeFault
 source_fault_of Decoding.OutOfMemory = Memory
 source_fault_of e = NotAnEncoding e
@@ -56,8 +56,8 @@ target_fault_of e = NoTarget e
 
 -- ---- a law
 
--- A detour changes no answer: what is right for the octets that were answered on the way is right for those from
--- which they came, and the other way round. So what was translated is translated to itself.
+-- A detour changes no result: what is right for the octets written on the way is right for the octets from which they
+-- came, and vice versa. So a translation, translated to its own rules, stays the same.
 abbrev pub DetoursChangeNoAnswer : Type 0
 DetoursChangeNoAnswer = (from via to : Codec) (s : Schema) (w octets : List ℕ) (x : Answer) → IsLawful s
     → IsAnswer (rules_of from) (rules_of via) s w (answered octets)

@@ -12,19 +12,19 @@ use Rattle.asn1_relay_core.specs.declared.fault.RelayFaultKind.TheVariants as ki
 
 -- What callers see of a relay.
 pub record Relaying : Type 0 where
-  -- the rules of the input and those of the output
+  -- the rules of the input and of the output
   pub from : Codec
   pub to : Codec
-  -- how many octets a message may have
+  -- the maximum length of a message, in octets
   pub limit : ℕ
-  -- the octets that are unread
+  -- the unread octets
   pub unread : List ℕ
-  -- the number of the message in front of them, or of the one at which the relay stopped
+  -- the number of the message with which they begin, or of the one at which the relay stopped
   pub number : ℕ
   -- whether it has stopped
   pub failed : Bool
 
--- Numbers of messages stay at the greatest that 64 bits hold.
+-- Message numbers saturate at the maximum of 64 bits.
 abbrev pub capped : ℕ → ℕ
 capped n = min n 18446744073709551615
 
@@ -33,8 +33,8 @@ kind_of_stop no_target = kind.NoTarget
 kind_of_stop empty_message = kind.EmptyMessage
 kind_of_stop none_within_limit = kind.NoneWithinLimit
 
--- The rules and the limit stay, and the relay then holds these octets, at the message of this number, and has stopped
--- or not.
+-- The rules and the limit do not change. The relay then holds these octets, at the message with this number, and has
+-- stopped or not.
 abbrev pub onwards : Relaying → List ℕ → ℕ → Bool → Relaying
 onwards r unread number failed = record {
   from = r.from;
@@ -45,13 +45,13 @@ onwards r unread number failed = record {
   failed = failed;
 }
 
--- The octets that a call of feed has to do with: those that are unread, and the piece.
+-- The octets that a call of feed translates: the unread ones, and the piece.
 abbrev pub RelaysAll : Schema → Relaying → List ℕ → ℕ → List ℕ → List ℕ → Option Stop → Type 0
 RelaysAll s r piece n out rest why = Relays (rules_of r.from) (rules_of r.to) s r.limit (r.unread ++ piece) n out rest
     why
 
--- The relay had not stopped. All messages of the octets up to a stop are relayed, and no more octets are unread than
--- a message may have.
+-- The relay had not stopped. All messages of the octets are relayed, and no more octets are unread than the limit for
+-- one message.
 pub record IsFed (s : Schema) (old new : Relaying) (piece before after : List ℕ) : Type 0 where
   pub had_not : old.failed ≡ false
   pub count : ℕ
@@ -61,8 +61,7 @@ pub record IsFed (s : Schema) (old new : Relaying) (piece before after : List �
   pub goes_on : new ≡ onwards old new.unread (capped (old.number + count)) false
   pub within : length new.unread ≤ old.limit
 
--- The relay stops for the reason of the fault, at the message of its number, and everything in front of that is
--- written.
+-- The relay stops for the reason of the error, at the message with its number, and everything before that is written.
 pub record IsStopped (s : Schema) (old new : Relaying) (piece before after : List ℕ) (fault : RelayFault)
     (why : Stop) : Type 0 where
   pub count : ℕ
@@ -73,7 +72,7 @@ pub record IsStopped (s : Schema) (old new : Relaying) (piece before after : Lis
   pub is : fault ≡ record { number = capped (old.number + count); kind = kind_of_stop why }
   pub stops : new ≡ onwards old new.unread fault.number true
 
--- Memory is wanting at the message of the fault's number, and everything in front of that is written.
+-- Memory ran out at the message with the number of the error, and everything before that is written.
 pub record WantsMemory (s : Schema) (old new : Relaying) (piece before after : List ℕ) (fault : RelayFault) : Type 0
   where
     pub messages : List Message
@@ -85,20 +84,20 @@ pub record WantsMemory (s : Schema) (old new : Relaying) (piece before after : L
     pub is : fault ≡ record { number = capped (old.number + length messages); kind = kind.Memory }
     pub stops : new ≡ onwards old new.unread fault.number true
 
--- A relay that has stopped says so, and does nothing.
+-- A relay that has stopped reports so, and does nothing.
 pub record HadFailed (old new : Relaying) (before after : List ℕ) (fault : RelayFault) : Type 0 where
   pub had : old.failed ≡ true
   pub is : fault ≡ record { number = old.number; kind = kind.AlreadyFailed }
   pub same : new ≡ old
   pub writes_nothing : after ≡ before
 
--- Each fault of feed comes at its cause alone.
+-- Each error of feed occurs only for its cause.
 abbrev pub FaultOf : Schema → Relaying → Relaying → List ℕ → List ℕ → List ℕ → RelayFault → Type 0
 FaultOf s old new piece before after fault =
     HadFailed old new before after fault
     ⊎ ((old.failed ≡ false) × (why : Stop) × IsStopped s old new piece before after fault why)
     ⊎ ((old.failed ≡ false) × WantsMemory s old new piece before after fault)
 
--- The fault of an end behind which octets are unread, or of a relay that has stopped.
+-- The error of an end with unread octets, or of a relay that has stopped.
 abbrev pub end_fault : Relaying → RelayFault
 end_fault r = record { number = r.number; kind = if r.failed then kind.AlreadyFailed else kind.NoForm }

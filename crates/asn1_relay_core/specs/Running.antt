@@ -1,4 +1,4 @@
--- What a run over a reader and a writer does.
+-- What a run from a reader to a writer does.
 use Rattle.std.specs.Prelude.{◌≡◌, ◌≢◌, ◌⊎◌, ℕ, ◌+◌, ◌≤◌, false, List, [], ◌++◌, length, Option, Some, None}
 use Rattle.std.specs.Io.KnownBytes.{Appends, Consumes, IsAtEnd}
 use Rattle.asn1_model.specs.Schema.{Schema}
@@ -14,7 +14,7 @@ use Rattle.asn1_relay_core.specs.Coding.{rules_of}
 use Rattle.asn1_relay_core.specs.Ends.{BeginsToAppend}
 use Rattle.asn1_relay_core.specs.Relaying.{Relaying, RelaysAll, capped, kind_of_stop, onwards}
 
--- The octets that a reader has still to give and those that a writer has taken, where they tell them, and how many
+-- The octets that a reader will still return and those that a writer has accepted, if they are known, and how many
 -- calls of each have failed.
 pub record Ends : Type 0 where
   pub coming : Option (List ℕ)
@@ -22,7 +22,7 @@ pub record Ends : Type 0 where
   pub reads_failed : ℕ
   pub writes_failed : ℕ
 
--- A reader and a writer that tell these octets, and of which so many calls have failed.
+-- A reader and a writer with these octets, and with these numbers of failed calls.
 abbrev pub ends : Option (List ℕ) → Option (List ℕ) → ℕ → ℕ → Ends
 ends coming taken reads writes = record { coming = coming; taken = taken; reads_failed = reads; writes_failed = writes }
 
@@ -31,12 +31,12 @@ pub record Moves (old new : Ends) (got put : List ℕ) : Type 0 where
   pub reads : Consumes old.coming new.coming got
   pub writes : Appends old.taken new.taken put
 
--- So many calls of the reader failed, and so many of the writer.
+-- This many calls of the reader failed, and this many of the writer.
 pub record Fails (old new : Ends) (reads writes : ℕ) : Type 0 where
   pub of_reader : new.reads_failed ≡ old.reads_failed + reads
   pub of_writer : new.writes_failed ≡ old.writes_failed + writes
 
--- The fault of a run whose relay stops.
+-- The error of a run whose relay stops.
 abbrev pub run_fault_of : RelayFaultKind → RelayFault → RunFault
 run_fault_of kind.Memory fault = run.Memory
 run_fault_of k fault = run.Relay fault
@@ -45,7 +45,7 @@ run_fault_of k fault = run.Relay fault
 abbrev pub block : ℕ
 block = 4096
 
--- A block is fed to a relay, and all that comes out is written.
+-- A block is fed to a relay, and all its output is written.
 pub record RelaysBlock (s : Schema) (old new : Relaying) (octets : List ℕ) (before after : Option (List ℕ)) : Type 0
   where
     pub count : ℕ
@@ -54,7 +54,7 @@ pub record RelaysBlock (s : Schema) (old new : Relaying) (octets : List ℕ) (be
     pub goes_on : new ≡ onwards old new.unread (capped (old.number + count)) false
     pub writes : Appends before after put
 
--- The relay stops at a message, and all that comes out before is written.
+-- The relay stops at a message, and all output before it is written.
 pub record StopsInBlock (s : Schema) (old : Relaying) (octets : List ℕ) (before after : Option (List ℕ))
     (fault : RelayFault) : Type 0 where
   pub count : ℕ
@@ -65,7 +65,7 @@ pub record StopsInBlock (s : Schema) (old : Relaying) (octets : List ℕ) (befor
   pub is : fault ≡ record { number = capped (old.number + count); kind = kind_of_stop why }
   pub writes : Appends before after put
 
--- Memory is wanting, and all that comes out before is written.
+-- Memory ran out, and all output before that is written.
 pub record WantsMemoryInBlock (s : Schema) (old : Relaying) (octets : List ℕ) (before after : Option (List ℕ)) : Type
     0 where
   pub messages : List Message
@@ -74,7 +74,7 @@ pub record WantsMemoryInBlock (s : Schema) (old : Relaying) (octets : List ℕ) 
   pub front : RelaysFront (rules_of old.from) (rules_of old.to) s old.limit messages put rest (old.unread ++ octets)
   pub writes : Appends before after put
 
--- A beginning is written of what comes out.
+-- A prefix of the output is written.
 pub record WritesInPart (s : Schema) (old : Relaying) (octets : List ℕ) (before after : Option (List ℕ)) : Type 0 where
   pub messages : List Message
   pub whole : List ℕ
@@ -82,7 +82,7 @@ pub record WritesInPart (s : Schema) (old : Relaying) (octets : List ℕ) (befor
   pub front : RelaysFront (rules_of old.from) (rules_of old.to) s old.limit messages whole rest (old.unread ++ octets)
   pub writes : BeginsToAppend before after whole
 
--- Each fault in a block comes at its cause alone; the writer counts its own.
+-- Each error in a block occurs only for its cause; the writer counts its own.
 abbrev pub BlockFaultOf : Schema → Relaying → List ℕ → Option (List ℕ) → Option (List ℕ) → ℕ → ℕ → RunFault → Type 0
 BlockFaultOf s old octets before after failures now run.Read = ⊥
 BlockFaultOf s old octets before after failures now run.Write = WritesInPart s old octets before after
@@ -93,7 +93,7 @@ BlockFaultOf s old octets before after failures now run.Memory = WantsMemoryInBl
     × (now ≡ failures)
 
 module _ (source target : Rules) (s : Schema) (limit : ℕ) (old new : Ends) where
-  -- All was read, to its end, and relayed to its end; no call failed.
+  -- The input was read and relayed to its end; no call failed.
   pub record IsDone : Type 0 where
     pub got : List ℕ
     pub put : List ℕ
@@ -103,7 +103,7 @@ module _ (source target : Rules) (s : Schema) (limit : ℕ) (old new : Ends) whe
     pub relays : Relays source target s limit got number put [] None
     pub fails : Fails old new 0 0
 
-  -- One call of the reader failed, and all that was read before is relayed as far as it goes.
+  -- One call of the reader failed, and all that was read before is relayed as far as possible.
   pub record IsReadFailed : Type 0 where
     pub got : List ℕ
     pub put : List ℕ
@@ -113,7 +113,7 @@ module _ (source target : Rules) (s : Schema) (limit : ℕ) (old new : Ends) whe
     pub relays : Relays source target s limit got number put rest None
     pub fails : Fails old new 1 0
 
-  -- The relay stops at a message of what was read, and all messages in front of it are written.
+  -- The relay stops at a message of what was read, and all messages before it are written.
   pub record IsRelayStopped (fault : RelayFault) : Type 0 where
     pub got : List ℕ
     pub put : List ℕ
@@ -125,7 +125,7 @@ module _ (source target : Rules) (s : Schema) (limit : ℕ) (old new : Ends) whe
     pub is : fault ≡ record { number = capped number; kind = kind_of_stop why }
     pub fails : Fails old new 0 0
 
-  -- All was read, to its end, and octets are left unread.
+  -- The input was read to its end, and octets are left unread.
   pub record IsLeftUnread (fault : RelayFault) : Type 0 where
     pub got : List ℕ
     pub put : List ℕ
@@ -138,7 +138,7 @@ module _ (source target : Rules) (s : Schema) (limit : ℕ) (old new : Ends) whe
     pub is : fault ≡ record { number = capped number; kind = kind.NoForm }
     pub fails : Fails old new 0 0
 
-  -- Memory is wanting, and whole messages in front of what was read are written.
+  -- Memory ran out, and whole messages with which the input begins are written.
   pub record HasNoMemory : Type 0 where
     pub got : List ℕ
     pub put : List ℕ
@@ -148,8 +148,8 @@ module _ (source target : Rules) (s : Schema) (limit : ℕ) (old new : Ends) whe
     pub front : RelaysFront source target s limit messages put rest got
     pub fails : Fails old new 0 0
 
-  -- One call of the writer failed. A beginning is written of what becomes of messages in front of what was read, with
-  -- all that becomes of what was read before the last block.
+  -- One call of the writer failed. A prefix is written of the translation of the messages with which the input begins.
+  -- It includes the whole translation of what was read before the last block.
   pub record IsWriteFailed : Type 0 where
     pub early : List ℕ
     pub last : List ℕ
@@ -170,7 +170,7 @@ module _ (source target : Rules) (s : Schema) (limit : ℕ) (old new : Ends) whe
     pub has_all : out ++ further ≡ put
     pub fails : Fails old new 0 1
 
-  -- Each fault comes at its cause alone.
+  -- Each error occurs only for its cause.
   abbrev pub RunFaultOf : RunFault → Type 0
   RunFaultOf run.Read = IsReadFailed
   RunFaultOf run.Write = IsWriteFailed

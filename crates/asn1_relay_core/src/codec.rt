@@ -17,10 +17,11 @@ pub enum Codec {
     Uper,
     /// The aligned packed encoding rules (X.691).
     Aper,
-    /// Strict UPER: written as UPER, and read where it is as UPER writes it, but for bitmaps of any width with a bit
-    /// set, additions that the type does not know, and the order of bags.
+    /// UPER with a strict reader: values are written as in UPER, and only what UPER writes is read, except that a
+    /// presence bitmap of extension additions may have any width if a bit of it is set (X.691 19.7), that it may
+    /// describe additions unknown to the type, and that the elements of a SET OF may come in any order (X.691 22).
     UperStrict,
-    /// Strict APER: written as APER, and read where it is as APER writes it, but for the same three.
+    /// APER with a strict reader, with the same three exceptions.
     AperStrict,
     /// The basic octet encoding rules (X.696).
     Oer,
@@ -29,7 +30,8 @@ pub enum Codec {
 }
 
 impl Codec {
-    /// Which of the four codecs reads and writes by these rules; strict UPER is UPER's, and strict APER is APER's.
+    /// Which of the four codecs encodes and decodes by these rules; strict UPER belongs to UPER, and strict APER to
+    /// APER.
     pub fn kind(self) -> CodecKind
         ensures { result ≡ kind_of self }
     {
@@ -41,11 +43,12 @@ impl Codec {
         }
     }
 
-    /// The canonical encoding of a value by these rules.
+    /// Encodes a value canonically by these rules, and returns all octets of the message.
     ///
     /// # Errors
     ///
-    /// Want of memory aside, only where the value has none, or, and then `TooLongValue`, one of 2^60 octets or more.
+    /// `OutOfMemory` if memory runs out, and `TooLongValue` for an encoding of 2^60 octets or more. Otherwise it fails
+    /// only if the value has no encoding, for example because it violates a constraint.
     pub fn encode<T: Encode>(self, alloc: Global, value: &T) -> Result<Vec<u8>, EncodeError>
         ensures ok { IfOk result
             (λ octets. IsWritten (rules_of self) T.schema (T.meaning value.now) (Some octets.items)) }
@@ -63,12 +66,12 @@ impl Codec {
         Ok(octets)
     }
 
-    /// Reads the value whose encoding by these rules stands in front, and passes over the octets behind it.
+    /// Decodes the value whose encoding by these rules begins the input. Octets after that encoding are ignored.
     ///
     /// # Errors
     ///
-    /// Want of memory aside, only where no octets in front, fewer than 2^60, are an encoding of a value that nests
-    /// at most 128 levels.
+    /// `OutOfMemory` if memory runs out. Otherwise it fails only if no prefix of the input, of fewer than 2^60 octets,
+    /// is an encoding of a value with at most 128 nested levels.
     pub fn decode<T: Decode>(self, alloc: Global, input: &[u8]) -> Result<T, DecodeError>
         ensures ok { IfOk result (λ x. (rest : List ℕ) × Tells (rules_of self) T.schema (T.meaning x) input.now rest) }
         ensures only { IfErr result (NoMessage (rules_of self) T.schema input.now) }
@@ -78,11 +81,11 @@ impl Codec {
         Ok(value)
     }
 
-    /// Reads the value whose encoding by these rules stands in front, and lends the octets behind it.
+    /// Decodes the value whose encoding by these rules begins the input, and borrows the octets after that encoding.
     ///
     /// # Errors
     ///
-    /// Those of `decode`.
+    /// As for `decode`.
     pub fn read_front<'input, T: Decode>(
         self,
         alloc: Global,
@@ -103,11 +106,11 @@ impl Codec {
         Ok(front)
     }
 
-    /// As `read_front`, and a refusal says how many more octets are needed at least.
+    /// As `read_front`, but the error also says how many more octets are needed at least.
     ///
     /// # Errors
     ///
-    /// Those of `read_front`.
+    /// As for `read_front`.
     pub(crate) fn decode_or_need<'input, T: Decode>(
         self,
         alloc: Global,

@@ -1,4 +1,4 @@
-//! Where octets come from, and where they go.
+//! Readers and writers of octets.
 ghost use Rattle.std.specs.Prelude.{◌≡◌, ◌+◌, ◌<◌, ◌≤◌, ℕ, List, Option, IfOk, IsErr, OnErr, OnOk, MatchResult, length};
 ghost use Rattle.std.specs.Borrow.{GName};
 ghost use Rattle.std.specs.Io.KnownBytes.{Appends, Keeps, ReadConsumes};
@@ -6,37 +6,37 @@ ghost use Rattle.asn1_relay_core.specs.Ends.{BeginsToAppend, counted};
 
 use thiserror::Error;
 
-/// A reader could give no octets.
+/// A reader could not return any octets.
 #[derive(Clone, Copy, Debug, PartialEq, Eq, Error)]
 #[error("read failed")]
 pub struct ReadFailed;
 
-/// A writer could not take all octets, or not hand them on.
+/// A writer could not accept all octets, or could not flush them.
 #[derive(Clone, Copy, Debug, PartialEq, Eq, Error)]
 #[error("write failed")]
 pub struct WriteFailed;
 
-/// A reader that tells of its failed calls how many there were, and how many octets it may still give.
+/// A reader with two bounds: the number of its failed calls, and the number of octets that it may still return.
 pub trait Source {
     /// How many of its calls have failed.
     ghost failures: { Self → ℕ };
 
-    /// How many octets it may still give. There are fewer than 2 to 64 of them.
+    /// How many octets it may still return, fewer than 2^64.
     ghost budget: { Self → ℕ };
 
-    /// The octets that are still to come, where it tells them.
+    /// The octets that it will still return, if they are known.
     ghost coming: { Self → Option (List ℕ) };
 
-    /// The borrow that it reads through, where it holds one.
+    /// The borrow through which it reads, if there is one.
     ghost lender: { Self → Option GName };
 
-    /// Fills the front of the room, and answers how many octets it has given. With room, none means that none is to
-    /// come.
+    /// Fills a prefix of `room`, and returns how many octets it has filled. If `room` is not empty, 0 means the end of
+    /// the input.
     ///
     /// # Errors
     ///
-    /// Where it could give none; then it is as before, and has counted the call. With nothing left to give each call
-    /// fails.
+    /// Fails if it could not return any octets. The reader is then unchanged, except that it has counted the call. Each
+    /// call fails once no octets may be returned any more.
     fn read(&mut self, room: &mut [u8]) -> Result<usize, ReadFailed>
         requires { failures self.old < 18446744073709551615 }
         ensures bound { IfOk result (λ n. n ≤ length room.new) }
@@ -49,22 +49,22 @@ pub trait Source {
         ensures stays { lender self.new ≡ lender self.old };
 }
 
-/// A writer that tells of its failed calls how many there were.
+/// A writer that counts its failed calls.
 pub trait Sink {
     /// How many of its calls have failed.
     ghost failures: { Self → ℕ };
 
-    /// The octets that it has taken, where it tells them.
+    /// The octets that it has accepted, if they are known.
     ghost taken: { Self → Option (List ℕ) };
 
-    /// The borrow that it writes through, where it holds one.
+    /// The borrow through which it writes, if there is one.
     ghost lender: { Self → Option GName };
 
-    /// Takes all octets.
+    /// Writes all octets.
     ///
     /// # Errors
     ///
-    /// Where it could not; then it has taken a beginning of them, and has counted the call.
+    /// Fails if it could not write them all. It has then accepted a prefix of them, and counted the call.
     fn write(&mut self, octets: &[u8]) -> Result<(), WriteFailed>
         requires { failures self.old < 18446744073709551615 }
         ensures all { OnOk result (Appends (taken self.old) (taken self.new) octets.now) }
@@ -72,11 +72,11 @@ pub trait Sink {
         ensures counts { failures self.new ≡ counted result (failures self.old) }
         ensures stays { lender self.new ≡ lender self.old };
 
-    /// Hands on what it has taken.
+    /// Flushes the octets that it has accepted.
     ///
     /// # Errors
     ///
-    /// Where it could not; then it has counted the call.
+    /// Fails if it could not. It has then counted the call.
     fn flush(&mut self) -> Result<(), WriteFailed>
         requires { failures self.old < 18446744073709551615 }
         ensures keeps { Keeps (taken self.old) (taken self.new) }

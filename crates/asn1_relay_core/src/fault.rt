@@ -1,35 +1,35 @@
-//! Why a stream is not translated further.
+//! Errors of the translation of a stream.
 use thiserror::Error;
 
-/// What stops a relay.
+/// Why a relay stops.
 #[derive(Clone, Copy, Debug, PartialEq, Eq, Error)]
 pub enum RelayFaultKind {
-    /// More octets are unread than a message may have, and no message is in front.
+    /// More octets are unread than the limit for one message, and they do not begin with a message within the limit.
     #[error("none within the limit")]
     NoneWithinLimit,
-    /// A message has no octets, before or behind its translation.
+    /// A message, or its translation, has no octets.
     #[error("empty message")]
     EmptyMessage,
     /// The value of a message has no encoding in the target rules.
     #[error("no target encoding")]
     NoTarget,
-    /// No memory was left.
+    /// Memory ran out.
     #[error("out of memory")]
     Memory,
-    /// The stream ended inside a message, or behind octets of which no beginning is one.
+    /// The stream ended, but the unread octets do not begin with a whole message.
     #[error("no form")]
     NoForm,
-    /// The relay had stopped before, at the message of this number.
+    /// An earlier call had already stopped the relay, at the message with this number.
     #[error("stopped before")]
     AlreadyFailed,
 }
 
-/// What stops a relay, and at which message.
+/// Why a relay stops, and at which message.
 #[derive(Clone, Copy, Debug, PartialEq, Eq, Error)]
 #[error("message {number}: {kind}")]
 pub struct RelayFault {
-    /// The number of the message, counted from 0 on. It stays at its greatest value once that is reached.
+    /// The number of the message, counted from 0. It saturates at the maximum of `u64`.
     pub number: u64,
-    /// What stops the relay there.
+    /// Why the relay stops there.
     pub kind: RelayFaultKind,
 }

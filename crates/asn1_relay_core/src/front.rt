@@ -1,4 +1,4 @@
-//! The message in front of unread octets.
+//! The message with which the unread octets begin.
 ghost use Rattle.std.specs.Prelude.{◌≡◌, ◌≢◌, [], IfErr, OnOk};
 ghost use Rattle.asn1_relay_core.specs.Coding.{rules_of};
 ghost use Rattle.asn1_relay_core.specs.Fronts.{AddsNothing, AddsText, Tries, unread_front};
@@ -9,12 +9,12 @@ use asn1_schema_decode::Decode;
 use asn1_schema_encode::Encode;
 use std::alloc::Global;
 
-/// What came of a try at the message in front.
+/// Result of an attempt to translate the message with which the unread octets begin.
 #[derive(Clone, Copy, Debug, PartialEq, Eq)]
 pub enum Front {
-    /// It had so many octets, and its translation is written.
+    /// It had this many octets, and its translation was written.
     Relayed(usize),
-    /// None stands in front while fewer octets than these in all are unread.
+    /// They do not begin with a whole message while there are fewer than this many unread octets in total.
     Waits(usize),
     /// The relay stops there.
     Stops(RelayFaultKind),
@@ -23,15 +23,16 @@ pub enum Front {
 /// How a stream is translated.
 #[derive(Clone, Copy, Debug)]
 pub struct Way {
-    /// The rules of the input.
+    /// The encoding rules of the input.
     pub from: Codec,
-    /// The rules of the output.
+    /// The encoding rules of the output.
     pub to: Codec,
-    /// How many octets a message may have.
+    /// The maximum length of a message, in octets.
     pub limit: usize,
 }
 
-/// Translates the message in front of octets, which is sought in the first ones of the limit, and adds its translation.
+/// Translates the message with which `unread` begins, at most `way.limit` octets of it, and appends the translation to
+/// `out`.
 pub fn relay_front<T: Encode + Decode>(
     alloc: Global,
     way: Way,
@@ -60,8 +61,8 @@ pub fn relay_front<T: Encode + Decode>(
     }
 }
 
-/// What comes of octets in front of which no message is read, where one has at least so many, and which may be more
-/// than one may have.
+/// The result for unread octets that do not begin with a message, if they need `number` octets in total before they
+/// may, and may already exceed the limit for one message.
 fn without_message(error: DecodeError, number: usize, is_past_limit: bool) -> Front
     ensures { result ≡ unread_front error number is_past_limit }
 {
@@ -72,7 +73,7 @@ fn without_message(error: DecodeError, number: usize, is_past_limit: bool) -> Fr
     }
 }
 
-/// Adds the canonical encoding of a value, unless it is empty.
+/// Appends the canonical encoding of a value to `out`, unless it is empty.
 fn write<T: Encode>(
     alloc: Global,
     to: Codec,

@@ -10,11 +10,11 @@ pub enum Version {
     New,
 }
 
-/// A hop. It reads by the rules in which the hop in front of it wrote.
+/// A hop. It decodes by the rules by which the hop before it encoded.
 #[derive(Clone, Copy, Debug, PartialEq, Eq)]
 pub struct Hop {
-    /// The version that it knows.
+    /// The version of the type that it knows.
     pub version: Version,
-    /// The rules in which it writes.
+    /// The rules by which it encodes.
     pub to: Codec,
 }

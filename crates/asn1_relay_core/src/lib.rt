@@ -1,5 +1,5 @@
 //! Translation between encoding rules of ASN.1: of one message (`recode`), of streams of messages in pieces of any
-//! length (`Relay`, `run`), and of messages that go from hop to hop, each of which knows the older or the newer
+//! length (`Relay`, `run`), and of messages that pass from hop to hop, each of which knows the older or the newer
 //! version of their type (`route`).
 #![tactic(auto)]
 

@@ -1,4 +1,4 @@
-//! Readers and writers of memory, one of whose calls may be made to fail.
+//! Readers and writers in memory, with an optional injected failure.
 ghost use Rattle.std.specs.Prelude.{◌≡◌, ◌↔◌, ◌+◌, ◌++◌, ◌<◌, ◌≤◌, Some, None, IfOk, IsErr, OnErr, OnOk, []};
 ghost use Rattle.std.specs.Prelude.{if◌then◌else◌, length, min, true};
 ghost use Rattle.std.specs.Io.KnownBytes.{Appends, Keeps, ReadConsumes};
@@ -9,8 +9,8 @@ use crate::ends::{ReadFailed, Sink, Source, WriteFailed};
 use std::alloc::Global;
 use std::marker::Model;
 
-/// Gives the octets of a vector. Of its calls, numbered from 0 on, the one of a given number fails, and no other. It
-/// may give one octet more than it has, so that it can tell its end.
+/// Reads from a vector. The call number `fail_at`, counted from 0, fails, and no other does. It may return one octet
+/// more than the vector has, so that it can report the end.
 #[derive(Debug, Drop)]
 pub struct MemorySource {
     octets: Vec<u8>,
@@ -35,7 +35,7 @@ impl Model for MemorySource {
 }
 
 impl MemorySource {
-    /// A reader of these octets, whose call of the number `fail_at` fails.
+    /// A reader of these octets, whose call number `fail_at` fails.
     pub fn new(octets: Vec<u8>, fail_at: Option<u64>) -> MemorySource
         ensures { result ≡ record { coming = octets.items; fails_in = fail_at; failed = 0 } }
     {
@@ -56,7 +56,7 @@ impl Source for MemorySource {
 
     ghost lender = { λ _. no_lender };
 
-    /// Fills the room as far as octets are left, and fails where it is to fail.
+    /// Fills the room with as many octets as are left. Fails only at the call that has to fail.
     fn read(&mut self, room: &mut [u8]) -> Result<usize, ReadFailed>
         requires { self.old.failed < 18446744073709551615 }
         ensures fails { IsErr result ↔ (self.old.fails_in ≡ Some 0) }
@@ -82,8 +82,8 @@ impl Source for MemorySource {
     }
 }
 
-/// Keeps the octets that it takes. Of its calls, numbered from 0 on, the one of a given number fails, and each that
-/// finds no memory.
+/// Writes to a vector. The call number `fail_at`, counted from 0, fails, and so does each call for which memory runs
+/// out.
 #[derive(Debug, Drop)]
 pub struct MemorySink {
     octets: Vec<u8>,
@@ -99,7 +99,7 @@ impl Model for MemorySink {
 }
 
 impl MemorySink {
-    /// A writer that has taken nothing, whose call of the number `fail_at` fails.
+    /// A writer that has accepted nothing yet, whose call number `fail_at` fails.
     pub fn new(alloc: Global, fail_at: Option<u64>) -> MemorySink
         ensures { result ≡ record { taken = []; fails_in = fail_at; failed = 0 } }
     {
@@ -109,7 +109,7 @@ impl MemorySink {
         }
     }
 
-    /// The octets that it has taken.
+    /// The octets that it has accepted.
     pub fn octets(&self) -> &[u8]
         ensures { result.now ≡ self.now.taken }
     {
@@ -124,7 +124,7 @@ impl Sink for MemorySink {
 
     ghost lender = { λ _. no_lender };
 
-    /// Takes all octets or none: it fails where it is to fail, or finds no memory.
+    /// Accepts all octets or none. Fails at the call that has to fail, or if memory runs out.
     fn write(&mut self, octets: &[u8]) -> Result<(), WriteFailed>
         requires { self.old.failed < 18446744073709551615 }
         ensures fails { self.old.fails_in ≡ Some 0 → IsErr result }
@@ -146,7 +146,7 @@ impl Sink for MemorySink {
         Ok(())
     }
 
-    /// Fails where it is to fail.
+    /// Fails only at the call that has to fail.
     fn flush(&mut self) -> Result<(), WriteFailed>
         requires { self.old.failed < 18446744073709551615 }
         ensures fails { IsErr result ↔ (self.old.fails_in ≡ Some 0) }
@@ -162,7 +162,7 @@ impl Sink for MemorySink {
     }
 }
 
-/// How many calls come before the one that fails, if there is one, and how many have failed.
+/// How many calls precede the one that fails, if there is one, and how many have failed.
 #[derive(Clone, Copy, Debug)]
 struct Calls {
     before: Option<u64>,
@@ -179,7 +179,7 @@ impl Calls {
         }
     }
 
-    /// Counts a call, and tells whether it is the one that fails.
+    /// Counts a call, and returns whether it has to fail.
     fn fails(&mut self) -> bool
         requires { self.old.failed < 18446744073709551615 }
         ensures fails { (result ≡ true) ↔ (self.old.before ≡ Some 0) }

@@ -1,4 +1,4 @@
-//! Messages that are strung together, in pieces of any length.
+//! Streams of messages without separators, in pieces of any length.
 ghost use Rattle.std.specs.Prelude.{◌≡◌, ◌↔◌, ◌≤◌, IfErr, IsOk, OnOk, [], false, true, length};
 ghost use Rattle.asn1_relay_core.specs.Relaying.{IsFed, FaultOf, end_fault};
 
@@ -12,13 +12,13 @@ use bytes::BytesMut;
 use std::alloc::Global;
 use std::marker::{Model, PhantomData};
 
-/// Translates a stream of messages of the type `T`, one behind the other, which comes in pieces of any length.
+/// Translates a stream of messages of the type `T`, one after another, which arrives in pieces of any length.
 #[derive(Drop)]
 pub struct Relay<T: Described> {
     alloc: Global,
     way: Way,
     unread: BytesMut,
-    // While fewer octets are unread, no message stands in front of them.
+    // While there are fewer unread octets than this, they do not begin with a whole message.
     awaited: usize,
     number: u64,
     failed: bool,
@@ -48,7 +48,7 @@ impl<T: Described> Model for Relay<T> {
 }
 
 impl<T: Encode + Decode> Relay<T> {
-    /// A relay that has read nothing. It takes messages of 1 to `limit` octets by the rules `from`, and writes them
+    /// A relay that has read nothing. It accepts messages of 1 to `limit` octets by the rules `from`, and writes them
     /// by the rules `to`.
     pub fn new(alloc: Global, from: Codec, to: Codec, limit: usize) -> Relay<T>
         requires { 1 ≤ limit }
@@ -65,7 +65,7 @@ impl<T: Encode + Decode> Relay<T> {
         }
     }
 
-    /// How many octets are unread: those behind the last message that was translated.
+    /// The number of unread octets: those after the last message that was translated.
     pub fn unread_len(&self) -> usize
         ensures { result ≡ length self.now.unread }
     {
@@ -79,15 +79,18 @@ impl<T: Encode + Decode> Relay<T> {
         self.failed
     }
 
-    /// Takes the next piece of the stream: adds the translation of each message that is then whole, one behind the
-    /// other, and keeps what is left, at most the limit of octets.
+    /// Accepts the next piece of the stream, appends the translation of each message that is then complete to `out`,
+    /// one after another, and keeps the unread octets, at most `limit` of them.
     ///
     /// # Errors
     ///
-    /// `NoTarget` and `EmptyMessage` at a message that has no translation, or an empty one, or no octets itself;
-    /// `NoneWithinLimit` where more octets are unread than a message may have, and none is in front; `Memory` for
-    /// want of memory, which an empty piece behind no unread octets does not need. All messages in front of that one
-    /// are written. From then on each call answers `AlreadyFailed` with the same number.
+    /// * `NoTarget`: the value of a message has no encoding in the target rules.
+    /// * `EmptyMessage`: a message, or its translation, has no octets.
+    /// * `NoneWithinLimit`: more than `limit` octets are unread, and they do not begin with a message within the limit.
+    /// * `Memory`: memory ran out. An empty piece needs no memory if no octets are unread.
+    /// * `AlreadyFailed`: an earlier call failed. The number is that of the earlier error.
+    ///
+    /// The translations of all messages before the one of the error are in `out`.
     pub fn feed(&mut self, piece: &[u8], out: &mut Vec<u8>) -> Result<(), RelayFault>
         ensures ok { OnOk result (IsFed (T.schema 128) self.old self.new piece.now out.old.items out.new.items) }
         ensures only { IfErr result (FaultOf (T.schema 128) self.old self.new piece.now out.old.items out.new.items) }
@@ -125,11 +128,11 @@ impl<T: Encode + Decode> Relay<T> {
         Ok(())
     }
 
-    /// Whether the stream may end here: nothing is unread. It changes nothing.
+    /// Checks that the stream may end here, with no octets unread. It changes nothing.
     ///
     /// # Errors
     ///
-    /// `NoForm` where octets are unread, and `AlreadyFailed` where the relay has stopped.
+    /// `NoForm` if octets are unread, and `AlreadyFailed` if the relay has stopped.
     pub fn finish(&self) -> Result<(), RelayFault>
         ensures end { IsOk result ↔ ((self.now.failed ≡ false) × (self.now.unread ≡ [])) }
         ensures only { IfErr result (λ fault. fault ≡ end_fault self.now) }
@@ -143,7 +146,7 @@ impl<T: Encode + Decode> Relay<T> {
         Ok(())
     }
 
-    /// The fault of this kind at the message in front.
+    /// An error of this kind at the current message.
     fn fault(&self, kind: RelayFaultKind) -> RelayFault
         ensures { result ≡ record { number = self.now.number; kind = kind } }
     {
@@ -153,7 +156,7 @@ impl<T: Encode + Decode> Relay<T> {
         }
     }
 
-    /// Stops at the message in front.
+    /// Stops at the current message.
     fn stop(&mut self, kind: RelayFaultKind) -> RelayFault
         ensures fault { result ≡ record { number = self.old.number; kind = kind } }
         ensures stops { self.new ≡ record self.old { failed = true } }

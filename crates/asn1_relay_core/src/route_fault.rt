@@ -2,19 +2,19 @@
 use crate::{DecodeError, EncodeError, RecodeFault};
 use thiserror::Error;
 
-/// Why a hop refuses.
+/// Why a hop rejects a message.
 #[derive(Clone, Copy, Debug, PartialEq, Eq, Error)]
 pub enum RouteFaultKind {
-    /// No octets in front are an encoding, in the hop's version, of a value that nests at most 128 levels.
+    /// No prefix of the octets is an encoding, in the hop's version, of a value with at most 128 nested levels.
     #[error("not an encoding: {0}")]
     Read(DecodeError),
-    /// Octets stand behind an encoding.
+    /// Octets follow the encoding.
     #[error("surplus octets")]
     Surplus,
-    /// The value has no encoding in the rules in which the hop writes.
+    /// The value has no encoding in the rules by which the hop encodes.
     #[error("no target encoding: {0}")]
     NoTarget(EncodeError),
-    /// No memory was left.
+    /// Memory ran out.
     #[error("out of memory")]
     Memory,
 }
@@ -23,13 +23,13 @@ pub enum RouteFaultKind {
 #[derive(Clone, Copy, Debug, PartialEq, Eq, Error)]
 #[error("hop {hop}: {kind}")]
 pub struct RouteFault {
-    /// The place of the hop in the route, counted from 0 on.
+    /// The index of the hop in the route, counted from 0.
     pub hop: usize,
-    /// Why it refuses.
+    /// Why it rejects the message.
     pub kind: RouteFaultKind,
 }
 
-/// The fault of a hop whose translation failed.
+/// The error of a hop whose translation failed.
 impl From<RecodeFault> for RouteFaultKind {
     ghost use Rattle.std.specs.Prelude.{◌≡◌};
     ghost use Rattle.asn1_relay_core.specs.Routing.{kind_of_fault};

@@ -1,4 +1,4 @@
-//! Messages that go from hop to hop.
+//! Messages that pass from hop to hop.
 ghost use Rattle.std.specs.Prelude.{◌≡◌, ◌≢◌, ℕ, [], IfErr, IfSome};
 ghost use Rattle.asn1_model.specs.Value.{Value};
 ghost use Rattle.asn1_relay_core.specs.Routing.{Outcome, Answers, Comes, IsReached, IsCanonicalOf, IsToldBy};
@@ -14,27 +14,32 @@ use asn1_schema_encode::Encode;
 use asn1_schema_types::Extends;
 use std::alloc::Global;
 
-/// Sends a message from hop to hop: the first hop reads it by the rules `from`, each further one reads what the hop in
-/// front of it wrote, and each writes the canonical encoding of what it has read by its own rules. A hop reads and
-/// writes the type of its version, `Old` or `New`: it is a translation by `recode`, and the route is the chain of
-/// these.
+/// Sends a message from hop to hop. The first hop decodes it by the rules `from`; each further hop decodes what the hop
+/// before it encoded. Each hop encodes the value canonically by its own rules. A hop uses the type of its version,
+/// `Old` or `New`. So each hop is a translation by `recode`, and the route is a chain of these.
 ///
-/// The outcome is the right one, and the only one, so each fault comes exactly where it should, and names the first
-/// hop that refuses; only want of memory may come in place of what would have followed, always as
-/// `RouteFaultKind::Memory`.
+/// There is exactly one right outcome, and this function returns it. Each error therefore occurs exactly when its cause
+/// holds, and names the first hop that rejects the message. The only exception is memory that runs out, always reported
+/// as `RouteFaultKind::Memory`.
 ///
-/// The canonical encoding of a value of the newer version arrives as that, by the rules of the last hop, of the value
-/// without what an older hop on the way did not know. It is refused at a hop for five causes alone: the first older
-/// hop lacks an alternative or an item that stands outside what it leaves out; what the first hop of all reads nests
-/// over 128 levels; the first older hop reads COER, strict UPER or strict APER, and by the loss a part is at its
-/// default; a newer hop behind an older one requires a part that was lost; or what a hop writes has no encoding in its
-/// rules.
+/// A canonical encoding of a value of the newer version arrives as the canonical encoding, by the rules of the last
+/// hop, of the value without what an older hop on the way did not know. A hop rejects it for these causes only:
+///
+/// * The first older hop lacks an alternative or an enumeration item that is used outside what it skips.
+/// * The first hop of the route reads a value with more than 128 nested levels.
+/// * The first older hop reads COER, strict UPER or strict APER, and a component is at its default once the unknown
+///   additions are removed.
+/// * A newer hop after an older one requires a component that was lost.
+/// * What a hop writes has no encoding in its rules.
 ///
 /// # Errors
 ///
-/// `Read` where no octets in front of what the hop reads are an encoding of a value of its version that nests at most
-/// 128 levels, `Surplus` where octets stand behind one, `NoTarget` where the value has no encoding in the rules of the
-/// hop, and `Memory` for want of memory. All hops in front of the fault's one have answered.
+/// * `Read`: no prefix of what the hop reads is an encoding of a value of its version with at most 128 nested levels.
+/// * `Surplus`: octets follow the encoding.
+/// * `NoTarget`: the value has no encoding in the rules of the hop.
+/// * `Memory`: memory ran out.
+///
+/// All hops before the one of the error have succeeded.
 pub fn route<Old: Encode + Decode, New: Encode + Decode + Extends<Old>>(
     alloc: Global,
     hops: &[Hop],
@@ -65,7 +70,7 @@ pub fn route<Old: Encode + Decode, New: Encode + Decode + Extends<Old>>(
     Ok(octets)
 }
 
-/// What the hop at a place makes of octets in the rules `from`.
+/// The output of the hop with the index `place`, for octets in the rules `from`.
 fn pass<Old: Encode + Decode, New: Encode + Decode>(
     alloc: Global,
     place: usize,

@@ -1,4 +1,4 @@
-//! A run from a reader to a writer.
+//! Translation from a reader to a writer.
 ghost use Rattle.std.specs.Prelude.{◌≡◌, ◌<◌, ◌≤◌, IfErr, OnOk, false};
 ghost use Rattle.asn1_relay_core.specs.Coding.{rules_of};
 ghost use Rattle.asn1_relay_core.specs.Running.{BlockFaultOf, IsDone, RelaysBlock, RunFaultOf, ends, run_fault_of};
@@ -24,19 +24,22 @@ pub enum RunFault {
     /// The relay stopped at a message, or octets were left unread at the end.
     #[error("{0}")]
     Relay(RelayFault),
-    /// No memory was left.
+    /// Memory ran out.
     #[error("out of memory")]
     Memory,
 }
 
-/// Reads a stream of messages of the type `T` to its end, up to 4096 octets at a time, and writes the translation of
-/// each message as it comes. At the end it flushes the writer.
+/// Reads a stream of messages of the type `T` to its end, at most 4096 octets at a time, and writes the translation of
+/// each message once it is complete. At the end it flushes the writer.
 ///
 /// # Errors
 ///
-/// `Read` where the reader failed, `Write` where the writer did, `Relay` where the relay stops or octets are left
-/// unread at the end, and `Memory` for want of memory. All whole messages in front of the fault are written first,
-/// and if that fails, the fault is `Write`.
+/// * `Read`: the reader failed.
+/// * `Write`: the writer failed.
+/// * `Relay`: the relay stopped, or octets are left unread at the end.
+/// * `Memory`: memory ran out.
+///
+/// The translations of all whole messages before the error are written first. If that fails, the error is `Write`.
 pub fn run<T: Encode + Decode, R: Source, W: Sink>(
     alloc: Global,
     reader: &mut R,
@@ -76,7 +79,7 @@ pub fn run<T: Encode + Decode, R: Source, W: Sink>(
     }
 }
 
-/// Feeds a block of octets to a relay, and writes all that comes out.
+/// Feeds a block of octets to a relay, and writes all its output.
 fn relay_block<T: Encode + Decode, W: Sink>(
     relay: &mut Relay<T>,
     octets: &[u8],
@@ -103,7 +106,7 @@ fn relay_block<T: Encode + Decode, W: Sink>(
     }
 }
 
-/// The fault of a run whose relay stops.
+/// The error of a run whose relay stops.
 fn run_fault(fault: RelayFault) -> RunFault
     ensures { result ≡ run_fault_of fault.kind fault }
 {

@@ -1,4 +1,4 @@
-//! The readers and writers of std.
+//! Readers and writers of the standard library.
 ghost use Rattle.std.specs.Prelude.{◌≡◌, ◌≢◌, Some, IfErr, IsOk, OnOk, MatchResult, []};
 ghost use Rattle.std.specs.IoError.{error_kind};
 ghost use Rattle.std.specs.Io.KnownBytes.{Appends, Keeps};
@@ -7,7 +7,7 @@ ghost use Rattle.asn1_relay_core.specs.Ends.{BeginsToAppend, Gives};
 use crate::ends::{ReadFailed, Sink, Source, WriteFailed};
 use std::io::{self, ErrorKind, Read, Write};
 
-/// A reader of std that may give so many octets. It tells the octets to come that the reader tells.
+/// Wraps a reader of the standard library, which may return at most a given number of octets.
 #[derive(Debug, Drop)]
 pub struct StdSource<'a, R> {
     reader: &'a mut R,
@@ -16,7 +16,7 @@ pub struct StdSource<'a, R> {
 }
 
 impl<'a, R: Read> StdSource<'a, R> {
-    /// This reader, which may give so many octets.
+    /// Wraps this reader, which may return at most `budget` octets.
     pub fn new(reader: &'a mut R, budget: u64) -> StdSource<'a, R>
         ensures failures { ⟦<StdSource<'a, R> as Source>⟧.failures result ≡ 0 }
         ensures budget { ⟦<StdSource<'a, R> as Source>⟧.budget result ≡ budget }
@@ -45,7 +45,7 @@ impl<'a, R: Read> Source for StdSource<'a, R> {
             self.failed += 1;
             return Err(ReadFailed);
         }
-        // It is asked for no more than it may give, so that no octet is lost.
+        // It asks for no more octets than it may return, so that none is lost.
         let most = room.len().min(self.budget as usize);
         match read_some(self.reader, &mut room[..most]) {
             Ok(count) => {
@@ -60,17 +60,17 @@ impl<'a, R: Read> Source for StdSource<'a, R> {
     }
 }
 
-/// Reads once, again where it is interrupted: how many octets were given.
+/// Reads once, and again after an interruption. Returns the number of octets read.
 ///
 /// # Errors
 ///
-/// Where the reader fails. Then it has given none.
+/// Fails if the reader fails. It has then returned no octets.
 fn read_some<R: Read>(reader: &mut R, room: &mut [u8]) -> io::Result<usize>
     ensures gives { MatchResult result (Gives (R.remaining reader.old) (R.remaining reader.new) room.new)
         (λ _. Keeps (R.remaining reader.old) (R.remaining reader.new)) }
     ensures again { IfErr result (λ e. error_kind e ≢ ErrorKind.Interrupted) }
 {
-    // So many interruptions count as a failure.
+    // 2^64 - 1 interruptions count as a failure.
     for _ in 0..u64::MAX {
         match reader.read(room) {
             Ok(count) => return Ok(count),
@@ -81,7 +81,7 @@ fn read_some<R: Read>(reader: &mut R, room: &mut [u8]) -> io::Result<usize>
     Err(io::Error::from(ErrorKind::TimedOut))
 }
 
-/// A writer of std. It tells the octets taken that the writer tells.
+/// Wraps a writer of the standard library.
 #[derive(Debug, Drop)]
 pub struct StdSink<'a, W> {
     writer: &'a mut W,
@@ -89,7 +89,7 @@ pub struct StdSink<'a, W> {
 }
 
 impl<'a, W: Write> StdSink<'a, W> {
-    /// This writer.
+    /// Wraps this writer.
     pub fn new(writer: &'a mut W) -> StdSink<'a, W>
         ensures failures { ⟦<StdSink<'a, W> as Sink>⟧.failures result ≡ 0 }
         ensures taken { ⟦<StdSink<'a, W> as Sink>⟧.taken result ≡ W.contents writer.old }
@@ -127,12 +127,11 @@ impl<'a, W: Write> Sink for StdSink<'a, W> {
     }
 }
 
-/// Writes all octets.
+/// Writes all octets. It tries again after an interruption.
 ///
 /// # Errors
 ///
-/// Where the writer fails, or takes none, though there are some. Then it has taken a beginning of them. Where it is
-/// interrupted, it is tried again.
+/// Fails if the writer fails, or accepts none of the remaining octets. A prefix of the octets has then been written.
 pub fn write_octets<W: Write>(octets: &[u8], writer: &mut W) -> io::Result<()>
     ensures all { OnOk result (Appends (W.contents writer.old) (W.contents writer.new) octets.now) }
     ensures begins { BeginsToAppend (W.contents writer.old) (W.contents writer.new) octets.now }
@@ -140,8 +139,8 @@ pub fn write_octets<W: Write>(octets: &[u8], writer: &mut W) -> io::Result<()>
     ensures again { IfErr result (λ e. error_kind e ≢ ErrorKind.Interrupted) }
 {
     let mut count = 0;
-    // A turn takes an octet, of which there are fewer than 2^64, or is an interruption; so many of those count as a
-    // failure.
+    // Each turn writes at least one octet, of which there are fewer than 2^64, or is an interruption; 2^64 - 1 turns
+    // count as a failure.
     for _ in 0..u64::MAX {
         if count == octets.len() {
             return Ok(());

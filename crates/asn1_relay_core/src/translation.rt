@@ -11,24 +11,24 @@ use asn1_schema_faults::{DecodeError, EncodeError};
 use std::alloc::Global;
 use thiserror::Error;
 
-/// Why a message was not translated. The faults of the source come first.
+/// Why a message was not translated. Errors of decoding come first.
 #[derive(Clone, Copy, Debug, PartialEq, Eq, Error)]
 pub enum RecodeFault {
-    /// No octets in front are an encoding of a value that nests at most 128 levels.
+    /// No prefix of the octets is an encoding of a value with at most 128 nested levels.
     #[error("not an encoding: {0}")]
     NotAnEncoding(DecodeError),
-    /// Octets stand behind an encoding.
+    /// Octets follow the encoding.
     #[error("surplus octets")]
     Surplus,
     /// The value has no encoding in the target rules.
     #[error("no target encoding: {0}")]
     NoTarget(EncodeError),
-    /// No memory was left.
+    /// Memory ran out.
     #[error("out of memory")]
     Memory,
 }
 
-/// The fault of a translation whose input was not read.
+/// The error of a translation whose input could not be decoded.
 impl From<DecodeError> for RecodeFault {
     ghost use Rattle.asn1_relay_core.specs.Recoding.{source_fault_of};
 
@@ -42,7 +42,7 @@ impl From<DecodeError> for RecodeFault {
     }
 }
 
-/// The fault of a translation whose value was not written.
+/// The error of a translation whose value could not be encoded.
 impl From<EncodeError> for RecodeFault {
     ghost use Rattle.asn1_relay_core.specs.Recoding.{target_fault_of};
 
@@ -56,26 +56,26 @@ impl From<EncodeError> for RecodeFault {
     }
 }
 
-/// A detour changes no answer: where octets were translated to other rules, the right answer to what came out, in
-/// whichever rules, is the right answer to the octets themselves, and the other way round. So what was translated is
-/// translated to itself.
+/// A detour changes no result. If octets were translated to other rules, then the right result for the translation, in
+/// any rules, is the right result for the original octets, and vice versa. So a translation, translated to its own
+/// rules, stays the same.
 pub fn detours_change_no_answer()
     ensures { DetoursChangeNoAnswer }
 {}
 
-/// Translates one message of the type `T`: octets all of which are one encoding by the rules `from`, of a value that
-/// nests at most 128 levels, become the canonical encoding of that value by the rules `to`.
+/// Translates one message of the type `T`: the input must be exactly one encoding, by the rules `from`, of a value with
+/// at most 128 nested levels. Returns the canonical encoding of that value by the rules `to`.
 ///
-/// The answer is the right one, and as there is one at most (`one_answer_is_right` of `asn1_laws_versions`), each
-/// fault comes exactly where it should; only want of memory may come in its place, always as `RecodeFault::Memory`. A
-/// detour through other rules changes nothing, and what was translated is translated to itself
-/// (`detours_change_no_answer`).
+/// At most one result is right (`one_answer_is_right` of `asn1_laws_versions`), and this function returns it.
+/// Each error therefore occurs exactly when its cause holds. The only exception is memory that runs out, always
+/// reported as `RecodeFault::Memory`. A detour through other rules changes nothing (`detours_change_no_answer`).
 ///
 /// # Errors
 ///
-/// `NotAnEncoding` where no octets in front are an encoding of a value that nests at most 128 levels, `Surplus` where
-/// octets stand behind one, `NoTarget` where the value has no encoding by the rules `to`, and `Memory` for want of
-/// memory.
+/// * `NotAnEncoding`: no prefix of the input is an encoding of a value with at most 128 nested levels.
+/// * `Surplus`: octets follow the encoding.
+/// * `NoTarget`: the value has no encoding by the rules `to`.
+/// * `Memory`: memory ran out.
 pub fn recode<T: Encode + Decode>(
     alloc: Global,
     from: Codec,

@@ -82,7 +82,7 @@ macro_rules! at_hop_10 {
     };
 }
 
-/// Errors and their lines.
+/// Errors and their lines, after the program's name.
 const LINES: [(Fault, &'static str); 16] = [
     (Fault::NotAnEncoding, "not an encoding"),
     (Fault::SurplusOctets, "surplus octets"),

@@ -87,7 +87,7 @@ const ROOM: usize = 64;
 pub struct FakeWriter {
     kept: [u8; ROOM],
     len: usize,
-    /// The most octets that one write takes.
+    /// The maximum number of octets that one write accepts.
     write_size: usize,
     /// The number of writes that succeed.
     writes_left: u32,
@@ -110,8 +110,8 @@ impl FakeWriter {
         }
     }
 
-    /// A writer that takes a number of writes, of one octet each, and then fails; with another word, a flush fails.
-    /// With an empty text it does not fail.
+    /// A writer that accepts a number of writes, of one octet each, and then fails. With another word, a flush fails.
+    /// With an empty text, it does not fail.
     pub fn failing(text: &str) -> Self {
         let mut writer = FakeWriter::new();
         for word in text.split_whitespace() {

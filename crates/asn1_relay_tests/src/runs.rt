@@ -15,7 +15,7 @@ struct Run<'a> {
     /// The octets that are written.
     output: &'a str,
     /// The error line after the program's name; empty if nothing is wrong, and `usage` if the words request nothing
-    /// that the program does.
+    /// that the program can do.
     line: &'a str,
     /// The number of octets of the output that can be written, one at a time, and `unflushed` if they cannot be
     /// flushed. If empty, all can be written at once.
@@ -278,7 +278,7 @@ route --from uper --pair plain --hop new:coer --hop old:uper --hop new:coer | C0
 route --from uper --pair plain --hop new:coer --hop old:uper --hop new:coer | C0 40 41 C0 | 00 FF | write failed \
 | 2 unflushed";
 
-/// Words that request nothing that the program does. No input is read.
+/// Words that request nothing that the program can do. No input is read.
 const ORDERS: &str = "\
 - | fails | | usage
  | fails | | usage

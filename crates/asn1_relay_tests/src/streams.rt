@@ -99,7 +99,7 @@ fn answer_of(text: &str) -> Result<(), RunFault> {
     }
 }
 
-/// The most octets of a message, the call of the reader that fails, and the call of the writer that fails.
+/// The maximum length of a message, the call of the reader that fails, and the call of the writer that fails.
 #[derive(Clone, Copy)]
 struct Calls {
     limit: usize,
@@ -188,7 +188,7 @@ fn has_stopped(relay: &mut Relay<Small>, out: &mut Vec<u8>) -> bool {
         && out.is_empty()
 }
 
-/// Whether a relay stops once more octets are unread than a message may have, and waits before that.
+/// Whether a relay stops once more octets are unread than its limit for a message, and waits before that.
 fn stops_at_its_limit(relay: &mut Relay<Small>, out: &mut Vec<u8>) -> bool {
     relay.feed(&[], out) == Ok(())
         && relay.feed(&[0x06], out) == Ok(())
@@ -216,8 +216,8 @@ fn at_second(kind: RelayFaultKind) -> Result<(), RelayFault> {
     Err(RelayFault { number: 1, kind })
 }
 
-/// Whether a relay takes -4 as it is written, waits behind the same number with other padding, and stops at the octet
-/// behind it (X.691 11.1).
+/// Whether a relay accepts -4 as it is encoded, waits after the same number with other padding, and stops at the next
+/// octet (X.691 11.1).
 fn reads_strictly(alloc: Global, rules: Codec) -> bool {
     let mut relay = Relay::<Small>::new(alloc, rules, Codec::Coer, 1);
     let mut out = Vec::new(alloc);
@@ -269,7 +269,7 @@ fn waits_for_more<T: Encode + Decode>(
     relay.unread_len() == octets.len() && out.is_empty()
 }
 
-/// A string of 1000 octets after its length, and one of one octet after its own, in OER or PER.
+/// An octet string of 1000 octets after its length determinant, and one of one octet after its own, in OER or PER.
 fn strings(alloc: Global, length: &[u8]) -> Result<Vec<u8>, AllocError> {
     let mut octets = Vec::from_slice(alloc, length)?;
     octets.extend_from_slice(&[0x5A; 1000])?;
@@ -277,7 +277,8 @@ fn strings(alloc: Global, length: &[u8]) -> Result<Vec<u8>, AllocError> {
     Ok(octets)
 }
 
-/// Whether a message is relayed that comes in 1000 pieces of one octet and a last one that includes another message.
+/// Whether a message is relayed that arrives in 1000 pieces of one octet and a last piece that includes another
+/// message.
 fn is_pieced_together(
     relay: &mut Relay<OctetString>,
     out: &mut Vec<u8>,
@@ -288,7 +289,7 @@ fn is_pieced_together(
     waits_for_more(relay, out, pieces) && is_relayed(relay, out, last, wanted)
 }
 
-/// Whether a string of 1000 octets and one of one octet are relayed like that.
+/// Whether an octet string of 1000 octets and one of one octet are relayed like that.
 fn is_long_relayed(alloc: Global) -> Result<bool, AllocError> {
     let octets = strings(alloc, &[0x82, 0x03, 0xE8])?;
     let wanted = strings(alloc, &[0x83, 0xE8])?;
@@ -296,7 +297,7 @@ fn is_long_relayed(alloc: Global) -> Result<bool, AllocError> {
     Ok(is_pieced_together(&mut relay, &mut Vec::new(alloc), &octets, &wanted))
 }
 
-/// Whether the same strings are relayed from strict rules.
+/// Whether the same octet strings are relayed from strict rules.
 fn is_long_read_strictly(alloc: Global) -> Result<bool, AllocError> {
     let octets = strings(alloc, &[0x83, 0xE8])?;
     let wanted = strings(alloc, &[0x82, 0x03, 0xE8])?;

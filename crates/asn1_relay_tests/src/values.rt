@@ -1,4 +1,4 @@
-//! Values of user-defined types, written in each set of rules and read back: they mean what the octets say.
+//! Values of user-defined types, encoded in each set of rules and decoded again.
 use crate::rows::{CODECS, octets_by};
 use asn1_relay_core::{Codec, DecodeError, EncodeError, RecodeFault, recode};
 use asn1_relay_types::{
@@ -191,12 +191,12 @@ fn values_are_read(rt: HostRuntime) -> Result<(), Fail> {
 /// {1, 2, 3}.
 const BAG: &str = "03 01 02 03 | 03 01 02 03 | 01 03 01 02 03";
 
-/// The bag of these numbers.
+/// The SET OF value with these numbers.
 fn bag_of(alloc: Global, numbers: &[u8]) -> Result<Bag, AllocError> {
     Ok(Bag::from_vec(Vec::from_slice(alloc, numbers)?))
 }
 
-/// Whether each set of rules writes a bag as {1, 2, 3}.
+/// Whether each set of rules encodes a SET OF value as {1, 2, 3}.
 fn is_written_in_order(alloc: Global, bag: &Bag) -> Result<bool, EncodeError> {
     for codec in CODECS {
         if !is_written(alloc, codec, bag, BAG)? {
@@ -206,14 +206,14 @@ fn is_written_in_order(alloc: Global, bag: &Bag) -> Result<bool, EncodeError> {
     Ok(true)
 }
 
-/// Whether a bag of these numbers equals {1, 2, 3}, and each set of rules writes it so.
+/// Whether a SET OF value with these numbers equals {1, 2, 3}, and each set of rules encodes it so.
 fn is_bag(alloc: Global, numbers: &[u8]) -> Result<bool, Fail> {
     let bag = bag_of(alloc, numbers)?;
     let is_same = bag == bag_of(alloc, &[1, 2, 3])?;
     Ok(is_written_in_order(alloc, &bag)? && is_same)
 }
 
-/// Members are given in any order, and written in that of their encodings.
+/// Elements are given in any order, and encoded in the order of their encodings.
 #[test]
 fn members_are_handed_in_any_order(rt: HostRuntime) -> Result<(), Fail> {
     for numbers in [[3, 1, 2], [2, 3, 1]] {
@@ -244,14 +244,14 @@ fn in_order(alloc: Global) -> Result<Vec<u8>, AllocError> {
     Ok(members)
 }
 
-/// A list of 100000 members in OER: the number of octets of its count, its count, and the members.
+/// A SET OF value with 100000 elements in OER: the length of its count, its count, and the elements.
 fn with_its_count(alloc: Global, members: &[u8]) -> Result<Vec<u8>, AllocError> {
     let mut octets = vec![in alloc; 0x03u8, 0x01, 0x86, 0xA0]?;
     octets.extend_from_slice(members)?;
     Ok(octets)
 }
 
-/// The same in PER: 65536, 32768 and 1696 members, each after their length determinant.
+/// The same in PER: 65536, 32768 and 1696 elements, each group after its length determinant.
 fn in_fragments(alloc: Global, members: &[u8]) -> Result<Vec<u8>, AllocError> {
     let mut octets = Vec::new(alloc);
     for (place, member) in members.iter().enumerate() {
@@ -266,7 +266,7 @@ fn in_fragments(alloc: Global, members: &[u8]) -> Result<Vec<u8>, AllocError> {
     Ok(octets)
 }
 
-/// Whether octets of a bag are translated to these.
+/// Whether octets of a SET OF value are translated to these.
 fn becomes(
     alloc: Global,
     from: Codec,
@@ -278,7 +278,7 @@ fn becomes(
     Ok(translated.as_slice() == output)
 }
 
-/// Whether a bag is put in order by each set of rules, and translated from each to each other.
+/// Whether each set of rules puts a SET OF value in order, and translates it from each to each other.
 fn are_put_in_order(
     alloc: Global,
     input: &[u8],
@@ -296,7 +296,7 @@ fn are_put_in_order(
     )
 }
 
-/// Whether a bag of 100000 members is put in order.
+/// Whether a SET OF value with 100000 elements is put in order.
 fn is_put_in_order(alloc: Global) -> Result<bool, Fail> {
     let ordered = in_order(alloc)?;
     let input = with_its_count(alloc, &in_turn(alloc)?)?;

@@ -1,9 +1,9 @@
-//! A call in which one request for memory at most is refused.
+//! Calls during which at most one request for memory is refused.
 use asn1_relay_trials::{Trial, is_right_at_last};
 use std::alloc::Global;
 
-/// Whether a call gives the answer of ample memory, or finds none, with all as was promised, and is then right once
-/// more. Where the request that is refused stands in front of the call, the call is made all the same.
+/// Whether a call returns the same result as with enough memory, or runs out of memory, leaves the promised state, and
+/// is then right once repeated. If the refused request comes before the call, the call is made anyway.
 pub fn is_right<T: Trial>(alloc: Global, plan: T::Plan) -> bool {
     match T::begin(alloc, plan) {
         Ok(mut trial) => is_right_at_last(&mut trial),
@@ -11,7 +11,7 @@ pub fn is_right<T: Trial>(alloc: Global, plan: T::Plan) -> bool {
     }
 }
 
-/// The same where a request was refused before.
+/// The same after a request was refused.
 fn is_right_behind<T: Trial>(alloc: Global, plan: T::Plan) -> bool {
     match T::begin(alloc, plan) {
         Ok(mut trial) => is_right_at_last(&mut trial),

@@ -1,6 +1,6 @@
-//! Tests that take all memory first: of calls that are promised to take none, and of those that find none then, or
-//! little. They fill the addresses of the process, which `malloc` of Linux lets them do; where it does not, as under
-//! a sanitizer, they meet no refusal, and fail.
+//! Tests that allocate all memory first: of calls that promise to take none, and of calls that then run out of memory,
+//! or have little. They fill the address space of the process, which `malloc` of Linux permits. Where it does not, as
+//! under a sanitizer, no request is refused, and the tests fail.
 mod calls;
 mod codecs;
 mod memory;

@@ -1,5 +1,5 @@
-//! Tests of calls that take memory, each by itself: with ample memory (`ample_`), with a request for memory that may
-//! be refused (`refused_`), and where all memory is taken (`full`). `bench/refused.sh` refuses each request in turn.
+//! Tests of calls that take memory, each by itself: with enough memory (`ample_`), with a request for memory that may
+//! be refused (`refused_`), and with all memory taken (`full`). `bench/refused.sh` refuses each request in turn.
 #![tactic(auto)]
 
 #[cfg(test)]

@@ -9,12 +9,12 @@ use oer_codec::{CoerFront, OerFront};
 use per_codec::{AperFront, UperFront};
 use std::alloc::{AllocError, Global};
 
-/// A reader of the parcel in front.
+/// A reader of the parcel with which octets begin.
 pub trait Front: FrontReader<Parcel> + Drop {
     /// The reader.
     fn reader() -> Self;
 
-    /// The rules by which it reads.
+    /// The rules by which it decodes.
     fn codec() -> Codec;
 }
 
@@ -58,7 +58,7 @@ impl Front for CoerFront {
     }
 }
 
-/// What came of a call for the next value.
+/// The outcome of a call for the next value.
 fn next_read(answer: &Option<Result<Parcel, DecodeError>>) -> Outcome {
     match answer {
         Some(answer) => read(answer),
@@ -66,14 +66,14 @@ fn next_read(answer: &Option<Result<Parcel, DecodeError>>) -> Outcome {
     }
 }
 
-/// `Iter::next` in front of two values.
+/// `Iter::next` on the octets of two values.
 #[derive(Drop)]
 pub struct Nexts<R> {
     values: Iter<Parcel, R>,
 }
 
 impl<R: Front> Nexts<R> {
-    /// Whether so many values are unread.
+    /// Whether this many values are unread.
     fn are_left(&self, count: usize) -> bool {
         self.values.unread_len() == parcels(R::codec(), count).len()
     }
@@ -103,16 +103,16 @@ impl<R: Front> Trial for Nexts<R> {
     }
 }
 
-/// `append_bytes` behind the first octets of two values, of all others: more than the memory of the first ones holds.
+/// `append_bytes` to an iterator that holds the first octets of two values. The other octets do not fit its memory.
 #[derive(Drop)]
 pub struct Appends {
     values: Iter<Parcel, CoerFront>,
 }
 
-/// How many octets stand there before.
+/// How many octets it holds before.
 const FIRST: usize = 10;
 
-/// The octets of two parcels, those before and the others.
+/// The octets of two parcels: those held before, and the others.
 fn both_parts() -> (&'static [u8], &'static [u8]) {
     let octets = parcels(Codec::Coer, 2);
     octets.split_at(FIRST.min(octets.len()))

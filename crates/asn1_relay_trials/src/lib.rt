@@ -1,6 +1,6 @@
-//! Calls that take memory, each by itself, with the answer of ample memory, and what stands behind a call that found
-//! none: of the codecs, of the relay, of streams and routes, and of values. Tests in which requests for memory are
-//! refused make them.
+//! Calls that take memory: of the codecs, of the relay, of streams and routes, and of values. Each is made by itself,
+//! and compared with its result when there is enough memory, or, if it runs out of memory, with the promised state
+//! after such a call. Tests that refuse requests for memory make these calls.
 #![tactic(auto)]
 
 mod fronts;

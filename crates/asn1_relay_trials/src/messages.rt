@@ -6,7 +6,7 @@ use oer_codec::{coer, oer};
 use per_codec::{aper, aper_strict, uper, uper_strict};
 use std::alloc::{AllocError, Global};
 
-/// The rules of the other family of which `recode` and `feed` make theirs.
+/// The rules, of the other family, into which `recode` and `feed` translate.
 pub fn target_of(source: Codec) -> Codec {
     match source {
         Codec::Uper | Codec::UperStrict => Codec::Coer,
@@ -35,7 +35,7 @@ impl Encodes {
     }
 }
 
-/// What came of writing these octets.
+/// The outcome of encoding, with the expected octets.
 fn written(answer: &Result<Vec<u8>, EncodeError>, wanted: &[u8]) -> Outcome {
     match answer {
         Ok(octets) => Outcome::of(octets.as_slice() == wanted),
@@ -63,7 +63,7 @@ impl Trial for Encodes {
     }
 }
 
-/// `encode_buf` of one set of rules, into a buffer that holds an octet.
+/// `encode_buf` of one set of rules, into a buffer that already holds an octet.
 #[derive(Drop)]
 pub struct EncodesInto {
     alloc: Global,
@@ -86,7 +86,7 @@ impl EncodesInto {
         }
     }
 
-    /// Whether the buffer holds these octets behind what is promised: nothing in PER, and in OER what it held.
+    /// Whether the buffer holds these octets, after the octet that it held before in OER, and alone in PER.
     fn holds(&self, octets: &[u8]) -> bool {
         let held = self.buffer.as_slice();
         match self.codec {
@@ -142,7 +142,7 @@ impl Decodes {
     }
 }
 
-/// What came of reading the parcel.
+/// The outcome of decoding the parcel.
 pub fn read(answer: &Result<Parcel, DecodeError>) -> Outcome {
     match answer {
         Ok(parcel) => Outcome::of(is_parcel(parcel)),
@@ -173,7 +173,7 @@ pub struct Recodes {
     codec: Codec,
 }
 
-/// What came of translating to these octets.
+/// The outcome of a translation, with the expected octets.
 fn recoded(answer: &Result<Vec<u8>, RecodeFault>, wanted: &[u8]) -> Outcome {
     match answer {
         Ok(octets) => Outcome::of(octets.as_slice() == wanted),

@@ -1,5 +1,5 @@
 //! SEQUENCE {fragile BOOLEAN, label UTF8String, owner OBJECT IDENTIFIER, marks SET OF INTEGER (0..255), ..., weight
-//! INTEGER OPTIONAL}: a type whose values take memory at several places, in each set of rules.
+//! INTEGER OPTIONAL}: a type whose encoding and decoding request memory several times, in each set of rules.
 ghost use Rattle.std.specs.Prelude.{◌≤◌};
 ghost use Rattle.asn1_schema.proofs.Author.{refl, sequence_of, sequence_tag};
 
@@ -19,15 +19,15 @@ pub type Parcel = Sequence<ParcelFields>;
 /// Its components.
 #[derive(Drop)]
 pub struct ParcelFields {
-    /// Whether it may break.
+    /// Whether it is fragile.
     pub fragile: bool,
-    /// What is written on it.
+    /// The text on it.
     pub label: String,
-    /// Whose it is.
+    /// The identifier of its owner.
     pub owner: ObjectIdentifier,
-    /// Which marks it bears.
+    /// The marks on it.
     pub marks: SetOf<u8>,
-    /// What it weighs. This was added.
+    /// Its weight, an extension addition.
     pub weight: Option<Integer>,
 }
 
@@ -106,26 +106,26 @@ pub fn is_parcel(parcel: &Parcel) -> bool {
         && parcel.weight == Some(Integer::from(300))
 }
 
-/// That parcel, twice: two bits, and all else behind them (X.691 11.9, 19, 22, 24).
+/// That parcel, twice: two bits (extension bit and BOOLEAN), and everything else after them (X.691 11.9, 19, 22, 24).
 const UPER: [u8; 30] = [
     0xC0, 0x98, 0x58, 0x80, 0xA2, 0x0D, 0xC0, 0x80, 0x40, 0xC0, 0x40, 0xC0, 0x80, 0x4B, 0x00, 0xC0,
     0x98, 0x58, 0x80, 0xA2, 0x0D, 0xC0, 0x80, 0x40, 0xC0, 0x40, 0xC0, 0x80, 0x4B, 0x00,
 ];
 
-/// The same, with padding behind the two bits (X.691 11.9.3.3).
+/// The same, with padding after the two bits (X.691 11.9.3.3).
 const APER: [u8; 30] = [
     0xC0, 0x02, 0x61, 0x62, 0x02, 0x88, 0x37, 0x02, 0x01, 0x03, 0x01, 0x03, 0x02, 0x01, 0x2C, 0xC0,
     0x02, 0x61, 0x62, 0x02, 0x88, 0x37, 0x02, 0x01, 0x03, 0x01, 0x03, 0x02, 0x01, 0x2C,
 ];
 
-/// The same in octets: a preamble, four components, a bitmap of one addition, and that (X.696 16, 17).
+/// The same in OER: a preamble, four components, a presence bitmap for one addition, and the addition (X.696 16, 17).
 const OER: [u8; 38] = [
     0x80, 0xFF, 0x02, 0x61, 0x62, 0x02, 0x88, 0x37, 0x01, 0x02, 0x01, 0x03, 0x02, 0x07, 0x80, 0x03,
     0x02, 0x01, 0x2C, 0x80, 0xFF, 0x02, 0x61, 0x62, 0x02, 0x88, 0x37, 0x01, 0x02, 0x01, 0x03, 0x02,
     0x07, 0x80, 0x03, 0x02, 0x01, 0x2C,
 ];
 
-/// How many octets that parcel has by these rules.
+/// The length of that parcel by these rules, in octets.
 pub fn parcel_len(codec: Codec) -> usize
     ensures { result ≤ 19 }
 {
@@ -135,7 +135,7 @@ pub fn parcel_len(codec: Codec) -> usize
     }
 }
 
-/// The octets of so many of that parcel, at most two, one behind the other, by these rules.
+/// The octets of this many of that parcel, at most two, one after the other, by these rules.
 pub fn parcels(codec: Codec, count: usize) -> &'static [u8] {
     let both: &'static [u8] = match codec {
         Codec::Uper | Codec::UperStrict => &UPER,

@@ -1,4 +1,4 @@
-//! Calls on parts of values: fields as bits, members of bags, and identifiers as octets.
+//! Calls on parts of values: fields as bits, elements of SET OF values, and object identifiers as octets.
 use crate::trial::{Outcome, Trial};
 use asn1_schema::SetOf;
 use asn1_values::{
@@ -7,16 +7,16 @@ use asn1_values::{
 };
 use std::alloc::{AllocError, AllocFailed, Global};
 
-/// 5 in three bits, the octet FF, 0 in one bit, the whole number -1, and four bits.
+/// 5 in three bits, the octet FF, 0 in one bit, the INTEGER -1, and four bits.
 const ROW: [u8; 3] = [0xBF, 0xEF, 0xF0];
 
-/// `write_fields` of that row and forty octets, behind one octet.
+/// `write_fields` of these fields and forty octets, after one octet.
 #[derive(Drop)]
 pub struct WritesFields {
     buffer: BitBuffer,
 }
 
-/// Writes that row and the octets behind it.
+/// Writes these fields and the forty octets after them.
 fn write_row(buffer: &mut BitBuffer) -> Result<(), FieldFault> {
     let fields = [
         FieldBits::Number { value: 5, width: 3 },
@@ -29,7 +29,7 @@ fn write_row(buffer: &mut BitBuffer) -> Result<(), FieldFault> {
     write_fields(buffer, &fields)
 }
 
-/// Whether the octets are the one, the row and the forty.
+/// Whether the octets are the first octet, the fields and the forty octets.
 fn are_written(octets: &[u8]) -> bool {
     octets.len() == 44
         && octets.starts_with(&[0xAA, 0xBF, 0xEF, 0xF0])
@@ -63,14 +63,14 @@ impl Trial for WritesFields {
     }
 }
 
-/// `read_fields` of that row.
+/// `read_fields` of these fields.
 #[derive(Drop)]
 pub struct ReadsFields {
     alloc: Global,
     reader: BitReader<'static>,
 }
 
-/// What came of reading that row.
+/// The outcome of reading these fields.
 fn row_read(answer: &Result<Vec<FieldValue>, FieldFault>) -> Outcome {
     match answer {
         Ok(values) => Outcome::of(is_row(values)),
@@ -78,7 +78,7 @@ fn row_read(answer: &Result<Vec<FieldValue>, FieldFault>) -> Outcome {
     }
 }
 
-/// Whether these values are the row's.
+/// Whether these values are those of the fields.
 fn is_row(values: &[FieldValue]) -> bool {
     match values {
         [
@@ -122,7 +122,7 @@ impl Trial for ReadsFields {
     }
 }
 
-/// The members of a bag before: as many as the memory of the smallest request holds, so that one more needs another.
+/// The elements of a SET OF value: as many as the smallest allocation holds, so that one more element needs another.
 const MEMBERS: [u8; 24] = [3; 24];
 
 /// The same, and one more.
@@ -130,7 +130,7 @@ const MEMBERS_AND_ONE: [u8; 25] = [
     3, 3, 3, 3, 3, 3, 3, 3, 3, 3, 3, 3, 3, 3, 3, 3, 3, 3, 3, 3, 3, 3, 3, 3, 1,
 ];
 
-/// `SetOf::insert` into a bag of these members.
+/// `SetOf::insert` into a SET OF value with these elements.
 #[derive(Drop)]
 pub struct Inserts {
     bag: SetOf<u8>,
@@ -165,7 +165,7 @@ pub struct WritesIdentifier {
     alloc: Global,
 }
 
-/// What came of writing that identifier.
+/// The outcome of writing that object identifier.
 fn identifier_written(answer: &Result<Vec<u8>, IdentifierError>) -> Outcome {
     match answer {
         Ok(octets) => Outcome::of(octets.as_slice() == [0x88, 0x37].as_slice()),

@@ -4,7 +4,7 @@ use asn1_relay_core::{Codec, Hop, RouteFault, RouteFaultKind, Version, route};
 use asn1_relay_types::{New, Old};
 use std::alloc::{AllocError, Global};
 
-/// `route` of {a TRUE, b 7} over three hops, the second of which does not know b.
+/// `route` of {a TRUE, b 7} over three hops; the second does not know b.
 #[derive(Drop)]
 pub struct Routes {
     alloc: Global,
@@ -26,7 +26,7 @@ const HOPS: [Hop; 3] = [
     },
 ];
 
-/// What came of a route.
+/// The outcome of a route.
 fn arrived(answer: &Result<Vec<u8>, RouteFault>) -> Outcome {
     match answer {
         Ok(octets) => Outcome::of(octets.as_slice() == [0x00, 0xFF].as_slice()),

@@ -5,17 +5,17 @@ use asn1_values::OctetString;
 use std::alloc::{AllocError, Global};
 use std::mem;
 
-/// `run` over two strings of 3000 octets, the second of which ends in the second block.
+/// `run` over two octet strings of 3000 octets; the second ends in the second block.
 #[derive(Drop)]
 pub struct Runs {
     alloc: Global,
     input: Vec<u8>,
 }
 
-/// How many octets one of these strings has, with its length in front.
+/// The length of one of these octet strings with its length determinant, in octets.
 pub const STRING: usize = 3003;
 
-/// Two of these strings by the canonical octet encoding rules.
+/// Two of these octet strings in COER.
 pub fn two_strings(alloc: Global) -> Result<Vec<u8>, AllocError> {
     let mut octets = Vec::with_capacity(alloc, 6006)?;
     for _ in 0..2 {
@@ -25,14 +25,14 @@ pub fn two_strings(alloc: Global) -> Result<Vec<u8>, AllocError> {
     Ok(octets)
 }
 
-/// Whether these octets are one of the strings by the unaligned packed rules, behind a length of two octets.
+/// Whether these octets are one of the octet strings in UPER, after a length determinant of two octets.
 fn is_string(octets: &[u8]) -> bool {
     octets.len() == 3002
         && octets.starts_with(&[0x8B, 0xB8])
         && octets.iter().skip(2).all(|octet| *octet == 0x5A)
 }
 
-/// How many of the strings were written by the unaligned packed rules, if nothing else was.
+/// How many of the octet strings were written in UPER, if nothing else was.
 pub fn written(octets: &[u8]) -> Option<usize> {
     let (first, behind) = octets.split_at(octets.len().min(3002));
     match (first.is_empty(), behind.is_empty()) {
@@ -43,8 +43,8 @@ pub fn written(octets: &[u8]) -> Option<usize> {
     }
 }
 
-/// What came of a run, and of what it wrote: whole strings, and no others. It answers `Write` where the writer found
-/// no memory.
+/// The outcome of a run that must write whole octet strings only. The run reports `Write` if memory ran out in the
+/// writer.
 fn judged(answer: Result<(), RunFault>, octets: &[u8]) -> Outcome {
     match (answer, written(octets)) {
         (Ok(()), Some(2)) => Outcome::Ample,
@@ -53,7 +53,7 @@ fn judged(answer: Result<(), RunFault>, octets: &[u8]) -> Outcome {
     }
 }
 
-/// What comes of a run over these octets.
+/// The outcome of a run over these octets.
 fn run_over(alloc: Global, octets: Vec<u8>) -> Outcome {
     let mut reader = MemorySource::new(octets, None);
     let mut writer = MemorySink::new(alloc, None);

@@ -15,12 +15,12 @@ pub struct Feeds {
 }
 
 impl Feeds {
-    /// Whether so many messages are out, and no others.
+    /// Whether the output is this many messages, and nothing else.
     fn has_written(&self, count: usize) -> bool {
         self.out.as_slice() == parcels(target_of(self.codec), count)
     }
 
-    /// Whether all is relayed, and the stream may end there.
+    /// Whether everything is relayed, and the stream may end there.
     fn is_done(&self) -> bool {
         self.has_written(2)
             && !self.relay.has_failed()
@@ -28,7 +28,7 @@ impl Feeds {
             && self.relay.finish() == Ok(())
     }
 
-    /// What the relay answers once it has stopped.
+    /// What the relay reports once it has stopped.
     fn stopped(&self) -> Result<(), RelayFault> {
         Err(RelayFault {
             number: self.stopped_at,
@@ -36,7 +36,7 @@ impl Feeds {
         })
     }
 
-    /// Whether the relay has stopped at a message, with all messages in front of it out.
+    /// Whether the relay has stopped at a message, with the translations of all messages before it in the output.
     fn has_stopped(&self) -> bool {
         let is_written = match self.stopped_at {
             0 => self.has_written(0),

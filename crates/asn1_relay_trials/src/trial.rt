@@ -1,19 +1,19 @@
 //! What all trials have in common.
 use std::alloc::{AllocError, Global};
 
-/// What came of a call.
+/// The outcome of a call.
 #[derive(Clone, Copy, Debug, PartialEq, Eq)]
 pub enum Outcome {
-    /// The answer of ample memory.
+    /// The same result as with enough memory.
     Ample,
-    /// The call found no memory, and what stands behind it is as was promised.
+    /// The call ran out of memory, and left the promised state.
     Wanting,
     /// Neither.
     Wrong,
 }
 
 impl Outcome {
-    /// What came of a call that gave the answer of ample memory, or another one.
+    /// The outcome of a call that did not run out of memory. `is_right`: its result is that with enough memory.
     pub fn of(is_right: bool) -> Outcome {
         if is_right {
             Outcome::Ample
@@ -22,7 +22,7 @@ impl Outcome {
         }
     }
 
-    /// What came of a call that found no memory, where what stands behind it is as was promised, or is not.
+    /// The outcome of a call that ran out of memory. `is_right`: it left the promised state.
     pub fn of_want(is_right: bool) -> Outcome {
         if is_right {
             Outcome::Wanting
@@ -32,27 +32,27 @@ impl Outcome {
     }
 }
 
-/// A call that takes memory, with all that it needs.
+/// A call that takes memory, with everything that it needs.
 pub trait Trial: Drop + Sized {
-    /// Of which of several calls it is one.
+    /// Selects one of several calls.
     type Plan: Copy;
 
-    /// What the call needs. This takes memory too.
+    /// Prepares what the call needs. This takes memory too.
     ///
     /// # Errors
     ///
-    /// Want of memory.
+    /// If memory runs out.
     fn begin(alloc: Global, plan: Self::Plan) -> Result<Self, AllocError>;
 
     /// Makes the call.
     fn call(&mut self) -> Outcome;
 
-    /// Makes the call once more, with memory, behind one that found none. Whether the answer is that of ample memory,
-    /// or, where the first call has stopped what it was made on, tells that.
+    /// Repeats the call, with enough memory, after one that ran out of memory. Returns whether the result is that with
+    /// enough memory, or, if the first call stopped its object, whether the object reports that.
     fn again(&mut self) -> bool;
 }
 
-/// Whether a call gives the answer of ample memory.
+/// Whether a call returns the same result as with enough memory.
 pub fn is_ample<T: Trial>(alloc: Global, plan: T::Plan) -> bool {
     match T::begin(alloc, plan) {
         Ok(mut trial) => trial.call() == Outcome::Ample,
@@ -60,7 +60,7 @@ pub fn is_ample<T: Trial>(alloc: Global, plan: T::Plan) -> bool {
     }
 }
 
-/// Whether a call gives the answer of ample memory, or finds none, and is then right once more.
+/// Whether a call returns the same result as with enough memory, or runs out of memory and is then right once repeated.
 pub fn is_right_at_last<T: Trial>(trial: &mut T) -> bool {
     match trial.call() {
         Outcome::Ample => true,

@@ -4,7 +4,7 @@ use Rattle.asn1_model.specs.Value.{Value, end, are_absent}
 use Rattle.asn1_schema_presented.specs.Presents.{with_part}
 use Rattle.asn1_schema_presented.specs.Parts.{part_unless}
 
--- It is, where the component is at its default.
+-- It is empty exactly if the component is at its default.
 pub empty_unless : (b : Bool) (v : Value) → are_absent (with_part (part_unless b v) end) ≡ b
 empty_unless true v = refl
 empty_unless false v = refl

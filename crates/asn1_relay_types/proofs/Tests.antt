@@ -13,7 +13,7 @@ old_is_true true = refl
 old_is_true false = refl
 
 module _ (meaning : ℕ → Value) where
-  -- of the newer version, where `a` is TRUE
+  -- of the newer version, if `a` is TRUE
   pub new_is_true : (a none : Bool) (b : Option ℕ) → a ≡ true → is_some b ≡ not none → none ≡ same (fields (present (truth a) end) (with_part (part_of meaning b) end)) (true_and (absent end))
   unfolding same same_parts
   new_is_true false none b e f = cc
@@ -22,7 +22,7 @@ module _ (meaning : ℕ → Value) where
   new_is_true true true (Some x) e f = f
   new_is_true true false (Some x) e f = refl
 
-  -- and where it is not
+  -- and if it is not
   pub new_is_false : (a : Bool) (b : Option ℕ) → a ≡ false → a ≡ same (fields (present (truth a) end) (with_part (part_of meaning b) end)) (true_and (absent end))
   unfolding same same_parts
   new_is_false false b e = refl

@@ -1,4 +1,4 @@
--- A sequence of a BOOLEAN and an extension marker, as a component with a default: {a TRUE}.
+-- A SEQUENCE of a BOOLEAN and an extension marker, as a component with the default {a TRUE}.
 use Rattle.std.specs.Prelude.{ℕ, true, List, [], ◌∷◌, refl}
 use Rattle.asn1_model.specs.Schema.{Tag, required, optional, Schema, boolean}
 use Rattle.asn1_model.specs.Value.{Value, truth, fields, Parts, end, absent, present}
@@ -26,7 +26,7 @@ abbrev pub flag_table : Fields → Table
 flag_table gs =
     record { root = field (universal 1 ∷ []) required (λ _. boolean) no_field; extensible = true; additions = gs }
 
--- One addition that may be absent.
+-- One optional addition.
 abbrev pub one_optional : (ℕ → Schema) → Fields
 one_optional s = field (universal 2 ∷ []) optional s no_field
 
@@ -47,7 +47,7 @@ true_stands gs qs a d =
     (boolean_default true, (λ n. refl), (λ n. refl)) no_default_parts in
     sequence_default (flag_table gs) (are_values gs qs a) root d
 
--- It may stand as the default of the older version,
+-- It is a valid default of the older version,
 pub old_true_stands : IsDefault (sequence_type (flag_table no_field)) (true_and end)
 old_true_stands = true_stands no_field end no_addition_values no_default_parts
 

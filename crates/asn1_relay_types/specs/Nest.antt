@@ -8,7 +8,7 @@ use Rattle.asn1_schema.proofs.Author.{more_variants, no_variants, null_type, nul
 use Rattle.asn1_schema.proofs.Author.{value_as, value_choice}
 use Rattle.asn1_relay_types.specs.declared.nest.Nest.{Nest, Leaf, More'}
 
--- The alternatives, by the type that the second leads to.
+-- The alternatives, with the type of the second as a parameter.
 abbrev pub nest_table : (ℕ → Schema) → Choices
 nest_table s = record {
   root = variant (context 0) (λ _. null) (variant (context 1) s no_variant);
@@ -25,13 +25,13 @@ unfolding recursive_choice choice_type scope alternatives_at
 nest_is zero = refl
 nest_is (suc n) = refl
 
--- The type is lawful.
+-- The type is well-formed.
 pub nest_typed : IsType (context 0 ∷ context 1 ∷ []) nest_schema
 nest_typed = recursive_choice_type nest_table (λ s. refl)
     (λ s t. more_variants _ refl (null_type {ts = context 0 ∷ []} refl) (more_variants _ refl t no_variants))
     (λ s t. no_variants) (λ s. refl)
 
--- Which alternative a nest is, what that means, and what the nest means.
+-- Which alternative a value has chosen, what that means, and what the value means.
 abbrev pub nest_place : Nest → Chosen
 nest_place Leaf = record { added = false; place = 0 }
 nest_place (More' p x) = record { added = false; place = 1 }
@@ -48,7 +48,7 @@ pub nest_means : (x : Nest) → nest_meaning x ≡ chosen (nest_place x).added (
 nest_means Leaf = refl
 nest_means (More' p x) = refl
 
--- Each nest is a value of the type.
+-- Each value of the Rust type is a value of the ASN.1 type.
 pub nest_valued : (x : Nest) → IsValue nest_schema (nest_meaning x)
 nest_valued Leaf = value_as (choice_type (nest_table nest_schema)) nest_schema nest_is
     (value_choice (nest_table nest_schema) false 0 null_value)

@@ -1,5 +1,4 @@
--- The types of the program, as types of the model. Types that lead back to themselves are unfolded to a number of
--- nested levels.
+-- The types of the program, as types of the model. Recursive types are unfolded to a number of nested levels.
 use Rattle.std.specs.Prelude.{ℕ, zero, suc, ◌-◌, ◌^◌, pos, negsuc, true, false, [], ◌∷◌, Some, None}
 use Rattle.asn1_model.specs.Schema.{Tag, Range, Counts, Size, Presence, required, optional, Schema, cut, boolean}
 use Rattle.asn1_model.specs.Schema.{null, integer, octet_string, set_of, sequence, set, group, choice, any_size}
@@ -15,11 +14,11 @@ universal n = record { class = 0; number = n }
 abbrev pub application : ℕ → Tag
 application n = record { class = 1; number = n }
 
--- A component of one tag, and those behind it.
+-- A component with one tag, and those after it.
 abbrev pub one_more : Tag → Presence → Schema → Components → Components
 one_more t o s cs = component (t ∷ []) o s cs
 
--- ---- numbers and octets
+-- ---- integers and octet strings
 
 -- INTEGER
 abbrev pub integer_schema : Schema
@@ -30,14 +29,14 @@ abbrev pub small_schema : Schema
 small_schema = integer (record { range = record { low = Some (negsuc 4); high = Some (pos 5) }; extensible = false })
     wide_range
 
--- INTEGER (0..255), in a number of eight bits.
+-- INTEGER (0..255), in eight bits or one octet.
 abbrev pub octet_range : Range
 octet_range = record { low = Some (pos 0); high = Some (pos 255) }
 
 abbrev pub octet_schema : Schema
 octet_schema = integer (record { range = octet_range; extensible = false }) octet_range
 
--- One to three units, or behind the extension marker any number.
+-- One to three units, or any number as an extension.
 abbrev pub one_to_three : Size
 one_to_three = record { counts = record { low = 1; high = Some 3 }; extensible = true }
 
@@ -45,7 +44,7 @@ one_to_three = record { counts = record { low = 1; high = Some 3 }; extensible =
 abbrev pub octets_schema : ℕ → Schema
 octets_schema n = octet_string one_to_three (record { low = 0; high = None })
 
--- ---- types with components, bags and choices
+-- ---- types with components, SET OF and choices
 
 -- SEQUENCE {a BOOLEAN, b INTEGER (-5..5)}
 abbrev pub pair_schema : Schema

@@ -9,13 +9,13 @@ use asn1_schema::{
 };
 use std::alloc::Global;
 
-/// What was added together.
+/// An extension addition group (X.680 25).
 pub type Extra = Sequence<ExtraFields>;
 
 /// Its components.
 #[derive(Drop)]
 pub struct ExtraFields {
-    /// The one component.
+    /// Its only component.
     pub x: Option<u8>,
 }
 

@@ -11,15 +11,15 @@ use asn1_schema::{
 };
 use std::alloc::Global;
 
-/// A type that has grown by a group.
+/// A version of a type, extended by an extension addition group.
 pub type Group = Sequence<GroupFields>;
 
 /// Its components.
 #[derive(Drop)]
 pub struct GroupFields {
-    /// What it always had.
+    /// The component of the extension root.
     pub a: bool,
-    /// What was added.
+    /// The extension addition group.
     pub extra: Option<Extra>,
 }
 

@@ -1,5 +1,4 @@
-//! The types whose messages the program `asn1_relay` translates. One leads back to itself. Four are newer versions of
-//! others.
+//! The types whose messages the program `asn1_relay` translates. One is recursive. Four are newer versions of others.
 #![tactic(auto)]
 
 mod extra;

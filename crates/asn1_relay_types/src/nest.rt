@@ -1,4 +1,4 @@
-//! Nest ::= CHOICE {leaf [0] NULL, more [1] Nest}, a type that leads back to itself.
+//! Nest ::= CHOICE {leaf [0] NULL, more [1] Nest}, a recursive type.
 ghost use Rattle.std.specs.Prelude.{[], ◌∷◌, refl};
 ghost use Rattle.asn1_schema.specs.Author.{context, no_constraint};
 
@@ -9,12 +9,12 @@ use asn1_schema::{
 };
 use std::alloc::Global;
 
-/// A nest of any depth.
+/// A value of the recursive type, of any depth.
 #[derive(Drop)]
 pub enum Nest {
-    /// The innermost.
+    /// The innermost level.
     Leaf,
-    /// One around another.
+    /// One more level around a value.
     More(Box<Nest>),
 }
 

@@ -12,15 +12,15 @@ use asn1_schema::{
 };
 use std::alloc::Global;
 
-/// A type that has grown by `b`.
+/// A newer version of `Old`, extended by `b`.
 pub type New = Sequence<NewFields>;
 
 /// Its components.
 #[derive(Drop)]
 pub struct NewFields {
-    /// What it always had.
+    /// The component of the extension root.
     pub a: bool,
-    /// What was added.
+    /// The extension addition.
     pub b: Option<u8>,
 }
 
@@ -66,7 +66,7 @@ impl FieldTables for NewFields {
     }
 }
 
-/// What the other version has, and `b` behind its extension marker.
+/// The components of the other version, and the extension addition `b`.
 impl ExtendsComponents<OldFields> for NewFields {
     ghost extends = { gains_additions _ ⟦<Additions as AdditionsOf>⟧.additions ⟦<Old as Described>⟧.typed.lawful refl };
 

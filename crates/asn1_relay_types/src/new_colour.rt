@@ -16,7 +16,7 @@ use std::alloc::Global;
 pub enum NewColour {
     /// Red.
     Red,
-    /// Blue, which was added.
+    /// Blue, an extension addition.
     Blue,
 }
 
@@ -136,7 +136,7 @@ impl Decode for NewColour {
     }
 }
 
-/// What the other version has, and blue behind its extension marker.
+/// The items of the other version, and the extension addition blue.
 impl Extends<OldColour> for NewColour {
     ghost use Rattle.asn1_schema.proofs.Author.{constant_unfolds, gains_items};
 

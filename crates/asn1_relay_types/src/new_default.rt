@@ -23,7 +23,7 @@ pub type NewDefault = Sequence<NewDefaultFields>;
 /// Its component.
 #[derive(Drop)]
 pub struct NewDefaultFields {
-    /// TRUE alone unless it is said.
+    /// The component, {a TRUE} by default.
     pub s: New,
 }
 
@@ -82,7 +82,7 @@ impl FieldTables for NewDefaultFields {
     }
 }
 
-/// As a group of additions.
+/// Also as an extension addition group.
 impl GroupComponents for NewDefaultFields {
     ghost group = { group_of ⟦<NewDefaultFields as Components>⟧.shape refl
         (record { not_extensible = refl; no_additions = refl; tagged = refl }) (λ _. refl) };
@@ -94,7 +94,7 @@ impl GroupComponents for NewDefaultFields {
     ghost same = { refl };
 }
 
-/// The same component, whose type has grown; its default is that of the other version, with what was added absent.
+/// The same component, whose type was extended. Its default is that of the other version, with the addition absent.
 impl ExtendsComponents<OldDefaultFields> for NewDefaultFields {
     ghost extends = { sequence_extends (grown_field (same_tags ⟦<New as Described>⟧.tags)
         (default_gains (flag_table no_field) (one_optional _) old_true_stands (new_true_stands _))

@@ -12,15 +12,15 @@ use asn1_schema::{
 };
 use std::alloc::Global;
 
-/// A type that has grown by `r`, which its writers always write.
+/// A newer version of `Old`, extended by `r`, which is not optional, so its writers always encode it.
 pub type NewRequired = Sequence<NewRequiredFields>;
 
 /// Its components.
 #[derive(Drop)]
 pub struct NewRequiredFields {
-    /// What it always had.
+    /// The component of the extension root.
     pub a: bool,
-    /// What was added.
+    /// The extension addition.
     pub r: Implicit<tag::Context<1>, bool>,
 }
 
@@ -66,7 +66,7 @@ impl FieldTables for NewRequiredFields {
     }
 }
 
-/// What the other version has, and `r` behind its extension marker.
+/// The components of the other version, and the extension addition `r`.
 impl ExtendsComponents<OldFields> for NewRequiredFields {
     ghost extends = { gains_additions _ ⟦<Additions as AdditionsOf>⟧.additions ⟦<Old as Described>⟧.typed.lawful refl };
 

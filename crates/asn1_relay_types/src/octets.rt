@@ -1,4 +1,4 @@
-//! Octets, of which there are one to three, or behind an extension marker any number.
+//! An OCTET STRING with an extensible size constraint.
 
 use asn1_schema::{Constrained, ExtensibleSizeRange};
 use asn1_values::OctetString;

@@ -9,13 +9,13 @@ use asn1_schema::{
 };
 use std::alloc::Global;
 
-/// A type that has not grown yet.
+/// The older version of a type, without extension additions.
 pub type Old = Sequence<OldFields>;
 
 /// Its components.
 #[derive(Drop)]
 pub struct OldFields {
-    /// What it has.
+    /// Its only component.
     pub a: bool,
 }
 

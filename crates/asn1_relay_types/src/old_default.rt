@@ -19,7 +19,7 @@ pub type OldDefault = Sequence<OldDefaultFields>;
 /// Its component.
 #[derive(Drop)]
 pub struct OldDefaultFields {
-    /// TRUE alone unless it is said.
+    /// The component, {a TRUE} by default.
     pub s: Old,
 }
 
@@ -78,7 +78,7 @@ impl FieldTables for OldDefaultFields {
     }
 }
 
-/// As a group of additions.
+/// Also as an extension addition group.
 impl GroupComponents for OldDefaultFields {
     ghost group = { group_of ⟦<OldDefaultFields as Components>⟧.shape refl
         (record { not_extensible = refl; no_additions = refl; tagged = refl }) (λ _. refl) };

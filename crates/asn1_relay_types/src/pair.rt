@@ -1,4 +1,4 @@
-//! A truth value beside a number from -5 to 5.
+//! A BOOLEAN and an INTEGER from -5 to 5.
 ghost use Rattle.std.specs.Prelude.{refl};
 ghost use Rattle.asn1_schema.proofs.Author.{sequence_of, sequence_tag};
 
@@ -10,15 +10,15 @@ use asn1_schema::{
 };
 use std::alloc::Global;
 
-/// A truth value and a whole number from -5 to 5: SEQUENCE {a BOOLEAN, b INTEGER (-5..5)} (X.680 25).
+/// SEQUENCE {a BOOLEAN, b INTEGER (-5..5)} (X.680 25).
 pub type Pair = Sequence<PairFields>;
 
 /// Its components.
 #[derive(Debug, Drop)]
 pub struct PairFields {
-    /// The truth value.
+    /// The BOOLEAN.
     pub a: bool,
-    /// The number.
+    /// The INTEGER.
     pub b: Small,
 }
 

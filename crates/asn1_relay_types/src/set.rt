@@ -1,5 +1,5 @@
-//! SET {a [444] INTEGER OPTIONAL, b [5] INTEGER OPTIONAL, c [APPLICATION 9] INTEGER OPTIONAL}, whose components stand
-//! in the order of their tags: c, b, a.
+//! SET {a [444] INTEGER OPTIONAL, b [5] INTEGER OPTIONAL, c [APPLICATION 9] INTEGER OPTIONAL}. It is encoded in the
+//! order of the tags: c, b, a (X.680 8.6).
 ghost use Rattle.std.specs.Prelude.{refl};
 ghost use Rattle.asn1_schema.proofs.Author.{set_of, set_tag};
 
@@ -11,17 +11,17 @@ use asn1_schema::{
 use asn1_values::Integer;
 use std::alloc::Global;
 
-/// Three numbers under tags of their own.
+/// Three optional integers with different tags (X.680 27).
 pub type Set = asn1_schema::Set<SetFields>;
 
 /// Its components.
 #[derive(Drop)]
 pub struct SetFields {
-    /// The last of them in the order of tags.
+    /// The last in the order of tags.
     pub a: Option<Implicit<tag::Context<444>, Integer>>,
-    /// The second.
+    /// The second in the order of tags.
     pub b: Option<Implicit<tag::Context<5>, Integer>>,
-    /// The first.
+    /// The first in the order of tags.
     pub c: Option<Implicit<tag::Application<9>, Integer>>,
 }
 

@@ -1,6 +1,6 @@
-//! Whole numbers from -5 to 5.
+//! An INTEGER from -5 to 5.
 
 use asn1_values::ConstrainedInteger;
 
-/// A whole number from -5 to 5: INTEGER (-5..5) (X.680 19).
+/// INTEGER (-5..5) (X.680 19).
 pub type Small = ConstrainedInteger<-5, 5>;

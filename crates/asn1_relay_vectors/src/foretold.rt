@@ -1,4 +1,4 @@
-//! What comes of a message on a route, told from its value: no hop reads what the hop in front of it wrote.
+//! The expected outcome of a message on a route, computed from its value: no hop reads what the hop before it wrote.
 use asn1_relay_core::{Codec, DecodeError, Extends, RouteFault, RouteFaultKind, Version, route};
 use asn1_relay_vectors_judging::routes::{Versions, Way};
 use asn1_relay_vectors_lines::route::Arrival;
@@ -7,30 +7,30 @@ use asn1_schema_encode::Encode;
 use std::alloc::Global;
 use std::marker::PhantomData;
 
-/// A newer version of a type, whose values say what the other version knows of them.
+/// A newer version of a type, with the samples of its values and what the older version knows of each.
 pub trait Grown<Old>: Sized {
-    /// A value for each place of a short list, and none behind its end.
+    /// The value with this index in a short list, and none after its end.
     fn sample(place: usize) -> Option<Self>;
 
     /// The value without what the older version does not know.
     ///
     /// # Errors
     ///
-    /// Why the older version's readers refuse the value, where it is nothing without that.
+    /// The error of the older version's decoders, if nothing is left of the value.
     fn lessened(&self) -> Result<Old, DecodeError>;
 
-    /// A value of the older version, with what was added absent.
+    /// A value of the older version, with the additions absent.
     ///
     /// # Errors
     ///
-    /// Why the newer version's readers refuse the value, where what was added may not be absent.
+    /// The error of the newer version's decoders, if an addition is required.
     fn grown(older: &Old) -> Result<Self, DecodeError>;
 
-    /// Whether a part that is not at its default is, once it has lost what the older version does not know.
+    /// Whether a component that is not at its default becomes so without what the older version does not know.
     fn clashes(&self) -> bool;
 }
 
-/// The types `Old` and `New`, of which samples are known.
+/// The types `Old` and `New`, with samples.
 pub struct Known<Old, New>(pub PhantomData<(Old, New)>);
 
 impl<Old: Encode + Decode, New: Encode + Decode + Extends<Old> + Grown<Old>> Versions
@@ -45,7 +45,7 @@ impl<Old: Encode + Decode, New: Encode + Decode + Extends<Old> + Grown<Old>> Ver
     }
 }
 
-/// The types `Old` and `New`, of which there are no samples: messages are sent, and nothing is foretold.
+/// The types `Old` and `New`, without samples: messages are sent, and no outcome is computed.
 pub struct Sent<Old, New>(pub PhantomData<(Old, New)>);
 
 impl<Old: Encode + Decode, New: Encode + Decode + Extends<Old>> Versions for Sent<Old, New> {
@@ -58,7 +58,7 @@ impl<Old: Encode + Decode, New: Encode + Decode + Extends<Old>> Versions for Sen
     }
 }
 
-/// Sends octets by hops, if there are any.
+/// Sends octets over hops, if there are any.
 fn send_between<Old: Encode + Decode, New: Encode + Decode + Extends<Old>>(
     alloc: Global,
     way: Way<'_>,
@@ -70,7 +70,7 @@ fn send_between<Old: Encode + Decode, New: Encode + Decode + Extends<Old>>(
     Some(route::<Old, New>(alloc, way.hops, way.from, octets))
 }
 
-/// Whether readers by these rules refuse a part that is at its default and spelled out.
+/// Whether decoders by these rules reject a component that is encoded at its default.
 fn is_strict(rules: Codec) -> bool {
     matches!(rules, Codec::Coer | Codec::UperStrict | Codec::AperStrict)
 }
@@ -98,7 +98,7 @@ impl<Old: Drop, New: Grown<Old> + Drop> Held<Old, New> {
     }
 }
 
-/// What is to come of a value that is sent by hops.
+/// The expected outcome of a value that is sent over hops.
 fn foretold<Old: Encode + Decode, New: Encode + Decode + Grown<Old>>(
     alloc: Global,
     value: New,

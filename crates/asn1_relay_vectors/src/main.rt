@@ -1,6 +1,6 @@
-//! Judges vectors: lines on standard input that say what octets of a type stand for, by six sets of ASN.1 encoding
-//! rules, and what becomes of streams of them. It says each line that is wrong, how many there were, and what was tried
-//! where octets are cut; its status is 1 where a line is wrong. docs/VECTORS.md has the form of a line.
+//! Judges vectors: lines on standard input that say which value the octets of a type encode, by six sets of ASN.1
+//! encoding rules, and how streams of them are translated. It reports each wrong line, the number of lines, and what
+//! was tried with truncated octets. Its status is 1 if a line is wrong. docs/VECTORS.md describes the form of a line.
 #![tactic(auto)]
 
 mod foretold;
@@ -41,7 +41,7 @@ fn main(rt: HostRuntime) -> io::Result<ExitCode> {
     Ok(ExitCode::from(if count.wrong == 0 { 0 } else { 1 }))
 }
 
-/// Judges what a line says, if it says anything.
+/// Judges a line, if it says anything.
 fn judge_line(
     rt: &impl Print,
     inputs: &mut Inputs,
@@ -65,7 +65,7 @@ fn judge_line(
     }
 }
 
-/// Judges what a line says.
+/// Judges a line that says something.
 fn judge(inputs: &mut Inputs, said: &str) -> Verdict {
     if let Some(judged) = judge_routes(inputs, said) {
         return judged;

@@ -1,4 +1,4 @@
-//! Types by their names, one group behind the other.
+//! Types by their names, one group after another.
 use crate::of::Of;
 use crate::special::Special;
 use asn1_relay_types::{
@@ -29,12 +29,12 @@ use asn1_values_strings::{
 };
 use std::marker::PhantomData;
 
-/// Judges a line of a type that has a name here: a truth value, nothing, a number, bits, octets or an identifier, or a
-/// type of one of the groups behind these.
+/// Judges a line of a type that is named here (BOOLEAN, NULL, INTEGER, BIT STRING, OCTET STRING, an identifier), or in
+/// one of the groups below.
 ///
 /// # Errors
 ///
-/// `NoType` where there is no type of that name, and those of `judge`.
+/// `NoType` if no type has that name, and those of `judge`.
 pub fn judge_named(inputs: &mut Inputs, line: &Line<'_>) -> Verdict {
     match line.kind {
         "bool" => judge(inputs, &Of::<bool>(PhantomData), line),
@@ -71,7 +71,7 @@ fn judge_string(inputs: &mut Inputs, line: &Line<'_>) -> Verdict {
     }
 }
 
-/// Judges a line of a list or a bag of a built-in type.
+/// Judges a line of a SEQUENCE OF or SET OF of a built-in type.
 fn judge_list(inputs: &mut Inputs, line: &Line<'_>) -> Verdict {
     match line.kind {
         "nulls" => judge(inputs, &Of::<Vec<()>>(PhantomData), line),
@@ -85,7 +85,7 @@ fn judge_list(inputs: &mut Inputs, line: &Line<'_>) -> Verdict {
     }
 }
 
-/// Judges a line of an enumeration or a choice.
+/// Judges a line of an ENUMERATED type or a CHOICE.
 fn judge_choice(inputs: &mut Inputs, line: &Line<'_>) -> Verdict {
     match line.kind {
         "answer" => judge(inputs, &Of::<Answer>(PhantomData), line),
@@ -105,7 +105,7 @@ fn judge_choice(inputs: &mut Inputs, line: &Line<'_>) -> Verdict {
 /// The type `wide`.
 type Wide = ConstrainedInteger<256, 1234567>;
 
-/// Judges a line of a sequence or a set, or of what stands in one.
+/// Judges a line of a SEQUENCE or SET, or of a type used in one.
 fn judge_components(inputs: &mut Inputs, line: &Line<'_>) -> Verdict {
     match line.kind {
         "wide" => judge(inputs, &Of::<Wide>(PhantomData), line),
@@ -130,7 +130,7 @@ fn judge_components(inputs: &mut Inputs, line: &Line<'_>) -> Verdict {
     }
 }
 
-/// Judges a line of a type of the program `asn1_relay` that is not built in; there are no others.
+/// Judges a line of a type of the program `asn1_relay` that is not built in. This is the last group.
 fn judge_program(inputs: &mut Inputs, line: &Line<'_>) -> Verdict {
     match line.kind {
         "small" => judge(inputs, &Of::<Small>(PhantomData), line),

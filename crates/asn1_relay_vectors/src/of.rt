@@ -1,4 +1,4 @@
-//! Types of vectors.
+//! The calls of the library for a type of the vectors.
 use asn1_relay_core::{Codec, DecodeError, MemorySink, MemorySource, Relay, recode, run};
 use asn1_relay_vectors_judging::judged::{
     Encoded, Judged, Ran, Rules, Step, Told, Translated, part,
@@ -13,7 +13,7 @@ use per_codec::{aper, aper_strict, uper, uper_strict};
 use std::alloc::{AllocError, Global};
 use std::marker::PhantomData;
 
-/// Of a remainder so many octets are compared at either end.
+/// How many octets of a remainder are compared at either end.
 const COMPARED: usize = 64;
 
 /// The type `T`.
@@ -68,7 +68,7 @@ pub fn translate_type<T: Encode + Decode>(
     Ok(write(alloc, &limits.constraints(), rules.to, &value)?)
 }
 
-/// Reads the encoding of a value of a type in front of octets, and writes the value.
+/// Decodes the value of a type with whose encoding octets begin, and encodes the value.
 pub fn front_of_type<T: Encode + Decode>(
     alloc: Global,
     limits: &Limits,
@@ -89,7 +89,7 @@ pub fn front_of_type<T: Encode + Decode>(
     Ok(Told { taken, encoded })
 }
 
-/// How many octets stand in front of a rest of them, if it is one. Of a long rest the ends are compared.
+/// The length of the octets before `rest`, if they end in it. Of a long `rest` only the two ends are compared.
 fn taken_before(octets: &[u8], rest: &[u8]) -> Option<usize> {
     let taken = octets.len().checked_sub(rest.len())?;
     let behind = part(octets, taken, octets.len());
@@ -99,7 +99,7 @@ fn taken_before(octets: &[u8], rest: &[u8]) -> Option<usize> {
     is_rest.then_some(taken)
 }
 
-/// Feeds octets to a relay of messages of a type, in pieces that end at these places.
+/// Feeds octets to a relay of messages of a type, in pieces that end at these positions.
 pub fn follow_type<T: Encode + Decode>(
     alloc: Global,
     way: Way,
@@ -168,7 +168,7 @@ pub fn run_type<T: Encode + Decode>(alloc: Global, way: Way, octets: Vec<u8>) ->
     (answer, sink)
 }
 
-/// Reads a value of a type under constraints.
+/// Decodes a value of a type with constraints.
 fn read<T: Decode>(
     alloc: Global,
     constraints: &Constraints<'_>,
@@ -185,7 +185,7 @@ fn read<T: Decode>(
     }
 }
 
-/// Writes a value of a type under constraints.
+/// Encodes a value of a type with constraints.
 fn write<T: Encode>(
     alloc: Global,
     constraints: &Constraints<'_>,
@@ -204,7 +204,7 @@ fn write<T: Encode>(
     }
 }
 
-/// Reads the encoding of a value of a type in front of octets, and lends what stands behind it.
+/// Decodes the value of a type with whose encoding octets begin, and borrows the octets after it.
 fn read_front<'input, T: Decode>(
     alloc: Global,
     codec: Codec,
@@ -220,7 +220,7 @@ fn read_front<'input, T: Decode>(
     }
 }
 
-/// Writes a value of a type.
+/// Encodes a value of a type.
 fn encode<T: Encode>(alloc: Global, codec: Codec, value: &T) -> Encoded {
     match codec {
         Codec::Uper | Codec::UperStrict => uper::encode(alloc, value),

@@ -18,7 +18,7 @@ use asn1_schema_example::grown;
 use asn1_schema_wrapped::Implicit;
 use std::marker::PhantomData;
 
-/// Judges a line of routes, which begins with `route` or `routes`; none where it begins with another word.
+/// Judges a line of routes, which begins with `route` or `routes`; none if it begins with another word.
 pub fn judge_routes(inputs: &mut Inputs, said: &str) -> Option<Verdict> {
     match said.split_once(' ') {
         Some(("route", text)) => Some(judge_one(inputs, text)),
@@ -27,14 +27,14 @@ pub fn judge_routes(inputs: &mut Inputs, said: &str) -> Option<Verdict> {
     }
 }
 
-/// Judges what is said of one route.
+/// Judges a line of one route.
 fn judge_one(inputs: &mut Inputs, text: &str) -> Verdict {
     let (name, text) = text.split_once(' ').ok_or(LineError::Form)?;
     let route = Route::read(inputs.alloc(), text)?;
     judge_pair(inputs, name, &Claim::One(name, route))
 }
 
-/// Judges what is said of two types, an older and a newer version.
+/// Judges a line of two types, an older and a newer version.
 macro_rules! judge_types {
     ($inputs:expr, $versions:ident, $old:ty, $new:ty, $claim:expr) => {
         judge(
@@ -47,11 +47,11 @@ macro_rules! judge_types {
     };
 }
 
-/// Judges what is said of the pair of this name.
+/// Judges a line of the pair with this name.
 ///
 /// # Errors
 ///
-/// `NoPair` where there is no such pair, and those of `judge`.
+/// `NoPair` if there is no such pair, and those of `judge`.
 fn judge_pair(inputs: &mut Inputs, name: &str, claim: &Claim<'_>) -> Verdict {
     match name {
         "plain" => judge_types!(inputs, Known, Old, New, claim),
@@ -62,8 +62,7 @@ fn judge_pair(inputs: &mut Inputs, name: &str, claim: &Claim<'_>) -> Verdict {
     }
 }
 
-/// Judges what is said of a pair that has no samples: of components that have grown, and of lists; or of one of those
-/// behind it.
+/// Judges a line of a pair without samples: with extended components, and with lists; or of a pair of the next group.
 fn judge_grown(inputs: &mut Inputs, name: &str, claim: &Claim<'_>) -> Verdict {
     match name {
         "list" => judge_types!(inputs, Sent, OldList, NewList, claim),
@@ -74,7 +73,7 @@ fn judge_grown(inputs: &mut Inputs, name: &str, claim: &Claim<'_>) -> Verdict {
     }
 }
 
-/// Judges what is said of a pair whose newer version has a further addition or alternative.
+/// Judges a line of a pair whose newer version has one more addition or alternative.
 fn judge_longer(inputs: &mut Inputs, name: &str, claim: &Claim<'_>) -> Verdict {
     match name {
         "nested" => judge_types!(inputs, Sent, Old, Nested, claim),

@@ -1,4 +1,4 @@
-//! Types whose calls are named one by one.
+//! Types whose calls are spelled out one by one.
 use crate::of::{follow_type, front_of_type, relay_type, run_type, translate_type};
 use asn1_relay_core::DecodeError;
 use asn1_relay_vectors_judging::judged::{Judged, Ran, Rules, Step, Told, Translated};
@@ -8,8 +8,8 @@ use asn1_relay_vectors_types::Blocks;
 use asn1_values_identifiers::ObjectIdentifier;
 use std::alloc::{AllocError, Global};
 
-/// Types whose values may borrow for as long as the program lives, and that hold an array of octets: of `Of` of these
-/// no trait object is made.
+/// Types whose values may borrow for the lifetime of the program and that hold an array of octets. `Of` of these types
+/// cannot be a trait object.
 pub enum Special {
     /// OBJECT IDENTIFIER.
     Identifiers,
@@ -17,7 +17,7 @@ pub enum Special {
     Blocks,
 }
 
-/// A call of the type that is meant.
+/// A call for the selected type.
 macro_rules! call {
     ($special:expr, $function:ident, $($argument:expr),*) => {
         match $special {

@@ -1,5 +1,5 @@
-//! Inputs, cut at each octet. Each beginning is read by each set of rules and by three calls, whose answers are held
-//! against one another.
+//! Inputs, truncated at each octet. Each prefix is decoded by each set of rules and by three calls, and their results
+//! are compared.
 use crate::judged::{Encoded, Judged, Rules, Step, Told, part};
 use crate::judging::{CODECS, Subject};
 use crate::streams::Way;
@@ -9,8 +9,8 @@ use asn1_relay_vectors_lines::line::{Limit, LineError, Verdict};
 use asn1_relay_vectors_lines::octets::shown;
 use std::alloc::{AllocError, Global};
 
-/// The first octet and the length of inputs over which readers would go 10^9 times, if they were cut at each octet: a
-/// list of 16,385 members, and fragments with 16,384 octets or more behind them.
+/// The first octet and the length of inputs for which truncation at each octet would cost decoders 10^9 steps: a list
+/// of 16,385 elements, and fragments followed by 16,384 octets or more.
 const HEAVY: [(u8, usize); 8] = [
     (0x02, 16_388),
     (0xC1, 81_923),
@@ -22,14 +22,14 @@ const HEAVY: [(u8, usize); 8] = [
     (0xC4, 131_075),
 ];
 
-/// So many sets of rules are written differently. Those behind them are written as two of these, to which a relay from
-/// them goes.
+/// The number of sets of rules whose encodings differ. The strict rules after them encode as two of these do, and a
+/// relay from the strict rules goes to those.
 const WRITERS: usize = 4;
 
-/// These are cut at each place within so many octets of their ends.
+/// Heavy inputs are truncated within this many octets of either end only.
 const ENDS: usize = 512;
 
-/// Octets, and the type as which they are read.
+/// Octets, and the type as which they are decoded.
 #[derive(Clone, Copy)]
 pub struct Input<'a> {
     /// The name of the type, and its constraints.
@@ -40,37 +40,37 @@ pub struct Input<'a> {
     pub octets: &'a [u8],
 }
 
-/// What a line says of the front of octets in rules of its own.
+/// What a line says of the prefixes of octets, in rules of its own.
 #[derive(Clone, Copy)]
 pub enum Front {
-    /// All of them are one encoding, and each beginning of them is `Incomplete`.
+    /// All octets are one encoding, and each proper prefix of them is `Incomplete`.
     Whole,
-    /// A beginning of them is one, and all of them are none.
+    /// A proper prefix of them is an encoding.
     Part,
-    /// No beginning of them is one: each is refused for this reason, or as `Incomplete`.
+    /// No prefix of them is an encoding: each is rejected for this reason, or as `Incomplete`.
     Missing(DecodeError),
 }
 
-/// What was found in front of the beginnings of octets, by one set of rules.
+/// What was found in the prefixes of octets, by one set of rules.
 #[derive(Clone, Copy, Debug)]
 struct Found {
-    /// How many octets the least one has that is an encoding.
+    /// The length of the shortest prefix that is an encoding, in octets.
     least: Option<usize>,
-    /// Why others are refused, if not as `Incomplete`.
+    /// Why other prefixes are rejected, if not as `Incomplete`.
     reason: Option<DecodeError>,
     /// Whether there is more than one such reason.
     is_mixed: bool,
 }
 
 impl Found {
-    /// Nothing.
+    /// Nothing was found.
     const NOTHING: Found = Found {
         least: None,
         reason: None,
         is_mixed: false,
     };
 
-    /// A beginning is refused.
+    /// Adds a prefix that is rejected.
     fn add(&mut self, error: DecodeError) {
         if error == DecodeError::Incomplete {
             return;
@@ -79,7 +79,7 @@ impl Found {
         self.reason = Some(error);
     }
 
-    /// Whether it is what is said of so many octets.
+    /// Whether it agrees with what is said of `all` octets.
     fn is(&self, front: Front, all: usize) -> bool {
         match front {
             Front::Whole => self.least == Some(all) && self.reason.is_none(),
@@ -92,14 +92,14 @@ impl Found {
     }
 }
 
-/// What was tried.
+/// Counts of what was tried.
 #[derive(Clone, Copy)]
 pub struct Tries {
-    /// How many inputs.
+    /// The number of inputs.
     pub inputs: u64,
-    /// How many beginnings of them, each by each set of rules.
+    /// The number of their prefixes, counted for each set of rules.
     pub cuts: u64,
-    /// How many answers were compared.
+    /// The number of results that were compared.
     pub answers: u64,
 }
 
@@ -123,7 +123,7 @@ pub struct Inputs {
 }
 
 impl Inputs {
-    /// None.
+    /// No inputs.
     pub fn new(alloc: Global) -> Inputs {
         let tries = Tries {
             inputs: 0,
@@ -147,12 +147,11 @@ impl Inputs {
         self.tries
     }
 
-    /// Tries an input, unless it was tried before. In these rules its front is as it is said to be.
+    /// Tries an input, unless it was tried before. In these rules its prefixes must be as `front` says.
     ///
     /// # Errors
     ///
-    /// `Otherwise` where it is not, or where two calls answer otherwise than they should beside each other, and
-    /// `Memory` for want of memory.
+    /// `Otherwise` if they are not, or if the results of two calls do not agree, and `Memory` if memory runs out.
     pub fn judge(
         &mut self,
         of: &dyn Judged,
@@ -171,7 +170,7 @@ impl Inputs {
         Ok(())
     }
 
-    /// The fronts of an input, which is tried now unless it was before.
+    /// What is found in the prefixes of an input. It is tried now unless it was before.
     fn fronts(&mut self, of: &dyn Judged, input: Input<'_>) -> Result<Fronts, LineError> {
         for tried in self.tried.iter() {
             if tried.name.as_str() == input.name && tried.octets.as_slice() == input.octets {
@@ -223,7 +222,7 @@ fn try_input(
     Ok(fronts)
 }
 
-/// How many octets the beginnings of octets have that are tried, in ascending order.
+/// The lengths of the prefixes that are tried, in ascending order, in octets.
 fn lengths_of(alloc: Global, octets: &[u8]) -> Result<Vec<usize>, LineError> {
     let all = octets.len();
     let is_heavy = is_heavy(octets);
@@ -237,7 +236,7 @@ fn lengths_of(alloc: Global, octets: &[u8]) -> Result<Vec<usize>, LineError> {
     Ok(lengths)
 }
 
-/// Whether octets are cut near their ends alone.
+/// Whether octets are truncated near their ends only.
 fn is_heavy(octets: &[u8]) -> bool {
     match octets.first() {
         Some(first) => HEAVY.contains(&(*first, octets.len())),
@@ -245,7 +244,7 @@ fn is_heavy(octets: &[u8]) -> bool {
     }
 }
 
-/// Octets, the beginnings of them that are tried, and the rules by which they are read.
+/// Octets, the lengths of the prefixes that are tried, and the rules by which they are decoded.
 #[derive(Clone, Copy)]
 struct Reading<'a> {
     subject: Subject<'a>,
@@ -255,8 +254,8 @@ struct Reading<'a> {
 }
 
 impl<'a> Reading<'a> {
-    /// What is found up to the least beginning that is an encoding. One that is none is refused for the same reason by
-    /// `recode`.
+    /// What is found up to the shortest prefix that is an encoding. `recode` must reject each shorter one for the same
+    /// reason.
     fn first(&self, of: &dyn Judged, tries: &mut Tries) -> Result<Found, LineError> {
         let mut found = Found::NOTHING;
         for length in self.lengths {
@@ -277,8 +276,8 @@ impl<'a> Reading<'a> {
         Ok(found)
     }
 
-    /// All octets of the least beginning that is an encoding are taken, and `recode` writes the same value. With more
-    /// octets behind it, it is as it was.
+    /// The shortest prefix that is an encoding must be decoded completely, and `recode` must encode the same value.
+    /// More octets after it must change nothing.
     fn goes_on(&self, of: &dyn Judged, least: usize, tries: &mut Tries) -> Verdict {
         for to in CODECS {
             let Ok(told) = self.front(of, to, part(self.octets, 0, least), tries) else {
@@ -295,8 +294,8 @@ impl<'a> Reading<'a> {
         Ok(())
     }
 
-    /// With octets behind the least front the same octets are taken, and the same value is told; `recode` answers
-    /// `Surplus`. Each length is tried with one set of rules of the output.
+    /// With octets after the shortest encoding, the same octets must be decoded to the same value, and `recode` must
+    /// return `Surplus`. Each length is tried with one set of output rules.
     fn goes_on_to(
         &self,
         of: &dyn Judged,
@@ -322,7 +321,7 @@ impl<'a> Reading<'a> {
         Ok(())
     }
 
-    /// What is in front of octets, and its value by other rules.
+    /// Decodes the value with whose encoding octets begin, and encodes it by other rules.
     fn front(
         &self,
         of: &dyn Judged,
@@ -339,7 +338,7 @@ impl<'a> Reading<'a> {
         of.front(alloc, limits, rules, octets)
     }
 
-    /// So many octets of a beginning were taken. (Readers that are given constraints do not tell.)
+    /// Of a prefix, `taken` octets must be decoded. (Decoders with constraints do not report this.)
     fn is_taken(&self, told: &Told, taken: usize, length: usize) -> Verdict {
         let wanted = self.subject.limits.is_none().then_some(taken);
         if told.taken == wanted {
@@ -349,7 +348,7 @@ impl<'a> Reading<'a> {
         self.wrong(length, found.as_str())
     }
 
-    /// The translation of a beginning gives this. (With constraints there is no such call.)
+    /// The translation of a prefix must give this result. (With constraints there is no such call.)
     fn is_recoded(
         &self,
         of: &dyn Judged,
@@ -369,8 +368,8 @@ impl<'a> Reading<'a> {
         }
     }
 
-    /// A relay that is fed the octets one by one answers at each of them, and to the end of the stream there, as the
-    /// readers of fronts foretell.
+    /// A relay is fed the octets one by one. At each of them its results, and those at the end of the stream there,
+    /// must be as the decoders of prefixes predict.
     fn relays(&self, of: &dyn Judged, to: Codec, tries: &mut Tries) -> Verdict {
         let Some(limit) = Limit::new(self.octets.len().max(1)) else {
             return Ok(());
@@ -403,7 +402,7 @@ impl<'a> Reading<'a> {
         self.wrong(self.octets.len(), found.as_str())
     }
 
-    /// An input is wrong: the error tells what a beginning gave.
+    /// A line is wrong: the error says what a prefix gave.
     fn wrong(&self, length: usize, found: &str) -> Verdict {
         let from = self.from;
         let alloc = self.subject.alloc;
@@ -412,7 +411,7 @@ impl<'a> Reading<'a> {
     }
 }
 
-/// Whether two values are written alike.
+/// Whether the encodings of two values are the same, or the errors in their place.
 fn is_same(found: &Encoded, wanted: &Encoded) -> bool {
     match (found, wanted) {
         (Ok(found), Ok(wanted)) => found.as_slice() == wanted.as_slice(),
@@ -421,7 +420,7 @@ fn is_same(found: &Encoded, wanted: &Encoded) -> bool {
     }
 }
 
-/// What a relay is to do, told by the readers of fronts alone.
+/// What a relay has to do, predicted by the decoders of prefixes alone.
 #[derive(Drop)]
 struct Foretold {
     to: Codec,
@@ -432,7 +431,7 @@ struct Foretold {
 }
 
 impl Foretold {
-    /// Nothing is read.
+    /// Nothing is read yet.
     fn new(alloc: Global, to: Codec) -> Foretold {
         Foretold {
             to,
@@ -443,7 +442,7 @@ impl Foretold {
         }
     }
 
-    /// What is answered at the octet in front of this place.
+    /// The results once the octets before this position are fed.
     fn step(
         &mut self,
         reading: &Reading<'_>,
@@ -471,7 +470,7 @@ impl Foretold {
         })
     }
 
-    /// An answer at the message in front.
+    /// A result at the current message.
     fn answer(&self, kind: Option<RelayFaultKind>) -> Result<(), RelayFault> {
         match kind {
             Some(kind) => Err(RelayFault {
@@ -482,7 +481,7 @@ impl Foretold {
         }
     }
 
-    /// Takes each message that is whole in front of this place: why it stops, if it does.
+    /// Takes each message that ends before this position. Returns why the relay stops, if it does.
     fn feed(
         &mut self,
         reading: &Reading<'_>,
@@ -506,7 +505,7 @@ impl Foretold {
         Ok(None)
     }
 
-    /// Takes a message: why it has no place in a stream, if it has none.
+    /// Takes a message. Returns why a relay stops at it, if it does.
     fn take(&mut self, told: &Told) -> Result<Option<RelayFaultKind>, LineError> {
         let taken = told.taken.unwrap_or(0);
         if taken == 0 {

@@ -1,4 +1,4 @@
-//! What is done with octets of a type, whichever it is.
+//! The calls with octets of a type, for all types alike.
 use crate::streams::{Relayed, Way};
 use asn1_relay_core::{
     Codec, DecodeError, EncodeError, MemorySink, RecodeFault, RelayFault, RunFault,
@@ -6,7 +6,7 @@ use asn1_relay_core::{
 use asn1_relay_vectors_lines::limits::Limits;
 use std::alloc::{AllocError, Global};
 
-/// From which set of rules to which other one octets are translated.
+/// The sets of rules of the input and of the output of a translation.
 #[derive(Clone, Copy)]
 pub struct Rules {
     /// The rules of the input.
@@ -15,35 +15,35 @@ pub struct Rules {
     pub to: Codec,
 }
 
-/// What came of a translation.
+/// The result of a translation.
 pub type Translated = Result<Vec<u8>, RecodeFault>;
 
-/// What came of a run: its answer, and what was written.
+/// The result of a run, and what was written.
 pub type Ran = (Result<(), RunFault>, MemorySink);
 
 /// The canonical encoding of a value, or why it has none.
 pub type Encoded = Result<Vec<u8>, EncodeError>;
 
-/// What was read in front of octets.
+/// What was decoded at the beginning of octets.
 #[derive(Drop)]
 pub struct Told {
-    /// How many octets it took, if the remainder that was lent is what stands behind so many. Readers that are given
-    /// constraints lend none.
+    /// The length of the encoding in octets, if the remainder that was returned is what follows it. Decoders with
+    /// constraints return no remainder.
     pub taken: Option<usize>,
     /// The value, written by the rules of the output.
     pub encoded: Encoded,
 }
 
-/// What a relay answered to a piece, and then to the end of the stream.
+/// The results of a relay for a piece, and then for the end of the stream.
 #[derive(Clone, Copy, Debug)]
 pub struct Step {
-    /// What it answered to the piece.
+    /// The result for the piece.
     pub fed: Result<(), RelayFault>,
-    /// What it answers if the stream ends there.
+    /// The result if the stream ends there.
     pub ended: Result<(), RelayFault>,
-    /// How many octets are unread. Of a relay that has stopped none are told.
+    /// The number of unread octets. None for a relay that has stopped.
     pub unread: Option<usize>,
-    /// How many octets have come out up to there.
+    /// The number of octets in the output so far.
     pub written: usize,
 }
 
@@ -57,17 +57,16 @@ impl Step {
     }
 }
 
-/// A type of vectors.
+/// A type of the vectors.
 pub trait Judged {
-    /// Translates octets from one set of rules to another. Where there are constraints, octets behind a message are
-    /// passed over.
+    /// Translates octets from one set of rules to another. With constraints, octets after a message are ignored.
     fn translate(&self, alloc: Global, limits: &Limits, rules: Rules, octets: &[u8]) -> Translated;
 
-    /// Reads the encoding in front of octets, and writes its value.
+    /// Decodes the value with whose encoding octets begin, and encodes it.
     ///
     /// # Errors
     ///
-    /// Why none is in front.
+    /// Why the octets begin with no encoding.
     fn front(
         &self,
         alloc: Global,
@@ -76,12 +75,12 @@ pub trait Judged {
         octets: &[u8],
     ) -> Result<Told, DecodeError>;
 
-    /// Feeds octets to a relay, in pieces that end at these places. What comes of a piece goes to a place of its own,
-    /// and from there to `out`.
+    /// Feeds octets to a relay, in pieces that end at these positions. The output of each piece goes to a buffer of its
+    /// own, and from there to `out`.
     ///
     /// # Errors
     ///
-    /// Only for want of memory.
+    /// Only if memory runs out.
     fn follow(
         &self,
         alloc: Global,
@@ -91,14 +90,14 @@ pub trait Judged {
         out: &mut Vec<u8>,
     ) -> Result<Vec<Step>, AllocError>;
 
-    /// Feeds the pieces of a stream to a relay, up to its first fault, and ends the stream.
+    /// Feeds the pieces of a stream to a relay, up to its first error, and ends the stream.
     fn relay(&self, alloc: Global, way: Way, pieces: &[&[u8]], out: &mut Vec<u8>) -> Relayed;
 
     /// Runs a relay from memory to memory.
     fn run(&self, alloc: Global, way: Way, octets: Vec<u8>) -> Ran;
 }
 
-/// The octets from one place up to another.
+/// The octets from one position up to another.
 pub fn part(octets: &[u8], begin: usize, end: usize) -> &[u8] {
     let front = &octets[..end.min(octets.len())];
     &front[begin.min(front.len())..]

@@ -1,4 +1,4 @@
-//! Whether a type's octets are translated, or refused, as a line says.
+//! Whether a type's octets are translated, or rejected, as a line says.
 use crate::cuts::{Front, Input, Inputs};
 use crate::judged::{Judged, Rules, Translated};
 use crate::streams::{judge_repeated, judge_stream};
@@ -8,7 +8,7 @@ use asn1_relay_vectors_lines::line::{Claim, Line, LineError, Spelled, Verdict};
 use asn1_relay_vectors_lines::octets::shown;
 use std::alloc::{AllocError, Global};
 
-/// The six sets of rules. The last two are written as the first two.
+/// The six sets of rules. The last two encode as the first two do.
 pub const CODECS: [Codec; 6] = [
     Codec::Uper,
     Codec::Aper,
@@ -27,17 +27,17 @@ pub struct Subject<'a> {
     pub limits: &'a Limits,
 }
 
-/// Judges what is said of octets of a type, and tries its octets where they are cut.
+/// Judges what a line says of octets of a type, and tries its octets when truncated.
 ///
 /// # Errors
 ///
-/// `Otherwise` where the library does not do what is said, and `Memory` for want of memory.
+/// `Otherwise` if the library does not do what is said, and `Memory` if memory runs out.
 pub fn judge(inputs: &mut Inputs, of: &dyn Judged, line: &Line<'_>) -> Verdict {
     judge_claim(inputs.alloc(), of, line)?;
     judge_cuts(inputs, of, line)
 }
 
-/// Tries the octets of a line where they are cut.
+/// Tries the octets of a line when truncated.
 fn judge_cuts(inputs: &mut Inputs, of: &dyn Judged, line: &Line<'_>) -> Verdict {
     match &line.claim {
         Claim::Same(encodings) => {
@@ -70,7 +70,7 @@ fn judge_cuts(inputs: &mut Inputs, of: &dyn Judged, line: &Line<'_>) -> Verdict 
     }
 }
 
-/// Tries octets where they are cut; in rules of their own their front is as it is said to be, if that is said.
+/// Tries octets when truncated. In rules of their own their prefixes must be as the line says, if it does.
 fn judge_input(
     inputs: &mut Inputs,
     of: &dyn Judged,
@@ -89,7 +89,7 @@ fn judge_input(
     }
 }
 
-/// Judges what is said of octets of a type.
+/// Judges what a line says of octets of a type.
 fn judge_claim(alloc: Global, of: &dyn Judged, line: &Line<'_>) -> Verdict {
     let limits = &line.limits;
     let subject = Subject { alloc, limits };
@@ -118,7 +118,7 @@ fn judge_claim(alloc: Global, of: &dyn Judged, line: &Line<'_>) -> Verdict {
 }
 
 impl<'a> Subject<'a> {
-    /// Each encoding of a value becomes each other one, alone and in streams.
+    /// Each encoding of a value must become each other one, alone and in streams.
     fn are_same(&self, of: &dyn Judged, encodings: &[Spelled]) -> Verdict {
         for source in encodings {
             for target in encodings {
@@ -131,7 +131,8 @@ impl<'a> Subject<'a> {
         Ok(())
     }
 
-    /// Octets become others in each set of rules that is named, by any way, and are refused with an octet behind them.
+    /// Octets must become others in each set of rules that is named, by any detour, and be rejected with an octet after
+    /// them.
     fn becomes(&self, of: &dyn Judged, source: &Spelled, target: &Spelled) -> Verdict {
         let octets = source.octets.as_slice();
         for from in source.readers.iter() {
@@ -143,12 +144,13 @@ impl<'a> Subject<'a> {
         Ok(())
     }
 
-    /// What a translation of octets gives.
+    /// The result of a translation of octets.
     fn translate(&self, of: &dyn Judged, from: Codec, to: Codec, octets: &[u8]) -> Translated {
         of.translate(self.alloc, self.limits, Rules { from, to }, octets)
     }
 
-    /// Octets are translated to others at once, and by way of each set of rules in which the value has an encoding.
+    /// Octets must be translated to others directly, and by way of each set of rules in which the value has an
+    /// encoding.
     fn gives_by_any_way(
         &self,
         of: &dyn Judged,
@@ -168,7 +170,7 @@ impl<'a> Subject<'a> {
         Ok(())
     }
 
-    /// The octets are refused for this reason, whatever they are to become.
+    /// The octets must be rejected for this reason, by any target rules.
     fn is_refused(&self, of: &dyn Judged, source: &Spelled, fault: RecodeFault) -> Verdict {
         let octets = source.octets.as_slice();
         for from in source.readers.iter() {
@@ -179,7 +181,7 @@ impl<'a> Subject<'a> {
         Ok(())
     }
 
-    /// The octets are read, and their value has no encoding in these rules.
+    /// The octets must be decoded, and their value must have no encoding in these rules.
     fn has_no_target(
         &self,
         of: &dyn Judged,
@@ -195,7 +197,7 @@ impl<'a> Subject<'a> {
         Ok(())
     }
 
-    /// The translation of octets gives this.
+    /// The translation of octets must give this result.
     pub fn gives(
         &self,
         of: &dyn Judged,
@@ -216,7 +218,7 @@ impl<'a> Subject<'a> {
         translated(self.alloc, from, to, &found)
     }
 
-    /// An octet behind the octets is surplus. (Readers that are given constraints pass over it.)
+    /// An octet after the octets must be surplus. (Decoders with constraints ignore it.)
     fn is_not_read_to_its_end(&self, of: &dyn Judged, from: Codec, octets: &[u8]) -> Verdict {
         if !self.limits.is_none() {
             return Ok(());
@@ -227,14 +229,14 @@ impl<'a> Subject<'a> {
     }
 }
 
-/// A line is wrong: the error tells what a translation gave.
+/// A line is wrong: the error says what a translation gave.
 fn translated(alloc: Global, from: Codec, to: Codec, found: &Translated) -> Verdict {
     let found = answer_shown(alloc, found)?;
     let found = format!(in alloc; "{from:?} to {to:?} gives {found}")?;
     Err(LineError::Otherwise(found))
 }
 
-/// What a translation gave: octets, or a fault.
+/// What a translation gave: octets, or an error.
 fn answer_shown(alloc: Global, found: &Translated) -> Result<String, LineError> {
     match found {
         Ok(octets) => shown(alloc, octets.as_slice()),

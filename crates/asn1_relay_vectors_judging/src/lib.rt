@@ -1,5 +1,5 @@
-//! Judges what lines say of the octets of a type and of routes: of one message, of streams of them, and of what is left
-//! of either where it is cut. Nothing here names a type.
+//! Judges what lines say of the octets of a type and of routes: of one message, of streams of messages, and of what
+//! remains of either when truncated. Nothing here names a type.
 #![tactic(auto)]
 
 pub mod cuts;

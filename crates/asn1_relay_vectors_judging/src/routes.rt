@@ -1,4 +1,4 @@
-//! Whether messages arrive by routes, or are refused at a hop, as a line says.
+//! Whether messages arrive by routes, or are rejected at a hop, as a line says.
 mod every;
 
 use crate::cuts::{Front, Input, Inputs};
@@ -11,7 +11,7 @@ use asn1_relay_vectors_lines::route::{Arrival, Route};
 use std::alloc::Global;
 use std::fmt::Write;
 
-/// By which hops a message is sent, and the rules that it is in before the first of them.
+/// The hops over which a message is sent, and the rules in which it is before the first of them.
 #[derive(Clone, Copy)]
 pub struct Way<'a> {
     /// The rules of the message.
@@ -22,29 +22,28 @@ pub struct Way<'a> {
 
 /// A pair of versions.
 pub trait Versions {
-    /// Sends octets by hops; none if there is no hop.
+    /// Sends octets over hops; none if there is no hop.
     fn send(&self, alloc: Global, way: Way<'_>, octets: &[u8]) -> Option<Arrival>;
 
-    /// What is to come of the encoding of the sample at a place, sent by hops. Where there is no hop, it is this
-    /// encoding. None if there is no such sample.
+    /// The expected outcome of the encoding of the sample with this index, sent over hops. If there is no hop, it is
+    /// this encoding. None if there is no such sample.
     fn foretell(&self, alloc: Global, place: usize, way: Way<'_>) -> Option<Arrival>;
 }
 
 /// What a line says of a pair of versions.
 #[derive(Drop)]
 pub enum Claim<'a> {
-    /// A message of the pair of this name arrives by a route, or is refused.
+    /// A message of the pair with this name arrives by a route, or is rejected.
     One(&'a str, Route),
-    /// Messages go by every short list of hops as their values foretell.
+    /// For every short list of hops, messages arrive as their values predict.
     Every,
 }
 
-/// Judges what is said of a pair of versions.
+/// Judges what a line says of a pair of versions.
 ///
 /// # Errors
 ///
-/// `Otherwise` where the library does not do what is said, `Form` where a route has no hop, and `Memory` for want of
-/// memory.
+/// `Otherwise` if the library does not do what is said, `Form` if a route has no hop, and `Memory` if memory runs out.
 pub fn judge(
     inputs: &mut Inputs,
     of: &dyn Versions,
@@ -73,7 +72,7 @@ pub fn judge(
     }
 }
 
-/// Tries a message where it is cut, as one of a version. The first hop reads it by rules of its own.
+/// Tries a message when truncated, as one of a version. The line says how the first hop decodes it.
 fn judge_cuts(
     inputs: &mut Inputs,
     of: &dyn Judged,
@@ -94,7 +93,7 @@ fn judge_cuts(
     inputs.judge(of, input, rules, front_of(&route.arrival))
 }
 
-/// What the first hop finds in front of a message, as what becomes of it tells.
+/// What the first hop finds in the prefixes of a message, by the outcome of the route.
 fn front_of(arrival: &Arrival) -> Front {
     match arrival {
         Err(
@@ -113,7 +112,7 @@ fn front_of(arrival: &Arrival) -> Front {
     }
 }
 
-/// A message that goes by hops arrives as what is wanted, or is refused where and as it is to be.
+/// A message that is sent over hops must arrive as these octets, or be rejected at this hop and for this reason.
 fn arrives(
     alloc: Global,
     of: &dyn Versions,

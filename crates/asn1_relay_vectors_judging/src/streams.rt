@@ -5,10 +5,10 @@ use asn1_relay_vectors_lines::line::{Limit, LineError, Spelled, Verdict};
 use asn1_relay_vectors_lines::octets::shown;
 use std::alloc::{AllocError, Global};
 
-/// Streams of no more octets are cut in every way, and others at one place alone, or at each.
+/// Streams of at most this many octets are cut in every way, and others at one position only, or after each octet.
 const ALL_CUTTINGS: usize = 12;
 
-/// Streams of more octets than these are cut near their ends and near their middle.
+/// Streams of more than this many octets are cut near their ends and near their middle only.
 const LONG: usize = 2048;
 
 /// How a stream is translated.
@@ -18,25 +18,25 @@ pub struct Way {
     pub from: Codec,
     /// The rules of the output.
     pub to: Codec,
-    /// How many octets a message may have.
+    /// The maximum length of a message, in octets.
     pub limit: Limit,
 }
 
-/// What a relay answered.
+/// The results of a relay.
 #[derive(Clone, Copy, Debug)]
 pub struct Relayed {
-    /// Its first fault, or what it answered at the end of the stream.
+    /// Its first error, or its result at the end of the stream.
     pub answer: Result<(), RelayFault>,
-    /// What it answered to a further piece: an octet behind a fault, and none behind the end.
+    /// Its result for one more piece: an octet after an error, and an empty piece after the end.
     pub fed: Result<(), RelayFault>,
-    /// What it answered at the end once more.
+    /// Its result at the end, once more.
     pub ended: Result<(), RelayFault>,
     /// Whether it says that it has failed.
     pub failed: bool,
 }
 
 impl Relayed {
-    /// Whether a relay that has stopped says so from then on, and one that has not is as it was.
+    /// Whether a relay that has stopped reports so from then on, and one that has not is unchanged.
     fn is_lasting(&self) -> bool {
         match self.answer {
             Err(RelayFault { number, kind }) if kind != RelayFaultKind::NoForm => {
@@ -52,16 +52,16 @@ impl Relayed {
 /// Where a stream is cut.
 #[derive(Clone, Copy, Debug)]
 enum Cutting {
-    /// Behind each octet.
+    /// After each octet.
     Each,
-    /// In front of the octet of this place.
+    /// Before the octet at this position.
     At(usize),
-    /// Behind the octets whose places are set in this number.
+    /// After the octets whose bits are set in this number.
     Behind(u32),
 }
 
 impl Cutting {
-    /// Whether a stream is cut behind the octet of this place.
+    /// Whether a stream is cut after the octet at this position.
     fn is_behind(self, place: usize) -> bool {
         match self {
             Cutting::Each => true,
@@ -71,7 +71,7 @@ impl Cutting {
     }
 }
 
-/// A stream, how it is translated, and what it is to become.
+/// A stream, how it is translated, and what it must become.
 #[derive(Clone, Copy)]
 struct Stream<'a> {
     alloc: Global,
@@ -81,11 +81,11 @@ struct Stream<'a> {
     answer: Result<(), RelayFault>,
 }
 
-/// A stream becomes another, in each set of rules that is named, and ends with this answer.
+/// A stream must become another, in each set of rules that is named, and end with this result.
 ///
 /// # Errors
 ///
-/// `Otherwise` where the library does not do what is said, and `Memory` for want of memory.
+/// `Otherwise` if the library does not do what is said, and `Memory` if memory runs out.
 pub fn judge_stream(
     alloc: Global,
     of: &dyn Judged,
@@ -114,8 +114,8 @@ pub fn judge_stream(
     Ok(())
 }
 
-/// An encoding twice over becomes its translation twice over, in each set of rules that is named and wherever it is
-/// cut. Where a message may have an octet less, none is in front.
+/// Two copies of an encoding must become two copies of its translation, in each set of rules that is named and wherever
+/// the stream is cut. If the limit is one octet less, the relay must find no message within it.
 ///
 /// # Errors
 ///
@@ -154,12 +154,12 @@ pub fn judge_repeated(
     Ok(())
 }
 
-/// A stream that stops at its first message.
+/// The result of a stream that stops at its first message.
 fn stops(kind: RelayFaultKind) -> Result<(), RelayFault> {
     Err(RelayFault { number: 0, kind })
 }
 
-/// Octets, and once more behind them.
+/// Two copies of octets.
 fn twice(alloc: Global, octets: &[u8]) -> Result<Vec<u8>, LineError> {
     let mut both = Vec::from_slice(alloc, octets)?;
     both.extend_from_slice(octets).map_err(AllocError::from)?;
@@ -167,7 +167,8 @@ fn twice(alloc: Global, octets: &[u8]) -> Result<Vec<u8>, LineError> {
 }
 
 impl<'a> Stream<'a> {
-    /// A stream of one message twice over becomes what is wanted; where this may have an octet less, none is in front.
+    /// A stream of two copies of one message must become what is expected. If the limit is one octet less, the relay
+    /// must find no message within it.
     fn is_repeated(&self, of: &dyn Judged) -> Verdict {
         self.relays_by_single_cuttings(of)?;
         self.runs(of)?;
@@ -184,7 +185,7 @@ impl<'a> Stream<'a> {
         less.runs(of)
     }
 
-    /// A stream becomes what is wanted, in every cutting if it is short.
+    /// A stream must become what is expected; a short one in every way of cutting it.
     fn relays_by_all_cuttings(&self, of: &dyn Judged) -> Verdict {
         if self.octets.len() > ALL_CUTTINGS {
             return self.relays_by_single_cuttings(of);
@@ -195,7 +196,7 @@ impl<'a> Stream<'a> {
         Ok(())
     }
 
-    /// A stream becomes what is wanted, as a whole, cut at one place, and octet by octet.
+    /// A stream must become what is expected, uncut, cut at one position, and octet by octet.
     fn relays_by_single_cuttings(&self, of: &dyn Judged) -> Verdict {
         let count = self.octets.len();
         if count <= LONG {
@@ -210,7 +211,7 @@ impl<'a> Stream<'a> {
         Ok(())
     }
 
-    /// A relay that is fed the pieces of a stream, behind a piece of no octets, gives what is wanted.
+    /// A relay that is fed an empty piece and then the pieces of a stream must give what is expected.
     fn relays(&self, of: &dyn Judged, cutting: Cutting) -> Verdict {
         let pieces = pieces(self.alloc, self.octets, cutting)?;
         let mut out = Vec::new(self.alloc);
@@ -222,7 +223,7 @@ impl<'a> Stream<'a> {
         self.streamed(format!(in self.alloc; "{cutting:?} gives {octets}; {found:?}")?)
     }
 
-    /// A run from memory to memory gives what is wanted.
+    /// A run from memory to memory must give what is expected.
     fn runs(&self, of: &dyn Judged) -> Verdict {
         let input = Vec::from_slice(self.alloc, self.octets)?;
         let (found, sink) = of.run(self.alloc, self.way, input);
@@ -233,7 +234,7 @@ impl<'a> Stream<'a> {
         self.streamed(format!(in self.alloc; "a run gives {octets}; {found:?}")?)
     }
 
-    /// A line is wrong: the error tells what came of a stream.
+    /// A line is wrong: the error says what a stream gave.
     fn streamed(&self, found: String) -> Verdict {
         let Way { from, to, .. } = self.way;
         let found = format!(in self.alloc; "a stream from {from:?} to {to:?}: {found}")?;
@@ -241,7 +242,7 @@ impl<'a> Stream<'a> {
     }
 }
 
-/// The pieces of a stream that is cut, and in front of them one of no octets.
+/// The pieces of a stream that is cut, after an empty one.
 fn pieces<'a>(
     alloc: Global,
     octets: &'a [u8],

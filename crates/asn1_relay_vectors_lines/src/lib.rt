@@ -1,4 +1,4 @@
-//! What lines of the vectors say: of octets of a type, of streams and of routes.
+//! What lines of the vectors say about octets of a type, about streams and about routes.
 #![tactic(auto)]
 
 pub mod limits;

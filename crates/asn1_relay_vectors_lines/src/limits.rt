@@ -1,9 +1,9 @@
-//! Constraints that stand behind the name of a type.
+//! Constraints that follow the name of a type.
 use crate::line::LineError;
 use asn1_schema_constraints::{Bounded, Constraints, Extensible, PermittedAlphabet, Size, Value};
 use std::alloc::{AllocError, Global};
 
-/// What a line's type is constrained to, as in `octet-string(SIZE(1..3,...))` (X.680 51).
+/// The constraints of a line's type, as in `octet-string(SIZE(1..3,...))` (X.680 51).
 #[derive(Drop)]
 pub struct Limits {
     value: Option<Extensible<'static, Value>>,
@@ -11,7 +11,7 @@ pub struct Limits {
     alphabet: Option<Alphabet>,
 }
 
-/// Permitted characters, by their numbers, and whether an extension marker stands behind them.
+/// Permitted characters, by their codes, and whether an extension marker follows them.
 #[derive(Drop)]
 struct Alphabet {
     characters: Vec<u32>,
@@ -30,7 +30,7 @@ impl Limits {
     ///
     /// # Errors
     ///
-    /// `Limits` where one has not that form, and `Memory` for want of memory.
+    /// `Limits` if one does not have that form, and `Memory` if memory runs out.
     pub fn read(alloc: Global, text: &str) -> Result<Limits, LineError> {
         let mut limits = Limits::NONE;
         if text.is_empty() {
@@ -69,7 +69,7 @@ impl Limits {
         self.value.is_none() && self.size.is_none() && self.alphabet.is_none()
     }
 
-    /// The constraints as the codecs take them.
+    /// The constraints in the form of the codecs.
     pub fn constraints(&self) -> Constraints<'_> {
         let permitted_alphabet = match &self.alphabet {
             Some(alphabet) => {
@@ -87,7 +87,7 @@ impl Limits {
     }
 }
 
-/// What stands between two texts, if a text begins and ends with these.
+/// The part of a text between `front` and `back`, if it begins and ends with these.
 fn inside<'a>(text: &'a str, front: &str, back: &str) -> Option<&'a str> {
     text.strip_prefix(front)?.strip_suffix(back)
 }
@@ -111,7 +111,7 @@ fn read_range(text: &str) -> Result<Bounded<i128>, LineError> {
     }
 }
 
-/// An end of a range, which is open where it has this name.
+/// An endpoint of a range, which is open if it has the name `open`.
 fn read_end(text: &str, open: &str) -> Result<Option<i128>, LineError> {
     if text == open {
         return Ok(None);

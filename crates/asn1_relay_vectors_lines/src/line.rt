@@ -1,4 +1,4 @@
-//! What a line says.
+//! What a line says about octets.
 ghost use Rattle.std.specs.Prelude.{◌≤◌};
 
 use crate::limits::Limits;
@@ -11,37 +11,37 @@ use thiserror::Error;
 /// Why a line is wrong.
 #[derive(Debug, Drop, Error)]
 pub enum LineError {
-    /// It begins with no name of a type and what is said of it.
+    /// It does not begin with the name of a type and a claim.
     #[error("a line is a type, what is said of it, and a remark behind #")]
     Form,
-    /// A word is neither an octet nor many of one.
+    /// A word is neither an octet nor a repeated octet.
     #[error("octets are two hexadecimal digits each, and NN*COUNT for many of one")]
     Octets,
-    /// A word names no rules.
+    /// A word is not the name of a set of rules.
     #[error("rules are uper, aper, uper-strict, aper-strict, oer and coer, with a comma between two of them")]
     Rules,
-    /// What stands behind the name of a type is no constraint.
+    /// The text after the name of a type is not a constraint.
     #[error("constraints are (0..255), (SIZE(1..3)) and (FROM(\"01\")), with ,... at the end for an extension marker")]
     Limits,
-    /// A word is no limit of a stream.
+    /// A word is not a limit of a stream.
     #[error("a limit is a number of octets, at least 1")]
     Limit,
-    /// A word is the name of no error, or of none that stands there.
+    /// A word is not the name of an error, or of none that may be named there.
     #[error("there is no such error")]
     NoError,
     /// No type has this name.
     #[error("there is no such type")]
     NoType,
-    /// What came of octets, of a stream or of a route is not what the line says.
+    /// The result for octets, a stream or a route is not what the line says.
     #[error("{0}")]
     Otherwise(String),
     /// No pair of versions has this name.
     #[error("there is no such pair of versions")]
     NoPair,
-    /// Of a pair of versions there are no values to send.
+    /// A pair of versions has no sample values.
     #[error("there are no samples of this pair of versions")]
     NoSample,
-    /// No memory was left.
+    /// Memory ran out.
     #[error("out of memory")]
     Memory,
 }
@@ -55,27 +55,27 @@ impl From<AllocError> for LineError {
     }
 }
 
-/// Octets, and the rules of which they are said.
+/// Octets, and the rules for which a line gives them.
 #[derive(Drop)]
 pub struct Spelled {
     /// The rules.
     pub rules: Vec<Codec>,
-    /// The rules by which the octets are read: of canonical octets also the strict ones that are written alike.
+    /// The rules by which the octets are decoded: for canonical octets of PER also the strict rules.
     pub readers: Vec<Codec>,
     /// The octets.
     pub octets: Vec<u8>,
 }
 
-/// How many octets a message may have: one or more.
+/// The maximum length of a message: one octet or more.
 #[derive(Clone, Copy)]
 pub struct Limit {
-    /// So many.
+    /// The number of octets.
     pub octets: usize,
     pub ghost some: { 1 ≤ octets },
 }
 
 impl Limit {
-    /// A limit of so many octets, if there are any.
+    /// A limit of this many octets, or none if it is 0.
     pub fn new(octets: usize) -> Option<Limit> {
         if octets == 0 {
             return None;
@@ -84,24 +84,24 @@ impl Limit {
     }
 }
 
-/// What a line says of its type.
+/// What a line says about its type.
 #[derive(Drop)]
 pub enum Claim {
     /// All of these are the canonical encodings of one value.
     Same(Vec<Spelled>),
-    /// The former are translated to the latter.
+    /// The first are translated to the second.
     Becomes(Spelled, Spelled),
-    /// The octets are refused for this reason.
+    /// The octets are rejected for this reason.
     Refused(Spelled, RecodeFault),
     /// The octets are an encoding of a value that has none by these rules, for this reason.
     NoTarget(Spelled, Vec<Codec>, RecodeFault),
-    /// All of these are streams of the canonical encodings of the same values, each of no more octets than the limit.
+    /// All of these are streams of the canonical encodings of the same values; no encoding is longer than the limit.
     Streams(Limit, Vec<Spelled>),
-    /// The former, as a stream, is translated to the latter, up to where it stops, if it does.
+    /// The first, as a stream, is translated to the second, up to the message at which it stops, if it does.
     Stream(Limit, Spelled, Spelled, Result<(), RelayFault>),
 }
 
-/// A type, and what is said of it.
+/// A type, and a claim about it.
 #[derive(Drop)]
 pub struct Line<'a> {
     /// The name of the type.
@@ -110,7 +110,7 @@ pub struct Line<'a> {
     pub constrained: &'a str,
     /// Its constraints.
     pub limits: Limits,
-    /// What is said of it.
+    /// The claim.
     pub claim: Claim,
 }
 
@@ -119,8 +119,8 @@ impl<'a> Line<'a> {
     ///
     /// # Errors
     ///
-    /// `Form`, `Rules`, `Octets`, `Limits`, `Limit` or `NoError` where it has not the form of a line, and `Memory` for
-    /// want of memory.
+    /// `Form`, `Rules`, `Octets`, `Limits`, `Limit` or `NoError` if it does not have the form of a line, and `Memory`
+    /// if memory runs out.
     pub fn read(alloc: Global, said: &'a str) -> Result<Line<'a>, LineError> {
         let (kind, text) = said.split_once(' ').ok_or(LineError::Form)?;
         if kind == "stream" {
@@ -149,7 +149,7 @@ impl<'a> Line<'a> {
     }
 }
 
-/// Reads what is said of a type.
+/// Reads a claim about octets.
 fn read_claim(alloc: Global, text: &str) -> Result<Claim, LineError> {
     match text.split_once("->") {
         Some((source, answer)) => read_answer(alloc, source, answer),
@@ -157,7 +157,7 @@ fn read_claim(alloc: Global, text: &str) -> Result<Claim, LineError> {
     }
 }
 
-/// Reads encodings with `=` between two of them.
+/// Reads encodings separated by `=`.
 fn read_all(alloc: Global, text: &str) -> Result<Vec<Spelled>, LineError> {
     let mut encodings = Vec::new(alloc);
     for part in text.split('=') {
@@ -168,7 +168,7 @@ fn read_all(alloc: Global, text: &str) -> Result<Vec<Spelled>, LineError> {
     Ok(encodings)
 }
 
-/// Reads what octets are said to become.
+/// Reads what octets become.
 fn read_answer(alloc: Global, source: &str, answer: &str) -> Result<Claim, LineError> {
     let source = read_spelled(alloc, source)?;
     let answer = answer.trim();
@@ -187,7 +187,7 @@ fn read_answer(alloc: Global, source: &str, answer: &str) -> Result<Claim, LineE
     }
 }
 
-/// Reads a limit, and what streams are said to become.
+/// Reads a limit, and what streams become.
 fn read_stream(alloc: Global, text: &str) -> Result<Claim, LineError> {
     let (limit, text) = text.split_once(' ').ok_or(LineError::Form)?;
     let limit = limit.parse::<usize>().ok().and_then(Limit::new);
@@ -213,8 +213,8 @@ fn read_stop(alloc: Global, text: &str) -> Result<RelayFault, LineError> {
     })
 }
 
-/// Whether a word may be the name of an error: letters alone, more than there are in an octet, and the first of them
-/// a capital.
+/// Whether a word may be the name of an error: letters only, more than the two of an octet, the first of them a
+/// capital.
 fn is_reason(word: &str) -> bool {
     let is_capital = word
         .bytes()
@@ -223,7 +223,7 @@ fn is_reason(word: &str) -> bool {
     word.len() > 2 && is_capital && word.bytes().all(|letter| letter.is_ascii_alphabetic())
 }
 
-/// Why octets may be refused.
+/// Why octets may be rejected.
 pub const READING_ERRORS: [DecodeError; 23] = [
     DecodeError::Incomplete,
     DecodeError::SurplusOctets,
@@ -276,20 +276,20 @@ pub fn named<T: Copy + Debug>(alloc: Global, name: &str, all: &[T]) -> Result<T,
     Err(LineError::NoError)
 }
 
-/// Reads rules, and the canonical octets behind them, which are read strictly too.
+/// Reads rules, and the canonical octets after them, which are decoded strictly as well.
 fn read_canonical(alloc: Global, text: &str) -> Result<Spelled, LineError> {
     let mut spelled = read_spelled(alloc, text)?;
     add_strict(&mut spelled.readers)?;
     Ok(spelled)
 }
 
-/// Rules that are read leniently, and those that are written alike and read strictly.
+/// The lenient rules of PER, each with the strict rules that encode as it does.
 const STRICT: [(Codec, Codec); 2] = [
     (Codec::Uper, Codec::UperStrict),
     (Codec::Aper, Codec::AperStrict),
 ];
 
-/// Adds the strict rules of PER where the rules that are written alike are named.
+/// Adds the strict rules of PER if the lenient ones are named.
 fn add_strict(rules: &mut Vec<Codec>) -> Result<(), LineError> {
     for (lenient, strict) in STRICT {
         if rules.contains(&lenient) && !rules.contains(&strict) {
@@ -299,7 +299,7 @@ fn add_strict(rules: &mut Vec<Codec>) -> Result<(), LineError> {
     Ok(())
 }
 
-/// Reads rules, and the octets behind them.
+/// Reads rules, and the octets after them.
 fn read_spelled(alloc: Global, text: &str) -> Result<Spelled, LineError> {
     let mut words = text.split_whitespace();
     let rules = read_rules(alloc, words.next().ok_or(LineError::Form)?)?;
@@ -315,7 +315,7 @@ fn read_spelled(alloc: Global, text: &str) -> Result<Spelled, LineError> {
     })
 }
 
-/// Reads names of rules with a comma between two of them.
+/// Reads names of rules, separated by commas.
 pub fn read_rules(alloc: Global, text: &str) -> Result<Vec<Codec>, LineError> {
     let mut rules = Vec::new(alloc);
     for name in text.split(',') {

@@ -3,12 +3,11 @@ use crate::line::LineError;
 use std::alloc::{AllocError, Global};
 use std::fmt::Write;
 
-/// Adds the octets of a word to others: two hexadecimal digits are one octet, and `61*16384` is the octet 61 so many
-/// times.
+/// Appends the octets of a word: two hexadecimal digits are one octet, and `61*16384` is 16384 times the octet 61.
 ///
 /// # Errors
 ///
-/// `Octets` where the word is neither, and `Memory` for want of memory.
+/// `Octets` if the word is neither, and `Memory` if memory runs out.
 pub fn push_octets(octets: &mut Vec<u8>, word: &str) -> Result<(), LineError> {
     let (digits, count) = match word.split_once('*') {
         Some((digits, count)) => (
@@ -27,7 +26,7 @@ pub fn push_octets(octets: &mut Vec<u8>, word: &str) -> Result<(), LineError> {
     Ok(())
 }
 
-/// Octets in hexadecimal, with a space between two of them.
+/// Octets in hexadecimal, separated by spaces.
 pub fn shown(alloc: Global, octets: &[u8]) -> Result<String, LineError> {
     let mut text = String::new(alloc);
     for octet in octets {

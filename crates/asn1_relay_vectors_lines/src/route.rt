@@ -1,29 +1,29 @@
-//! What a line of a route says.
+//! What a line says about a route.
 use crate::line::{LineError, READING_ERRORS, Spelled, WRITING_ERRORS, named, read_rules};
 use crate::octets::push_octets;
 use asn1_relay_core::{Hop, RouteFault, RouteFaultKind, Version};
 use std::alloc::{AllocError, Global};
 
-/// What came of a message.
+/// The outcome for a message.
 pub type Arrival = Result<Vec<u8>, RouteFault>;
 
-/// A message, the hops by which it goes, and what arrives, or where and why it is refused.
+/// A message, its hops, and what arrives, or the hop that rejects it and why.
 #[derive(Drop)]
 pub struct Route {
     /// The message.
     pub source: Spelled,
     /// The hops.
     pub hops: Vec<Hop>,
-    /// What comes of it.
+    /// The outcome.
     pub arrival: Arrival,
 }
 
 impl Route {
-    /// Reads what is said behind the name of a pair of versions.
+    /// Reads the text after the name of a pair of versions.
     ///
     /// # Errors
     ///
-    /// `Form`, `Rules`, `Octets` or `NoError` where it has not the form of a line, and `Memory` for want of memory.
+    /// `Form`, `Rules`, `Octets` or `NoError` if it does not have the form of a line, and `Memory` if memory runs out.
     pub fn read(alloc: Global, text: &str) -> Result<Route, LineError> {
         let (sent, arrival) = text.split_once("->").ok_or(LineError::Form)?;
         let (source, hops) = read_sent(alloc, sent)?;
@@ -61,7 +61,7 @@ fn read_sent(alloc: Global, text: &str) -> Result<(Spelled, Vec<Hop>), LineError
     Ok((source, hops))
 }
 
-/// Reads a hop: a version, and rules.
+/// Reads a hop: a version and a set of rules.
 fn read_hop(alloc: Global, version: &str, to: &str) -> Result<Hop, LineError> {
     let version = match version {
         "old" => Version::Old,
@@ -74,7 +74,7 @@ fn read_hop(alloc: Global, version: &str, to: &str) -> Result<Hop, LineError> {
     }
 }
 
-/// Reads what arrives, or where a message is refused and why.
+/// Reads what arrives, or the hop that rejects the message and why.
 fn read_arrival(alloc: Global, text: &str) -> Result<Arrival, LineError> {
     if let Some(fault) = text.strip_prefix("hop ") {
         return Ok(Err(read_fault(alloc, fault)?));
@@ -86,7 +86,7 @@ fn read_arrival(alloc: Global, text: &str) -> Result<Arrival, LineError> {
     Ok(Ok(octets))
 }
 
-/// Reads the number of a hop, and why it refuses.
+/// Reads the number of a hop, and why it rejects the message.
 fn read_fault(alloc: Global, text: &str) -> Result<RouteFault, LineError> {
     let (hop, reason) = text.split_once(' ').ok_or(LineError::Form)?;
     let kind = match reason.split_once(' ') {

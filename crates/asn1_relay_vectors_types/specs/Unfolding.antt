@@ -1,5 +1,5 @@
--- Types that mean the same in whatever depth they are unfolded: lists, bags, groups, and a choice that leads back to
--- itself.
+-- Types that mean the same at any depth of unfolding: SEQUENCE OF, SET OF, extension addition groups, and a recursive
+-- CHOICE.
 use Rattle.std.proofs.Common.{◌≤◌, ℕ, zero, suc, refl, inl, inr, arith}
 use Rattle.asn1_model.specs.Schema.{Counts, Size, Schema, null}
 use Rattle.asn1_laws_values.specs.Unfolding.{AgreesTo, AgreesAlternatives}
@@ -12,7 +12,7 @@ use Rattle.asn1_schema_presented.specs.Tables.{Table, scope, list_type}
 use Rattle.asn1_schema_types.specs.Versions.{Unfolds}
 use Rattle.asn1_schema_authored.proofs.Unfolding.{FieldsUnfold, constant_unfolds}
 
--- A list whose members do.
+-- A SEQUENCE OF such elements.
 pub list_unfolds : (z : Size) (c : Counts) {s : ℕ → Schema} → Unfolds s → Unfolds (list_type z c s)
 unfolding list_type scope AgreesTo
 list_unfolds z c {s} h = record { alike = at }
@@ -29,7 +29,7 @@ list_unfolds z c {s} h = record { alike = at }
         let b' : k ≤ j = omega arith in
         (refl, refl, h.alike k i j a' b')
 
--- A bag whose members do.
+-- A SET OF such elements.
 pub bag_unfolds : (z : Size) (c : Counts) {s : ℕ → Schema} → Unfolds s → Unfolds (bag_type z c s)
 unfolding bag_type scope AgreesTo
 bag_unfolds z c {s} h = record { alike = at }
@@ -46,7 +46,7 @@ bag_unfolds z c {s} h = record { alike = at }
         let b' : k ≤ j = omega arith in
         (refl, refl, h.alike k i j a' b')
 
--- A group whose components do.
+-- A group of such components.
 pub group_unfolds : (t : Table) → FieldsUnfold t.root → Unfolds (group_type t)
 unfolding group_type scope AgreesTo
 group_unfolds t r = record { alike = at }

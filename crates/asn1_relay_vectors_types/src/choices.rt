@@ -434,7 +434,7 @@ impl ChoiceAlternatives for VersionedAlternative {
     }
 }
 
-/// What the other version has, and `c` behind its extension marker.
+/// The alternatives of the other version, and the extension addition `c`.
 impl ExtendsAlternatives<OldVersionedAlternative> for VersionedAlternative {
     ghost extends = { gains_alternatives ⟦<OldVersionedAlternative as ChoiceAlternatives>⟧.shape.table
         (variant (context 2) ⟦<Integer as Described>⟧.schema no_variant) ⟦<OldVersioned as Described>⟧.typed.lawful

@@ -1,4 +1,4 @@
-//! Numbers within bounds of their own, with an extension marker behind these.
+//! Integers with an extensible value range.
 ghost use Rattle.std.specs.Prelude.{◌≡◌, refl, pos, Some, true};
 ghost use Rattle.asn1_schema.specs.Author.{bounded_by};
 ghost use Rattle.asn1_schema_constraints.specs.Terms.{meant};
@@ -14,7 +14,7 @@ pub struct OctetOrMore;
 /// INTEGER (0..255, ...).
 pub type ExtensibleInteger = Constrained<OctetOrMore, Integer>;
 
-/// INTEGER (0..255, ...), of whose numbers those past 255 are not held.
+/// INTEGER (0..255, ...). The Rust type cannot hold values above 255.
 pub type ExtensibleOctet = Constrained<OctetOrMore, u8>;
 
 impl ConstraintsOf<Integer> for OctetOrMore {
@@ -65,7 +65,7 @@ impl ConstraintsOf<u8> for OctetOrMore {
     ghost same_meaning = { λ _. refl };
 }
 
-/// The constraint to the numbers from 0 to 255, with an extension marker.
+/// The constraint to values from 0 to 255, with an extension marker.
 fn octet_or_more() -> Constraints<'static>
     ensures { meant result ≡ bounded_by (Some (pos 0)) (Some (pos 255)) true }
 {

@@ -1,5 +1,5 @@
-//! Types of the vectors that no other package has: choices, enumerations, sequences and sets that the octets of a
-//! standard or of a test are of, and newer versions of some.
+//! Types of the vectors that no other package has: choices, enumerations, sequences and sets whose encodings are
+//! examples of a standard or a test, and newer versions of some.
 #![tactic(auto)]
 
 mod choices;

@@ -1,4 +1,4 @@
-//! Sequences that consist of their components as they are read, without names.
+//! Sequences whose Rust values are their components as they are read, without names.
 ghost use Rattle.std.specs.Prelude.{◌≡◌, refl, [], ◌∷◌, OnOk, OnErr, IfOk, IfErr};
 ghost use Rattle.asn1_model.specs.Value.{Value};
 ghost use Rattle.asn1_schema_constraints.specs.Terms.{no_constraint};
@@ -19,16 +19,16 @@ pub trait Listed: Drop {
     /// The table of the components.
     ghost form: { Table };
 
-    /// What they mean.
+    /// The value of the components.
     ghost value: { Self → Value };
 
-    /// The sequence is a lawful type.
+    /// The sequence is a well-formed type.
     ghost lawful: { IsType (record { class = 0; number = 16 } ∷ []) (sequence_type form) };
 
-    /// Its components mean values of it.
+    /// Its components are values of it.
     ghost each: { (x : Self) → IsValue (sequence_type form) (value x) };
 
-    /// Writes the sequence.
+    /// Encodes the sequence.
     fn write<E: Encoder>(&self, encoder: &mut E, tag: Tag) -> Result<(), EncodeError>
         ensures ok { OnOk result (Writes E.step (sequence_type form) (value self.now) encoder.old encoder.new) }
         ensures only { IfErr result (CannotWrite E.step (sequence_type form) (value self.now) encoder.old) }
@@ -37,7 +37,7 @@ pub trait Listed: Drop {
         ensures already { E.has_failed encoder.old → result ≡ Err EncodeError.AlreadyFailed }
         ensures after { result ≡ Err EncodeError.AlreadyFailed → E.has_failed encoder.old };
 
-    /// Reads the sequence.
+    /// Decodes the sequence.
     fn read<D: Decoder>(alloc: Global, decoder: &mut D, tag: Tag) -> Result<Self, DecodeError>
         ensures ok { IfOk result
             (λ x. Reads D.step (sequence_type form) (D.levels decoder.old) (value x) decoder.old decoder.new) }

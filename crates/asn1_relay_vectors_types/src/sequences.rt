@@ -15,7 +15,7 @@ use asn1_schema::{
 use asn1_values::Integer;
 use std::alloc::{AllocError, Global};
 
-/// A type under a tag of its own.
+/// A type with an implicit context-specific tag.
 pub type Tagged<const NUMBER: u32, T> = Implicit<tag::Context<NUMBER>, T>;
 
 /// SEQUENCE {age INTEGER, name UTF8String}.

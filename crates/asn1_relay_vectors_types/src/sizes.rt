@@ -1,4 +1,4 @@
-//! Strings and lists of a size of their own.
+//! Strings and lists with size constraints.
 
 use asn1_schema::{Constrained, SizeRange};
 use asn1_values::OctetString;

@@ -27,7 +27,7 @@ use asn1_schema_example::grown::GrownFields;
 use asn1_values::{Integer, OctetString};
 use std::alloc::Global;
 
-/// A BOOLEAN, and behind an extension marker these additions.
+/// A BOOLEAN, and these extension additions.
 type Flagged<M, A> = RequiredComponent<bool, ExtensibleComponents<M, A>>;
 
 /// SEQUENCE {a BOOLEAN, ..., n Nest OPTIONAL}.
@@ -55,7 +55,7 @@ impl Listed for NestedForm {
     }
 }
 
-/// A truth value, and what was added.
+/// A BOOLEAN, and the extension addition.
 impl Extends<Old> for Nested {
     ghost extends = { gains_additions _ ⟦<Nests as AdditionsOf>⟧.additions ⟦<Old as Described>⟧.typed.lawful refl };
 
@@ -92,7 +92,7 @@ impl Listed for NewestForm {
     }
 }
 
-/// What the version in front of it has, and `c`.
+/// The components of the version before it, and `c`.
 impl Extends<New> for Newest {
     ghost extends = { gains_additions _ ⟦<Third as AdditionsOf>⟧.additions ⟦<New as Described>⟧.typed.lawful refl };
 
@@ -103,7 +103,7 @@ impl Extends<New> for Newest {
         (field_unfolds constant_unfolds (field_unfolds constant_unfolds no_fields_unfold)) };
 }
 
-/// What the first version has, and `b` and `c`.
+/// The components of the first version, and `b` and `c`.
 impl Extends<Old> for Newest {
     ghost extends = { gains_additions _ ⟦<SecondAndThird as AdditionsOf>⟧.additions ⟦<Old as Described>⟧.typed.lawful
         refl };
@@ -168,7 +168,7 @@ impl Listed for NewListForm {
     }
 }
 
-/// What the other version has, and `b` behind its extension marker.
+/// The components of the other version, and the extension addition `b`.
 impl Extends<OldList> for NewList {
     ghost extends = { gains_additions _ ⟦<Numbers as AdditionsOf>⟧.additions ⟦<OldList as Described>⟧.typed.lawful
         refl };
@@ -228,7 +228,7 @@ impl Listed for NewBagForm {
     }
 }
 
-/// The same bag, whose members have grown.
+/// The same SET OF, whose element type was extended.
 impl Extends<OldBag> for NewBag {
     ghost extends = { sequence_extends (grown_field (same_tags ⟦<SetOf<Old> as Described>⟧.tags) required_stays
         (bag_extends _ _ (gains_additions _ ⟦<Second as AdditionsOf>⟧.additions ⟦<Old as Described>⟧.typed.lawful
@@ -291,7 +291,7 @@ impl Listed for NewHolderForm {
     }
 }
 
-/// The same addition, whose type has grown.
+/// The same addition, whose type was extended.
 impl Extends<OldHolder> for NewHolder {
     ghost extends = { sequence_extends (grown_field (same_tags ⟦<bool as Described>⟧.tags) required_stays
         boolean_stays no_fields) refl (grown_field (same_tags ⟦<Old as Described>⟧.tags) required_stays
@@ -354,7 +354,7 @@ impl Listed for NewBracketForm {
     }
 }
 
-/// The same group, whose component has grown.
+/// The same group, whose component was extended.
 impl Extends<OldBracket> for NewBracket {
     ghost extends = { sequence_extends (grown_field (same_tags ⟦<bool as Described>⟧.tags) required_stays
         boolean_stays no_fields) refl (grown_field (same_tags ⟦<Old as Described>⟧.tags) optional_stays
@@ -415,7 +415,7 @@ impl Components for OldGrownFields {
 
 type Next = AddedOptionalComponent<Tagged<2, u8>, NoMore>;
 
-/// What the other version has, and `next [2] INTEGER (0..255) OPTIONAL` behind it.
+/// The components of the other version, and `next [2] INTEGER (0..255) OPTIONAL` after them.
 impl ExtendsComponents<OldGrownFields> for GrownFields {
     ghost extends = { set_gains_additions ⟦<OldGrownForm as ComponentsOf>⟧.table ⟦<Next as AdditionsOf>⟧.additions
         ⟦<OldGrown as Described>⟧.typed.lawful refl };

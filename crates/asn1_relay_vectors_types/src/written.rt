@@ -1,4 +1,4 @@
-//! Components and additions that are written as they were read, whichever they are.
+//! Generic encoding of components and additions as they were read.
 ghost use Rattle.std.specs.Prelude.{◌≡◌, OnOk, OnErr, IfErr};
 ghost use Rattle.asn1_schema_authored.specs.Writes.{CannotWriteAdded, WritesAdded};
 ghost use Rattle.asn1_schema_encode.specs.Writes.{CannotWriteTail, WritesTail};
@@ -10,9 +10,9 @@ use asn1_schema::{
     RequiredComponent,
 };
 
-/// Components that are written as they were read.
+/// Components that are encoded as they were read.
 pub trait WriteComponents: ComponentsOf {
-    /// Writes the records of the components, and the end of the sequence or set.
+    /// Encodes the components, and the end of the sequence or set.
     fn write_components<E: Encoder>(&self, encoder: &mut E) -> Result<(), EncodeError>
         ensures ok { OnOk result
             (WritesTail E.step Self.table (Self.root self.now) (Self.added self.now) encoder.old encoder.new) }
@@ -24,9 +24,9 @@ pub trait WriteComponents: ComponentsOf {
         ensures after { result ≡ Err EncodeError.AlreadyFailed → E.has_failed encoder.old };
 }
 
-/// Additions that are written as they were read.
+/// Additions that are encoded as they were read.
 pub trait WriteAdditions: AdditionsOf {
-    /// Writes the records of the additions, and the end of the sequence or set.
+    /// Encodes the additions, and the end of the sequence or set.
     fn write_additions<E: Encoder>(&self, encoder: &mut E) -> Result<(), EncodeError>
         ensures ok { OnOk result (WritesAdded E.step Self.additions (Self.parts self.now) encoder.old encoder.new) }
         ensures only { IfErr result (CannotWriteAdded E.step Self.additions (Self.parts self.now) encoder.old) }
@@ -108,7 +108,7 @@ impl<G: Group, R: WriteAdditions> WriteAdditions for AddedGroupComponent<G, R> {
     }
 }
 
-/// Components, lent to be written.
+/// Components, borrowed for encoding.
 #[derive(Drop)]
 pub struct Lent<'a, C>(pub &'a C);
 

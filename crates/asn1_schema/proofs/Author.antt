@@ -1,4 +1,5 @@
--- What shows that a type is lawful, that values are of it, and that they are written and read as its author says.
+-- Proofs that a type is well-formed, that values belong to it, and that they are encoded and decoded as its author
+-- says.
 use Rattle.std.proofs.Common.{◌≡◌}
 pub use Rattle.std.proofs.Common.{refl, [], ◌∷◌, Some, None, true, false, pos, negsuc}
 use Rattle.asn1_schema_tags.specs.Tags.{tag_of}
@@ -50,6 +51,6 @@ pub use Rattle.asn1_schema_constructed.proofs.Types.{recursive_choice_type}
 pub use Rattle.asn1_schema_constructed.proofs.ChoiceReading.{reads_begun, unread_begun, unread_begun_end, unread_begun_here}
 pub use Rattle.asn1_schema_constructed.proofs.ChoiceWriting.{cannot_begun, cannot_begun_end, cannot_begun_here, writes_begun}
 
--- The leaves of a tree of two tags, as that of a choice of two alternatives is.
+-- The leaves of a tree of two tags, such as that of a choice with two alternatives.
 pub two_leaves : (a b : Tag) → leaves_of (Leaf a ∷ Leaf b ∷ []) ≡ tag_of a ∷ tag_of b ∷ []
 two_leaves a b = rw (leaves_leaf a, leaves_leaf b) refl

@@ -1,5 +1,5 @@
--- What the author of a type names: values and types of the model, tables, what constraints mean, and what of a
--- type's values a codec is told. It stands in the packages behind this one.
+-- What the author of a type names: values and types of the model, tables, the meaning of constraints, and what a codec
+-- is given of a type's values. It is defined in the packages that this one re-exports.
 unfoldable pub use Rattle.asn1_model.specs.Lawful.{is_lawful}
 pub use Rattle.asn1_model.specs.Numbers.{is_count_within}
 pub use Rattle.asn1_model.specs.Schema.{Schema, Tag, cut, enumerated, integer, optional, required, utf8}

@@ -1,7 +1,7 @@
-//! The schema of ASN.1 types: tags, constraints, tables of components, alternatives and items, the traits of types
-//! and of codecs, types around others, bags, the plain codec, and the errors of the codecs.
+//! The schema of ASN.1 types: tags, constraints, tables of components, alternatives and items, the traits of types and
+//! of codecs, types around others, SET OF, the plain codec, and the errors of the codecs.
 //!
-//! This crate is a face: its items stand in the packages whose names begin with its own.
+//! This crate re-exports the items of the packages whose names begin with its own.
 #![tactic(auto)]
 
 mod macros;

@@ -1,4 +1,4 @@
-//! Constants of an author's tables, and what is written and read of an alternative, in one line each.
+//! One-line macros for the constants of a type's tables, and for encoding and decoding an alternative.
 
 /// A tag of a class (X.680 8.1): `tagged!(Context, 3)` is `[3]`.
 #[macro_export]
@@ -11,8 +11,8 @@ macro_rules! tagged {
     };
 }
 
-/// A field of a table: its number, its name, its presence (`Required`, `Optional` or `Default`) and its tag, where it
-/// is no choice without a tag of its own.
+/// A field of a table: its index, its name, its presence (`Required`, `Optional` or `Default`) and its tag. Not for an
+/// untagged CHOICE, which has several tags.
 #[macro_export]
 macro_rules! field {
     ($index:literal, $name:literal, $presence:ident, $tag:expr) => {
@@ -26,7 +26,7 @@ macro_rules! field {
     };
 }
 
-/// An entry of a choice's table of places: the tag of an alternative, and its place.
+/// An entry of a choice's table of tags: the tag of an alternative, and its index.
 #[macro_export]
 macro_rules! place {
     ($tag:expr, $place:literal) => {
@@ -37,7 +37,7 @@ macro_rules! place {
     };
 }
 
-/// Writes the value of an alternative under its tag, which is the answer of `write_chosen`.
+/// Encodes the value of an alternative with its tag, and returns the tag, as `write_chosen` does.
 #[macro_export]
 macro_rules! write_alternative {
     ($encoder:ident, $value:ident, $tag:expr) => {{
@@ -46,7 +46,7 @@ macro_rules! write_alternative {
     }};
 }
 
-/// Reads the value of an alternative under its tag, of which the alternative is made, as `from_chosen` answers it.
+/// Decodes the value of an alternative with its tag, and returns the alternative, as `from_chosen` does.
 #[macro_export]
 macro_rules! read_alternative {
     ($alloc:ident, $decoder:ident, $type:ty, $alternative:path, $tag:expr) => {{

@@ -1,4 +1,4 @@
--- Choices by the alternatives of an enum, and enumerations by their items.
+-- CHOICE types by the alternatives of an enum, and enumerations by their items.
 use Rattle.std.proofs.Common.{◌≡◌, ℕ, ℤ, Bool, true, false, List, [], ◌∷◌, ap, subst, sym, refl}
 use Rattle.asn1_model.specs.Lawful.{is_tag}
 use Rattle.asn1_model.specs.Schema.{Tag, Schema}
@@ -13,7 +13,7 @@ use Rattle.asn1_schema_authored.specs.ChoiceShapes.{ChoiceShape}
 use Rattle.asn1_schema_constructed.specs.Tables.{Variants, no_variant, variant, Choices, side, type_at, all_tags, are_choices, AreVariants}
 use Rattle.asn1_schema_constructed.proofs.Types.{no_variants, more_variants, type_choice, value_choice}
 
--- Alternatives whose types are lawful.
+-- Alternatives whose types are well-formed.
 pub record Listed : Type 0 where
   pub variants : Variants
   pub lawful : AreVariants variants
@@ -21,7 +21,7 @@ pub record Listed : Type 0 where
 abbrev pub none : Listed
 none = record { variants = no_variant; lawful = no_variants }
 
--- An alternative under a tag of the context, and those behind it.
+-- An alternative with a context-specific tag, and the alternatives after it.
 abbrev pub one : {A : Type 0} → ℕ → Ghosts A → Listed → Listed
 one n d l = record { variants = variant (context n) d.schema l.variants; lawful = more_variants (context n) refl d.typed l.lawful }
 
@@ -31,7 +31,7 @@ pub record Placed (t : Choices) : Type 0 where
   pub inner : Value
   pub fits : IsValue (type_at (side t place.added) place.place) inner
 
--- A value of the root alternative at a place, and of the added one.
+-- A value of the root alternative with this index, and of the added one.
 abbrev pub of_root : {A : Type 0} {t : Choices} (i : ℕ) (d : Ghosts A) → type_at t.root i ≡ d.schema → A → Placed t
 of_root i d e x = record {
   place = record { added = false; place = i };
@@ -46,7 +46,7 @@ of_addition i d e x = record {
   fits = subst (λ (s : ℕ → Schema). IsValue s (d.meaning x)) (sym e) (d.valued x);
 }
 
--- CHOICE of some root alternatives, with or without an extension marker and added ones behind it.
+-- CHOICE of these root alternatives, with or without an extension marker and added alternatives after it.
 abbrev pub choices : Listed → Bool → Listed → Choices
 choices r e a = record { root = r.variants; extensible = e; additions = a.variants }
 

@@ -1,4 +1,4 @@
--- How the records of a SEQUENCE or SET are put together, whichever it is.
+-- How the records of a SEQUENCE or SET are put together, for both at once.
 use Rattle.std.proofs.Common.{◌≡◌, ℕ, ◌+◌, Bool, true, false, sym, refl, subst, arith}
 use Rattle.asn1_model.specs.Value.{fields, Parts}
 use Rattle.asn1_schema_faults.specs.declared.DecodeError.{DecodeError}
@@ -17,7 +17,7 @@ use Rattle.asn1_schema_authored.specs.declared.composites.Heading.{Heading}
 use Rattle.asn1_schema_constructed.proofs.SetWriting.{writes_set, cannot_set, cannot_set_here}
 use Rattle.asn1_schema_constructed.proofs.SetReading.{reads_set, unread_set, unread_set_here}
 
--- The form that a heading tells.
+-- The form that a heading gives.
 form_of_form : (k : Form) → form_of (is_set k) ≡ k
 form_of_form sequence_form = refl
 form_of_form set_form = refl

@@ -1,4 +1,4 @@
--- Defaults of components whose types have grown.
+-- Defaults of components whose types have been extended.
 use Rattle.std.proofs.Common.{◌≡◌, ◌≤◌, ℕ, zero, suc, true, false, Some, option_map, refl, sym, ◌∙◌, ap, subst, arith}
 use Rattle.std.proofs.lemmas.Bool.{and_parts}
 use Rattle.asn1_model.specs.Value.{Value, fields, Parts, end, absent, present, same}
@@ -16,7 +16,7 @@ abbrev pub absents : Fields → Parts
 absents no_field = end
 absents (field t o s fs) = absent (absents fs)
 
--- Parts, and behind them those of further components, all absent.
+-- Parts, followed by those of further components, all absent.
 abbrev pub with_absents : Fields → Parts → Parts
 with_absents gs end = absents gs
 with_absents gs (absent ps) = absent (with_absents gs ps)
@@ -41,7 +41,7 @@ additions_grow n (field t o s fs) gs (present v qs) e f =
     let b = additions_grow n fs gs qs (and_parts _ _ e).1 (and_parts _ _ f).1 in
     rw (a, b) refl
 
--- A default of a sequence with further additions: that of the older version, with these absent.
+-- A default of a SEQUENCE with further additions: that of the older version, with these absent.
 pub default_gains : {k : ℕ} (t : Table) (gs : Fields) {ps qs : Parts} → IsDefault (sequence_type t) (fields ps qs) → IsDefault (sequence_type (with_additions gs t)) (fields ps (with_absents gs qs)) → KeepsPresenceFrom (suc k) (sequence_type t) (sequence_type (with_additions gs t)) (by_default (fields ps qs)) (by_default (fields ps (with_absents gs qs)))
 unfolding sequence_type scope is_of carried
 default_gains {k} t gs {ps} {qs} a b = record { unfolded = at }

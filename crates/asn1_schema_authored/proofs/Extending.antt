@@ -1,4 +1,4 @@
--- How the records of additions are put together, for what writes and what reads them.
+-- How the records of additions are put together, for encoders and decoders.
 use Rattle.std.proofs.Common.{◌≡◌, ℕ, suc, true, List, [], ◌∷◌, ◌++◌, refl, ap}
 use Rattle.asn1_model.specs.Value.{Value, Parts, end}
 use Rattle.asn1_model.specs.Schema.{Tag, Presence, Schema}
@@ -13,11 +13,11 @@ unfolding components_at
 count_at n no_field = refl
 count_at n (field ts o s fs) = ap suc (count_at n fs)
 
--- an addition that is there and has nothing noted behind it
+-- an addition that is present, with no note after it
 pub enclosed_records : (o : Presence) (s : Schema) (v : Value) → noted o s v ≡ [] → addition_records (λ w. presents s w) o s (there v) ≡ addition true ∷ (presents s v ++ (addition_ends ∷ []))
 enclosed_records o s v e = rw e refl
 
--- an addition in front of the others
+-- an addition before the others
 pub more_records : (n : ℕ) (ts : List Tag) (o : Presence) (s : ℕ → Schema) (fs : Fields) (x : Part) (qs : Parts) → added_records (components_at n (field ts o s fs)) (with_part x qs) ≡ addition_records (λ v. presents (s n) v) o (s n) x ++ added_records (components_at n fs) qs
 unfolding components_at added_records
 more_records n ts o s fs left_out qs = refl
@@ -28,7 +28,7 @@ unfolding components_at PartsFit
 more_fit n ts o s fs left_out qs f = (f.0, f.1)
 more_fit n ts o s fs (there v) qs f = (f.0, f.1)
 
--- what is left of a group: its components, and the end
+-- the rest of a group: its components, and the end
 pub group_tail : (n : ℕ) {t : Table} → IsGroup t → (ps : Parts) {qs : Parts} → qs ≡ end → tail_records n t ps qs ≡ root_records (components_at n t.root) ps (ends ∷ [])
 unfolding components_at added_records
 group_tail n g ps e = rw (g.not_extensible, g.no_additions, e) refl

@@ -1,4 +1,4 @@
--- What has failed behind an addition that was read had failed in front of it.
+-- A state that has failed after an addition was read had failed before it.
 use Rattle.std.proofs.Common.{ℕ}
 use Rattle.asn1_model.specs.Schema.{Presence, Schema}
 use Rattle.asn1_schema_presented.specs.Records.{Record}

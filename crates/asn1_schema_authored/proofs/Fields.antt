@@ -1,4 +1,4 @@
--- Newer versions of types by their tables, so that no author recurs over a type.
+-- Newer versions of types by their tables, so that no author needs an induction over a type.
 use Rattle.std.proofs.Common.{◌≡◌, ◌≤◌, ℕ, zero, suc, ℤ, Bool, true, false, List, ◌++◌, refl, arith}
 use Rattle.std.specs.Prelude.{leb, Contains, All}
 use Rattle.std.proofs.lemmas.Bool.{and_parts, leb-true}
@@ -12,18 +12,18 @@ use Rattle.asn1_schema_constructed.specs.Sets.{set_type}
 use Rattle.asn1_schema_constructed.specs.Tables.{Variants, no_variant, variant, alternatives_at, Choices, choice_type}
 use Rattle.asn1_schema_types.specs.Versions.{ExtendsFrom}
 
--- ---- tables that have grown
+-- ---- extended tables
 
--- Components, and others behind them.
+-- Components, followed by others.
 abbrev pub joined : Fields → Fields → Fields
 joined no_field gs = gs
 joined (field t o s fs) gs = field t o s (joined fs gs)
 
--- A table with further additions behind its own.
+-- A table with further additions after its own.
 abbrev pub with_additions : Fields → Table → Table
 with_additions gs t = record { root = t.root; extensible = t.extensible; additions = joined t.additions gs }
 
--- Each component stands for the one in its place, and further ones only where they may come.
+-- Each component may replace the one with the same index, and further ones follow only where they are allowed.
 pub record FieldsExtend (k : ℕ) (more : Bool) (fs gs : Fields) : Type 0 where
   pub unfolded : (n : ℕ) → k ≤ n → ExtendsEach more (components_at n fs) (components_at n gs)
 
@@ -40,25 +40,25 @@ pub no_fields : {k : ℕ} {more : Bool} → FieldsExtend k more no_field no_fiel
 unfolding components_at ExtendsEach
 no_fields = record { unfolded = λ n h. tt }
 
--- A component that has grown itself, and those behind it.
+-- A component whose type was extended, and the components after it.
 pub grown_field : {k : ℕ} {more : Bool} {t t' : List Tag} {o o' : Presence} {s s' : ℕ → Schema} {fs gs : Fields} → All (Contains t') t → KeepsPresenceFrom k s s' o o' → ExtendsFrom k s s' → FieldsExtend k more fs gs → FieldsExtend k more (field t o s fs) (field t' o' s' gs)
 unfolding components_at ExtendsEach
 grown_field a b c d = record { unfolded = λ n h. (a, b.unfolded n h, c.unfolded n h, d.unfolded n h) }
 
--- Components that stay as they are.
+-- Components that do not change.
 pub same_fields : {k : ℕ} {more : Bool} {fs : Fields} → ((n : ℕ) → are_lawful (components_at n fs) ≡ true) → FieldsExtend k more fs fs
 same_fields {k} {more} {fs} l = record { unfolded = λ n h. each_itself more (components_at n fs) (l n) }
 
--- The same, with others behind them.
+-- The same, followed by other components.
 appended : (n : ℕ) (fs gs : Fields) → ExtendsEach true (components_at n fs) (components_at n fs) → ExtendsEach true (components_at n fs) (components_at n (joined fs gs))
 unfolding components_at ExtendsEach
 appended n no_field no_field h = tt
 appended n no_field (field t o s gs) h = tt
 appended n (field t o s fs) gs h = (h.0, h.1, h.2, appended n fs gs h.3)
 
--- ---- sequences
+-- ---- SEQUENCE
 
--- A sequence whose components have grown, or further ones behind its extension marker have come.
+-- A SEQUENCE whose components were extended, or that has further additions after its extension marker.
 pub sequence_extends : {k : ℕ} {t t' : Table} → FieldsExtend k false t.root t'.root → t.extensible ≡ t'.extensible → FieldsExtend k t.extensible t.additions t'.additions → ExtendsFrom (suc k) (sequence_type t) (sequence_type t')
 unfolding sequence_type scope Extends
 sequence_extends {k} {t} {t'} a e b = record { unfolded = at }
@@ -67,7 +67,7 @@ sequence_extends {k} {t} {t'} a e b = record { unfolded = at }
     at zero h = absurd (omega arith)
     at (suc n) h = let l : k ≤ n = omega arith in (a.unfolded n l, e, b.unfolded n l)
 
--- What a lawful sequence has is lawful.
+-- The components of a well-formed SEQUENCE are well-formed.
 lawful_sequence : (t : Table) (n : ℕ) → is_lawful (sequence_type t (suc n)) ≡ true → (are_lawful (components_at n t.root) ≡ true) × (are_lawful (components_at n t.additions) ≡ true)
 unfolding sequence_type scope is_lawful
 lawful_sequence t n l = let p = and_parts _ (are_lawful (components_at n t.additions)) l in ((and_parts _ (are_lawful (components_at n t.root)) p.0).1, p.1)
@@ -80,12 +80,12 @@ lawful_choice : (t : Choices) (n : ℕ) → is_lawful (choice_type t (suc n)) �
 unfolding choice_type scope is_lawful
 lawful_choice t n l = let p = and_parts _ (are_lawful_alternatives (alternatives_at n t.additions)) l in ((and_parts _ (are_lawful_alternatives (alternatives_at n t.root)) p.0).1, p.1)
 
--- Further additions, where there is an extension marker.
+-- Further additions, if there is an extension marker.
 behind_extension_bit : (n : ℕ) (b : Bool) (fs gs : Fields) → b ≡ true → ExtendsEach true (components_at n fs) (components_at n fs) → ExtendsEach b (components_at n fs) (components_at n (joined fs gs))
 behind_extension_bit n true fs gs e h = appended n fs gs h
 behind_extension_bit n false fs gs e h = absurd (let z : false ≡ true = e in cc)
 
--- A sequence with an extension marker, and further additions behind its own.
+-- A SEQUENCE with an extension marker, and further additions after its own.
 pub gains_additions : {k : ℕ} (t : Table) (gs : Fields) → ((n : ℕ) → is_lawful (sequence_type t n) ≡ true) → t.extensible ≡ true → ExtendsFrom k (sequence_type t) (sequence_type (with_additions gs t))
 unfolding sequence_type scope Extends
 gains_additions {k} t gs l e = record { unfolded = λ n h. at n }
@@ -96,9 +96,9 @@ gains_additions {k} t gs l e = record { unfolded = λ n h. at n }
         let p = lawful_sequence t n (l (suc n)) in
         (each_itself false (components_at n t.root) p.0, refl, behind_extension_bit n t.extensible t.additions gs e (each_itself true (components_at n t.additions) p.1))
 
--- ---- sets
+-- ---- SET
 
--- The same of a set.
+-- The same for a SET.
 pub set_gains_additions : {k : ℕ} (t : Table) (gs : Fields) → ((n : ℕ) → is_lawful (set_type t n) ≡ true) → t.extensible ≡ true → ExtendsFrom k (set_type t) (set_type (with_additions gs t))
 unfolding scope Extends
 set_gains_additions {k} t gs l e = record { unfolded = λ n h. at n }
@@ -111,12 +111,12 @@ set_gains_additions {k} t gs l e = record { unfolded = λ n h. at n }
 
 -- ---- choices
 
--- Alternatives, and others behind them.
+-- Alternatives, followed by others.
 abbrev pub joined_variants : Variants → Variants → Variants
 joined_variants no_variant ws = ws
 joined_variants (variant t s vs) ws = variant t s (joined_variants vs ws)
 
--- A choice with further alternatives behind its own.
+-- A choice with further alternatives after its own.
 abbrev pub with_alternatives : Variants → Choices → Choices
 with_alternatives vs t = record { root = t.root; extensible = t.extensible; additions = joined_variants t.additions vs }
 
@@ -126,7 +126,7 @@ appended_variants n no_variant no_variant h = tt
 appended_variants n no_variant (variant t s ws) h = tt
 appended_variants n (variant t s vs) ws h = (h.0, h.1, appended_variants n vs ws h.2)
 
--- A choice with an extension marker, and further alternatives behind its own.
+-- A choice with an extension marker, and further alternatives after its own.
 pub gains_alternatives : {k : ℕ} (t : Choices) (vs : Variants) → ((n : ℕ) → is_lawful (choice_type t n) ≡ true) → t.extensible ≡ true → ExtendsFrom k (choice_type t) (choice_type (with_alternatives vs t))
 unfolding choice_type scope Extends
 gains_alternatives {k} t vs l e = record { unfolded = λ n h. at n }
@@ -143,13 +143,13 @@ gains_alternatives {k} t vs l e = record { unfolded = λ n h. at n }
 
 -- ---- enumerations
 
--- An enumeration with further items behind its own.
+-- An enumeration with further items after its own.
 pub gains_items : {k : ℕ} {roots adds : List ℤ} {e : Bool} (more : List ℤ) → ExtendsFrom k (λ _. enumerated roots e adds) (λ _. enumerated roots e (adds ++ more))
 unfolding Extends
 gains_items more = record { unfolded = λ n h. (refl, refl, (more, refl)) }
 
 -- ---- levels
 
--- What holds from a number of levels on holds from a greater one on.
+-- What holds from a number of levels on holds from any greater number on.
 pub from_more : (j k : ℕ) {old new : ℕ → Schema} → leb j k ≡ true → ExtendsFrom j old new → ExtendsFrom k old new
 from_more j k e x = record { unfolded = λ n h. let l = leb-true j k e in x.unfolded n (omega arith) }

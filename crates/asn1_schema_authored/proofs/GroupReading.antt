@@ -1,4 +1,4 @@
--- How groups of additions that a decoder finds are put together.
+-- How extension addition groups that a decoder finds are put together.
 use Rattle.std.proofs.Common.{◌≡◌, ℕ, ◌+◌, ◌<◌, zero, suc, true, false, [], ◌∷◌, refl, subst, sym, ◌∙◌, ap, arith}
 use Rattle.asn1_model.specs.Value.{Value, fields, Parts, end, absent, present, are_absent}
 use Rattle.asn1_model.specs.Schema.{optional, group, Components}
@@ -18,7 +18,7 @@ use Rattle.asn1_schema_authored.specs.Reads.{ReadsEnclosed, ReadsAddition, Unrea
 use Rattle.asn1_schema_authored.proofs.Extending.{group_tail, group_fits}
 use Rattle.asn1_schema_authored.proofs.Reading.{reads_addition, reads_empty, unread_empty}
 
--- the records of a group, and what they are made of
+-- the records of a group, and what they consist of
 of_group : {S : Type 0} (step : S → Record → S → Type 0) (cs : Components) (v : Value) (a c : S) → Fits (group cs) v → Chain step (presents (group cs) v) a c → (ps : Parts) × (b : S) × PartsFit cs ps × step a (group_begins (optional_count cs)) b × Chain step (root_records cs ps (ends ∷ [])) b c
 unfolding presents Fits
 of_group step cs (fields ps end) a c f p = (ps, p.0, f.0, p.1, p.2)
@@ -61,7 +61,7 @@ module _ {S : Type 0} {step : S → Record → S → Type 0} {t : Table} (g : Is
       } in
       subst (λ (i : ℕ). Unread step few (group_type t) i a failed x) (let z : suc n ≡ m = omega arith in z) r
 
--- a value of a group is left out if none of its components is there
+-- a value of a group is left out if none of its components is present
 left_out_as : (t : Table) (n : ℕ) (v : Value) {ps : Parts} → Fits (group_type t n) v → normal (group_type t n) v ≡ fields ps end → is_group_left_out (group_type t n) v ≡ are_absent ps
 unfolding group_type scope Fits
 left_out_as t zero v f e = absurd f

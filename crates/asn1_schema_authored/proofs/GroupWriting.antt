@@ -1,4 +1,4 @@
--- How groups of additions that an encoder takes are put together.
+-- How extension addition groups that an encoder accepts are put together.
 use Rattle.std.proofs.Common.{◌≡◌, ℕ, zero, suc, Bool, true, false, [], ◌∷◌, refl, subst, sym, ◌∙◌}
 use Rattle.asn1_model.specs.Value.{Value, fields, Parts, end}
 use Rattle.asn1_model.specs.Schema.{optional, Schema, group}
@@ -48,7 +48,7 @@ module _ {S : Type 0} {step : S → Record → S → Type 0} {t : Table} (g : Is
     ];
   }
 
--- nothing is noted behind a group that the normal form keeps
+-- no note follows a group that the normal form keeps
 left_out_not : (s : Schema) (v : Value) (b : Bool) → is_group_left_out s v ≡ b → normal_part optional s (there v) ≡ there v → b ≡ false
 left_out_not s v false e h = refl
 left_out_not s v true e h = let k : left_out ≡ there v = rw e at h in cc
@@ -56,7 +56,7 @@ left_out_not s v true e h = let k : left_out ≡ there v = rw e at h in cc
 pub kept_noted : {s : ℕ → Schema} {v : Value} → IsPart optional s (there v) → (n : ℕ) → noted optional (s n) v ≡ []
 kept_noted {s} {v} h n = let e = left_out_not (s n) v (is_group_left_out (s n) v) refl (h.normal n) in rw e refl
 
--- a group as an addition, by whether none of its components is there
+-- a group as an addition, by whether none of its components is present
 module _ {S : Type 0} {step : S → Record → S → Type 0} {s : ℕ → Schema} {v : Value} {b : Bool} (h : IsPart optional s (part_unless b v)) (e : b ≡ false) where
   pub writes_kept : {a c : S} → WritesEnclosed step s v a c → WritesAddition step optional s (part_unless b v) a c
   writes_kept {a} {c} w = let h' : IsPart optional s (there v) = rw e at h in rw e (writes_addition optional s (kept_noted h') (λ n. refl) w)

@@ -1,4 +1,4 @@
--- Groups of additions by the shapes of their components.
+-- Extension addition groups by the shapes of their components.
 use Rattle.std.proofs.Common.{◌≡◌, ℕ, true, subst}
 use Rattle.asn1_model.specs.Lawful.{is_lawful}
 use Rattle.asn1_model.specs.Tidy.{is_tidy}
@@ -15,7 +15,7 @@ as_type k t e h = subst (λ (j : Form). IsType (form_tags j) (constructed_type j
 pub as_value : (k : Form) (t : Table) {ps : Parts} (qs : Parts) → k ≡ sequence_form → qs ≡ end → IsValue (constructed_type k t) (fields ps qs) → IsValue (sequence_type t) (fields ps end)
 as_value k t {ps} qs e f h = subst (λ (rs : Parts). IsValue (sequence_type t) (fields ps rs)) f (subst (λ (j : Form). IsValue (constructed_type j t) (fields ps qs)) e h)
 
--- The group of a sequence without an extension marker, and with one component or more.
+-- The group of a SEQUENCE without an extension marker and with at least one component.
 abbrev pub group_of : {A : Type 0} (s : Shape A) → s.form ≡ sequence_form → IsGroup s.table → ((x : A) → s.added x ≡ end) → GroupShape A
 group_of s e p n = record {
   shape = s;

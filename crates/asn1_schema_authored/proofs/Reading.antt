@@ -23,7 +23,7 @@ use Rattle.asn1_schema_presented.specs.Additions.{addition_count, extensible_tab
 use Rattle.asn1_schema_authored.specs.Reads.{ReadsEnclosed, ReadsExtension, UnreadExtension, ReadsExtensionDefault, omitted, spelled_out, other_value, UnreadExtensionDefault, ReadsAddition, UnreadAddition, ReadsAdded, UnreadAdded}
 use Rattle.asn1_schema_authored.proofs.Extending.{count_at, enclosed_records, more_records}
 
--- the end of additions, and their beginning, in front
+-- the end of the additions, and the beginning of one, as the next record
 not_at_end : {S : Type 0} (step : S → Record → S → Type 0) (n : ℕ) (qs : Parts) (a b : S) → PartsFit (components_at n no_field) qs → Chain step (added_records (components_at n no_field) qs) a b → (c : S) × step a ends c
 unfolding components_at PartsFit added_records
 not_at_end step n end a b f p = (p.0, p.1)
@@ -39,7 +39,7 @@ no_root step n fs (absent ps) qs a c f p = absurd f
 behind_extension_bit : {S : Type 0} (step : S → Record → S → Type 0) (n : ℕ) (fs : Fields) (ps qs : Parts) (a c : S) → PartsFit (components_at n no_field) ps → Chain step (root_records (components_at n no_field) ps (additions_begin (component_count (components_at n fs)) ∷ added_records (components_at n fs) qs)) a c → (b : S) × step a (additions_begin (addition_count fs)) b × Chain step (added_records (components_at n fs) qs) b c
 behind_extension_bit step n fs ps qs a c f p = no_root step n fs ps qs a c f (subst (λ (i : ℕ). Chain step (root_records (components_at n no_field) ps (additions_begin i ∷ added_records (components_at n fs) qs)) a c) (count_at n fs) p)
 
--- a type that is no group leaves nothing out as one
+-- a type that is no group is never left out as an empty group
 no_group_left : {ts : List Tag} {t : ℕ → Schema} → IsType ts t → (n : ℕ) (v : Value) → is_group_left_out (t n) v ≡ false
 no_group_left {t = t} k n v = not_empty (t n) (normal (t n) v) (k.no_group n)
 
@@ -59,7 +59,7 @@ module _ {S : Type 0} {step : S → Record → S → Type 0} where
     chain = subst (λ rs. Chain step rs a d) (sym (enclosed_records o (s n) h.reads.raw (nothing_noted o (s n) h.reads.raw g k))) (h.begun, h.begins, chain_append step (presents (s n) h.reads.raw) (addition_ends ∷ []) h.begun h.read d h.reads.chain (d, h.ends, refl));
   }
 
-  -- a default that is spelled out, and a group in which nothing is left
+  -- a default that is encoded, and a group with no component present
   pub reads_spelled : (o : Presence) {s : ℕ → Schema} {n : ℕ} {v : Value} {a c d : S} → (h : ReadsEnclosed step s n v a c) → is_at_default o (s n) h.reads.raw ≡ true → step c is_default d → ReadsAddition step o s n left_out a d
   reads_spelled o {s} {n} {v} {a} {c} {d} h k z = record {
     raw = there h.reads.raw;
@@ -84,7 +84,7 @@ module _ {S : Type 0} {step : S → Record → S → Type 0} where
     ];
   }
 
-  -- ---- the additions that are left
+  -- ---- the remaining additions
   pub reads_no_more : (n : ℕ) {a b : S} → step a ends b → ReadsAdded step no_field n end a b
   unfolding components_at added_records PartsFit normal_parts
   reads_no_more n {a} {b} h = record { raw = end; fits = tt; means = refl; chain = (b, h, refl) }
@@ -112,7 +112,7 @@ module _ {S : Type 0} {step : S → Record → S → Type 0} where
   pub unread_no_more : (n : ℕ) {few : S → S → S → Type 0} {a failed : S} {x : DecodeError} → NoRecord step few asks_end a failed x → UnreadAdded step few no_field n a failed x
   unread_no_more n h = record { none = λ w start near qs b f p. let t = not_at_end step n qs start b f p in h.none w start near ends t.0 refl t.1 }
 
-  -- additions, and what they are made of
+  -- additions, and what they consist of
   parts_of : (n : ℕ) (ts : List Tag) (o : Presence) (s : ℕ → Schema) (fs : Fields) (qs : Parts) (a c : S) → PartsFit (components_at n (field ts o s fs)) qs → Chain step (added_records (components_at n (field ts o s fs)) qs) a c → (x : Part) × (rs : Parts) × (m : S) × PartFits (λ v. Fits (s n) v) o x × PartsFit (components_at n fs) rs × Chain step (addition_records (λ v. presents (s n) v) o (s n) x) a m × Chain step (added_records (components_at n fs) rs) m c
   unfolding components_at PartsFit added_records
   parts_of n ts o s fs end a c f p = absurd f
@@ -132,7 +132,7 @@ module _ {S : Type 0} {step : S → Record → S → Type 0} (one : OneRecord st
   not_both : {a b c : S} → step a (addition true) b → step a (addition false) c → ⊥
   not_both {a} {b} {c} m q = let e : addition false ≡ addition true = (one a (addition false) (addition true) c b refl q m).0 in cc
 
-  -- the records of one addition at most are next
+  -- the records of at most one addition are next
   one_addition : (o : Presence) (s : Schema) (x y : Part) (a b c : S) → PartFits (λ v. Fits s v) o x → PartFits (λ v. Fits s v) o y → Chain step (addition_records (λ v. presents s v) o s x) a b → Chain step (addition_records (λ v. presents s v) o s y) a c → b ≡ c
   one_addition o s left_out left_out a b c u t p q =
       let p' : Chain step (addition false ∷ []) a b = rw u at p in
@@ -148,7 +148,7 @@ module _ {S : Type 0} {step : S → Record → S → Type 0} (one : OneRecord st
       let m : Chain step (addition_ends ∷ noted o s w) j.0 b = subst (λ (y : Value). Chain step (addition_ends ∷ noted o s y) j.0 b) k.0 l in
       chain_one step after (addition_ends ∷ noted o s w) j.0 b c m j.2
 
-  -- what is told behind a value that was read
+  -- what is noted after a value that was read
   told_behind : (o : Presence) (s : Schema) (v : Value) {a b c : S} (d : S) → step a (addition true) b → Fits s v → Chain step (presents s v) b c → (p : Part) → PartFits (λ w. Fits s w) o p → Chain step (addition_records (λ w. presents s w) o s p) a d → Chain step (addition_ends ∷ noted o s v) c d
   told_behind o s v {a} {b} {c} d m g r left_out f q = let q' : Chain step (addition false ∷ []) a d = rw f at q in absurd (not_both m q'.1)
   told_behind o s v {a} {b} {c} d m g r (there u) f q =
@@ -238,7 +238,7 @@ module _ {S : Type 0} {step : S → Record → S → Type 0} {s : ℕ → Schema
     not_enclosed : {v : Value} {a b c : S} → step a (addition true) b → ((v : Value) (c : S) → Fits (s n) v → Chain step (presents (s n) v) b c → ⊥) → ReadsEnclosed step s n v a c → ⊥
     not_enclosed {v} {a} {b} {c} m h q = h q.reads.raw q.read q.reads.fits (subst (λ (z : S). Chain step (presents (s n) q.reads.raw) z q.read) (after one a (addition true) q.begun b q.begins m) q.reads.chain)
 
-    -- what is read there is one value, and one state stands behind it
+    -- two values that are read there are equal, and so are the states after them
     same_value : {v w : Value} {a b c d : S} → step a (addition true) b → Reads step s n v b c → (q : ReadsEnclosed step s n w a d) → (w ≡ v) × (q.read ≡ c)
     same_value {v} {w} {a} {b} {c} {d} m r q =
         let k = one_value one (s n) q.reads.raw r.raw b q.read c q.reads.fits r.fits (subst (λ (z : S). Chain step (presents (s n) q.reads.raw) z q.read) (after one a (addition true) q.begun b q.begins m) q.reads.chain) r.chain in
@@ -326,7 +326,7 @@ module _ {S : Type 0} {step : S → Record → S → Type 0} {s : ℕ → Schema
     of_type : (v : Value) {a : S} (b c : S) {d : S} → step a (addition true) b → Fits (t n) v → Chain step (presents (t n) v) b c → step c addition_ends d → ReadsEnclosed step s n (normal (t n) v) a d
     of_type v b c m f p z = reads_enclosed m (reads_as t s (λ i. sym (e i)) (record { raw = v; fits = f; means = refl; chain = p })) z
 
-    -- an addition that is there, and what is noted behind it
+    -- an addition that is present, and what is noted after it
     there_of : (o : Presence) (v : Value) {a : S} (c : S) → Fits (t n) v → Chain step (addition_records (λ w. presents (t n) w) o (t n) (there v)) a c → (b : S) × ReadsEnclosed step s n (normal (t n) v) a b × Chain step (noted o (t n) v) b c
     there_of o v {a} c f q = let d = chain_split step (presents (t n) v) (addition_ends ∷ noted o (t n) v) q.0 c q.2 in (d.2.0, of_type v q.0 d.0 q.1 f d.1 d.2.1, d.2.2)
 
@@ -358,7 +358,7 @@ module _ {S : Type 0} {step : S → Record → S → Type 0} {s : ℕ → Schema
       ];
     }
 
--- an addition that is always there
+-- an addition that is always present
 module _ {S : Type 0} {step : S → Record → S → Type 0} {ts : List Tag} {s : ℕ → Schema} {n : ℕ} (k : IsType ts s) where
   pub reads_required : {v : Value} {a b c d : S} → step a (addition true) b → Reads step s n v b c → step c addition_ends d → ReadsAddition step required s n (there v) a d
   reads_required {v} m r e =

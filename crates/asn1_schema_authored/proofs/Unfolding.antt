@@ -1,4 +1,4 @@
--- Types that mean the same in whatever depth they are unfolded, by their tables.
+-- Types that mean the same at any depth to which they are unfolded, by their tables.
 use Rattle.std.proofs.Common.{◌≤◌, ℕ, zero, suc, List, refl, inl, inr, arith}
 use Rattle.asn1_model.specs.Schema.{Tag, Presence, Schema}
 use Rattle.asn1_laws_values.specs.Unfolding.{AgreesTo, AgreesEach, AgreesAlternatives}
@@ -8,11 +8,11 @@ use Rattle.asn1_schema_constructed.specs.Sets.{set_type}
 use Rattle.asn1_schema_constructed.specs.Tables.{Variants, no_variant, variant, alternatives_at, Choices, choice_type}
 use Rattle.asn1_schema_types.specs.Versions.{Unfolds}
 
--- Components whose types do.
+-- Components whose types do so.
 pub record FieldsUnfold (fs : Fields) : Type 0 where
   pub alike : (k i j : ℕ) → k ≤ i → k ≤ j → AgreesEach k (components_at i fs) (components_at j fs)
 
--- A type that does not nest.
+-- A type that is not recursive.
 pub constant_unfolds : {s : Schema} → Unfolds (λ _. s)
 constant_unfolds {s} = record { alike = λ k i j a b. agrees_with_itself k s }
 
@@ -56,7 +56,7 @@ set_unfolds t r q = record { alike = at }
         let b' : k ≤ j = omega arith in
         (r.alike k i j a' b', refl, q.alike k i j a' b')
 
--- Alternatives whose types do.
+-- Alternatives whose types do so.
 pub record VariantsUnfold (vs : Variants) : Type 0 where
   pub alike : (k i j : ℕ) → k ≤ i → k ≤ j → AgreesAlternatives k (alternatives_at i vs) (alternatives_at j vs)
 

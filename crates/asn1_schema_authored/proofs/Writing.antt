@@ -1,4 +1,4 @@
--- How the additions that an encoder takes are put together.
+-- How the additions that an encoder accepts are put together.
 use Rattle.std.proofs.Common.{◌≡◌, ℕ, true, false, List, [], ◌∷◌, refl, subst, sym, ◌∙◌}
 use Rattle.asn1_model.specs.Value.{Value, Parts, end, same}
 use Rattle.asn1_model.specs.Schema.{Tag, Presence, by_default, Schema}
@@ -19,7 +19,7 @@ use Rattle.asn1_schema_authored.specs.Writes.{WritesEnclosed, CannotWriteEnclose
 use Rattle.asn1_schema_authored.proofs.Extending.{count_at, enclosed_records, more_records, more_fit}
 
 module _ {S : Type 0} {step : S → Record → S → Type 0} where
-  -- ---- a value between its beginning and its end
+  -- ---- a value between its beginning and end
   pub writes_enclosed : {s : ℕ → Schema} {v : Value} {a b c d : S} → step a (addition true) b → Writes step s v b c → step c addition_ends d → WritesEnclosed step s v a d
   writes_enclosed {b = b} {c} m w e = record { begun = b; written = c; begins = m; writes = w; ends = e }
 
@@ -49,7 +49,7 @@ module _ {S : Type 0} {step : S → Record → S → Type 0} where
   pub cannot_no_addition : (o : Presence) (s : ℕ → Schema) {a : S} {x : EncodeError} → is_required o ≡ false → Refused step (addition false) a x → CannotWriteAddition step o s left_out a x
   cannot_no_addition o s {a} r h = record { none = λ w n c f p. let q : Chain step (addition false ∷ []) a c = rw r at p in h.none w q.0 q.1 }
 
-  -- ---- the additions that are left
+  -- ---- the remaining additions
   pub writes_no_more : {a b : S} → step a ends b → WritesAdded step no_field end a b
   unfolding components_at added_records
   writes_no_more {b = b} h = record { chain = λ n f. (b, h, refl) }
@@ -73,7 +73,7 @@ module _ {S : Type 0} {step : S → Record → S → Type 0} where
         h.none w n r.0 g.0 r.1;
   }
 
-  -- ---- additions as what is left behind the root
+  -- ---- additions as what follows the root
   pub writes_additions : {fs : Fields} {qs : Parts} {k : ℕ} {a b c : S} → k ≡ addition_count fs → step a (additions_begin k) b → WritesAdded step fs qs b c → WritesTail step (extensible_table fs) end qs a c
   unfolding components_at root_records
   writes_additions {fs} {qs} {k} {a} {b} {c} e h w = record { chain = λ n f. (b, subst (λ (i : ℕ). step a (additions_begin i) b) (e ∙ sym (count_at n fs)) h, w.chain n f.1) }
@@ -108,7 +108,7 @@ module _ {S : Type 0} {step : S → Record → S → Type 0} where
           w.none m n c f.1 (subst (λ (i : S). Chain step (added_records (components_at n fs) qs) i c) (one a (additions_begin k) p.0 b q h) p.2);
     }
 
--- nothing is noted behind an addition that is no group
+-- no note follows an addition that is no group
 module _ {ts : List Tag} {s : ℕ → Schema} (t : IsType ts s) where
   pub plain_noted : (o : Presence) (v : Value) → ((n : ℕ) → is_at_default o (s n) v ≡ false) → (n : ℕ) → noted o (s n) v ≡ []
   plain_noted o v d n = nothing_noted o (s n) v (not_empty (s n) (normal (s n) v) (t.no_group n)) (d n)

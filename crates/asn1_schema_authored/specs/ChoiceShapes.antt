@@ -1,12 +1,12 @@
--- What the alternatives of an enum are, and which of them each value is.
+-- The alternatives of an enum, and which of them each value is.
 use Rattle.asn1_model.specs.Value.{Value}
 use Rattle.asn1_schema_presented.specs.Tables.{IsType, IsValue}
 use Rattle.asn1_schema_variants.specs.declared.chosen.Chosen.{Chosen}
 use Rattle.asn1_schema_constructed.specs.Chosen.{chosen_value}
 use Rattle.asn1_schema_constructed.specs.Tables.{Choices, all_tags, choice_type}
 
--- The alternatives, which of them a value is, and the value of that one: the choice is a lawful type, and each value is
--- one of it.
+-- The alternatives, which of them a value is, and the value of that alternative: the choice is a well-formed type, and
+-- each value is one of it.
 pub record ChoiceShape (A : Type 0) : Type 0 where
   pub table : Choices
   pub place : A → Chosen

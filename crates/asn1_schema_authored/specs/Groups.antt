@@ -1,4 +1,4 @@
--- What the components of a group of additions are, and what a value has of them.
+-- The components of an extension addition group, and those of a value.
 use Rattle.std.specs.Prelude.{◌≡◌, ℕ, true}
 use Rattle.asn1_model.specs.Lawful.{is_lawful}
 use Rattle.asn1_model.specs.Tidy.{is_tidy}
@@ -7,8 +7,8 @@ use Rattle.asn1_schema_presented.specs.Additions.{IsGroup}
 use Rattle.asn1_schema_presented.specs.Tables.{Table, IsValue, sequence_type}
 use Rattle.asn1_schema_authored.specs.Shapes.{Shape}
 
--- There is no extension marker and one component or more; as a sequence the group is lawful, and each value is one of
--- that.
+-- There is no extension marker, and at least one component. The group is well-formed as a SEQUENCE, and each value is
+-- one of it.
 pub record GroupShape (A : Type 0) : Type 0 where
   pub shape : Shape A
   pub plain : IsGroup shape.table

@@ -1,4 +1,4 @@
--- How the states of a decoder go by additions (X.680 25).
+-- How extension additions change the state of a decoder (X.680 25).
 use Rattle.std.specs.Prelude.{◌≡◌, ℕ, true, false}
 use Rattle.asn1_model.specs.Value.{Value, Parts, same}
 use Rattle.asn1_model.specs.Schema.{Presence, Schema}
@@ -13,7 +13,7 @@ use Rattle.asn1_schema_presented.specs.Tables.{Fields, components_at}
 use Rattle.asn1_schema_presented.specs.Chains.{Chain}
 use Rattle.asn1_schema_decode.specs.Reads.{Reads}
 
--- An addition is told to be there, the records of its value follow, and its end.
+-- An addition is announced as present, followed by the records of its value, and its end.
 pub record ReadsEnclosed {S : Type 0} (step : S → Record → S → Type 0) (schema : ℕ → Schema) (n : ℕ) (v : Value)
     (old new : S) : Type 0 where
   pub begun : S
@@ -22,18 +22,18 @@ pub record ReadsEnclosed {S : Type 0} (step : S → Record → S → Type 0) (sc
   pub reads : Reads step schema n v begun read
   pub ends : step read addition_ends new
 
--- One that may be absent, there or not.
+-- An addition that may be absent, present or absent.
 abbrev pub ReadsExtension : {S : Type 0} → (S → Record → S → Type 0) → (ℕ → Schema) → ℕ → Part → S → S → Type 0
 ReadsExtension step schema n left_out old new = step old (addition false) new
 ReadsExtension step schema n (there v) old new = ReadsEnclosed step schema n v old new
 
--- Why none is read: for want of memory, or because the records of none are next, also with few octets more.
+-- Why an addition is not read: memory ran out, or the records of none are next, even with a little more input.
 pub record UnreadExtension {S : Type 0} (step : S → Record → S → Type 0) (few : S → S → S → Type 0)
     (schema : ℕ → Schema) (n : ℕ) (old failed : S) (x : DecodeError) : Type 0 where
   pub none : ¬ (x ≡ OutOfMemory) → (a : S) → few old failed a → (p : Part) (new : S)
       → ReadsExtension step schema n p a new → ⊥
 
--- One with the default d: it is left out, or spelled out, which is noted, or of another value.
+-- An addition with the default d: absent; encoded although equal to the default, which is noted; or of another value.
 pub data ReadsExtensionDefault {S : Type 0} (step : S → Record → S → Type 0) (schema : ℕ → Schema) (n : ℕ)
     (d v : Value) (old new : S) : Type 0 where
   omitted : v ≡ d → step old (addition false) new → ReadsExtensionDefault step schema n d v old new
@@ -47,7 +47,7 @@ pub record UnreadExtensionDefault {S : Type 0} (step : S → Record → S → Ty
   pub none : ¬ (x ≡ OutOfMemory) → (a : S) → few old failed a → (v : Value) (new : S)
       → ReadsExtensionDefault step schema n d v a new → ⊥
 
--- One addition by its type's own constraints, there or left out; x is its normal form.
+-- An addition under its type's constraints, present or absent; x is its normal form.
 pub record ReadsAddition {S : Type 0} (step : S → Record → S → Type 0) (o : Presence) (schema : ℕ → Schema) (n : ℕ)
     (x : Part) (old new : S) : Type 0 where
   pub raw : Part
@@ -61,7 +61,7 @@ pub record UnreadAddition {S : Type 0} (step : S → Record → S → Type 0) (f
       → PartFits (λ v. Fits (schema n) v) o p
       → Chain step (addition_records (λ v. presents (schema n) v) o (schema n) p) a new → ⊥
 
--- The additions that are left, and the end.
+-- The remaining additions, and the end.
 pub record ReadsAdded {S : Type 0} (step : S → Record → S → Type 0) (fs : Fields) (n : ℕ) (qs : Parts) (old new : S) :
     Type 0 where
   pub raw : Parts

@@ -1,4 +1,4 @@
--- What the components of a struct are, and what a value of the struct has of them.
+-- The components of a struct, and those of its values.
 use Rattle.std.specs.Prelude.{◌≡◌, ℕ, Bool, true, false, cond, List, [], ◌∷◌}
 use Rattle.asn1_model.specs.Schema.{Tag, Schema}
 use Rattle.asn1_model.specs.Value.{Value, Parts, fields}
@@ -9,7 +9,7 @@ use Rattle.asn1_schema_tags.specs.declared.tags.Class.TheVariants.{Universal}
 use Rattle.asn1_schema_tags.specs.declared.tags.Tag.{Tag as OwnTag}
 use Rattle.asn1_schema_authored.specs.declared.composites.Heading.{Heading}
 
--- Whether the components make a SET.
+-- Whether the components are those of a SET.
 abbrev pub is_set : Form → Bool
 is_set sequence_form = false
 is_set set_form = true
@@ -19,7 +19,7 @@ abbrev pub form_tags : Form → List Tag
 form_tags sequence_form = sequence_tags
 form_tags set_form = record { class = 0; number = 17 } ∷ []
 
--- The same as the program has it.
+-- The tag of SEQUENCE as the crate `asn1_schema_tags` has it.
 abbrev pub sequence_tag : OwnTag
 sequence_tag = record { class = Universal; value = 16 }
 
@@ -30,7 +30,7 @@ abbrev pub form_tag : Form → OwnTag
 form_tag sequence_form = sequence_tag
 form_tag set_form = set_tag
 
--- SEQUENCE or SET, its components, and what a value has of them: the type is lawful, and each value is one of it.
+-- SEQUENCE or SET, its components, and those of a value: the type is well-formed, and each value is one of it.
 pub record Shape (A : Type 0) : Type 0 where
   pub form : Form
   pub table : Table
@@ -43,11 +43,11 @@ pub record Shape (A : Type 0) : Type 0 where
 abbrev pub shape_type : {A : Type 0} → Shape A → ℕ → Schema
 shape_type s n = constructed_type s.form s.table n
 
--- What a value of it means.
+-- What a value of the struct means.
 abbrev pub shape_value : {A : Type 0} → Shape A → A → Value
 shape_value s x = fields (s.root x) (s.added x)
 
--- The shape of what holds a value of another.
+-- The shape of a type that holds a value with another shape.
 abbrev pub shape_through : {A B : Type 0} → (A → B) → Shape B → Shape A
 shape_through f s = record {
   form = s.form;
@@ -58,13 +58,13 @@ shape_through f s = record {
   valued = λ x. s.valued (f x);
 }
 
--- What stands in front of the components of a shape.
+-- What precedes the components of a shape.
 pub record IsHeading (h : Heading) (k : Form) (t : Table) : Type 0 where
   pub form : h.set ≡ is_set k
   pub marker : h.extensible ≡ t.extensible
   pub presence_bits : h.optional ≡ presence_bits t.root
 
--- The record with which it begins, and what a decoder asks for there.
+-- The record with which a shape begins, and the question of a decoder for it.
 abbrev pub begins : Form → Bool → ℕ → Record
 begins sequence_form e n = sequence_begins e n
 begins set_form e n = set_begins e n
@@ -73,7 +73,7 @@ abbrev pub asks : Form → Bool → ℕ → Question
 asks sequence_form e n = asks_sequence e n
 asks set_form e n = asks_set e n
 
--- By a heading.
+-- SEQUENCE or SET, from a heading.
 abbrev pub form_of : Bool → Form
 form_of true = set_form
 form_of false = sequence_form

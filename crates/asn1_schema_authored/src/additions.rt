@@ -1,4 +1,4 @@
-//! The additions of a sequence or set, one inside another, as they are read.
+//! The extension additions of a SEQUENCE or SET, one nested in another, as they are decoded.
 ghost use Rattle.std.specs.Prelude.{◌≡◌, ◌≤◌, refl, min};
 ghost use Rattle.asn1_model.specs.Value.{Parts, end, same};
 ghost use Rattle.asn1_model.specs.Schema.{required, optional, by_default};
@@ -18,29 +18,29 @@ use crate::group::Group;
 use asn1_schema_types::{ComponentsOf, DefaultOf, Described};
 use std::marker::PhantomData;
 
-/// Additions: what they are in ASN.1, and what they mean.
+/// Extension additions: their definition, and what they mean.
 pub trait AdditionsOf {
     /// The additions, in their order.
     ghost additions: { Fields };
 
-    /// What they mean, there or absent.
+    /// The value of each addition, or that it is absent.
     ghost parts: { Self → Parts };
 
-    /// How many additions there are, and `usize::MAX` where there are more than that.
+    /// The number of additions; `usize::MAX` if there are more.
     fn count() -> usize
         ensures { result ≡ min (addition_count additions) 18446744073709551615 };
 
-    /// Their types may stand there, if each default may.
+    /// The additions may have these types, if each default is allowed for its addition.
     ghost typed: { HaveDefaults additions → AreAdditionTypes additions };
 
     /// The parts are of these types.
     ghost valued: { HaveDefaults additions → (x : Self) → AreAdditionValues additions (parts x) };
 
-    /// Does nothing: what stands in front of it is data and no law (see `Described::described`).
+    /// Does nothing: the items before it are data, those after it are laws (see `Described::described`).
     fn described(&self) {}
 }
 
-/// No further addition: the end of a sequence or set with an extension marker.
+/// No further addition: the end of a SEQUENCE or SET with an extension marker.
 #[derive(Drop)]
 pub struct NoMore;
 
@@ -58,18 +58,17 @@ impl AdditionsOf for NoMore {
     ghost valued = { λ _ _. no_addition_values };
 }
 
-/// That there are no more additions than `usize` counts: a marker type of the program's implements it for the
-/// additions of a type.
+/// Says that `usize` can count the additions. A user-defined marker type implements it for the additions of a type.
 pub trait CountOf<A: AdditionsOf> {
-    /// Does nothing: what stands behind it is a law (see `Described::described`).
+    /// Does nothing: the items after it are laws (see `Described::described`).
     fn described(&self) {}
 
-    /// There are no more of them.
+    /// There are at most `usize::MAX` additions.
     ghost countable: { addition_count A.additions ≤ 18446744073709551615 };
 }
 
-/// What stands behind the root components of a type with an extension marker: its additions, as they are read.
-/// The marker says that they can be counted.
+/// The extension additions, which follow the root components of a type with an extension marker, as they are decoded.
+/// The marker `M` says that they can be counted.
 #[derive(Drop)]
 pub struct ExtensibleComponents<M, A>(pub A, pub PhantomData<M>);
 
@@ -85,7 +84,8 @@ impl<M, A: AdditionsOf> ComponentsOf for ExtensibleComponents<M, A> {
     ghost valued = { λ d x. extensible_values (A.valued d x.0) };
 }
 
-/// An addition that is there wherever this version of the type wrote the value, and those behind it, as they are read.
+/// An addition that is present in every value that this version of the type, or a newer one, encoded; and the additions
+/// after it, as they are decoded.
 #[derive(Drop)]
 pub struct AddedRequiredComponent<T, R>(pub T, pub R);
 
@@ -103,7 +103,7 @@ impl<T: Described, R: AdditionsOf> AdditionsOf for AddedRequiredComponent<T, R> 
     ghost valued = { λ d x. more_addition_values T.tags (part_required T.typed (T.valued x.0)) (R.valued d x.1) };
 }
 
-/// An addition that may be absent, and those behind it, as they are read.
+/// An addition that may be absent, and the additions after it, as they are decoded.
 #[derive(Drop)]
 pub struct AddedOptionalComponent<T, R>(pub Option<T>, pub R);
 
@@ -122,7 +122,7 @@ impl<T: Described, R: AdditionsOf> AdditionsOf for AddedOptionalComponent<T, R> 
         (R.valued d x.1) };
 }
 
-/// An addition with a default, of which the marker says which one, and those behind it, as they are read.
+/// An addition with a default, given by the marker `V`, and the additions after it, as they are decoded.
 #[derive(Drop)]
 pub struct AddedDefaultedComponent<V, T, R>(pub T, pub PhantomData<V>, pub R);
 
@@ -143,7 +143,7 @@ impl<V: DefaultOf<T>, T: Described, R: AdditionsOf> AdditionsOf
         (part_default (same (T.meaning x.0) V.value) T.typed (T.valued x.0) d.0.is_value refl) (R.valued d.1 x.2) };
 }
 
-/// A group of additions, and those behind it, as they are read.
+/// An extension addition group, and the additions after it, as they are decoded.
 #[derive(Drop)]
 pub struct AddedGroupComponent<G, R>(pub Option<G>, pub R);
 

@@ -1,4 +1,4 @@
-//! CHOICE (X.680 29) as a type around an enum of a program's own.
+//! CHOICE (X.680 29) as a type around a user-defined enum.
 ghost use Rattle.std.specs.Prelude.{◌≡◌, [], true, false, map, refl, MatchOption, IfOk, IfErr, OnErr, OnOk};
 ghost use Rattle.asn1_schema_constraints.specs.Terms.{no_constraint};
 ghost use Rattle.asn1_schema_tags.specs.Places.{is_table_of};
@@ -23,9 +23,9 @@ use asn1_schema_variants::Chosen;
 use std::alloc::Global;
 use std::ops::Deref;
 
-/// An enum of a program's own whose variants are the alternatives of a CHOICE (X.680 29).
+/// A user-defined enum whose variants are the alternatives of a CHOICE (X.680 29).
 pub trait ChoiceAlternatives: Drop {
-    /// The name of the type, where it has one.
+    /// The name of the type, if it has one.
     const IDENTIFIER: Identifier = Identifier::EMPTY;
 
     /// The alternatives, and which of them each value is.
@@ -39,21 +39,21 @@ pub trait ChoiceAlternatives: Drop {
     fn variants() -> &'static [Tag]
         ensures { map tag_of result.now ≡ tags_of shape.table.root };
 
-    /// The tags of the added alternatives in their order, or `None` where there is no extension marker.
+    /// The tags of the added alternatives in their order, or `None` if there is no extension marker.
     fn extended_variants() -> Option<&'static [Tag]>
         ensures { MatchOption result ((false ≡ shape.table.extensible) × ([] ≡ tags_of shape.table.additions))
             (λ tags. (true ≡ shape.table.extensible) × (map tag_of tags.now ≡ tags_of shape.table.additions)) };
 
-    /// The tags of all alternatives in ascending order (X.680 8.6), each with its place: those of `variants()` come
-    /// before those of `extended_variants()`.
+    /// The tags of all alternatives in ascending order (X.680 8.6), each with its index. The alternatives of
+    /// `variants()` are numbered before those of `extended_variants()`.
     fn places() -> &'static [TagPlace]
         ensures { is_table_of result.now (all_tags shape.table) ≡ true };
 
-    /// Which alternative the value is.
+    /// The chosen alternative.
     fn chosen(&self) -> Chosen
         ensures { result ≡ shape.place self.now };
 
-    /// Writes the value of the chosen alternative, and answers the tag of the alternative.
+    /// Encodes the value of the chosen alternative, and returns the tag of the alternative.
     fn write_chosen<E: Encoder>(&self, encoder: &mut E) -> Result<Tag, EncodeError>
         ensures ok { IfOk result (λ _. Writes E.step (chosen_type shape.table (shape.place self.now))
             (shape.inner self.now) encoder.old encoder.new) }
@@ -65,7 +65,7 @@ pub trait ChoiceAlternatives: Drop {
         ensures already { E.has_failed encoder.old → result ≡ Err EncodeError.AlreadyFailed }
         ensures after { result ≡ Err EncodeError.AlreadyFailed → E.has_failed encoder.old };
 
-    /// Reads the value of an alternative.
+    /// Decodes the value of an alternative.
     fn from_chosen<D: Decoder>(
         alloc: Global,
         decoder: &mut D,

@@ -1,4 +1,4 @@
-//! SEQUENCE and SET (X.680 25 and 27) as types around structs of a program's own.
+//! SEQUENCE and SET (X.680 25 and 27) as types around user-defined structs.
 ghost use Rattle.std.specs.Prelude.{◌≡◌, ◌+◌, [], ◌∷◌, true, false, refl, OnOk, OnErr, IfOk, IfErr};
 ghost use Rattle.asn1_schema_constraints.specs.Terms.{no_constraint};
 ghost use Rattle.asn1_schema_decode.specs.Reads.{NoLevel, ReadsTail, UnreadTail};
@@ -18,19 +18,19 @@ use asn1_schema_types::{AsnType, Described};
 use std::alloc::Global;
 use std::ops::Deref;
 
-/// What stands in front of the components of a SEQUENCE or SET.
+/// What precedes the components of a SEQUENCE or SET.
 #[derive(Clone, Copy)]
 pub struct Heading {
     /// Whether the type is a SET.
     pub set: bool,
     /// Whether it has an extension marker.
     pub extensible: bool,
-    /// How many of its root components may be absent.
+    /// The number of root components that may be absent.
     pub optional: usize,
 }
 
 impl Heading {
-    /// SEQUENCE, of whose root components so many may be absent.
+    /// A SEQUENCE, `optional` of whose root components may be absent.
     pub fn sequence(optional: usize) -> Self
         ensures { result ≡ record { set = false; extensible = false; optional = optional } }
     {
@@ -41,7 +41,7 @@ impl Heading {
         }
     }
 
-    /// SET, of whose root components so many may be absent.
+    /// A SET, `optional` of whose root components may be absent.
     pub fn set(optional: usize) -> Self
         ensures { result ≡ record { set = true; extensible = false; optional = optional } }
     {
@@ -70,7 +70,7 @@ impl Heading {
     }
 }
 
-/// A struct of a program's own whose fields are the components of a SEQUENCE or SET (X.680 25 and 27).
+/// A user-defined struct whose fields are the components of a SEQUENCE or SET (X.680 25 and 27).
 pub trait Components: Drop {
     ghost use Rattle.asn1_schema_tags.specs.declared.tags.Tag.{Tag};
 
@@ -80,18 +80,18 @@ pub trait Components: Drop {
     /// The tag of the type: `Tag::SEQUENCE` or `Tag::SET`.
     const TAG: Tag;
 
-    /// The name of the type, where it has one.
+    /// The name of the type, if it has one.
     const IDENTIFIER: Identifier = Identifier::EMPTY;
 
     /// The type, and what its values mean.
     ghost shape: { Shape Self };
 
-    /// What stands in front of the components. It tells the same type as `TAG`: SEQUENCE or SET.
+    /// What precedes the components: SEQUENCE or SET, as `TAG` says.
     fn heading() -> Heading
         ensures heading { IsHeading result shape.form shape.table }
         ensures tag { TAG ≡ form_tag shape.form };
 
-    /// Writes the components in their order, and the end.
+    /// Encodes the components in their order, and the end.
     fn write_components<E: Encoder>(&self, encoder: &mut E) -> Result<(), EncodeError>
         ensures ok { OnOk result
             (WritesTail E.step shape.table (shape.root self.now) (shape.added self.now) encoder.old encoder.new) }
@@ -102,7 +102,7 @@ pub trait Components: Drop {
         ensures already { E.has_failed encoder.old → result ≡ Err EncodeError.AlreadyFailed }
         ensures after { result ≡ Err EncodeError.AlreadyFailed → E.has_failed encoder.old };
 
-    /// Reads the components in their order, and the end.
+    /// Decodes the components in their order, and the end.
     fn read_components<D: Decoder>(alloc: Global, decoder: &mut D) -> Result<Self, DecodeError>
         ensures ok { IfOk result (λ x. ReadsTail D.step shape.table (D.levels decoder.old) (shape.root x)
             (shape.added x) decoder.old decoder.new) }
@@ -202,7 +202,7 @@ impl<T: Components> Encode for Composite<T> {
     }
 }
 
-/// A SEQUENCE or SET begins, as it is written.
+/// Begins a SEQUENCE or SET of an encoder.
 fn begin_written<E: Encoder>(encoder: &mut E, tag: Tag, heading: Heading) -> Result<(), EncodeError>
     ensures ok { OnOk result
         (E.step encoder.old (begins (form_of heading.set) heading.extensible heading.optional) encoder.new) }
@@ -233,7 +233,7 @@ impl<T: Components> Decode for Composite<T> {
     }
 }
 
-/// A SEQUENCE or SET begins, as it is read.
+/// Begins a SEQUENCE or SET of a decoder.
 fn begin_read<D: Decoder>(decoder: &mut D, tag: Tag, heading: Heading) -> Result<(), DecodeError>
     ensures ok { OnOk result
         (D.step decoder.old (begins (form_of heading.set) heading.extensible heading.optional) decoder.new) }
@@ -252,13 +252,13 @@ fn begin_read<D: Decoder>(decoder: &mut D, tag: Tag, heading: Heading) -> Result
     }
 }
 
-/// The table of fields of a struct, for those who ask for it (`Constructed`).
+/// The table of the fields of a struct, as `Constructed` gives it.
 pub trait FieldTables: Components {
     /// The fields of the root, in the order of the components.
     fn fields() -> Fields<'static>
         ensures { AreFields result.fields.now Self.shape.table.root };
 
-    /// The fields of the additions, or `None` where there is no extension marker.
+    /// The fields of the additions, or `None` if there is no extension marker.
     fn extended_fields() -> Option<Fields<'static>>
         ensures { AreAdditions result Self.shape.table };
 }

@@ -1,4 +1,4 @@
-//! How many additions there are, of which `usize` counts all.
+//! The number of extension additions, all of which `usize` counts.
 ghost use Rattle.std.proofs.Common.{rules, arith};
 
 use crate::{
@@ -7,7 +7,7 @@ use crate::{
 };
 use asn1_schema_types::Described;
 
-/// No addition, of which a type with an extension marker may have none yet.
+/// No addition. A type with an extension marker may have none.
 #[derive(Drop)]
 pub struct NoAddition;
 

@@ -1,4 +1,4 @@
-//! The additions of a sequence or set, as they are read.
+//! How the extension additions of a SEQUENCE or SET are decoded.
 ghost use Rattle.std.specs.Prelude.{◌≡◌, ◌+◌, true, OnOk, OnErr, IfErr, IfOk};
 ghost use Rattle.asn1_model.specs.Value.{fields, end, same};
 ghost use Rattle.asn1_model.specs.Schema.{required, optional, by_default};
@@ -25,9 +25,9 @@ use asn1_schema_types::DefaultOf;
 use std::alloc::Global;
 use std::marker::PhantomData;
 
-/// Additions that are read.
+/// Extension additions that can be decoded.
 pub trait DecodeAdditions: AdditionsOf + Drop {
-    /// Reads the additions, and the end of the sequence or set.
+    /// Reads the additions, and the end of the SEQUENCE or SET.
     fn decode_additions<D: Decoder>(alloc: Global, decoder: &mut D) -> Result<Self, DecodeError>
         ensures ok { IfOk result
             (λ x. ReadsAdded D.step Self.additions (D.levels decoder.old) (Self.parts x) decoder.old decoder.new) }
@@ -88,10 +88,10 @@ impl<M: CountOf<A> + Drop, A: DecodeAdditions> DecodeComponents for ExtensibleCo
     }
 }
 
-/// How additions, and sequences that have them, are read.
+/// Decodes extension additions, and SEQUENCE types that have them.
 pub trait DecodeExtension: Decoder {
-    /// An addition that is there wherever this version of the type wrote the value. One that is absent is refused as
-    /// `RequiredExtensionNotPresent`.
+    /// Decodes an addition that is present in every value that this version of the type, or a newer one, encoded. If it
+    /// is absent, the error is `RequiredExtensionNotPresent`.
     final fn decode_required_extension_addition<T: Decode>(
         &mut self,
         alloc: Global,
@@ -117,7 +117,7 @@ pub trait DecodeExtension: Decoder {
         Ok(value)
     }
 
-    /// An addition that may be absent (X.680 25; X.691 19.7 to 19.9, X.696 16).
+    /// Decodes an addition that may be absent (X.680 25; X.691 19.7 to 19.9, X.696 16).
     final fn decode_extension_addition<T: Decode>(
         &mut self,
         alloc: Global,
@@ -137,7 +137,7 @@ pub trait DecodeExtension: Decoder {
         self.decode_extension_addition_with_tag(alloc, T::TAG)
     }
 
-    /// The same with another tag.
+    /// As `decode_extension_addition`, with another tag.
     final fn decode_extension_addition_with_tag<T: Decode>(
         &mut self,
         alloc: Global,
@@ -163,7 +163,7 @@ pub trait DecodeExtension: Decoder {
         Ok(value)
     }
 
-    /// The same under these constraints.
+    /// As `decode_extension_addition`, under these constraints.
     final fn decode_extension_addition_with_constraints<T: Decode>(
         &mut self,
         alloc: Global,
@@ -185,8 +185,8 @@ pub trait DecodeExtension: Decoder {
         self.decode_extension_addition_with_tag_and_constraints(alloc, T::TAG, constraints)
     }
 
-    /// The same with another tag around its own (X.680 31.2.8), which leaves no octet in the packed and the octet
-    /// encoding rules, under these constraints.
+    /// As `decode_extension_addition`, under these constraints and with a further, explicit tag (X.680 31.2.8), which
+    /// PER and OER do not encode.
     final fn decode_extension_addition_with_explicit_tag_and_constraints<T: Decode>(
         &mut self,
         alloc: Global,
@@ -209,7 +209,7 @@ pub trait DecodeExtension: Decoder {
         self.decode_extension_addition_with_constraints(alloc, constraints)
     }
 
-    /// The same with another tag, under these constraints.
+    /// As `decode_extension_addition`, with another tag and under these constraints.
     final fn decode_extension_addition_with_tag_and_constraints<T: Decode>(
         &mut self,
         alloc: Global,
@@ -238,9 +238,9 @@ pub trait DecodeExtension: Decoder {
         Ok(Some(value))
     }
 
-    /// An addition with a default, which stands for it where it is absent (X.680 25). One that is there and means what
-    /// the default is has a note behind it, which rules with one encoding refuse (X.691 19.5 and X.696 16 in their
-    /// canonical forms).
+    /// Decodes an addition with a default; if it is absent, its value is the default (X.680 25). If it is present and
+    /// equal to the default, `note_default` is called, which a decoder of canonical rules, or a strict one, refuses
+    /// (X.691 19.5 and X.696 16 in their canonical forms).
     final fn decode_extension_addition_with_default<V: DefaultOf<T>, T: Decode>(
         &mut self,
         alloc: Global,
@@ -261,7 +261,7 @@ pub trait DecodeExtension: Decoder {
         self.decode_extension_addition_with_default_and_tag::<V, T>(alloc, T::TAG)
     }
 
-    /// The same with another tag.
+    /// As `decode_extension_addition_with_default`, with another tag.
     final fn decode_extension_addition_with_default_and_tag<V: DefaultOf<T>, T: Decode>(
         &mut self,
         alloc: Global,
@@ -288,7 +288,7 @@ pub trait DecodeExtension: Decoder {
         Ok(value)
     }
 
-    /// The same under these constraints.
+    /// As `decode_extension_addition_with_default`, under these constraints.
     final fn decode_extension_addition_with_default_and_constraints<V: DefaultOf<T>, T: Decode>(
         &mut self,
         alloc: Global,
@@ -314,7 +314,7 @@ pub trait DecodeExtension: Decoder {
         )
     }
 
-    /// The same with another tag, under these constraints.
+    /// As `decode_extension_addition_with_default`, with another tag and under these constraints.
     final fn decode_extension_addition_with_default_and_tag_and_constraints<
         V: DefaultOf<T>,
         T: Decode,
@@ -348,7 +348,7 @@ pub trait DecodeExtension: Decoder {
         Ok(value)
     }
 
-    /// The components of a group of additions (X.680 25.1), and its end.
+    /// Decodes the components of an extension addition group (X.680 25.1), and its end.
     final fn decode_group<G: Group>(&mut self, alloc: Global) -> Result<G, DecodeError>
     where
         Self: Sized,
@@ -368,8 +368,8 @@ pub trait DecodeExtension: Decoder {
         Ok(group)
     }
 
-    /// A group of additions (X.680 25.1). One none of whose components is there is `None`, with a note behind it, which
-    /// rules with one encoding refuse.
+    /// Decodes an extension addition group (X.680 25.1). If none of its components is present, it is `None`, and
+    /// `note_empty` is called, which a decoder of canonical rules, or a strict one, refuses.
     final fn decode_extension_addition_group<G: Group>(
         &mut self,
         alloc: Global,
@@ -400,8 +400,8 @@ pub trait DecodeExtension: Decoder {
         Ok(Some(group))
     }
 
-    /// SEQUENCE (X.680 25) of these components with an extension marker, of whose root components so many may be
-    /// absent.
+    /// Decodes a SEQUENCE (X.680 25) of these components with an extension marker; `optional` of its root components
+    /// may be absent.
     final fn decode_extensible_components<C: DecodeComponents>(
         &mut self,
         alloc: Global,

@@ -1,4 +1,4 @@
-//! The additions of a sequence or set, as they are written.
+//! How the extension additions of a SEQUENCE or SET are encoded.
 ghost use Rattle.std.specs.Prelude.{◌≡◌, true, OnOk, OnErr, IfErr};
 ghost use Rattle.asn1_model.specs.Value.{fields, end, same};
 ghost use Rattle.asn1_model.specs.Schema.{required, optional, by_default};
@@ -20,9 +20,9 @@ use asn1_schema_faults::EncodeError;
 use asn1_schema_tags::Tag;
 use asn1_schema_types::DefaultOf;
 
-/// Additions that are written.
+/// Extension additions that can be encoded.
 pub trait EncodeAdditions: AdditionsOf {
-    /// Writes the records of the additions, and the end of the sequence or set.
+    /// Writes the records of the additions, and the end of the SEQUENCE or SET.
     fn encode_additions<E: Encoder>(&self, encoder: &mut E) -> Result<(), EncodeError>
         ensures ok { OnOk result (WritesAdded E.step Self.additions (Self.parts self.now) encoder.old encoder.new) }
         ensures only { IfErr result (CannotWriteAdded E.step Self.additions (Self.parts self.now) encoder.old) }
@@ -81,9 +81,9 @@ impl<A: EncodeAdditions> EncodeComponents for ExtensionMarker<A> {
     }
 }
 
-/// How additions, and sequences that have them, are written.
+/// Encodes extension additions, and SEQUENCE types that have them.
 pub trait EncodeExtension: Encoder {
-    /// An addition that is there.
+    /// Encodes an addition that is present.
     final fn encode_required_extension_addition<T: Encode>(
         &mut self,
         value: &T,
@@ -103,7 +103,7 @@ pub trait EncodeExtension: Encoder {
         Ok(())
     }
 
-    /// An addition that is there, with another tag, under these constraints.
+    /// Encodes an addition that is present, with another tag and under these constraints.
     final fn encode_present_addition<T: Encode>(
         &mut self,
         tag: Tag,
@@ -127,7 +127,7 @@ pub trait EncodeExtension: Encoder {
         Ok(())
     }
 
-    /// An addition that may be absent (X.680 25; X.691 19.7 to 19.9, X.696 16).
+    /// Encodes an addition that may be absent (X.680 25; X.691 19.7 to 19.9, X.696 16).
     final fn encode_extension_addition<T: Encode>(
         &mut self,
         value: &Option<T>,
@@ -151,8 +151,8 @@ pub trait EncodeExtension: Encoder {
         Ok(())
     }
 
-    /// An addition with a default: left out where it means what the default is, so a default is never spelled out
-    /// (X.691 19.5 and X.696 16 in their canonical forms). Takes no memory of its own.
+    /// Encodes an addition with a default. It is left out if it is equal to the default, so a default is never encoded
+    /// (X.691 19.5 and X.696 16 in their canonical forms). Allocates nothing itself.
     final fn encode_extension_addition_with_default<V: DefaultOf<T>, T: Encode>(
         &mut self,
         value: &T,
@@ -178,7 +178,7 @@ pub trait EncodeExtension: Encoder {
         Ok(())
     }
 
-    /// The components of a group of additions (X.680 25.1), and its end.
+    /// Encodes the components of an extension addition group (X.680 25.1), and its end.
     final fn encode_group<G: Group>(&mut self, group: &G) -> Result<(), EncodeError>
     where
         Self: Sized,
@@ -197,7 +197,7 @@ pub trait EncodeExtension: Encoder {
         Ok(())
     }
 
-    /// A group of additions (X.680 25.1), one of whose components is there.
+    /// Encodes an extension addition group (X.680 25.1) with at least one component present.
     final fn encode_present_group<G: Group>(&mut self, group: &G) -> Result<(), EncodeError>
     where
         Self: Sized,
@@ -216,7 +216,7 @@ pub trait EncodeExtension: Encoder {
         Ok(())
     }
 
-    /// A group of additions (X.680 25.1): absent where none of its components is there.
+    /// Encodes an extension addition group (X.680 25.1). It is absent if none of its components is present.
     final fn encode_extension_addition_group<G: Group>(
         &mut self,
         value: &Option<G>,
@@ -245,8 +245,8 @@ pub trait EncodeExtension: Encoder {
         Ok(())
     }
 
-    /// SEQUENCE (X.680 25) of these components with an extension marker, of whose root components so many may be
-    /// absent.
+    /// Encodes a SEQUENCE (X.680 25) of these components with an extension marker; `optional` of its root components
+    /// may be absent.
     final fn encode_extensible_components<C: EncodeComponents>(
         &mut self,
         tag: Tag,

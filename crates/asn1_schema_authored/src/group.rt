@@ -1,4 +1,4 @@
-//! Groups of additions.
+//! Extension addition groups.
 ghost use Rattle.std.specs.Prelude.{◌≡◌, ℕ, true};
 ghost use Rattle.asn1_model.specs.Lawful.{is_lawful};
 ghost use Rattle.asn1_model.specs.Tidy.{is_tidy};
@@ -8,37 +8,37 @@ ghost use Rattle.asn1_schema_presented.specs.Additions.{IsGroup};
 
 use asn1_schema_constructed::Constructed;
 
-/// A group of additions (X.680 25.1), as a type of the program: a sequence without an extension marker, with one
-/// component or more.
+/// An extension addition group (X.680 25.1), as a user-defined type: a SEQUENCE without an extension marker, with at
+/// least one component.
 pub trait Group: Constructed {
-    /// Its components.
+    /// The components of the group.
     ghost components: { Table };
 
     /// The components of a value.
     ghost parts: { Self → Parts };
 
-    /// There is no extension marker, and one component or more.
+    /// There is no extension marker, and at least one component.
     ghost plain: { IsGroup components };
 
-    /// As a sequence it is lawful.
+    /// It is well-formed as a SEQUENCE.
     ghost lawful: { (n : ℕ) → is_lawful (sequence_type components n) ≡ true };
 
     /// Its defaults are in normal form.
     ghost tidy: { (n : ℕ) → is_tidy (sequence_type components n) ≡ true };
 
-    /// Each value is one of that sequence.
+    /// Each value is one of that SEQUENCE.
     ghost each: { (x : Self) → IsValue (sequence_type components) (fields (parts x) end) };
 
-    /// Whether none of the components is there: such a group is absent, by the project's choice.
+    /// Whether none of the components is present. Such a group is left out: a choice of this library.
     fn is_empty(&self) -> bool
         ensures { result ≡ are_absent (parts self.now) };
 
-    /// These are the components that are written and read.
+    /// These are the components that are encoded and decoded.
     ghost same_components: { Self.table ≡ components };
 
-    /// So are those of each value.
+    /// The components of a value are its root components.
     ghost same_parts: { (x : Self) → Self.root x ≡ parts x };
 
-    /// There are no others.
+    /// There are no extension additions in a group.
     ghost no_others: { (x : Self) → Self.added x ≡ end };
 }

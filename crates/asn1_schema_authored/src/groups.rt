@@ -1,4 +1,4 @@
-//! Groups of additions (X.680 25.1) around structs of a program's own.
+//! Extension addition groups (X.680 25.1) around user-defined structs.
 ghost use Rattle.std.specs.Prelude.{◌≡◌};
 ghost use Rattle.std.proofs.Common.{◌∙◌, ap};
 ghost use Rattle.asn1_model.specs.Value.{are_absent};
@@ -7,12 +7,12 @@ ghost use Rattle.asn1_schema_authored.specs.Groups.{GroupShape, shape_table};
 use crate::Group;
 use crate::composites::{Composite, FieldTables};
 
-/// A struct whose fields are the components of a group of additions (X.680 25.1).
+/// A struct whose fields are the components of an extension addition group (X.680 25.1).
 pub trait GroupComponents: FieldTables {
-    /// The components, of which there is one or more, and no extension marker behind them.
+    /// The components, of which there is at least one, without an extension marker.
     ghost group: { GroupShape Self };
 
-    /// Whether none of the components is there.
+    /// Whether none of the components is present.
     fn is_empty(&self) -> bool
         ensures { result ≡ are_absent (group.shape.root self.now) };
 

@@ -1,6 +1,5 @@
-//! Additions of sequences and sets behind an extension marker, and groups of them (X.680 25 and 27); types around
-//! structs and enums of a program's own: SEQUENCE and SET, groups of additions, and CHOICE (X.680 29), and newer
-//! versions of them.
+//! Extension additions of SEQUENCE and SET, and groups of them (X.680 25 and 27); types around user-defined structs and
+//! enums: SEQUENCE and SET, extension addition groups, and CHOICE (X.680 29), and newer versions of them.
 #![tactic(auto)]
 
 pub mod additions;

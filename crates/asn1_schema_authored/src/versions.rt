@@ -6,16 +6,16 @@ ghost use Rattle.asn1_schema_constructed.specs.Tables.{choice_type};
 use crate::{ChoiceAlternatives, ChoiceOf, Components, Composite};
 use asn1_schema_types::Extends;
 
-/// What the author of a newer version says of the structs of both versions. Then the SEQUENCE or SET of the one extends
-/// that of the other.
+/// Says that one struct is a newer version of another. Then the SEQUENCE or SET of the one extends that of the other.
+/// The author of the newer version implements it.
 pub trait ExtendsComponents<Old: Components>: Components {
-    /// Unfolded to 128 levels or more, the type is a newer version of the other one, unfolded to as many.
+    /// Unfolded to the same number of levels, 128 or more, the type is a newer version of the other one.
     ghost extends: { ExtendsFrom 128 (shape_type Old.shape) (shape_type Self.shape) };
 
-    /// The older version means the same in whatever depth it is unfolded.
+    /// The older version means the same at any depth to which it is unfolded.
     ghost old_unfolds: { Unfolds (shape_type Old.shape) };
 
-    /// So does the type.
+    /// So does this type.
     ghost unfolds: { Unfolds (shape_type Self.shape) };
 }
 
@@ -27,16 +27,16 @@ impl<Old: Components, New: ExtendsComponents<Old>> Extends<Composite<Old>> for C
     ghost unfolds = { New.unfolds };
 }
 
-/// What the author of a newer version says of the enums of both versions. Then the CHOICE of the one extends that of
-/// the other.
+/// Says that one enum is a newer version of another. Then the CHOICE of the one extends that of the other. The author
+/// of the newer version implements it.
 pub trait ExtendsAlternatives<Old: ChoiceAlternatives>: ChoiceAlternatives {
-    /// Unfolded to 128 levels or more, the type is a newer version of the other one, unfolded to as many.
+    /// Unfolded to the same number of levels, 128 or more, the type is a newer version of the other one.
     ghost extends: { ExtendsFrom 128 (choice_type Old.shape.table) (choice_type Self.shape.table) };
 
-    /// The older version means the same in whatever depth it is unfolded.
+    /// The older version means the same at any depth to which it is unfolded.
     ghost old_unfolds: { Unfolds (choice_type Old.shape.table) };
 
-    /// So does the type.
+    /// So does this type.
     ghost unfolds: { Unfolds (choice_type Self.shape.table) };
 }
 

@@ -1,4 +1,4 @@
-//! The additions of a sequence or set, one inside another, as they are written.
+//! The extension additions of a SEQUENCE or SET, one nested in another, as they are encoded.
 ghost use Rattle.std.specs.Prelude.{refl, min, ◌≤◌};
 ghost use Rattle.asn1_model.specs.Value.{end, same};
 ghost use Rattle.asn1_model.specs.Schema.{required, optional, by_default};
@@ -17,7 +17,7 @@ use crate::group::Group;
 use asn1_schema_types::{ComponentsOf, DefaultOf, Described};
 use std::marker::PhantomData;
 
-/// What stands behind the root components of a type with an extension marker: its additions, as they are written.
+/// The extension additions, which follow the root components of a type with an extension marker, as they are encoded.
 #[derive(Drop)]
 pub struct ExtensionMarker<A: AdditionsOf> {
     /// The additions.
@@ -37,7 +37,7 @@ impl<A: AdditionsOf> ComponentsOf for ExtensionMarker<A> {
     ghost valued = { λ d x. extensible_values (A.valued d x.additions) };
 }
 
-/// An addition that is there, and those behind it.
+/// An addition that is present, and the additions after it.
 #[derive(Drop)]
 pub struct AddedRequired<'a, T, R>(pub &'a T, pub R);
 
@@ -55,7 +55,7 @@ impl<'a, T: Described, R: AdditionsOf> AdditionsOf for AddedRequired<'a, T, R> {
     ghost valued = { λ d x. more_addition_values T.tags (part_required T.typed (T.valued x.0.now)) (R.valued d x.1) };
 }
 
-/// An addition that may be absent, and those behind it.
+/// An addition that may be absent, and the additions after it.
 #[derive(Drop)]
 pub struct AddedOptional<'a, T, R>(pub &'a Option<T>, pub R);
 
@@ -74,7 +74,7 @@ impl<'a, T: Described, R: AdditionsOf> AdditionsOf for AddedOptional<'a, T, R> {
         (R.valued d x.1) };
 }
 
-/// An addition with a default, of which the marker says which one, and those behind it.
+/// An addition with a default, given by the marker `V`, and the additions after it.
 #[derive(Drop)]
 pub struct AddedDefaulted<'a, V, T, R>(pub &'a T, pub PhantomData<V>, pub R);
 
@@ -96,7 +96,7 @@ impl<'a, V: DefaultOf<T>, T: Described, R: AdditionsOf> AdditionsOf
         (R.valued d.1 x.2) };
 }
 
-/// A group of additions, and those behind it.
+/// An extension addition group, and the additions after it.
 #[derive(Drop)]
 pub struct AddedGroup<'a, G, R>(pub &'a Option<G>, pub R);
 

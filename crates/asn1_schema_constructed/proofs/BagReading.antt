@@ -1,4 +1,4 @@
--- How the records of a bag that a decoder finds are put together.
+-- How the records of a SET OF that a decoder finds are put together.
 use Rattle.std.proofs.Common.{◌≡◌, ℕ, ◌+◌, ◌<◌, zero, suc, true, List, [], ◌∷◌, refl, subst, sym, ◌∙◌, ap, arith, length}
 use Rattle.asn1_model.specs.Value.{Value, Values, no_more, member, bag, map_members}
 use Rattle.asn1_model.specs.Schema.{Schema, Size, Counts, set_of}
@@ -24,7 +24,7 @@ count_mapped g no_more = refl
 count_mapped g (member v vs) = ap suc (count_mapped g vs)
 
 module _ {S : Type 0} {step : S → Record → S → Type 0} (s : ℕ → Schema) (z : Size) (h : Counts) {a b : S} {m n : ℕ} where
-  -- a list begins with any number of members that h admits
+  -- a list begins with any number of elements that h allows
   pub reads_bag : {A : Type 0} (f : A → Value) (xs : List A) {c : S} → m ≡ n + 1 → ((k : ℕ) → is_count_within h k ≡ true → step a (bag_begins z h k) b) → is_count_within h (length xs) ≡ true → ReadsMembers step s n (values_of f xs) b c → Reads step (bag_type z h s) m (bag (values_of f xs)) a c
   unfolding bag_type scope presents Fits normal
   reads_bag f xs {c} l i k r =

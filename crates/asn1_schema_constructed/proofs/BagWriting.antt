@@ -1,4 +1,4 @@
--- How the records of a bag that an encoder takes are put together.
+-- How the records of a SET OF that an encoder accepts are put together.
 use Rattle.std.proofs.Common.{ℕ, zero, suc, subst}
 use Rattle.asn1_model.specs.Value.{Values, bag}
 use Rattle.asn1_model.specs.Schema.{Schema, Size, Counts, set_of}

@@ -1,4 +1,4 @@
--- Bags: their types and their values.
+-- SET OF: its types and values.
 use Rattle.std.proofs.Common.{◌≡◌, ℕ, ◌≤◌, ◌+◌, zero, suc, true, false, List, [], ◌∷◌, refl, ap, ◌∙◌, arith}
 use Rattle.std.specs.Prelude.{max, ◌&&◌}
 use Rattle.std.proofs.Math.Nat.{le-max_left, le-max_right}

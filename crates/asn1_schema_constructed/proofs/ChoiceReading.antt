@@ -1,4 +1,4 @@
--- How a choice is read.
+-- How a choice is decoded.
 use Rattle.std.proofs.Common.{◌≡◌, ℕ, ◌+◌, ◌<◌, zero, suc, Bool, [], ◌∷◌, ◌++◌, refl, subst, sym, ◌∙◌, ap, arith}
 use Rattle.asn1_model.specs.Value.{Value, chosen}
 use Rattle.asn1_model.specs.Schema.{Schema, choice}
@@ -31,7 +31,7 @@ module _ {S : Type 0} (step : S → Record → S → Type 0) (t : Choices) where
       } in
       subst (λ (k : ℕ). Reads step (choice_type t) k (chosen b i v) a d) (let e : suc n ≡ m = omega arith in e) y
 
-  -- no value is read where no records are next
+  -- no value is read if no records are next
   module _ (n : ℕ) (a : S) (k : (b : Bool) (i : ℕ) (v : Value) (c p : S) → Fits (type_at (side t b) i n) v → step a (begins t b i) p → Chain step (presents (type_at (side t b) i n) v ++ (ends ∷ [])) p c → ⊥) where
     none_next : (v : Value) (c : S) → Fits (choice_type t (suc n)) v → Chain step (presents (choice_type t (suc n)) v) a c → ⊥
     unfolding choice_type scope Fits
@@ -87,7 +87,7 @@ module _ {S : Type 0} (step : S → Record → S → Type 0) (t : Choices) where
             u.none w o.0 o.2 ends j.0 refl j.1);
       })
 
--- the same of a type of these alternatives
+-- the same for a type with these alternatives
 module _ {S : Type 0} {step : S → Record → S → Type 0} (t : Choices) {s : ℕ → Schema} (is : (n : ℕ) → s n ≡ choice_type t n) where
   pub reads_begun : (p : Chosen) {m n : ℕ} {v u : Value} {a b q d : S} → v ≡ chosen_value p u → m ≡ n + 1 → step a (begins t p.added p.place) b → Reads step (chosen_type t p) n u b q → step q ends d → Reads step s m v a d
   reads_begun p {m} {n} {v} {u} {a} {b} {q} {d} e l h r z = subst (λ w. Reads step s m w a d) (sym e) (reads_as (choice_type t) s is (reads_choice step t p.added p.place l h r z))

@@ -1,4 +1,4 @@
--- How a choice is written.
+-- How a choice is encoded.
 use Rattle.std.proofs.Common.{◌≡◌, ℕ, ◌≤◌, zero, suc, Bool, [], ◌∷◌, ◌++◌, refl, subst, sym, arith}
 use Rattle.asn1_model.specs.Value.{Value, chosen, depth}
 use Rattle.asn1_model.specs.Schema.{Schema, choice}
@@ -27,7 +27,7 @@ module _ {S : Type 0} (step : S → Record → S → Type 0) (t : Choices) (b : 
     ];
   }
 
-  -- whatever may stand behind a choice stands behind its records
+  -- a state that follows a choice follows its records
   module _ (v : Value) (a : S) (k : (m : ℕ) (c p : S) → Fits (type_at (side t b) i m) v → step a (begins t b i) p → Chain step (presents (type_at (side t b) i m) v ++ (ends ∷ [])) p c → ⊥) where
     none_behind : (n : ℕ) (c : S) → Fits (choice_type t n) (chosen b i v) → Chain step (presents (choice_type t n) (chosen b i v)) a c → ⊥
     unfolding choice_type scope Fits
@@ -57,7 +57,7 @@ module _ {S : Type 0} (step : S → Record → S → Type 0) (t : Choices) (b : 
           z.none w u.0 u.1);
     }
 
--- the same of a type of these alternatives, and of a value that means the chosen one
+-- the same for a type with these alternatives, and a value that means the chosen one
 module _ {S : Type 0} (step : S → Record → S → Type 0) (t : Choices) {s : ℕ → Schema} (is : (n : ℕ) → s n ≡ choice_type t n) (p : Chosen) {v u : Value} (means : v ≡ chosen_value p u) where
   meant : {a d : S} → Writes step (choice_type t) (chosen_value p u) a d → Writes step s v a d
   meant {a} {d} k = subst (λ w. Writes step s w a d) (sym means) (writes_as (choice_type t) s is k)
@@ -77,7 +77,7 @@ module _ {S : Type 0} (step : S → Record → S → Type 0) (t : Choices) {s : 
   pub cannot_begun_end : OneAfter step → {a m q : S} {y : EncodeError} → step a (begins t p.added p.place) m → Writes step (chosen_type t p) u m q → Refused step ends q y → CannotWrite step s v a y
   cannot_begun_end one k w z = not_meant (cannot_choice_end step t p.added p.place one k w z)
 
--- What has failed behind the value of the chosen alternative had failed in front of it.
+-- A state that has failed after the value of the chosen alternative had failed before it.
 pub failed_before_chosen : {S : Type 0} {step : S → Record → S → Type 0} {has_failed : S → Type 0} → GoesOn step has_failed → (t : Choices) {s : ℕ → Schema} → ((n : ℕ) → s n ≡ choice_type t n) → (p : Chosen) {v u : Value} → v ≡ chosen_value p u → IsValue s v → {a b : S} → Writes step (chosen_type t p) u a b → has_failed b → has_failed a
 unfolding choice_type scope
 failed_before_chosen law t {s} is p {v} {u} means i {a} {b} w f =

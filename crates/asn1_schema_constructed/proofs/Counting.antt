@@ -1,4 +1,4 @@
--- As many fields may be absent as components.
+-- As many fields as components may be absent.
 use Rattle.std.proofs.Common.{◌≡◌, ℕ, suc, cond, not, List, [], ◌∷◌, filter, length, refl, ap, ◌∙◌}
 use Rattle.asn1_model.specs.Schema.{Presence, required, optional, by_default}
 use Rattle.asn1_model.specs.Normal.{is_required}

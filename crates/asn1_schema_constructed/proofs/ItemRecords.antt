@@ -1,4 +1,4 @@
--- Items of enumerations as records.
+-- Enumeration items as records.
 use Rattle.std.proofs.Common.{◌≡◌, ℕ, ℤ, Bool, List, refl, subst, sym}
 use Rattle.asn1_model.specs.Value.{Value, item}
 use Rattle.asn1_model.specs.Schema.{Schema, enumerated}
@@ -30,7 +30,7 @@ module _ {S : Type 0} {step : S → Record → S → Type 0} (rs : List ℤ) (e 
   unfolding presents Fits
   unread_enumerated n k = record { none = λ w start near v c. elim v as (λ v. Fits (enumerated rs e xs) v → Chain step (presents (enumerated rs e xs) v) start c → ⊥) [ item z ↦ λ f p. k.none w start near _ p.0 refl p.1 | _ ↦ λ f p. f ] }
 
--- the same of a type of these items, and of a value that means one
+-- the same for a type with these items, and a value that means one of them
 module _ {S : Type 0} {step : S → Record → S → Type 0} {rs : List ℤ} {e : Bool} {xs : List ℤ} {s : ℕ → Schema} (h : (n : ℕ) → s n ≡ enumerated rs e xs) where
   pub writes_item : {v : Value} {y : ℤ} {a b : S} → v ≡ item y → step a (one_of rs e xs y) b → Writes step s v a b
   writes_item {v} {y} {a} {b} m k = subst (λ u. Writes step s u a b) (sym m) (writes_as (λ _. enumerated rs e xs) s h (writes_enumerated rs e xs k))

@@ -1,4 +1,4 @@
--- How the records of a set that a decoder finds are put together.
+-- How the records of a SET that a decoder finds are put together.
 use Rattle.std.proofs.Common.{◌≡◌, ℕ, ◌+◌, ◌<◌, zero, suc, Bool, refl, subst, sym, ◌∙◌, ap, arith}
 use Rattle.asn1_model.specs.Value.{fields, Parts}
 use Rattle.asn1_model.specs.Schema.{set}

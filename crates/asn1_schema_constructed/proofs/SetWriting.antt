@@ -1,4 +1,4 @@
--- How the records of a set that an encoder takes are put together.
+-- How the records of a SET that an encoder accepts are put together.
 use Rattle.std.proofs.Common.{◌≡◌, ℕ, zero, suc, Bool, subst, sym, ◌∙◌}
 use Rattle.asn1_model.specs.Value.{fields, Parts}
 use Rattle.asn1_model.specs.Schema.{set}

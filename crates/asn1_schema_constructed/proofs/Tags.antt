@@ -8,7 +8,7 @@ use Rattle.asn1_schema_variants.specs.declared.chosen.Chosen.{Chosen}
 use Rattle.asn1_schema_constructed.specs.Tables.{Choices, tags_of}
 use Rattle.asn1_schema_constructed.specs.Chosen.{IsAmong, AreTold, either, of_tag}
 
--- it is one of the choice
+-- it is an alternative of the choice
 pub of_tag_among : (t : Choices) (tag : Tag) (c : Chosen) → of_tag t tag ≡ Some c → IsAmong t c
 of_tag_among t tag c e = go (place_of (tags_of t.root) tag) refl (place_of (tags_of t.additions) tag) refl e where
   go : (o : Option ℕ) → place_of (tags_of t.root) tag ≡ o → (q : Option ℕ) → place_of (tags_of t.additions) tag ≡ q → either (option_map (λ i. record { added = false; place = i }) o) (option_map (λ i. record { added = true; place = i }) q) ≡ Some c → IsAmong t c
@@ -16,7 +16,7 @@ of_tag_among t tag c e = go (place_of (tags_of t.root) tag) refl (place_of (tags
   go None h (Some i) k f = let s : record { added = true; place = i } ≡ c = cc in subst (λ d. IsAmong t d) s (place_within (tags_of t.additions) tag i k)
   go None h None k f = cc
 
--- It is what a codec that is told the tags of the choice looks up.
+-- A codec that is given the tags of the choice finds the same alternative.
 in_turn : (e : Bool) (o p : Option ℕ) → (e ≡ false → p ≡ None)
     → alternative_at e o p ≡ either (option_map (λ i. record { added = false; place = i }) o) (option_map (λ i. record { added = true; place = i }) p)
 in_turn e (Some i) p h = refl

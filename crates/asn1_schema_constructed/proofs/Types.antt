@@ -29,7 +29,7 @@ pub more_variants : (t : Tag) {us : List Tag} {s : ℕ → Schema} {vs : Variant
 unfolding alternatives_at are_lawful_alternatives are_tidy_alternatives
 more_variants t e h k = record { lawful = λ n. rw (e, h.no_group n, h.lawful n) (k.lawful n); tidy = λ n. rw (h.tidy n) (k.tidy n) }
 
--- their tags in whatever depth they are unfolded
+-- their tags are the same for any number of levels
 pub tags_at : (n : ℕ) (vs : Variants) → alternative_tags (alternatives_at n vs) ≡ tags_of vs
 unfolding alternatives_at
 tags_at n no_variant = refl
@@ -40,7 +40,7 @@ unfolding alternatives_at
 none_at n no_variant = refl
 none_at n (variant t s vs) = refl
 
--- the value of the alternative at a place
+-- the value of the alternative with this index
 pub fits_at : (n : ℕ) (vs : Variants) (i : ℕ) (v : Value) → ChosenFits (alternatives_at n vs) i v → Fits (type_at vs i n) v
 unfolding alternatives_at ChosenFits
 fits_at n no_variant i v f = absurd f
@@ -98,7 +98,7 @@ value_choice t b i {v} h = record {
   normal = λ n. elim n as (λ n. normal (scope n (λ m. choice (alternatives_at m t.root) t.extensible (alternatives_at m t.additions))) (chosen b i v) ≡ chosen b i v) [ zero ↦ refl | suc m ↦ one_normal t b i m v ∙ ap (λ w. chosen b i w) (h.normal m) ];
 }
 
--- ---- choices that lead back to themselves
+-- ---- recursive choices
 cut_type : {ts : List Tag} → are_tags ts ≡ true → IsType ts (λ _. cut)
 unfolding is_lawful is_tidy
 cut_type {ts} e = record { tagged = λ n. tags_of_cut ts e; lawful = λ n. refl; tidy = λ n. refl; no_group = λ n. refl }

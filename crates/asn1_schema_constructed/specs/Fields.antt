@@ -1,4 +1,4 @@
--- What is asked of tables of fields.
+-- Properties of tables of fields.
 use Rattle.std.specs.Prelude.{Bool, true, false, List, map, filter}
 use Rattle.asn1_model.specs.Schema.{Tag as ModelTag}
 use Rattle.asn1_model.specs.Lawful.{tag_less, smallest, are_ascending}
@@ -18,7 +18,7 @@ may_be_absent Default = true
 abbrev pub is_optional : Field → Bool
 is_optional f = may_be_absent f.presence
 
--- The smallest tag of a field, by which a component stands in a SET (X.680 8.6).
+-- The smallest tag of a field, by which the components of a SET are ordered (X.680 8.6).
 abbrev pub place : Field → ModelTag
 place f = smallest greatest_tag (leaves f.tag_tree)
 
@@ -26,6 +26,6 @@ place f = smallest greatest_tag (leaves f.tag_tree)
 abbrev pub is_in_order : List Field → Bool
 is_in_order fs = are_ascending tag_less (map place fs)
 
--- The fields that may be absent among those that were not looked at yet.
+-- The fields that may be absent among those that were not yet visited.
 abbrev pub optional_rest : OptionalAndDefaultFields → List Field
 optional_rest s = filter is_optional s.rest.now

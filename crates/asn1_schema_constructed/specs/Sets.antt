@@ -1,4 +1,4 @@
--- SET (X.680 27): the same components as a SEQUENCE, in the ascending order of their tags.
+-- SET (X.680 27): the same components as a SEQUENCE, in ascending order of their tags.
 use Rattle.std.specs.Prelude.{ℕ, List, [], ◌∷◌}
 use Rattle.asn1_model.specs.Schema.{Tag, Schema}
 use Rattle.asn1_model.specs.Lawful.{smallest}
@@ -9,7 +9,7 @@ use Rattle.asn1_schema_constructed.specs.Constructed.{set_form, constructed_type
 abbrev pub set_type : Table → ℕ → Schema
 set_type t n = constructed_type set_form t n
 
--- The smallest tag of each component: an untagged choice stands by it (X.680 27, X.691 21).
+-- The smallest tag of each component: an untagged CHOICE is ordered by it (X.680 27, X.691 21).
 abbrev pub field_places : Fields → List Tag
 field_places no_field = []
 field_places (field [] o s fs) = field_places fs

@@ -1,4 +1,4 @@
--- The alternative of a tag, as it is read.
+-- How the alternative of a tag is decoded.
 use Rattle.std.specs.Prelude.{◌≡◌, ℕ, Some}
 use Rattle.asn1_model.specs.Schema.{Tag}
 use Rattle.asn1_model.specs.Value.{Value}
@@ -15,7 +15,7 @@ pub record ReadsTagged {S : Type 0} (step : S → Record → S → Type 0) (t : 
   pub is : of_tag t tag ≡ Some c
   pub reads : Reads step (chosen_type t c) n v old new
 
--- Why none is: no alternative has the tag, or no value of the one that has it is next.
+-- Why no value is read: no alternative has the tag, or no value of the alternative with this tag is next.
 pub record UnreadTagged {S : Type 0} (step : S → Record → S → Type 0) (few : S → S → S → Type 0) (t : Choices)
     (tag : Tag) (n : ℕ) (old failed : S) (x : DecodeError) : Type 0 where
   pub none : (c : Chosen) → of_tag t tag ≡ Some c → Unread step few (chosen_type t c) n old failed x

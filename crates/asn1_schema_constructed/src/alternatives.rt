@@ -1,4 +1,4 @@
-//! Choices by the tables of their alternatives.
+//! CHOICE types by the tables of their alternatives.
 ghost use Rattle.std.specs.Prelude.{◌≡◌, ℕ, List, [], true, false, map, MatchOption, IfOk, IfErr, OnErr};
 ghost use Rattle.asn1_model.specs.Value.{Value};
 ghost use Rattle.asn1_schema_constraints.specs.Terms.{Meant};
@@ -24,13 +24,13 @@ pub trait Alternatives: AsnType {
     fn variants() -> &'static [Tag]
         ensures { map tag_of result.now ≡ tags_of table.root };
 
-    /// The tags of the added alternatives in their order, or `None` where there is no extension marker.
+    /// The tags of the added alternatives in their order, or `None` if there is no extension marker.
     fn extended_variants() -> Option<&'static [Tag]>
         ensures { MatchOption result ((false ≡ table.extensible) × ([] ≡ tags_of table.additions))
             (λ tags. (true ≡ table.extensible) × (map tag_of tags.now ≡ tags_of table.additions)) };
 
-    /// The tags of all alternatives in ascending order (X.680 8.6), each with its place: those of `variants()` come
-    /// before those of `extended_variants()`.
+    /// The tags of all alternatives in ascending order (X.680 8.6), each with its index. The alternatives of
+    /// `variants()` are numbered before those of `extended_variants()`.
     fn places() -> &'static [TagPlace]
         ensures { is_table_of result.now (all_tags table) ≡ true };
 
@@ -41,19 +41,19 @@ pub trait Alternatives: AsnType {
     ghost is_of: { (c : Meant) (n : ℕ) → Self.under c n ≡ choice_type table n };
 }
 
-/// The values of a CHOICE: which alternative each is, and how that is written.
+/// The values of a CHOICE: which alternative is chosen, and how its value is encoded.
 pub trait Choice: Alternatives {
-    /// The alternative of a value.
+    /// The chosen alternative of a value.
     ghost place: { Self → Chosen };
 
-    /// The value of that alternative.
+    /// The value of the chosen alternative.
     ghost inner: { Self → Value };
 
-    /// Which alternative the value is.
+    /// The chosen alternative.
     fn chosen(&self) -> Chosen
         ensures { result ≡ place self.now };
 
-    /// Writes the records of the chosen alternative's value, each once, and answers the tag of the alternative.
+    /// Writes each record of the value of the chosen alternative once, and returns the tag of the alternative.
     fn write_chosen<E: Encoder>(&self, encoder: &mut E) -> Result<Tag, EncodeError>
         ensures ok { IfOk result
             (λ _. Writes E.step (chosen_type Self.table (place self.now)) (inner self.now) encoder.old encoder.new) }
@@ -65,11 +65,11 @@ pub trait Choice: Alternatives {
         ensures already { E.has_failed encoder.old → result ≡ Err EncodeError.AlreadyFailed }
         ensures after { result ≡ Err EncodeError.AlreadyFailed → E.has_failed encoder.old };
 
-    /// A value means that of its alternative.
+    /// A value means the value of its alternative.
     ghost means: { (x : Self) → Self.meaning x ≡ chosen_value (place x) (inner x) };
 }
 
-/// What a codec is told of a choice.
+/// What a codec is given of a choice: the tags of its alternatives, and whether it has an extension marker.
 pub fn tag_tables_of<T: Alternatives>() -> TagTables<'static>
     ensures told { AreTold T.table result.roots result.extensible result.additions }
     ensures closed { result.extensible ≡ false → result.additions ≡ [] }
@@ -80,7 +80,7 @@ pub fn tag_tables_of<T: Alternatives>() -> TagTables<'static>
     }
 }
 
-/// The alternative of a tag, of the root or else an added one, if there is one.
+/// The alternative with this tag: a root alternative or an added one, or `None`.
 pub fn alternative_of<T: Alternatives>(tag: Tag) -> Option<Chosen>
     ensures { result ≡ of_tag T.table (tag_of tag) }
 {

@@ -1,4 +1,4 @@
-//! Bags, as they are read.
+//! How SET OF types are decoded.
 ghost use Rattle.std.specs.Prelude.{◌≡◌, length, true, OnOk, IfOk, OnErr, IfErr};
 ghost use Rattle.asn1_model.specs.Numbers.{is_count_within};
 ghost use Rattle.asn1_model.specs.Value.{bag};
@@ -13,10 +13,10 @@ use asn1_schema_faults::DecodeError;
 use asn1_schema_tags::Tag;
 use std::alloc::Global;
 
-/// How a bag is read.
+/// Decodes SET OF types.
 pub trait DecodeBag: Decoder {
-    /// SET OF (X.680 28) under a size constraint, in a type of the program that holds so many members. One
-    /// member more than these is not read, and no memory is taken but for members that were read.
+    /// Decodes a SET OF (X.680 28) under a size constraint; `held` bounds the number of elements that the user-defined
+    /// type can hold. An element beyond them is not read. Memory is allocated only for elements that were read.
     final fn decode_set_of<T: Decode>(
         &mut self,
         alloc: Global,

@@ -1,4 +1,4 @@
-//! Bags, as they are written.
+//! How SET OF types are encoded.
 ghost use Rattle.std.specs.Prelude.{◌≡◌, OnOk, OnErr, IfErr};
 ghost use Rattle.asn1_model.specs.Value.{bag};
 ghost use Rattle.asn1_schema_presented.specs.Parts.{values_of};
@@ -10,10 +10,10 @@ use asn1_schema_encode::{Encode, Encoder};
 use asn1_schema_faults::EncodeError;
 use asn1_schema_tags::Tag;
 
-/// How a bag is written.
+/// Encodes SET OF types.
 pub trait EncodeBag: Encoder {
-    /// SET OF (X.680 28) under a size constraint, in a type of the program that holds so many members, written in
-    /// any order.
+    /// Encodes a SET OF (X.680 28) under a size constraint; `held` bounds the number of elements that the user-defined
+    /// type can hold. The elements are given in any order.
     final fn encode_set_of<T: Encode>(
         &mut self,
         tag: Tag,

@@ -1,4 +1,4 @@
-//! How choices are read.
+//! How CHOICE types are decoded.
 ghost use Rattle.std.specs.Prelude.{◌≡◌, ◌+◌, Some, None, OnOk, OnErr, IfOk, IfErr};
 ghost use Rattle.asn1_schema_decode.specs.Reads.{Reads, Unread, NoLevel};
 ghost use Rattle.asn1_schema_constraints.specs.Terms.{meant};
@@ -15,7 +15,7 @@ use asn1_schema_tags::Tag;
 use asn1_schema_variants::Chosen;
 use std::alloc::Global;
 
-/// A CHOICE that is read by its alternatives (X.680 29).
+/// A CHOICE that is decoded by its alternatives (X.680 29).
 pub trait DecodeChoice: Choice + Drop {
     /// Reads the value of an alternative.
     fn from_chosen<D: Decoder>(
@@ -35,12 +35,12 @@ pub trait DecodeChoice: Choice + Drop {
         ensures already { D.has_failed decoder.old → result ≡ Err DecodeError.AlreadyFailed }
         ensures after { result ≡ Err DecodeError.AlreadyFailed → D.has_failed decoder.old };
 
-    /// Reads the value of the alternative of a tag.
+    /// Reads the value of the alternative with a tag.
     ///
     /// # Errors
     ///
-    /// `InvalidTagVariantOnChoice` for a tag that no alternative has, of a decoder that has failed too: the tag is
-    /// looked up first. Else those of `from_chosen`.
+    /// `InvalidTagVariantOnChoice` for a tag that no alternative has, even if the decoder has failed before: the tag is
+    /// looked up first. Otherwise the errors of `from_chosen`.
     final fn from_tag<D: Decoder>(
         alloc: Global,
         decoder: &mut D,
@@ -68,9 +68,9 @@ pub trait DecodeChoice: Choice + Drop {
     }
 }
 
-/// How choices are read.
+/// Decodes CHOICE types.
 pub trait DecodeAlternatives: Decoder {
-    /// CHOICE (X.680 29).
+    /// Decodes a CHOICE (X.680 29).
     final fn decode_choice<T: DecodeChoice>(
         &mut self,
         alloc: Global,
@@ -96,7 +96,7 @@ pub trait DecodeAlternatives: Decoder {
         Ok(value)
     }
 
-    /// A CHOICE begins: which of its alternatives is chosen. A choice that leads back to itself is read by it.
+    /// Begins a CHOICE, and returns the chosen one of its alternatives. Recursive choices are decoded with it.
     final fn begin_alternatives<C: Alternatives>(&mut self, tag: Tag) -> Result<Chosen, DecodeError>
     where
         Self: Sized,

@@ -1,4 +1,4 @@
-//! How choices are written.
+//! How CHOICE types are encoded.
 ghost use Rattle.std.specs.Prelude.{◌≡◌, OnOk, OnErr, IfErr};
 ghost use Rattle.asn1_schema_constraints.specs.Terms.{meant};
 ghost use Rattle.asn1_schema_encode.specs.Writes.{Refused, Writes, CannotWrite};
@@ -11,9 +11,9 @@ use asn1_schema_faults::EncodeError;
 use asn1_schema_tags::Tag;
 use asn1_schema_variants::Chosen;
 
-/// How choices are written.
+/// Encodes CHOICE types.
 pub trait EncodeChoice: Encoder {
-    /// CHOICE (X.680 29).
+    /// Encodes a CHOICE (X.680 29).
     final fn encode_choice<T: Choice>(
         &mut self,
         tag: Tag,
@@ -37,7 +37,7 @@ pub trait EncodeChoice: Encoder {
         Ok(())
     }
 
-    /// A CHOICE begins, with the chosen one of its alternatives. A choice that leads back to itself is written by it.
+    /// Begins a CHOICE with the chosen one of its alternatives. Recursive choices are encoded with it.
     final fn begin_alternative<C: Alternatives>(
         &mut self,
         tag: Tag,

@@ -1,4 +1,4 @@
-//! Types with components, by their tables of fields.
+//! SEQUENCE and SET types by their tables of fields.
 ghost use Rattle.std.specs.Prelude.{◌≡◌, ◌+◌, ℕ, OnOk, OnErr, IfOk, IfErr};
 ghost use Rattle.asn1_model.specs.Value.{Parts, fields};
 ghost use Rattle.asn1_schema_constraints.specs.Terms.{Meant};
@@ -15,7 +15,7 @@ use asn1_schema_tags::{Identifier, Tag};
 use asn1_schema_types::AsnType;
 use std::alloc::Global;
 
-/// A type with components (X.680 25 and 27): what they are, and how they are written and read one after another.
+/// A type with components (X.680 25 and 27): its components, and how they are encoded and decoded one after another.
 pub trait Constructed: AsnType + Drop {
     /// SEQUENCE or SET.
     ghost form: { Form };
@@ -33,7 +33,7 @@ pub trait Constructed: AsnType + Drop {
     fn fields() -> Fields<'static>
         ensures { AreFields result.fields.now table.root };
 
-    /// The fields of the additions, or `None` where there is no extension marker.
+    /// The fields of the additions, or `None` if there is no extension marker.
     fn extended_fields() -> Option<Fields<'static>>
         ensures { AreAdditions result table };
 
@@ -68,10 +68,10 @@ pub trait Constructed: AsnType + Drop {
     ghost is_of: { (c : Meant) (n : ℕ) → Self.under c n ≡ constructed_type form table n };
 }
 
-/// How types with components are written.
+/// Encodes types with components.
 pub trait EncodeConstructed: Encoder {
-    /// SEQUENCE (X.680 25): its table of fields tells how many of its root components may be absent, and whether
-    /// there is an extension marker.
+    /// Encodes a SEQUENCE (X.680 25). Its table of fields gives the number of root components that may be absent, and
+    /// whether there is an extension marker.
     final fn encode_sequence<T: Constructed>(
         &mut self,
         tag: Tag,
@@ -100,10 +100,10 @@ pub trait EncodeConstructed: Encoder {
 
 impl<E: Encoder> EncodeConstructed for E {}
 
-/// How types with components are read.
+/// Decodes types with components.
 pub trait DecodeConstructed: Decoder {
-    /// SEQUENCE (X.680 25): its table of fields tells how many of its root components may be absent, and whether
-    /// there is an extension marker.
+    /// Decodes a SEQUENCE (X.680 25). Its table of fields gives the number of root components that may be absent, and
+    /// whether there is an extension marker.
     final fn decode_sequence<T: Constructed>(
         &mut self,
         alloc: Global,

@@ -1,4 +1,4 @@
-//! How enumerations are written and read.
+//! How enumerations are encoded and decoded.
 ghost use Rattle.std.specs.Prelude.{◌≡◌, ℕ, OnOk, OnErr, IfOk, IfErr};
 ghost use Rattle.asn1_model.specs.Schema.{enumerated};
 ghost use Rattle.asn1_model.specs.Value.{item};
@@ -12,7 +12,7 @@ use asn1_schema_tags::{Identifier, Tag};
 use asn1_schema_types::AsnType;
 use asn1_schema_variants::Enumerated;
 
-/// An enumeration that is a type of the program.
+/// A user-defined enumeration.
 pub trait EnumeratedType: Enumerated + AsnType {
     /// The type is that of these items, whatever constraints it has.
     ghost is_of: { (n : ℕ) → Self.schema n ≡ enumerated Self.roots Self.extensible Self.additions };
@@ -21,9 +21,9 @@ pub trait EnumeratedType: Enumerated + AsnType {
     ghost means: { (x : Self) → Self.meaning x ≡ item (Self.number x) };
 }
 
-/// How enumerations are written.
+/// Encodes enumerations.
 pub trait EncodeItems: Encoder {
-    /// ENUMERATED (X.680 20).
+    /// Encodes an ENUMERATED (X.680 20).
     final fn encode_item<T: EnumeratedType>(
         &mut self,
         tag: Tag,
@@ -45,9 +45,9 @@ pub trait EncodeItems: Encoder {
 
 impl<E: Encoder> EncodeItems for E {}
 
-/// How enumerations are read.
+/// Decodes enumerations.
 pub trait DecodeItems: Decoder {
-    /// ENUMERATED (X.680 20).
+    /// Decodes an ENUMERATED (X.680 20).
     final fn decode_item<T: EnumeratedType>(&mut self, tag: Tag) -> Result<T, DecodeError>
     where
         Self: Sized,

@@ -1,6 +1,6 @@
 //! SEQUENCE and SET by their tables of fields (X.680 clauses 25 and 27), CHOICE and ENUMERATED by the tables of their
-//! alternatives and items (X.680 clauses 29 and 20), and SET OF (X.680 28): what they are, and how they are written
-//! and read by the calls of any codec.
+//! alternatives and items (X.680 clauses 29 and 20), and SET OF (X.680 28): their definitions, and how they are encoded
+//! and decoded by the calls of any codec.
 #![tactic(auto)]
 
 pub mod alternatives;

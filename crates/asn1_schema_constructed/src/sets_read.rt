@@ -1,4 +1,4 @@
-//! Sets, as they are read.
+//! How SET types are decoded.
 ghost use Rattle.std.specs.Prelude.{◌≡◌, OnOk, OnErr, IfErr, IfOk};
 ghost use Rattle.asn1_model.specs.Value.{fields};
 ghost use Rattle.asn1_schema_presented.specs.Tables.{presence_bits};
@@ -11,10 +11,10 @@ use asn1_schema_faults::DecodeError;
 use asn1_schema_tags::Tag;
 use std::alloc::Global;
 
-/// How sets are read.
+/// Decodes SET types.
 pub trait DecodeSet: Decoder {
-    /// SET (X.680 27) of these components, with or without an extension marker, of whose root components so many
-    /// may be absent.
+    /// Decodes a SET (X.680 27) of these components, with or without an extension marker; `optional` of its root
+    /// components may be absent.
     final fn decode_set_components<C: DecodeComponents>(
         &mut self,
         alloc: Global,
@@ -41,8 +41,8 @@ pub trait DecodeSet: Decoder {
         Ok(components)
     }
 
-    /// SET (X.680 27): its table of fields tells how many of its root components may be absent, and whether there is
-    /// an extension marker.
+    /// Decodes a SET (X.680 27). Its table of fields gives the number of root components that may be absent, and
+    /// whether there is an extension marker.
     final fn decode_set<T: Constructed>(
         &mut self,
         alloc: Global,

@@ -1,4 +1,4 @@
-//! Sets, as they are written.
+//! How SET types are encoded.
 ghost use Rattle.std.specs.Prelude.{◌≡◌, OnOk, OnErr, IfErr};
 ghost use Rattle.asn1_model.specs.Value.{fields};
 ghost use Rattle.asn1_schema_presented.specs.Tables.{presence_bits};
@@ -10,10 +10,10 @@ use asn1_schema_encode::{EncodeComponents, Encoder};
 use asn1_schema_faults::EncodeError;
 use asn1_schema_tags::{Identifier, Tag};
 
-/// How sets are written.
+/// Encodes SET types.
 pub trait EncodeSet: Encoder {
-    /// SET (X.680 27) of these components, with or without an extension marker, of whose root components so many
-    /// may be absent.
+    /// Encodes a SET (X.680 27) of these components, with or without an extension marker; `optional` of its root
+    /// components may be absent.
     final fn encode_set_components<C: EncodeComponents>(
         &mut self,
         tag: Tag,
@@ -41,8 +41,8 @@ pub trait EncodeSet: Encoder {
         Ok(())
     }
 
-    /// SET (X.680 27): its table of fields tells how many of its root components may be absent, and whether there is
-    /// an extension marker.
+    /// Encodes a SET (X.680 27). Its table of fields gives the number of root components that may be absent, and
+    /// whether there is an extension marker.
     final fn encode_set<T: Constructed>(
         &mut self,
         tag: Tag,

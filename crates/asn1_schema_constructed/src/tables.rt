@@ -15,11 +15,11 @@ use std::slice;
 /// Whether a field may be absent (X.680 25).
 #[derive(Clone, Copy, Debug, PartialEq, Eq)]
 pub enum FieldPresence {
-    /// It is always there.
+    /// The field is always present.
     Required,
-    /// It may be absent.
+    /// The field may be absent.
     Optional,
-    /// It may be absent, and then has its default value.
+    /// The field may be absent, and then has its default value.
     Default,
 }
 
@@ -35,13 +35,13 @@ impl FieldPresence {
     }
 }
 
-/// A field of a sequence or set: its place in the table, its tag, the tags with which it may begin, whether it may be
+/// A field of a SEQUENCE or SET: its index in the table, its tag, the tags with which it may begin, whether it may be
 /// absent, and its name.
 #[derive(Clone, Copy, Debug, PartialEq, Eq)]
 pub struct Field<'a> {
-    /// Its place in its table, which is that of the root or that of the additions, counted from 0 on.
+    /// Its index in its table, which is that of the root or that of the additions, counted from 0.
     pub index: usize,
-    /// Its own tag: that of its tree's leaf, and `Tag::CHOICE` where it may begin with several.
+    /// Its own tag: that of the leaf of its tag tree, or `Tag::CHOICE` if it may begin with several.
     pub tag: Tag,
     /// The tags with which it may begin.
     pub tag_tree: TagTree<'a>,
@@ -52,7 +52,7 @@ pub struct Field<'a> {
 }
 
 impl<'a> Field<'a> {
-    /// A field that is always there.
+    /// A field that is always present.
     pub fn new_required(index: usize, tag: Tag, tag_tree: TagTree<'a>, name: &'static str) -> Self
         ensures index { result.index ≡ index }
         ensures tag { result.tag ≡ tag }
@@ -110,7 +110,7 @@ impl<'a> Field<'a> {
         self.presence.is_optional_or_default()
     }
 
-    /// Whether the field is always there.
+    /// Whether the field is always present.
     pub fn is_not_optional_or_default(&self) -> bool
         ensures { result ≡ not (is_optional self.now) }
     {
@@ -119,7 +119,7 @@ impl<'a> Field<'a> {
 }
 
 impl Field<'static> {
-    /// A field of the type `T` that is always there. It has the tags of the type.
+    /// A field of the type `T` that is always present. It has the tags of the type.
     pub fn new_required_type<T: AsnType>(index: usize, name: &'static str) -> Self
         ensures index { result.index ≡ index }
         ensures tag { result.tag ≡ own_tag result.tag_tree }
@@ -156,7 +156,7 @@ impl Field<'static> {
     }
 }
 
-/// A table of the fields of a sequence or set, as its author ordered it.
+/// A table of the fields of a SEQUENCE or SET, in the order of the type's definition.
 #[derive(Clone, Copy, Debug, PartialEq, Eq)]
 pub struct Fields<'a> {
     /// The fields.
@@ -171,7 +171,7 @@ impl<'a> Fields<'a> {
         Fields { fields }
     }
 
-    /// How many fields there are.
+    /// The number of fields.
     pub fn len(&self) -> usize
         ensures { result ≡ length self.now.fields.now }
     {
@@ -192,7 +192,7 @@ impl<'a> Fields<'a> {
         !self.fields.is_empty()
     }
 
-    /// Whether a field is always there.
+    /// Whether a field is always present.
     pub fn has_required_field(&self) -> bool
         ensures { result ≡ list_any (λ f. not (is_optional f)) self.now.fields.now }
     {
@@ -201,8 +201,8 @@ impl<'a> Fields<'a> {
             .any(|field| field.is_not_optional_or_default())
     }
 
-    /// How many fields may be absent. The fields are gone through by one loop, so that the compiler can count those of
-    /// a table of literals.
+    /// The number of fields that may be absent. A single loop visits the fields, so that the compiler can count those
+    /// of a table of literals.
     pub fn number_of_optional_and_default_fields(&self) -> usize
         ensures { result ≡ length (filter is_optional self.now.fields.now) }
     {
@@ -230,7 +230,7 @@ impl<'a> Fields<'a> {
         OptionalAndDefaultFields { rest: self.fields }
     }
 
-    /// Whether the fields' smallest tags ascend strictly, by class first and then by number (X.680 8.6).
+    /// Whether the smallest tags of the fields ascend strictly, by class and then by number (X.680 8.6).
     pub fn is_canonical(&self) -> bool
         ensures { result ≡ is_in_order self.now.fields.now }
     {
@@ -251,7 +251,7 @@ impl<'a> Fields<'a> {
 /// The fields of a table that may be absent, from the first to the last.
 #[derive(Debug, Drop)]
 pub struct OptionalAndDefaultFields<'a> {
-    /// The fields that were not looked at yet.
+    /// The fields that were not yet visited.
     pub rest: &'a [Field<'a>],
 }
 

@@ -1,4 +1,4 @@
--- Errors of a decoder that says nothing about more input than it had.
+-- Errors of a decoder that says nothing about more input than it was given.
 use Rattle.std.proofs.Common.{◌≡◌, ℕ, ◌<◌, subst}
 use Rattle.asn1_schema_faults.specs.declared.DecodeError.{DecodeError}
 use Rattle.asn1_schema_faults.specs.declared.DecodeError.TheVariants.{OutOfMemory}

@@ -11,7 +11,7 @@ use Rattle.asn1_schema_decode.specs.Reads.{Reads, ReadsPart}
 use Rattle.asn1_schema_lacking.specs.Carried.{keeps_members, CarriesRecords, CarriesValues}
 
 module _ {S : Type 0} (step : S → Record → S → Type 0) (few : S → S → S → Type 0) where
-  -- these records are next with few octets more behind
+  -- these records are next with a little more input appended
   abbrev pub Carries : List Record → Type 0
   Carries rs = (a b failed c : S) → Chain step rs a b → few a failed c → (d : S) × Chain step rs c d × few b failed d
 

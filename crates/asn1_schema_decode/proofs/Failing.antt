@@ -1,4 +1,4 @@
--- What has failed behind what was read had failed in front of it.
+-- A state that has failed after what was read had failed before it.
 use Rattle.std.proofs.Common.{◌≡◌, ◌∙◌, sym, ℕ, Result, Ok, Err, IsErrAnd}
 use Rattle.asn1_model.specs.Value.{Value}
 use Rattle.asn1_model.specs.Schema.{Presence, Schema}

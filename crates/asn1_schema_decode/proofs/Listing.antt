@@ -19,7 +19,7 @@ use Rattle.asn1_schema_decode.specs.Reads.{NoRecord, NoLevel, Reads, Unread, Rea
 use Rattle.asn1_schema_lacking.specs.Carried.{CarriesMembers}
 use Rattle.std.specs.Option.{option_map_or}
 
--- members, and those behind them
+-- elements, and those after them
 abbrev pub joined : Values → Values → Values
 joined no_more us = us
 joined (member v vs) us = member v (joined vs us)
@@ -44,12 +44,12 @@ one_longer : {A : Type 0} (xs : List A) (x : A) → length (xs ++ x ∷ []) ≡ 
 one_longer [] x = refl
 one_longer (y ∷ xs) x = ap suc (one_longer xs x)
 
--- what is not above bounds is so with all that is below it
+-- what is not above the bounds, nor is anything below it
 within_below : (h : Option ℕ) (k n : ℕ) → n ≤ k → option_map_or (λ x. leb k x) h true ≡ true → option_map_or (λ x. leb n x) h true ≡ true
 within_below None k n l e = refl
 within_below (Some high) k n l e = le-leb n high (let j = leb-true k high e in omega arith)
 
--- a loop over the members: what is read of them so far, and what is behind, also with few octets more
+-- a loop over the elements: what is read of them so far, and what follows, also with a little more input
 pub record ReadsFrom {S A : Type 0} (step : S → Record → S → Type 0) (within : S → S → S → Type 0) (s : ℕ → Schema) (n : ℕ) (f : A → Value) (xs : List A) (start now : S) : Type 0 where
   pub done : (us : Values) (c : S) → ReadsMembers step s n us now c → ReadsMembers step s n (joined (values_of f xs) us) start c
   pub rest : (failed c : S) → within start failed c → (d : S) × within now failed d × ((vs : Values) (e : S) → AllFit (λ v. Fits (s n) v) vs → Chain step (member_records (λ v. presents (s n) v) vs) c e → (ws : Values) × (member_count vs ≡ length xs + member_count ws) × AllFit (λ v. Fits (s n) v) ws × Chain step (member_records (λ v. presents (s n) v) ws) d e)
@@ -66,23 +66,23 @@ module _ {S : Type 0} (step : S → Record → S → Type 0) (s : ℕ → Schema
     chain = (b, m, chain_append step (presents (s n) h.raw) (member_records (λ v. presents (s n) v) k.raw) b c d h.chain k.chain);
   }
 
-  -- what is first asked of members
+  -- the first question about an element
   first_further : (ws : Values) (a c : S) → Chain step (member_records (λ v. presents (s n) v) ws) a c → (y : Bool) × (m : S) × step a (further y) m
   first_further no_more a c p = (false, p.0, p.1)
   first_further (member w ws) a c p = (true, p.0, p.1)
 
   module _ (one : OneRecord step) where
-    -- no member comes where there is no further one
+    -- no element follows if none is announced
     none_further : (ws : Values) {a b : S} (c : S) → step a (further false) b → Chain step (member_records (λ v. presents (s n) v) ws) a c → (ws ≡ no_more) × step b ends c
     none_further no_more {a} {b} c m p = (refl, subst (λ (z : S). step z ends c) (one a (further false) (further false) p.0 b refl p.1 m).1 (subst (λ (z : S). step p.0 ends z) (sym p.2.2) p.2.1))
     none_further (member w ws) {a} {b} c m p = let e : further true ≡ further false = (one a (further true) (further false) p.0 b refl p.1 m).0 in cc
 
-    -- a member comes where there is a further one
+    -- an element follows if one is announced
     one_further : (ws : Values) {a b : S} (c : S) → step a (further true) b → AllFit (λ v. Fits (s n) v) ws → Chain step (member_records (λ v. presents (s n) v) ws) a c → (w : Value) × (us : Values) × (member_count ws ≡ suc (member_count us)) × Fits (s n) w × AllFit (λ v. Fits (s n) v) us × Chain step (presents (s n) w ++ member_records (λ v. presents (s n) v) us) b c
     one_further no_more {a} {b} c m g p = let e : further false ≡ further true = (one a (further false) (further true) p.0 b refl p.1 m).0 in cc
     one_further (member w ws) {a} {b} c m g p = (w, ws, refl, g.0, g.1, subst (λ (z : S). Chain step (presents (s n) w ++ member_records (λ v. presents (s n) v) ws) z c) (one a (further true) (further true) p.0 b refl p.1 m).1 p.2)
 
-    -- what is behind a member that is read
+    -- what follows an element that is read
     behind_member : (ws : Values) {v : Value} {a b d : S} (c : S) → step a (further true) b → Reads step s n v b d → AllFit (λ v. Fits (s n) v) ws → Chain step (member_records (λ v. presents (s n) v) ws) a c → (us : Values) × (member_count ws ≡ suc (member_count us)) × AllFit (λ v. Fits (s n) v) us × Chain step (member_records (λ v. presents (s n) v) us) d c
     behind_member ws {v} {a} {b} {d} c m r g p =
         let q = one_further ws c m g p in
@@ -145,7 +145,7 @@ module _ {S A : Type 0} {step : S → Record → S → Type 0} {within : S → S
             u.none y z.0 z.2 ends e refl t.1;
       }
 
-      -- one member more than h has room for
+      -- one element more than h allows
       pub from_full : (h : Counts) (x : DecodeError) {xs : List A} {a b c : S} (failed : S) → ReadsFrom step within s n f xs a b → step b (further true) c → not (option_map_or (λ x. leb (length xs + 1) x) h.high true) ≡ true → UnreadMembers step within s n h a failed x
       from_full h x {xs} {b = b} {c = c} failed w m u = record {
         none = λ y start near vs e i g p.
@@ -160,7 +160,7 @@ module _ {S A : Type 0} {step : S → Record → S → Type 0} {within : S → S
             cc;
       }
 
-      -- another number of members than h admits
+      -- a number of elements that h does not allow
       pub from_other : (h : Counts) (x : DecodeError) {xs : List A} {a b c : S} (failed : S) → ReadsFrom step within s n f xs a b → step b (further false) c → is_count_within h (length xs) ≡ false → UnreadMembers step within s n h a failed x
       from_other h x {xs} {b = b} {c = c} failed w m u = record {
         none = λ y start near vs e i g p.
@@ -175,7 +175,7 @@ module _ {S A : Type 0} {step : S → Record → S → Type 0} {within : S → S
       }
 
 module _ {S : Type 0} {step : S → Record → S → Type 0} (s : ℕ → Schema) (z : Size) (h : Counts) {a b : S} {m n : ℕ} where
-  -- a list begins with any number of members that h admits
+  -- a list begins with any number of elements that h allows
   pub reads_list : {A : Type 0} (f : A → Value) (xs : List A) {c : S} → m ≡ n + 1 → ((k : ℕ) → is_count_within h k ≡ true → step a (list_begins z h k) b) → is_count_within h (length xs) ≡ true → ReadsMembers step s n (values_of f xs) b c → Reads step (list_type z h s) m (members (values_of f xs)) a c
   unfolding list_type scope presents Fits normal
   reads_list f xs {c} l i k r =

@@ -1,4 +1,4 @@
--- Two messages in front of one input are one.
+-- Two messages with which one input begins are equal.
 use Rattle.std.proofs.Common.{◌≡◌, true, sym, ◌∙◌, ap, subst, ◌++◌}
 use Rattle.std.proofs.lemmas.List.{append_cancel_left}
 use Rattle.asn1_model.specs.Rules.{Rules}

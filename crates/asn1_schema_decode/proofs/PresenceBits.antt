@@ -25,7 +25,7 @@ module _ {S : Type 0} {step : S → Record → S → Type 0} {s : ℕ → Schema
   pub reads_present : {v : Value} {a b c : S} → step a (presence_bit true) b → Reads step s n v b c → ReadsPresent step s n v a c
   reads_present {b = b} m r = record { behind_presence_bit = b; presence_bits = m; reads = r }
 
-  -- ---- no presence bit says that it is there
+  -- ---- the presence bit does not say that it is present
   pub unread_optional_here : {few : S → S → S → Type 0} {a failed : S} {x : DecodeError} → NoRecord step few asks_presence_bit a failed x → UnreadOptional step few s n a failed x
   unread_optional_here {a} h = record { none = λ w start near p c. elim p as (λ p. ReadsOptional step s n p start c → ⊥) [ left_out ↦ λ q. h.none w start near (presence_bit false) c refl q | there v ↦ λ q. h.none w start near (presence_bit true) q.behind_presence_bit refl q.presence_bits ] }
 
@@ -39,13 +39,13 @@ module _ {S : Type 0} {step : S → Record → S → Type 0} {s : ℕ → Schema
   }
 
   module _ (one : OneRecord step) where
-    -- where the presence bit says that it is there
+    -- if the presence bit says that it is present
     not_present : {v : Value} {a b c : S} → step a (presence_bit true) b → ((v : Value) (c : S) → Fits (s n) v → Chain step (presents (s n) v) b c → ⊥) → ReadsPresent step s n v a c → ⊥
     not_present {v} {a} {b} {c} m h q =
         let e = (one a (presence_bit true) (presence_bit true) q.behind_presence_bit b refl q.presence_bits m).1 in
         h q.reads.raw c q.reads.fits (subst (λ (z : S). Chain step (presents (s n) q.reads.raw) z c) e q.reads.chain)
 
-    -- what is read there is one value
+    -- two values that are read there are equal
     same_present : {v w : Value} {a b c d : S} → step a (presence_bit true) b → Reads step s n v b c → ReadsPresent step s n w a d → (w ≡ v) × (d ≡ c)
     same_present {v} {w} {a} {b} {c} {d} m r q =
         let e = (one a (presence_bit true) (presence_bit true) q.behind_presence_bit b refl q.presence_bits m).1 in

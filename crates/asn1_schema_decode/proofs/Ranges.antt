@@ -1,4 +1,4 @@
--- Numbers within a range, as they are read.
+-- How numbers within a range are read.
 use Rattle.std.proofs.Common.{◌≡◌, sym, subst, ℕ, ℤ, pos, negsuc, Bool, true, false, cond, ◌||◌, Option, Some, None, refl}
 use Rattle.std.proofs.lemmas.Bool.{and_parts}
 use Rattle.asn1_model.specs.Numbers.{is_at_most, is_within}
@@ -17,12 +17,12 @@ use Rattle.asn1_schema_decode.specs.Reads.{NoRecord, Reads, Unread}
 use Rattle.asn1_schema_decode.proofs.SingleRecords.{reads_integer, unread_integer}
 use Rattle.std.specs.Option.{option_map_or}
 
--- the numbers of an octet without a sign
+-- the numbers of an unsigned octet
 abbrev octet : Range
 octet = record { low = Some (pos 0); high = Some (pos 255) }
 
 module _ {S : Type 0} {step : S → Record → S → Type 0} (low high : ℤ) (c : Meant) (n : ℕ) (r : Constraints) where
-  -- in a type that holds all numbers of 128 bits
+  -- in a type that can hold all numbers of 128 bits
   pub reads_ranged : (held : Range) → held_where true held ≡ held_where true any_number → is_at_most low high ≡ true
       → meant r ≡ within_range low high c → {y z : ℤ} {a b : S} → y ≡ z → step a (whole_under r held z) b
       → Reads step (λ _. constrained_type low high c) n (number y) a b
@@ -42,7 +42,7 @@ module _ {S : Type 0} {step : S → Record → S → Type 0} (low high : ℤ) (c
       → NoRecord step few (asks_whole_under r octet) a failed x → Unread step few (λ _. constrained_type low high c) n a failed x
   unread_unranged e m {few} {a} {failed} {x} k = rw e (unread_integer _ _ n (subst (λ (w : Meant). NoRecord step few (asks_whole w.bounds (held_where w.is_bounded octet)) a failed x) m k))
 
--- what is from the later of two numbers on, is from the second on
+-- what is at least the greater of two numbers, is at least the second
 from_later : (o : Option ℤ) (low v : ℤ) → option_map_or (λ x. is_at_most x v) (later is_at_most o (Some low)) true ≡ true → is_at_most low v ≡ true
 from_later None low v h = h
 from_later (Some a) low v h = go (is_at_most a low) refl h where
@@ -50,7 +50,7 @@ from_later (Some a) low v h = go (is_at_most a low) refl h where
   go true e h = h
   go false e h = number_order.chained low a v (number_order.total a low e) h
 
--- what is up to the earlier of two numbers, is up to the second
+-- what is at most the lesser of two numbers, is at most the second
 to_earlier : (o : Option ℤ) (high v : ℤ) → option_map_or (λ x. is_at_most v x) (earlier is_at_most o (Some high)) true ≡ true → is_at_most v high ≡ true
 to_earlier None high v h = h
 to_earlier (Some a) high v h = go (is_at_most a high) refl h where
@@ -58,7 +58,7 @@ to_earlier (Some a) high v h = go (is_at_most a high) refl h where
   go true e h = number_order.chained v a high h e
   go false e h = h
 
--- what a range and another admit together the last one admits
+-- what a range and another allow together, the last one allows
 pub met_within : (low high : ℤ) (c : Meant) (r : Constraints) → meant r ≡ within_range low high c → (v : ℤ) → is_admitted r v ≡ true
     → is_within (record { low = Some low; high = Some high }) v ≡ true
 met_within low high c r m v h =

@@ -55,7 +55,7 @@ module _ {S : Type 0} {step : S → Record → S → Type 0} where
         chain = subst (λ rs. Chain step rs a c) (sym (present_records o (s n) h.raw q (nothing_noted o (s n) h.raw g d))) (b, m, h.chain);
       }
 
-  -- a default that is spelled out
+  -- a default that is encoded
   pub reads_spelled : (o : Presence) {s : ℕ → Schema} {n : ℕ} {v : Value} {a b c d : S} → is_required o ≡ false → step a (presence_bit true) b → (r : Reads step s n v b c) → is_at_default o (s n) r.raw ≡ true → step c is_default d → ReadsPart step o s n left_out a d
   reads_spelled o {s} {n} {v} {a} {b} {c} {d} q m h e z = record {
     raw = there h.raw;
@@ -67,7 +67,7 @@ module _ {S : Type 0} {step : S → Record → S → Type 0} where
   pub unread_presence_bit : (o : Presence) (s : ℕ → Schema) (n : ℕ) {few : S → S → S → Type 0} {a failed : S} {x : DecodeError} → is_required o ≡ false → NoRecord step few asks_presence_bit a failed x → UnreadPart step few o s n a failed x
   unread_presence_bit o s n {a} r h = record { none = λ w start near p b. elim p as (λ p. PartFits (λ v. Fits (s n) v) o p → Chain step (part_records (λ v. presents (s n) v) o (s n) p) start b → ⊥) [ left_out ↦ λ f q. let q' : Chain step (presence_bit false ∷ []) start b = rw r at q in h.none w start near (presence_bit false) q'.0 refl q'.1 | there v ↦ λ f q. let q' : Chain step (presence_bit true ∷ (presents (s n) v ++ noted o (s n) v)) start b = rw r at q in h.none w start near (presence_bit true) q'.0 refl q'.1 ] }
 
-  -- ---- what is left of a sequence
+  -- ---- the rest of a SEQUENCE
   pub reads_end : (n : ℕ) {a b : S} → step a ends b → ReadsTail step no_table n end end a b
   unfolding components_at root_records added_records PartsFit normal_parts
   reads_end n {a} {b} h = record { root = end; additions = end; fits = (tt, tt); means = refl; means_added = refl; chain = (b, h, refl) }
@@ -98,7 +98,7 @@ module _ {S : Type 0} {step : S → Record → S → Type 0} where
   pub unread_end : (n : ℕ) {few : S → S → S → Type 0} {a failed : S} {x : DecodeError} → NoRecord step few asks_end a failed x → UnreadTail step few no_table n a failed x
   unread_end n {a} h = record { none = λ w start near ps qs b f p. let t = not_at_end step n ps qs start b f p in h.none w start near ends t.0 refl t.1 }
 
-  -- parts, and what they are made of
+  -- parts, and what they consist of
   parts_of : (n : ℕ) (ts : List Tag) (o : Presence) (s : ℕ → Schema) (t : Table) (ps qs : Parts) (a c : S) → TailFits n (with_field ts o s t) ps qs → Chain step (tail_records n (with_field ts o s t) ps qs) a c → (x : Part) × (rs : Parts) × (m : S) × PartFits (λ v. Fits (s n) v) o x × TailFits n t rs qs × Chain step (part_records (λ v. presents (s n) v) o (s n) x) a m × Chain step (tail_records n t rs qs) m c
   unfolding components_at PartsFit root_records
   parts_of n ts o s t end qs a c f p = absurd f.0
@@ -149,11 +149,11 @@ module _ {S : Type 0} {step : S → Record → S → Type 0} where
             k.none w i.0 i.2 d.1 qs c d.4 (subst (λ (z : S). Chain step (tail_records n t d.1 qs) z c) e.1 d.6);
       }
 
--- a value that is read where there may be a default: whether it is equal to this
+-- whether a value that is read is equal to the default
 pub at_default : {S : Type 0} {step : S → Record → S → Type 0} {s : ℕ → Schema} {n : ℕ} {v d : Value} {a b : S} {e : Bool} → IsValue s d → e ≡ same v d → (r : Reads step s n v a b) → is_at_default (by_default d) (s n) r.raw ≡ e
 at_default k h r = rw (r.means, k.normal _) (sym h)
 
--- the default where it is left out, what is read and is not equal to it, and what is spelled out
+-- the default if it is absent, what is read and is not equal to it, and what is encoded although equal to it
 module _ {S : Type 0} {step : S → Record → S → Type 0} {s : ℕ → Schema} {n : ℕ} {d : Value} where
   pub reads_default : {v : Value} {a b : S} → v ≡ d → step a (presence_bit false) b → ReadsPart step (by_default d) s n (part_unless (same v d) v) a b
   reads_default {v} {a} {b} e h = rw (e, same_self d) (reads_left_out (by_default d) s n refl h)
@@ -164,7 +164,7 @@ module _ {S : Type 0} {step : S → Record → S → Type 0} {s : ℕ → Schema
   pub reads_equal : {v : Value} {a b c x : S} {e : Bool} → IsValue s d → e ≡ same v d → e ≡ true → step a (presence_bit true) b → Reads step s n v b c → step c is_default x → ReadsPart step (by_default d) s n (part_unless (same v d) v) a x
   reads_equal k h f m r z = rw (sym h ∙ f) (reads_spelled (by_default d) refl m r (at_default k h r ∙ f) z)
 
--- another spelling of the same type
+-- another form of the same type
 pub reads_as : {S : Type 0} {step : S → Record → S → Type 0} (s t : ℕ → Schema) {n : ℕ} {v : Value} {a b : S} → ((n : ℕ) → t n ≡ s n) → Reads step s n v a b → Reads step t n v a b
 reads_as {step = step} s t {n} {v} {a} {b} e h =
     let r : Reads step (λ _. s n) n v a b = record { raw = h.raw; fits = h.fits; means = h.means; chain = h.chain } in

@@ -1,4 +1,4 @@
--- How the states of a decoder go.
+-- How the state of a decoder changes.
 use Rattle.std.specs.Prelude.{◌≡◌, ◌<◌, ℕ, true, false}
 use Rattle.asn1_model.specs.Value.{Value, Values, Parts, map_members, same}
 use Rattle.asn1_model.specs.Schema.{Presence, Counts, Schema}
@@ -14,21 +14,21 @@ use Rattle.asn1_schema_presented.specs.Tables.{Table, components_at}
 use Rattle.asn1_schema_presented.specs.Chains.{Chain}
 use Rattle.asn1_schema_presented.specs.Parts.{normal_part, tail_records, TailFits}
 
--- Why a decoder returns the error x: it ran out of memory, or no record that answers this question is next, even with a
--- little more input. `few old failed a` says that a is old with more input appended, but less than the decoder that
--- failed in failed needs at least.
+-- Why a decoder returns the error x: memory ran out, or no record that answers this question is next, even with a
+-- little more input. `few old failed a` says that a is old with more input appended, but less than the decoder in the
+-- state failed needs at least.
 pub record NoRecord {S : Type 0} (step : S → Record → S → Type 0) (few : S → S → S → Type 0) (q : Question)
     (old failed : S) (x : DecodeError) : Type 0 where
   pub none : ¬ (x ≡ OutOfMemory) → (a : S) → few old failed a → (r : Record) (new : S) → question r ≡ q → step a r new
       → ⊥
 
--- Or because no level is left.
+-- As `NoRecord`, or no further level may be nested.
 pub record NoLevel {S : Type 0} (step : S → Record → S → Type 0) (few : S → S → S → Type 0) (q : Question) (levels : ℕ)
     (old failed : S) (x : DecodeError) : Type 0 where
   pub none : ¬ (x ≡ OutOfMemory) → (a : S) → few old failed a → 0 < levels → (r : Record) (new : S) → question r ≡ q
       → step a r new → ⊥
 
--- The state goes from old to new by the records of a value that nests at most n levels, and v is its normal form.
+-- The state goes from old to new by the records of a value with at most n nested levels, and v is its normal form.
 pub record Reads {S : Type 0} (step : S → Record → S → Type 0) (schema : ℕ → Schema) (n : ℕ) (v : Value)
     (old new : S) : Type 0 where
   pub raw : Value
@@ -36,13 +36,13 @@ pub record Reads {S : Type 0} (step : S → Record → S → Type 0) (schema : �
   pub means : normal (schema n) raw ≡ v
   pub chain : Chain step (presents (schema n) raw) old new
 
--- Why no value is read: for want of memory, or because the records of none are next.
+-- Why no value is read: memory ran out, or the records of no value are next.
 pub record Unread {S : Type 0} (step : S → Record → S → Type 0) (few : S → S → S → Type 0) (schema : ℕ → Schema)
     (n : ℕ) (old failed : S) (x : DecodeError) : Type 0 where
   pub none : ¬ (x ≡ OutOfMemory) → (a : S) → few old failed a → (v : Value) (new : S) → Fits (schema n) v
       → Chain step (presents (schema n) v) a new → ⊥
 
--- The same of one component.
+-- `Reads` for one component.
 pub record ReadsPart {S : Type 0} (step : S → Record → S → Type 0) (o : Presence) (schema : ℕ → Schema) (n : ℕ)
     (x : Part) (old new : S) : Type 0 where
   pub raw : Part
@@ -56,14 +56,14 @@ pub record UnreadPart {S : Type 0} (step : S → Record → S → Type 0) (few :
       → PartFits (λ v. Fits (schema n) v) o p
       → Chain step (part_records (λ v. presents (schema n) v) o (schema n) p) a new → ⊥
 
--- One that may be absent: a presence bit says that it is there, and the records of its value follow.
+-- A component that may be absent and is present: a presence bit of 1, followed by the records of its value.
 pub record ReadsPresent {S : Type 0} (step : S → Record → S → Type 0) (schema : ℕ → Schema) (n : ℕ) (v : Value)
     (old new : S) : Type 0 where
   pub behind_presence_bit : S
   pub presence_bits : step old (presence_bit true) behind_presence_bit
   pub reads : Reads step schema n v behind_presence_bit new
 
--- One that may be absent, there or not.
+-- A component that may be absent, present or absent.
 abbrev pub ReadsOptional : {S : Type 0} → (S → Record → S → Type 0) → (ℕ → Schema) → ℕ → Part → S → S → Type 0
 ReadsOptional step schema n left_out old new = step old (presence_bit false) new
 ReadsOptional step schema n (there v) old new = ReadsPresent step schema n v old new
@@ -73,7 +73,7 @@ pub record UnreadOptional {S : Type 0} (step : S → Record → S → Type 0) (f
   pub none : ¬ (x ≡ OutOfMemory) → (a : S) → few old failed a → (p : Part) (new : S)
       → ReadsOptional step schema n p a new → ⊥
 
--- One with the default d: it is left out, or spelled out, which is noted, or of another value.
+-- A component with the default d: absent; encoded although equal to the default, which is noted; or of another value.
 pub data ReadsDefault {S : Type 0} (step : S → Record → S → Type 0) (schema : ℕ → Schema) (n : ℕ) (d v : Value)
     (old new : S) : Type 0 where
   omitted : v ≡ d → step old (presence_bit false) new → ReadsDefault step schema n d v old new
@@ -86,7 +86,7 @@ pub record UnreadDefault {S : Type 0} (step : S → Record → S → Type 0) (fe
   pub none : ¬ (x ≡ OutOfMemory) → (a : S) → few old failed a → (v : Value) (new : S)
       → ReadsDefault step schema n d v a new → ⊥
 
--- The same of what is left of a sequence.
+-- `Reads` for the rest of a SEQUENCE.
 pub record ReadsTail {S : Type 0} (step : S → Record → S → Type 0) (t : Table) (n : ℕ) (ps qs : Parts) (old new : S) :
     Type 0 where
   pub root : Parts
@@ -101,7 +101,7 @@ pub record UnreadTail {S : Type 0} (step : S → Record → S → Type 0) (few :
   pub none : ¬ (x ≡ OutOfMemory) → (a : S) → few old failed a → (ps qs : Parts) (new : S) → TailFits n t ps qs
       → Chain step (tail_records n t ps qs) a new → ⊥
 
--- The same of the members of a list, and its end.
+-- `Reads` for the elements of a list, and its end.
 pub record ReadsMembers {S : Type 0} (step : S → Record → S → Type 0) (schema : ℕ → Schema) (n : ℕ) (us : Values)
     (old new : S) : Type 0 where
   pub raw : Values
@@ -109,7 +109,7 @@ pub record ReadsMembers {S : Type 0} (step : S → Record → S → Type 0) (sch
   pub means : map_members (λ v. normal (schema n) v) raw ≡ us
   pub chain : Chain step (member_records (λ v. presents (schema n) v) raw) old new
 
--- Why no members of a count within h are read: for want of memory, or because the records of none are next.
+-- Why the elements of a list, of a count within h, are not read: memory ran out, or the records of none are next.
 pub record UnreadMembers {S : Type 0} (step : S → Record → S → Type 0) (few : S → S → S → Type 0) (schema : ℕ → Schema)
     (n : ℕ) (h : Counts) (old failed : S) (x : DecodeError) : Type 0 where
   pub none : ¬ (x ≡ OutOfMemory) → (a : S) → few old failed a → (vs : Values) (new : S)

@@ -1,4 +1,4 @@
--- What a call for the next value does.
+-- What a call of `Iter::next` does.
 use Rattle.std.specs.Prelude.{◌≡◌, ℕ, List, Option, Some, None, Result, Ok, Err}
 use Rattle.asn1_model.specs.Schema.{Schema}
 use Rattle.asn1_model.specs.Value.{Value}
@@ -7,9 +7,9 @@ use Rattle.asn1_schema_faults.specs.declared.DecodeError.{DecodeError}
 use Rattle.asn1_schema_faults.specs.declared.DecodeError.TheVariants.{AlreadyFailed}
 use Rattle.asn1_schema_decode.specs.Messages.{NoMessage, Tells}
 
--- The value of the message in front of the unread octets is told, and just that message is dropped; or the error with
--- which the reader refuses them says that none is in front, and the unread octets stay. Each call begins anew, so none
--- tells of an earlier refusal.
+-- Returns the value of the message with which the unread octets begin, and drops just that message; or returns the
+-- error of the reader, if the unread octets begin with no message, and keeps them. Each call starts anew, so none
+-- returns `AlreadyFailed`.
 abbrev pub ReadsNext : {T : Type 0} → Rules → (ℕ → Schema) → (T → Value) → (List ℕ → DecodeError → Type 0) → List ℕ
     → Option (Result T DecodeError) → List ℕ → Type 0
 ReadsNext r schema meaning refuses before None after = ⊥

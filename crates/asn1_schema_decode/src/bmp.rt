@@ -1,4 +1,4 @@
-//! BMPString (X.680 41), as it is read.
+//! How a BMPString is decoded (X.680 41).
 
 use crate::decode::{Decode, Decoder};
 use asn1_schema_constraints::Constraints;

@@ -1,13 +1,13 @@
-//! What a call of a decoder asks before it reads.
+//! Checks that a call of a decoder makes first.
 ghost use Rattle.std.specs.Prelude.{◌≡◌, true, false, OnOk, IfErr};
 
 use asn1_schema_faults::DecodeError;
 
-/// Goes on, unless an earlier call was refused.
+/// Continues, unless an earlier call failed.
 ///
 /// # Errors
 ///
-/// `AlreadyFailed` if one was.
+/// `AlreadyFailed` if an earlier call failed.
 #[inline(always)]
 pub fn go_on(failed: bool) -> Result<(), DecodeError>
     ensures ok { OnOk result (failed ≡ false) }

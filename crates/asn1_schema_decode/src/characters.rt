@@ -1,4 +1,4 @@
-//! The restricted character strings whose characters are octets (X.680 41), as they are read.
+//! How the restricted character strings with one octet per character are decoded (X.680 41).
 
 use crate::decode::{Decode, Decoder};
 use asn1_schema_constraints::Constraints;

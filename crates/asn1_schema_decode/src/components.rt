@@ -1,4 +1,4 @@
-//! The components of a sequence, as they are read.
+//! How the components of a SEQUENCE are decoded.
 ghost use Rattle.std.specs.Prelude.{◌≡◌, ◌+◌, false, OnOk, OnErr, IfErr, IfOk};
 ghost use Rattle.asn1_model.specs.Value.{fields, same};
 ghost use Rattle.asn1_model.specs.Schema.{optional, by_default};
@@ -18,9 +18,9 @@ use asn1_schema_types::{
 use std::alloc::Global;
 use std::marker::PhantomData;
 
-/// Components that are read.
+/// Components that can be decoded.
 pub trait DecodeComponents: ComponentsOf + Drop {
-    /// Reads the components, and the end of the sequence.
+    /// Reads the components, and the end of the SEQUENCE.
     fn decode_components<D: Decoder>(alloc: Global, decoder: &mut D) -> Result<Self, DecodeError>
         ensures ok { IfOk result
             (λ x. ReadsTail D.step Self.table (D.levels decoder.old) (Self.root x) (Self.added x)
@@ -65,9 +65,9 @@ impl<V: DefaultOf<T> + Drop, T: Decode, R: DecodeComponents> DecodeComponents
     }
 }
 
-/// How components and sequences are read.
+/// Decodes components and SEQUENCE types.
 pub trait DecodeSequence: Decoder {
-    /// A component that may be absent.
+    /// Decodes an OPTIONAL component.
     final fn decode_optional<T: Decode>(&mut self, alloc: Global) -> Result<Option<T>, DecodeError>
     where
         Self: Sized,
@@ -84,7 +84,7 @@ pub trait DecodeSequence: Decoder {
         self.decode_optional_with_tag(alloc, T::TAG)
     }
 
-    /// The same with another tag.
+    /// As `decode_optional`, with another tag.
     final fn decode_optional_with_tag<T: Decode>(
         &mut self,
         alloc: Global,
@@ -106,7 +106,7 @@ pub trait DecodeSequence: Decoder {
         Ok(value)
     }
 
-    /// The same under these constraints.
+    /// As `decode_optional`, under these constraints.
     final fn decode_optional_with_constraints<T: Decode>(
         &mut self,
         alloc: Global,
@@ -128,7 +128,7 @@ pub trait DecodeSequence: Decoder {
         self.decode_optional_with_tag_and_constraints(alloc, T::TAG, constraints)
     }
 
-    /// The same with another tag, under these constraints.
+    /// As `decode_optional`, with another tag and under these constraints.
     final fn decode_optional_with_tag_and_constraints<T: Decode>(
         &mut self,
         alloc: Global,
@@ -156,8 +156,7 @@ pub trait DecodeSequence: Decoder {
         Ok(Some(value))
     }
 
-    /// A component that may be absent, with another tag around its own (X.680 31.2.8), which leaves no octet in the
-    /// packed and the octet encoding rules.
+    /// Decodes an OPTIONAL component with a further, explicit tag (X.680 31.2.8). PER and OER do not encode it.
     final fn decode_optional_with_explicit_prefix<T: Decode>(
         &mut self,
         alloc: Global,
@@ -178,9 +177,9 @@ pub trait DecodeSequence: Decoder {
         self.decode_optional(alloc)
     }
 
-    /// A component with a default, which stands for it where it is absent (X.680 25). One that is there and
-    /// means what the default is has a note behind it, which rules with one encoding refuse (X.691 19.5 and
-    /// X.696 16 in their canonical forms).
+    /// Decodes a component with a default; if it is absent, its value is the default (X.680 25). If it is present and
+    /// equal to the default, `note_default` is called, which a decoder of canonical rules, or a strict one, refuses
+    /// (X.691 19.5 and X.696 16 in their canonical forms).
     final fn decode_default<V: DefaultOf<T>, T: Decode>(
         &mut self,
         alloc: Global,
@@ -200,7 +199,7 @@ pub trait DecodeSequence: Decoder {
         self.decode_default_with_tag::<V, T>(alloc, T::TAG)
     }
 
-    /// The same with another tag.
+    /// As `decode_default`, with another tag.
     final fn decode_default_with_tag<V: DefaultOf<T>, T: Decode>(
         &mut self,
         alloc: Global,
@@ -226,7 +225,7 @@ pub trait DecodeSequence: Decoder {
         Ok(value)
     }
 
-    /// The same under these constraints.
+    /// As `decode_default`, under these constraints.
     final fn decode_default_with_constraints<V: DefaultOf<T>, T: Decode>(
         &mut self,
         alloc: Global,
@@ -248,7 +247,7 @@ pub trait DecodeSequence: Decoder {
         self.decode_default_with_tag_and_constraints::<V, T>(alloc, T::TAG, constraints)
     }
 
-    /// The same with another tag, under these constraints.
+    /// As `decode_default`, with another tag and under these constraints.
     final fn decode_default_with_tag_and_constraints<V: DefaultOf<T>, T: Decode>(
         &mut self,
         alloc: Global,
@@ -283,7 +282,7 @@ pub trait DecodeSequence: Decoder {
         Ok(value)
     }
 
-    /// SEQUENCE (X.680 25) of these components, of which so many may be absent.
+    /// Decodes a SEQUENCE (X.680 25) of these components, `optional` of which may be absent.
     final fn decode_sequence_components<C: DecodeComponents>(
         &mut self,
         alloc: Global,

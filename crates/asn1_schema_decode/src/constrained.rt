@@ -1,4 +1,4 @@
-//! INTEGER within a range of the type's own (X.680 19 and 51.4), as it is read.
+//! How an INTEGER within a range that the type fixes is decoded (X.680 19 and 51.4).
 ghost use Rattle.std.specs.Prelude.{◌≡◌, true};
 ghost use Rattle.asn1_model.specs.Numbers.{is_within};
 ghost use Rattle.asn1_values_integers.specs.Constrained.{between, constrained_number};
@@ -29,7 +29,7 @@ impl<R: Ends> Decode for RangedInteger<R> {
     }
 }
 
-// The number that was read, which is within the range.
+// The decoded number, which is within the range.
 fn ranged_integer<R: Ends>(number: i128) -> RangedInteger<R>
     requires within { is_within (between R.START R.END) number ≡ true }
     ensures { constrained_number result ≡ number }

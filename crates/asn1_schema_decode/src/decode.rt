@@ -1,4 +1,4 @@
-//! What reads the values of types.
+//! The traits `Decoder` and `Decode`.
 ghost use Rattle.std.specs.Prelude.{◌≡◌, ◌+◌, ◌<◌, true, ⊤, ℕ, List, length};
 ghost use Rattle.std.specs.Prelude.{IfOk, OnOk, OnErr, IfErr, cond, string_bytes};
 ghost use Rattle.std.specs.Cow.{IsBorrowedSlice, cow_slice_items};
@@ -35,23 +35,23 @@ use asn1_values_integers::IntegerType;
 use std::alloc::{AllocError, Global};
 use std::borrow::CowSlice;
 
-/// Octets that were read: lent by the input, or held.
+/// Octets that were read: borrowed from the input, or owned.
 pub trait ReadOctets: Drop {
     /// The octets.
     ghost items: { Self → List ℕ };
 
-    /// The octets are lent.
+    /// The octets are borrowed from the input.
     ghost is_lent: { Self → Type 0 };
 
     /// The octets.
     fn octets(&self) -> &[u8]
         ensures { result.now ≡ items self.now };
 
-    /// The octets as a vector. Only lent octets are copied: others are handed on, which takes no memory.
+    /// The octets as a vector. Borrowed octets are copied; owned ones are moved, which allocates nothing.
     ///
     /// # Errors
     ///
-    /// Want of memory, where the octets are lent.
+    /// If the octets are borrowed, and memory runs out.
     fn into_vec(self, alloc: Global) -> Result<Vec<u8>, AllocError>
         ensures octets { IfOk result (λ v. v.items ≡ items self) }
         ensures lent { OnErr result (is_lent self) };
@@ -102,45 +102,45 @@ impl<'a> ReadOctets for CowSlice<'a, u8> {
     }
 }
 
-/// What finds the records of a value, one a call. A call answers `Ok` exactly where a record that it asks for
-/// is next, within the levels that are left, unless memory is wanting; after an error each call answers
-/// `AlreadyFailed`, and none answers that before. Tags play no part.
+/// A decoder finds the records of a value, one per call. A call returns `Ok` exactly if a record that it asks for is
+/// next, within the nested levels that are left; otherwise, or if memory runs out, it returns an error. After an error
+/// each call returns `AlreadyFailed`, and no call does before. The `tag` of a call is ignored.
 pub trait Decoder {
-    /// How it answers octets: lent, where they can be.
+    /// The octets of an OCTET STRING: borrowed from the input if possible.
     type Octets: ReadOctets;
 
-    /// How what is held before a record and what is held after it go together.
+    /// Relates the state before a record, the record, and the state after it.
     ghost step: { Self → Record → Self → Type 0 };
 
     /// The third state is the first with more input appended, but less than the second, in which the decoder has
     /// failed, needs at least.
     ghost too_few: { Self → Self → Self → Type 0 };
 
-    /// The same inside a list or bag, for which the second needs at least one octet or bit more for each member that is
-    /// still to come.
+    /// As `too_few`, inside a SEQUENCE OF or SET OF: the second state needs at least one octet or bit more for each
+    /// element that is still to come.
     ghost too_few_members: { Self → Self → Self → Type 0 };
 
-    /// An earlier call was refused.
+    /// An earlier call failed.
     ghost has_failed: { Self → Type 0 };
 
     /// How many more levels may be nested.
     ghost levels: { Self → ℕ };
 
-    /// The octets of this record stand in the input as they are, so that it lends them.
+    /// The octets of this record are contiguous in the input, so they are borrowed from it.
     ghost lends: { Self → Record → Self → Type 0 };
 
-    /// The rules that are followed.
+    /// The encoding rules.
     ghost rules: { Self → CodecKind };
 
-    /// The rules that are followed.
+    /// The encoding rules.
     fn codec(&self) -> CodecKind
         ensures { result ≡ rules self.now };
 
-    /// How many more levels may be nested: one fewer inside each, and at none a further one is refused.
+    /// How many more levels may be nested: one fewer inside each level. At zero a further level is refused.
     fn levels_left(&self) -> usize
         ensures { result ≡ levels self.now };
 
-    /// BOOLEAN (X.680 18). No memory is taken.
+    /// BOOLEAN (X.680 18). Allocates nothing.
     fn decode_bool(&mut self, tag: Tag) -> Result<bool, DecodeError>
         ensures ok { IfOk result (λ x. step self.old (flag x) self.new) }
         ensures level { OnOk result (levels self.new ≡ levels self.old) }
@@ -150,7 +150,7 @@ pub trait Decoder {
         ensures already { has_failed self.old → result ≡ Err DecodeError.AlreadyFailed }
         ensures after { result ≡ Err DecodeError.AlreadyFailed → has_failed self.old };
 
-    /// NULL (X.680 24). No memory is taken.
+    /// NULL (X.680 24). Allocates nothing.
     fn decode_null(&mut self, tag: Tag) -> Result<(), DecodeError>
         ensures ok { OnOk result (step self.old nil self.new) }
         ensures level { OnOk result (levels self.new ≡ levels self.old) }
@@ -160,7 +160,8 @@ pub trait Decoder {
         ensures already { has_failed self.old → result ≡ Err DecodeError.AlreadyFailed }
         ensures after { result ≡ Err DecodeError.AlreadyFailed → has_failed self.old };
 
-    /// INTEGER (X.680 19) under a value constraint: a number within it, if that has no extension marker.
+    /// INTEGER (X.680 19) under a value constraint. The number satisfies the constraint, unless that has an extension
+    /// marker.
     fn decode_integer<I: IntegerType>(
         &mut self,
         alloc: Global,
@@ -186,7 +187,8 @@ pub trait Decoder {
         ensures already { has_failed self.old → result ≡ Err DecodeError.AlreadyFailed }
         ensures after { result ≡ Err DecodeError.AlreadyFailed → has_failed self.old };
 
-    /// BIT STRING (X.680 22) under a size constraint, in a type of the program that holds so many bits.
+    /// BIT STRING (X.680 22) under a size constraint; `held` bounds the number of bits that the user-defined type can
+    /// hold.
     fn decode_bit_string(
         &mut self,
         alloc: Global,
@@ -202,8 +204,8 @@ pub trait Decoder {
         ensures already { has_failed self.old → result ≡ Err DecodeError.AlreadyFailed }
         ensures after { result ≡ Err DecodeError.AlreadyFailed → has_failed self.old };
 
-    /// OCTET STRING (X.680 23) under a size constraint, in a type of the program that holds so many octets. The
-    /// octets are lent where they stand in the input as they are.
+    /// OCTET STRING (X.680 23) under a size constraint; `held` bounds the number of octets that the user-defined type
+    /// can hold. The octets are borrowed if they are contiguous in the input.
     fn decode_octet_string(
         &mut self,
         alloc: Global,
@@ -239,8 +241,8 @@ pub trait Decoder {
         ensures already { has_failed self.old → result ≡ Err DecodeError.AlreadyFailed }
         ensures after { result ≡ Err DecodeError.AlreadyFailed → has_failed self.old };
 
-    /// A restricted character string (X.680 41) of one of the kinds with an alphabet of their own, under a size and an
-    /// alphabet constraint.
+    /// A restricted character string (X.680 41) of a kind with a permitted alphabet, under size and alphabet
+    /// constraints.
     fn decode_characters<S: StaticPermittedAlphabet>(
         &mut self,
         alloc: Global,
@@ -269,8 +271,8 @@ pub trait Decoder {
         ensures already { has_failed self.old → result ≡ Err DecodeError.AlreadyFailed }
         ensures after { result ≡ Err DecodeError.AlreadyFailed → has_failed self.old };
 
-    /// A SEQUENCE OF begins (X.680 26) under a size constraint, in a type of the program that holds so many
-    /// members. How many members there are may be known at its end alone.
+    /// Begins a SEQUENCE OF (X.680 26) under a size constraint; `held` bounds the number of elements that the
+    /// user-defined type can hold. The number of elements may not be known before its end.
     fn begin_list(
         &mut self,
         tag: Tag,
@@ -286,8 +288,8 @@ pub trait Decoder {
         ensures already { has_failed self.old → result ≡ Err DecodeError.AlreadyFailed }
         ensures after { result ≡ Err DecodeError.AlreadyFailed → has_failed self.old };
 
-    /// A SET OF begins (X.680 28) under a size constraint, in a type of the program that holds so many members. Its
-    /// members come in any order. How many there are may be known at its end alone.
+    /// Begins a SET OF (X.680 28) under a size constraint; `held` bounds the number of elements that the user-defined
+    /// type can hold. Its elements come in any order. Their number may not be known before its end.
     fn begin_bag(
         &mut self,
         tag: Tag,
@@ -303,7 +305,7 @@ pub trait Decoder {
         ensures already { has_failed self.old → result ≡ Err DecodeError.AlreadyFailed }
         ensures after { result ≡ Err DecodeError.AlreadyFailed → has_failed self.old };
 
-    /// Whether a further member comes.
+    /// Whether another element follows.
     fn get_further(&mut self) -> Result<bool, DecodeError>
         ensures ok { IfOk result (λ x. step self.old (further x) self.new) }
         ensures level { OnOk result (levels self.new ≡ levels self.old) }
@@ -312,8 +314,8 @@ pub trait Decoder {
         ensures already { has_failed self.old → result ≡ Err DecodeError.AlreadyFailed }
         ensures after { result ≡ Err DecodeError.AlreadyFailed → has_failed self.old };
 
-    /// A SEQUENCE begins (X.680 25), with or without an extension marker, of whose root components so
-    /// many may be absent.
+    /// Begins a SEQUENCE (X.680 25), with or without an extension marker; `optional` of its root components may be
+    /// absent.
     fn begin_sequence(
         &mut self,
         tag: Tag,
@@ -328,8 +330,8 @@ pub trait Decoder {
         ensures already { has_failed self.old → result ≡ Err DecodeError.AlreadyFailed }
         ensures after { result ≡ Err DecodeError.AlreadyFailed → has_failed self.old };
 
-    /// A SET begins (X.680 27), with or without an extension marker, of whose root components so many may be
-    /// absent. They come in the ascending order of their tags.
+    /// Begins a SET (X.680 27), with or without an extension marker; `optional` of its root components may be absent.
+    /// They come in ascending order of their tags.
     fn begin_set(&mut self, tag: Tag, extensible: bool, optional: usize) -> Result<(), DecodeError>
         ensures ok { OnOk result (step self.old (set_begins extensible optional) self.new) }
         ensures level { OnOk result (levels self.old ≡ levels self.new + 1) }
@@ -339,7 +341,7 @@ pub trait Decoder {
         ensures already { has_failed self.old → result ≡ Err DecodeError.AlreadyFailed }
         ensures after { result ≡ Err DecodeError.AlreadyFailed → has_failed self.old };
 
-    /// A group of additions begins (X.680 25.1), of whose components so many may be absent.
+    /// Begins an extension addition group (X.680 25.1); `optional` of its components may be absent.
     fn begin_group(&mut self, optional: usize) -> Result<(), DecodeError>
         ensures ok { OnOk result (step self.old (group_begins optional) self.new) }
         ensures level { OnOk result (levels self.old ≡ levels self.new + 1) }
@@ -348,7 +350,7 @@ pub trait Decoder {
         ensures already { has_failed self.old → result ≡ Err DecodeError.AlreadyFailed }
         ensures after { result ≡ Err DecodeError.AlreadyFailed → has_failed self.old };
 
-    /// Whether the next component is there, of those that may be absent. No memory is taken.
+    /// Whether the next component that may be absent is present. Allocates nothing.
     fn get_presence_bit(&mut self) -> Result<bool, DecodeError>
         ensures ok { IfOk result (λ x. step self.old (presence_bit x) self.new) }
         ensures level { OnOk result (levels self.new ≡ levels self.old) }
@@ -358,8 +360,8 @@ pub trait Decoder {
         ensures after { result ≡ Err DecodeError.AlreadyFailed → has_failed self.old }
         ensures no_memory { IfErr result (λ e. e ≡ DecodeError.OutOfMemory → ⊥) };
 
-    /// The component that was read last is equal to its default: refused by rules that have one encoding. No memory is
-    /// taken.
+    /// Says that the component that was read last is equal to its default. A decoder of canonical rules, or a strict
+    /// one, refuses this. Allocates nothing.
     fn note_default(&mut self) -> Result<(), DecodeError>
         ensures ok { OnOk result (step self.old is_default self.new) }
         ensures level { OnOk result (levels self.new ≡ levels self.old) }
@@ -369,7 +371,8 @@ pub trait Decoder {
         ensures after { result ≡ Err DecodeError.AlreadyFailed → has_failed self.old }
         ensures no_memory { IfErr result (λ e. e ≡ DecodeError.OutOfMemory → ⊥) };
 
-    /// The group that was read last has no component: refused by rules that have one encoding. No memory is taken.
+    /// Says that no component of the extension addition group that was read last is present. A decoder of canonical
+    /// rules, or a strict one, refuses this. Allocates nothing.
     fn note_empty(&mut self) -> Result<(), DecodeError>
         ensures ok { OnOk result (step self.old is_empty self.new) }
         ensures level { OnOk result (levels self.new ≡ levels self.old) }
@@ -379,8 +382,8 @@ pub trait Decoder {
         ensures after { result ≡ Err DecodeError.AlreadyFailed → has_failed self.old }
         ensures no_memory { IfErr result (λ e. e ≡ DecodeError.OutOfMemory → ⊥) };
 
-    /// Behind the root components of a type with an extension marker come its additions (X.680 25 and 27), so
-    /// many. Those that the input has besides are skipped at the end.
+    /// Begins the `count` extension additions, after the root components of a type with an extension marker (X.680 25
+    /// and 27). Further additions of the input are skipped at the end.
     fn begin_additions(&mut self, count: usize) -> Result<(), DecodeError>
         ensures ok { OnOk result (step self.old (additions_begin count) self.new) }
         ensures level { OnOk result (levels self.new ≡ levels self.old) }
@@ -389,7 +392,7 @@ pub trait Decoder {
         ensures already { has_failed self.old → result ≡ Err DecodeError.AlreadyFailed }
         ensures after { result ≡ Err DecodeError.AlreadyFailed → has_failed self.old };
 
-    /// Whether the next addition is there.
+    /// Whether the next addition is present.
     fn get_addition(&mut self) -> Result<bool, DecodeError>
         ensures ok { IfOk result (λ x. step self.old (addition x) self.new) }
         ensures level { OnOk result (levels self.new ≡ levels self.old) }
@@ -398,7 +401,7 @@ pub trait Decoder {
         ensures already { has_failed self.old → result ≡ Err DecodeError.AlreadyFailed }
         ensures after { result ≡ Err DecodeError.AlreadyFailed → has_failed self.old };
 
-    /// The end of an addition that is there.
+    /// Ends an addition that is present.
     fn end_addition(&mut self) -> Result<(), DecodeError>
         ensures ok { OnOk result (step self.old addition_ends self.new) }
         ensures level { OnOk result (levels self.new ≡ levels self.old) }
@@ -407,8 +410,8 @@ pub trait Decoder {
         ensures already { has_failed self.old → result ≡ Err DecodeError.AlreadyFailed }
         ensures after { result ≡ Err DecodeError.AlreadyFailed → has_failed self.old };
 
-    /// A CHOICE begins (X.680 29), with the tags of its alternatives and whether it has an extension marker: which
-    /// one is chosen. Its end is called behind the value of the alternative.
+    /// Begins a CHOICE (X.680 29), given the tags of its alternatives and whether it has an extension marker, and
+    /// returns the chosen alternative. `end` is called after the value of the alternative.
     fn begin_choice(&mut self, tag: Tag, tables: &TagTables<'_>) -> Result<Chosen, DecodeError>
         ensures ok { IfOk result (λ x. step self.old
             (choice_begins tables.now.roots tables.now.extensible tables.now.additions x.added x.place) self.new) }
@@ -421,7 +424,7 @@ pub trait Decoder {
         ensures already { has_failed self.old → result ≡ Err DecodeError.AlreadyFailed }
         ensures after { result ≡ Err DecodeError.AlreadyFailed → has_failed self.old };
 
-    /// The end of what began last and has not ended.
+    /// Ends what was begun last and has not ended.
     fn end(&mut self) -> Result<(), DecodeError>
         ensures ok { OnOk result (step self.old ends self.new) }
         ensures level { OnOk result (levels self.new ≡ levels self.old + 1) }
@@ -430,49 +433,49 @@ pub trait Decoder {
         ensures already { has_failed self.old → result ≡ Err DecodeError.AlreadyFailed }
         ensures after { result ≡ Err DecodeError.AlreadyFailed → has_failed self.old };
 
-    /// The decoder fails for this reason: what it has found does not stand in the program's type.
+    /// The decoder fails for this reason: the user-defined type cannot hold what was decoded.
     fn refuse(&mut self, error: DecodeError) -> DecodeError
         ensures refused { result ≡ error }
         ensures failed { has_failed self.new };
 
-    /// Of the records that answer a question one at most is next, and at most one state stands after it.
+    /// At most one of the records that answer a question is next, and at most one state follows it.
     ghost one_record: { (a : Self) (r s : Record) (b c : Self)
         → question r ≡ question s → step a r b → step a s c → (told r ≡ told s) × (b ≡ c) };
 
-    /// A list has as many members as the program's type holds.
+    /// The user-defined type can hold the number of elements of a SEQUENCE OF.
     ghost list_held: { (a : Self) (z : Size) (h : Counts) (n : ℕ) (b : Self)
         → step a (list_begins z h n) b → is_count_within h n ≡ true };
 
-    /// So has a bag.
+    /// The user-defined type can hold the number of elements of a SET OF.
     ghost bag_held: { (a : Self) (z : Size) (h : Counts) (n : ℕ) (b : Self)
         → step a (bag_begins z h n) b → is_count_within h n ≡ true };
 
-    /// What stands after a record has not failed.
+    /// A state that follows a record has not failed.
     ghost goes_on: { (a : Self) (r : Record) (b : Self) → step a r b → has_failed b → ⊥ };
 
-    /// With no more input there is too little.
+    /// Without more input there is too little.
     ghost few_at_once: { (a failed : Self) → too_few a failed a };
 
     /// What is next is also next with a little more input.
     ghost records_carried: { CarriesRecords step too_few };
 
-    /// The same for all records of a value.
+    /// The same for all the records of a value.
     ghost values_carried: { CarriesValues step too_few };
 
-    /// The same for the members of a list or bag, which need at least one octet or bit each.
+    /// The same for the elements of a SEQUENCE OF or SET OF, each of which needs at least one octet or bit.
     ghost members_carried: { CarriesMembers step too_few too_few_members };
 
-    /// None stands after one that has failed.
+    /// No state follows one that has failed.
     ghost none_after: { (a : Self) (r : Record) (b : Self) → has_failed a → step a r b → ⊥ };
 
-    /// No record changes the rules.
+    /// No record changes the encoding rules.
     ghost same_rules: { (a : Self) (r : Record) (b : Self) → step a r b → rules b ≡ rules a };
 }
 
-/// A type whose values are read.
+/// A type whose values can be decoded.
 pub trait Decode: AsnType + Drop {
-    /// Reads a value of the type under these constraints whose records are next, and gives the value of the
-    /// program that means its normal form. After an error the decoder has failed.
+    /// Reads a value of the type under these constraints, whose records are next, and returns the Rust value of its
+    /// normal form. After an error the decoder has failed.
     fn decode_with_tag_and_constraints<D: Decoder>(
         alloc: Global,
         decoder: &mut D,
@@ -490,8 +493,7 @@ pub trait Decode: AsnType + Drop {
         ensures already { D.has_failed decoder.old → result ≡ Err DecodeError.AlreadyFailed }
         ensures after { result ≡ Err DecodeError.AlreadyFailed → D.has_failed decoder.old };
 
-    /// Reads a value of the type whose records are next, and gives the value of the program that means its
-    /// normal form.
+    /// Reads a value of the type, whose records are next, and returns the Rust value of its normal form.
     #[inline(always)]
     final fn decode<D: Decoder>(alloc: Global, decoder: &mut D) -> Result<Self, DecodeError>
     where
@@ -508,7 +510,7 @@ pub trait Decode: AsnType + Drop {
         Self::decode_with_tag(alloc, decoder, Self::TAG)
     }
 
-    /// The same with another tag.
+    /// As `decode`, with another tag.
     #[inline(always)]
     final fn decode_with_tag<D: Decoder>(
         alloc: Global,

@@ -1,4 +1,4 @@
-//! BIT STRING and OCTET STRING of a fixed size (X.680 22 and 23), as they are read.
+//! How BIT STRING and OCTET STRING of a fixed size are decoded (X.680 22 and 23).
 ghost use Rattle.std.specs.Prelude.{◌≡◌, true, length, Some};
 ghost use Rattle.asn1_model.specs.Numbers.{is_count_within};
 
@@ -38,7 +38,7 @@ impl<const N: usize> Decode for FixedOctetString<N> {
     }
 }
 
-// The string of bits that were read, of which there are as many as it holds.
+// The decoded bits, of which there are exactly `N`.
 fn fixed_bit_string<const N: usize>(bits: BitString) -> FixedBitString<N>
     requires held { is_count_within (record { low = N; high = Some N }) (length bits) ≡ true }
     ensures { result ≡ bits }
@@ -49,7 +49,7 @@ fn fixed_bit_string<const N: usize>(bits: BitString) -> FixedBitString<N>
     }
 }
 
-// The string of octets that were read, of which there are as many as it holds.
+// The decoded octets, of which there are exactly `N`.
 fn fixed_octet_string<const N: usize, O: ReadOctets>(octets: O) -> FixedOctetString<N>
     requires held { is_count_within (record { low = N; high = Some N }) (length (O.items octets)) ≡ true }
     ensures { result ≡ O.items octets }

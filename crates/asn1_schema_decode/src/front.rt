@@ -1,4 +1,4 @@
-//! Readers of the message in front of octets.
+//! Readers of the message with which octets begin.
 ghost use Rattle.std.specs.Prelude.{◌≡◌, ◌≤◌, ℕ, List, IfErr, IfOk, drop, length};
 ghost use Rattle.asn1_model.specs.Rules.{Rules};
 ghost use Rattle.asn1_schema_decode.specs.Messages.{NoMessage, Tells};
@@ -11,26 +11,27 @@ use std::alloc::Global;
 /// Why octets do not begin with an encoding, and how many more octets are needed at least.
 #[derive(Clone, Copy, Debug, PartialEq, Eq)]
 pub struct Refusal {
-    /// Why they do not.
+    /// Why the octets do not begin with an encoding.
     pub error: DecodeError,
-    /// With fewer octets than this appended, they still do not begin with an encoding. Never zero.
+    /// If fewer octets than this are appended, the octets still do not begin with an encoding. Never zero.
     pub needed: usize,
 }
 
-/// Reads the value whose encoding stands in front of octets, by one set of rules.
+/// Reads the value with whose encoding octets begin, by one set of encoding rules.
 pub trait FrontReader<T: Decode> {
-    /// The rules.
+    /// The encoding rules.
     ghost rules: { Rules };
 
-    /// With which errors it refuses octets.
+    /// The errors with which it refuses octets.
     ghost refuses: { List ℕ → DecodeError → Type 0 };
 
-    /// The value whose encoding stands in front, and how many octets it took.
+    /// The value with whose encoding the input begins, and the length of the encoding in octets.
     ///
     /// # Errors
     ///
-    /// Want of memory aside, only where no octets in front, fewer than 2^60, are an encoding of a value that nests
-    /// at most 128 levels. Each call begins anew, and none answers `AlreadyFailed`.
+    /// `OutOfMemory` if memory runs out. Any other error only if no prefix of the input that is shorter than 2^60
+    /// octets is an encoding of a value with at most 128 nested levels. Each call starts anew, and none returns
+    /// `AlreadyFailed`.
     fn read_front(&self, alloc: Global, input: &[u8]) -> Result<(T, usize), DecodeError>
         ensures within { IfOk result (λ x. x.1 ≤ length input.now) }
         ensures ok { IfOk result (λ x. Tells rules T.schema (T.meaning x.0) input.now (drop x.1 input.now)) }

@@ -1,4 +1,4 @@
-//! Values that are lent until they have to be owned, as they are read.
+//! How values that are borrowed until they have to be owned are decoded.
 use crate::decode::{Decode, Decoder};
 use crate::lists::DecodeList;
 use asn1_schema_constraints::{Bounded, Constraints};

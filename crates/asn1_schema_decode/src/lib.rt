@@ -1,6 +1,5 @@
-//! The traits of types that are read and of decoders, and what each keeps; readers of messages that are strung
-//! together, one after the other; and which message stands in front of an input, by which the calls that read are
-//! specified in all encoding rules.
+//! The traits of decodable types and of decoders, and the laws they keep; readers of messages that follow one another;
+//! and the message with which an input begins, by which the calls that read are specified in all encoding rules.
 #![tactic(auto)]
 
 pub mod bmp;

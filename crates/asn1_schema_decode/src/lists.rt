@@ -1,4 +1,4 @@
-//! Lists, as they are read.
+//! How SEQUENCE OF types are decoded.
 
 ghost use Rattle.std.specs.Prelude.{◌≡◌, ◌+◌, length, true, not, Some, OnOk, IfOk, OnErr, IfErr, leb};
 ghost use Rattle.asn1_model.specs.Numbers.{is_count_within};
@@ -15,10 +15,11 @@ use asn1_schema_faults::DecodeError;
 use asn1_schema_tags::Tag;
 use std::alloc::Global;
 
-/// How a list is read.
+/// Decodes SEQUENCE OF types.
 pub trait DecodeList: Decoder {
-    /// SEQUENCE OF (X.680 26) under a size constraint, in a type of the program that holds so many members. One
-    /// member more than these is not read, and no memory is taken but for members that were read.
+    /// Decodes a SEQUENCE OF (X.680 26) under a size constraint; `held` bounds the number of elements that the
+    /// user-defined type can hold. An element beyond them is not read. Memory is allocated only for elements that were
+    /// read.
     final fn decode_sequence_of<T: Decode>(
         &mut self,
         alloc: Global,
@@ -48,7 +49,7 @@ pub trait DecodeList: Decoder {
 
 impl<D: Decoder> DecodeList for D {}
 
-/// The greatest number of members that a type of the program with these bounds holds.
+/// The greatest number of elements that a user-defined type with these bounds can hold.
 #[inline(always)]
 pub fn most_members(held: Bounded<usize>) -> usize
     ensures { (members_of held).high ≡ Some result }
@@ -59,13 +60,14 @@ pub fn most_members(held: Bounded<usize>) -> usize
     }
 }
 
-/// The members of a list or a bag that has begun, of which the program's type holds so many, and its end. One member
-/// more than these is not read, and no memory is taken but for members that were read.
+/// The elements of a SEQUENCE OF or SET OF that has begun, and its end; `held` bounds the number of elements that the
+/// user-defined type can hold. An element beyond them is not read. Memory is allocated only for elements that were
+/// read.
 ///
 /// # Errors
 ///
-/// `SizeConstraintNotSatisfied` where there are more or fewer than the type holds, `OutOfMemory`, and those of a
-/// member.
+/// `SizeConstraintNotSatisfied` if there are more or fewer elements than the type can hold, `OutOfMemory`, and the
+/// errors of an element.
 pub fn members_within<T: Decode, D: Decoder>(
     alloc: Global,
     decoder: &mut D,
@@ -99,7 +101,7 @@ pub fn members_within<T: Decode, D: Decoder>(
     Ok(items)
 }
 
-// Whether one more than this count is above bounds.
+// Whether one more than this count is above the bounds.
 fn is_full(held: Bounded<usize>, count: usize) -> bool
     ensures { result ≡ not (option_map_or (λ x. leb (count + 1) x) ((members_of held).high) true) }
 {

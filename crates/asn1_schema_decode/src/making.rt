@@ -6,11 +6,11 @@ use crate::front::FrontReader;
 use crate::values::Iter;
 use std::alloc::{AllocError, Global};
 
-/// The values of messages in front of octets, by a reader.
+/// The values of the messages that follow one another in octets, read by a reader.
 ///
 /// # Errors
 ///
-/// Only where memory is refused.
+/// If memory runs out.
 pub fn iter<T: Decode, R: FrontReader<T> + Drop>(
     alloc: Global,
     reader: R,

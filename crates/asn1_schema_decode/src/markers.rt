@@ -1,4 +1,4 @@
-//! Markers of types, as they are read.
+//! How marker types are decoded.
 
 use crate::decode::{Decode, Decoder};
 use asn1_schema_constraints::Constraints;

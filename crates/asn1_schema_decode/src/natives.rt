@@ -1,4 +1,4 @@
-//! INTEGER (X.680 19) in the native types without a sign, as they are read.
+//! How INTEGER in the unsigned native types is decoded (X.680 19).
 
 use crate::decode::{Decode, Decoder};
 use asn1_schema_constraints::Constraints;

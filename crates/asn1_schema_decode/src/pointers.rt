@@ -1,4 +1,4 @@
-//! Values behind pointers.
+//! How values held by pointers are decoded.
 use crate::decode::{Decode, Decoder};
 use asn1_schema_constraints::Constraints;
 use asn1_schema_faults::DecodeError;

@@ -1,4 +1,4 @@
-//! SEQUENCE OF (X.680 26) as it is read: vectors and arrays.
+//! How SEQUENCE OF is decoded (X.680 26) into vectors and arrays.
 use crate::decode::{Decode, Decoder};
 use crate::lists::DecodeList;
 use asn1_schema_constraints::{Bounded, Constraints};

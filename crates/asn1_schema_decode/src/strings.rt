@@ -1,4 +1,4 @@
-//! BIT STRING, OCTET STRING, UTF8String and OBJECT IDENTIFIER (X.680 22, 23, 41 and 32), as they are read.
+//! How BIT STRING, OCTET STRING, UTF8String and OBJECT IDENTIFIER are decoded (X.680 22, 23, 41 and 32).
 ghost use Rattle.std.specs.Prelude.{◌≡◌, IfOk, IfErr};
 
 use crate::decode::{Decode, Decoder, ReadOctets};
@@ -62,7 +62,7 @@ impl Decode for ObjectIdentifier {
     }
 }
 
-// The string of octets that were read. Only lent octets are copied.
+// The decoded octets. Only borrowed octets are copied.
 fn octet_string<O: ReadOctets>(alloc: Global, octets: O) -> Result<OctetString, DecodeError>
     ensures value { IfOk result (λ s. s ≡ O.items octets) }
     ensures refused { IfErr result (λ e. e ≡ DecodeError.OutOfMemory) }

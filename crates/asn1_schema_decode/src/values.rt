@@ -1,4 +1,4 @@
-//! Values of messages that come one after the other, in octets that are appended in pieces.
+//! The values of messages that follow one another, in octets that are appended in pieces.
 ghost use Rattle.std.specs.Prelude.{◌≡◌, ◌++◌, IfOk, OnErr, OnOk, length};
 
 use crate::Decode;
@@ -8,7 +8,7 @@ use bytes::BytesMut;
 use std::alloc::{AllocError, Global};
 use std::marker::{Model, PhantomData};
 
-/// Reads one value after the other from the front of its unread octets. It never ends: more octets may be appended.
+/// Reads one value after another from the start of its unread octets. It never ends, as more octets may be appended.
 #[derive(Drop)]
 pub struct Iter<T, R> {
     alloc: Global,
@@ -26,11 +26,11 @@ impl<T, R> Model for Iter<T, R> {
 }
 
 impl<T: Decode, R: FrontReader<T> + Drop> Iter<T, R> {
-    /// The values of messages in front of octets, by a reader.
+    /// The values of the messages that follow one another in octets, read by a reader.
     ///
     /// # Errors
     ///
-    /// Only where memory is refused.
+    /// If memory runs out.
     pub fn new(alloc: Global, reader: R, input: &[u8]) -> Result<Iter<T, R>, AllocError>
         ensures { IfOk result (λ values. values ≡ input.now) }
     {
@@ -43,11 +43,11 @@ impl<T: Decode, R: FrontReader<T> + Drop> Iter<T, R> {
         })
     }
 
-    /// Appends octets behind those that are unread.
+    /// Appends octets after those that are unread.
     ///
     /// # Errors
     ///
-    /// Only where memory is refused; then the unread octets are as they were.
+    /// If memory runs out; the unread octets are then unchanged.
     pub fn append_bytes(&mut self, bytes: &[u8]) -> Result<(), AllocError>
         ensures ok { OnOk result (self.new ≡ self.old ++ bytes.now) }
         ensures err { OnErr result (self.new ≡ self.old) }
@@ -55,7 +55,7 @@ impl<T: Decode, R: FrontReader<T> + Drop> Iter<T, R> {
         self.unread.extend_from_slice(bytes)
     }
 
-    /// How many octets are unread.
+    /// The number of unread octets.
     pub fn unread_len(&self) -> usize
         ensures { result ≡ length self.now }
     {

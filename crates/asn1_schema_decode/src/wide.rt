@@ -1,4 +1,4 @@
-//! INTEGER (X.680 19) in the native types of 128 bits and of the width of an address, as they are read.
+//! How INTEGER in the native types of 128 bits and of the pointer width is decoded (X.680 19).
 
 use crate::decode::{Decode, Decoder};
 use asn1_schema_constraints::Constraints;

@@ -13,7 +13,7 @@ use Rattle.asn1_schema_example.specs.declared.chain.Chain.{Chain, Chain', Held-C
 use Rattle.asn1_schema_example.specs.declared.chain.Chain.TheViews.{out-Chain, roll-Chain}
 use denote.Hole.Carrier.{out, roll}
 
--- The components, by the type that the second leads to.
+-- The components, with the type of the second as a parameter.
 abbrev pub chain_table : (ℕ → Schema) → Table
 chain_table s = with_field (record { class = 0; number = 2 } ∷ []) required whole_number
     (with_field (record { class = 0; number = 16 } ∷ []) optional s no_table)
@@ -21,13 +21,13 @@ chain_table s = with_field (record { class = 0; number = 2 } ∷ []) required wh
 abbrev pub chain_schema : ℕ → Schema
 chain_schema = recursive_sequence chain_table
 
--- It is a sequence of these components.
+-- It is a SEQUENCE of these components.
 pub chain_is : (n : ℕ) → chain_schema n ≡ sequence_type (chain_table chain_schema) n
 unfolding recursive_sequence sequence_type scope components_at
 chain_is zero = refl
 chain_is (suc n) = refl
 
--- The type is lawful.
+-- The type is well-formed.
 pub chain_typed : IsType (record { class = 0; number = 16 } ∷ []) chain_schema
 chain_typed = recursive_type chain_table refl (λ s t. more_types _ required (λ _. refl)
     number_typed (more_types _ optional (λ _. refl) t no_types)) (λ s. refl)
@@ -41,18 +41,18 @@ abbrev mutual
   next_part None' = left_out
   next_part (Some' p x) = there (chain_meaning x)
 
--- Its components, by its fields.
+-- The components of a chain, by its fields.
 abbrev pub chain_root : Chain → Parts
 chain_root x = with_part (there (number (out-Chain x).value))
     (with_part (part_of (λ b. chain_meaning b.value) (out-Chain x).next) end)
 
--- A chain means its components.
+-- A chain is the value with its components.
 pub chain_opens : (x : Chain) → chain_meaning x ≡ fields (chain_root x) end
 unfolding out-Chain out
 chain_opens (Chain' value None') = refl
 chain_opens (Chain' value (Some' p x)) = refl
 
--- The components of a chain that is made of its fields.
+-- The components of a chain that is made from its fields.
 pub chain_made : (value : ℤ) (next : Option (Box Chain Global))
     → chain_root (roll-Chain (record { value = value; next = next }))
     ≡ with_part (there (number value)) (with_part (part_of (λ b. chain_meaning b.value) next) end)

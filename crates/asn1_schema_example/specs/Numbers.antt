@@ -1,9 +1,9 @@
--- The numbers in types that lead back to themselves: the type, without constraints, and that it is lawful.
+-- The integers in recursive types: the type INTEGER without constraints, which is well-formed.
 use Rattle.std.specs.Prelude.{ℕ, refl, false, [], ◌∷◌, None}
 use Rattle.asn1_schema.specs.Author.{IsType, Schema, integer}
 use Rattle.asn1_schema.proofs.Author.{integer_type}
 
--- INTEGER, in any number of levels.
+-- INTEGER, at any number of levels.
 abbrev pub whole_number : ℕ → Schema
 whole_number n = integer (record { range = record { low = None; high = None }; extensible = false })
     (record { low = None; high = None })

@@ -16,23 +16,23 @@ use Rattle.asn1_schema_example.specs.declared.tree.Tree.TheViews.{out-Tree, roll
 use Rattle.asn1_schema_example.specs.declared.tree.Tree.TheViews.{roll-out-Tree, rolls-struct-Tree}
 use Rattle.asn1_schema_example.specs.declared.tree.Tree.TheFolds.{ind-Tree}
 
--- The components, by the type of the second.
+-- The components, with the type of the second as a parameter.
 abbrev pub tree_table : (ℕ → Schema) → Table
 tree_table s = with_field (record { class = 0; number = 2 } ∷ []) required whole_number
     (with_field (record { class = 0; number = 16 } ∷ []) required s no_table)
 
 unfoldable mutual
-  -- The type, unfolded to a number of nested levels: the sequence takes one of them, and the list in it the next.
+  -- The type, unfolded to a number of nested levels: the SEQUENCE takes one level, and the SEQUENCE OF in it the next.
   pub tree_schema : ℕ → Schema
   tree_schema zero = cut
   tree_schema (suc n) = sequence_type (tree_table (λ _. branches_schema n)) (suc n)
 
-  -- The list of the type.
+  -- The SEQUENCE OF the type.
   pub branches_schema : ℕ → Schema
   branches_schema zero = cut
   branches_schema (suc n) = list_type any_size any_number_held (λ _. tree_schema n) (suc n)
 
--- It is a sequence of these components, and the second is a list of it.
+-- It is a SEQUENCE of these components, and the second is a SEQUENCE OF the type.
 pub tree_is : (n : ℕ) → tree_schema n ≡ sequence_type (tree_table branches_schema) n
 unfolding tree_schema sequence_type scope components_at
 tree_is zero = refl
@@ -43,7 +43,7 @@ unfolding branches_schema list_type scope
 branches_are zero = refl
 branches_are (suc n) = refl
 
--- The type is lawful, and so is the list of it, each in the levels that the other leaves.
+-- The type is well-formed, and so is the SEQUENCE OF it, each at the levels that the other leaves.
 abbrev IsSequence : (ℕ → Schema) → Type 0
 IsSequence s = IsType (record { class = 0; number = 16 } ∷ []) s
 
@@ -94,7 +94,7 @@ branches_typed = record {
   no_group = λ n. (branches_at n).no_group n;
 }
 
--- What a tree means, and what the trees that branch off mean.
+-- What a tree means, and what its branches mean.
 abbrev mutual
   pub tree_meaning : Tree → Value
   tree_meaning (Tree' value n branches) = fields (with_part (there (number value))
@@ -104,7 +104,7 @@ abbrev mutual
   branch_values end_of-Tree = no_more
   branch_values (more_of-Tree x branches) = member (tree_meaning x) (branch_values branches)
 
--- The components, by the fields: each branch is a member.
+-- The components, by the fields: each branch is an element.
 abbrev pub tree_parts : Tree-F Tree → Parts
 tree_parts t = with_part (there (number t.value)) (with_part
     (there (members (values_of tree_meaning t.branches.items))) end)
@@ -116,7 +116,7 @@ branch_items : (n : _) (row : Row_of-Tree n) → branch_values row ≡ values_of
 branch_items n end_of-Tree = refl
 branch_items n (more_of-Tree x row) = ap (member (tree_meaning x)) (branch_items _ row)
 
--- A tree that is made of its fields means their components.
+-- A tree that is made from its fields is the value with their components.
 pub tree_rolls : (t : Tree-F Tree) → tree_meaning (roll-Tree t) ≡ fields (tree_parts t) end
 tree_rolls t =
     ap tree_meaning (rolls-struct-Tree t)
@@ -124,15 +124,15 @@ tree_rolls t =
     (branch_items _ (hidden-the_row-Tree-0 t.branches)
     ∙ ap (values_of tree_meaning) (items_hidden-the_row-Tree-0 t.branches))
 
--- A tree means its components.
+-- A tree is the value with its components.
 pub tree_opens : (x : Tree) → tree_meaning x ≡ fields (tree_root x) end
 tree_opens x = ap tree_meaning (sym (roll-out-Tree x)) ∙ tree_rolls (out-Tree x)
 
--- The components of a tree that is made of its fields.
+-- The components of a tree that is made from its fields.
 pub tree_made : (t : Tree-F Tree) → tree_root (roll-Tree t) ≡ tree_parts t
 tree_made t = ap tree_parts (out-roll-Tree t)
 
--- Each tree is a value of the type, since each of its branches is.
+-- Each tree is a value of the type, because each of its branches is.
 abbrev IsTree : Tree → Type 0
 IsTree x = IsValue tree_schema (tree_meaning x)
 

@@ -1,4 +1,4 @@
-//! Chain ::= SEQUENCE {value INTEGER, next Chain OPTIONAL}, a type that leads back to itself.
+//! Chain ::= SEQUENCE {value INTEGER, next Chain OPTIONAL}, a recursive type.
 ghost use Rattle.std.specs.Prelude.{[], ◌∷◌, refl};
 ghost use Rattle.asn1_schema.specs.Author.{end, no_constraint, sequence_form};
 
@@ -8,12 +8,12 @@ use asn1_schema::{
 };
 use asn1_values::Integer;
 
-/// A number, and perhaps others behind it.
+/// A number, and optionally more numbers after it.
 #[derive(Drop)]
 pub struct Chain {
     /// The number.
     pub value: Integer,
-    /// Those behind it.
+    /// The numbers after it.
     pub next: Option<Box<Chain>>,
 }
 

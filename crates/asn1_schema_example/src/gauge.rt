@@ -1,5 +1,5 @@
-//! SET {power CHOICE {on [7] BOOLEAN, off [1] NULL}, level [0] INTEGER (0..255)}: the smallest tag of the choice is
-//! [1], so that it stands behind the number.
+//! SET {power CHOICE {on [7] BOOLEAN, off [1] NULL}, level [0] INTEGER (0..255)}. The smallest tag of the CHOICE, [1],
+//! determines its order, so it comes after the INTEGER (X.680 8.6).
 ghost use Rattle.std.specs.Prelude.{refl, [], ◌∷◌};
 ghost use Rattle.asn1_schema.specs.Author.{fields, no_constraint, set_form, set_type};
 ghost use Rattle.asn1_schema.proofs.Author.{type_set, value_set};
@@ -12,12 +12,12 @@ use asn1_schema::{
     TagTree, field, tag, tagged,
 };
 
-/// A number, and a choice without a tag of its own behind it.
+/// An INTEGER, and an untagged CHOICE after it.
 #[derive(Drop)]
 pub struct Gauge {
-    /// How much there is.
+    /// The level, from 0 to 255.
     pub level: Implicit<tag::Context<0>, u8>,
-    /// What runs, under no tag of its own.
+    /// Whether it is on, a CHOICE without a tag of its own.
     pub power: Power,
 }
 

@@ -1,6 +1,6 @@
-//! SET {ready [1] BOOLEAN, level [0] INTEGER (0..255) OPTIONAL, ..., done [9] NULL OPTIONAL, next [2] INTEGER
-//! (0..255) OPTIONAL}: the root components stand in the order of their tags, the additions in that in which they are
-//! declared.
+//! SET {ready [1] BOOLEAN, level [0] INTEGER (0..255) OPTIONAL, ..., done [9] NULL OPTIONAL, next [2] INTEGER (0..255)
+//! OPTIONAL}: the root components are encoded in the order of their tags (X.680 8.6), the additions in the order of
+//! their declaration.
 ghost use Rattle.std.specs.Prelude.{refl};
 ghost use Rattle.asn1_schema.proofs.Author.{set_of, set_tag};
 
@@ -11,19 +11,19 @@ use asn1_schema::{
     OptionalComponent, Required, RequiredComponent, Set, Tag, TwoAdditions, field, tag, tagged,
 };
 
-/// A set that has grown by two components.
+/// A SET with two extension additions.
 pub type Grown = Set<GrownFields>;
 
 /// Its components.
 #[derive(Drop)]
 pub struct GrownFields {
-    /// How much there is, if that is known.
+    /// The level, from 0 to 255, if it is known.
     pub level: Option<Implicit<tag::Context<0>, u8>>,
-    /// Whether it can be had.
+    /// Whether it is ready.
     pub ready: Implicit<tag::Context<1>, bool>,
-    /// Whether it is done.
+    /// Present if it is done, an extension addition.
     pub done: Option<Implicit<tag::Context<9>, ()>>,
-    /// How much comes next.
+    /// The next level, an extension addition.
     pub next: Option<Implicit<tag::Context<2>, u8>>,
 }
 

@@ -1,6 +1,6 @@
-//! Types of a program's own, as their authors write them: sequences, one with a default (X.680 25); choices (X.680 29);
-//! sets in which one stands without a tag of its own, and one with additions (X.680 27); enumerations (X.680 20); and
-//! two types that lead back to themselves, one of them through a list.
+//! Examples of user-defined types, as their authors write them: sequences, one with a default (X.680 25); choices
+//! (X.680 29); sets with an untagged choice, and one with additions (X.680 27); enumerations (X.680 20); and two
+//! recursive types, one of them through a SEQUENCE OF.
 #![tactic(auto)]
 
 pub mod answer;

@@ -16,7 +16,7 @@ use std::marker::PhantomData;
 /// A measure.
 #[derive(Drop)]
 pub struct Measure {
-    /// What is added; 0 unless it is said.
+    /// The offset, 0 by default.
     pub offset: Integer,
     /// Whether it is exact, if that is known.
     pub exact: Option<bool>,

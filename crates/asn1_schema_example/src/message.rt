@@ -13,11 +13,11 @@ use asn1_values::Integer;
 /// A message.
 #[derive(Drop)]
 pub enum Message {
-    /// Whether it is so.
+    /// A flag.
     Flag(bool),
-    /// How many there are.
+    /// A count.
     Count(Integer),
-    /// What it is called.
+    /// A name, an extension addition.
     Name(String),
 }
 

@@ -1,4 +1,4 @@
-//! CHOICE {on [7] BOOLEAN, off [1] NULL}, whose alternatives stand in the order of their tags: off, on.
+//! CHOICE {on [7] BOOLEAN, off [1] NULL}. Its alternatives are indexed in the order of their tags: off, on (X.680 8.6).
 ghost use Rattle.std.specs.Prelude.{◌∷◌, [], refl, true, false};
 ghost use Rattle.asn1_schema.specs.Author.{nothing, context, no_constraint, variant, no_variant, choice_type};
 ghost use Rattle.asn1_schema.specs.Author.{chosen_value};
@@ -10,12 +10,12 @@ use asn1_schema::{
     Identifier, Tag, TagPlace, TagTree, place, read_alternative, tagged, write_alternative,
 };
 
-/// Whether something runs.
+/// Whether something is on.
 #[derive(Drop)]
 pub enum Power {
-    /// It does not.
+    /// It is off.
     Off,
-    /// It does, and whether by itself.
+    /// It is on, with a flag.
     On(bool),
 }
 

@@ -17,7 +17,7 @@ pub struct Setting {
     pub on: bool,
     /// Its level, if it has one.
     pub level: Option<u8>,
-    /// Nothing more.
+    /// NULL.
     pub step: (),
 }
 

@@ -20,7 +20,7 @@ pub struct Station {
     pub height: Option<Implicit<tag::Context<0>, Integer>>,
     /// Whether it sends.
     pub active: bool,
-    /// What it measured last.
+    /// Its last measurements.
     pub samples: Vec<u8>,
 }
 

@@ -1,4 +1,4 @@
-//! Tree ::= SEQUENCE {value INTEGER, branches SEQUENCE OF Tree}, a type that leads back to itself through a list.
+//! Tree ::= SEQUENCE {value INTEGER, branches SEQUENCE OF Tree}, a recursive type.
 ghost use Rattle.std.specs.Prelude.{◌≡◌, [], ◌∷◌, refl, OnOk, OnErr, IfOk, IfErr};
 ghost use Rattle.asn1_schema.specs.Author.{Reads, Unread, end, members, no_constraint, sequence_form, values_of};
 ghost use Rattle.asn1_schema_example.specs.Tree.{branches_schema, tree_meaning};
@@ -9,12 +9,12 @@ use asn1_schema::{
 };
 use asn1_values::Integer;
 
-/// A number, and the trees that branch off.
+/// A number, and the trees below it.
 #[derive(Drop)]
 pub struct Tree {
     /// The number.
     pub value: Integer,
-    /// The trees that branch off.
+    /// The trees below it.
     pub branches: Vec<Tree>,
 }
 
@@ -103,7 +103,7 @@ impl Constructed for Tree {
     ghost is_of = { λ _. tree_is };
 }
 
-// The list of the trees that branch off. Each is read by a direct call, which the levels that are left bound.
+// The SEQUENCE OF the trees below. Each is decoded by a direct call; the number of remaining levels bounds these calls.
 #[cycle(reading)]
 fn read_branches<D: Decoder>(alloc: Global, decoder: &mut D) -> Result<Vec<Tree>, DecodeError>
     ensures ok { IfOk result (λ x. Reads D.step branches_schema (D.levels decoder.old)

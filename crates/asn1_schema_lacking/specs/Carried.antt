@@ -7,45 +7,45 @@ use Rattle.asn1_schema_presented.specs.Records.{Record, list_begins, bag_begins,
 use Rattle.asn1_schema_presented.specs.Presents.{presents, member_records, Fits}
 use Rattle.asn1_schema_presented.specs.Chains.{Chain}
 
--- Whether the number of list and bag members that are still to come stays the same across a record.
+-- Whether the number of elements of SEQUENCE OF and SET OF that are still to come stays the same across a record.
 abbrev pub keeps_members : Record → Bool
 keeps_members (list_begins z h n) = false
 keeps_members (bag_begins z h n) = false
 keeps_members (further v) = false
 keeps_members r = true
 
--- `few old failed a` says that a is old with more input appended, but less than the decoder that failed in failed needs
--- at least. By this law a record that is next in old is next in a too, and the same holds of the states after it.
+-- `few old failed a` says that a is old with more input appended, but less than the decoder in the state failed needs
+-- at least. By this law a record that is next in old is next in a too, and the same holds for the states after it.
 abbrev pub CarriesRecords : {S : Type 0} → (S → Record → S → Type 0) → (S → S → S → Type 0) → Type 0
 CarriesRecords {S} step few = (r : Record) (a b failed c : S) → keeps_members r ≡ true → step a r b → few a failed c
     → (d : S) × step c r d × few b failed d
 
--- The same for all records of a value.
+-- The same for all the records of a value.
 abbrev pub CarriesValues : {S : Type 0} → (S → Record → S → Type 0) → (S → S → S → Type 0) → Type 0
 CarriesValues {S} step few = (s : Schema) (v : Value) (a b failed c : S) → Chain step (presents s v) a b
     → few a failed c → (d : S) × Chain step (presents s v) c d × few b failed d
 
--- `few` is as above. `within old failed a` says the same inside a list or bag, for which the failed decoder needs at
--- least one octet or bit more for each member that is still to come.
+-- `few` is as above. `within old failed a` says the same inside a SEQUENCE OF or SET OF, for which the failed decoder
+-- needs at least one octet or bit more for each element that is still to come.
 pub record CarriesMembers {S : Type 0} (step : S → Record → S → Type 0) (few within : S → S → S → Type 0) : Type 0
   where
-    -- the start of a list or bag
+    -- the start of a SEQUENCE OF or SET OF
     pub list : (z : Size) (h : Counts) (n : ℕ) (a b failed c : S) → step a (list_begins z h n) b → few a failed c
         → (d : S) × step c (list_begins z h n) d × within b failed d
     pub bag : (z : Size) (h : Counts) (n : ℕ) (a b failed c : S) → step a (bag_begins z h n) b → few a failed c
         → (d : S) × step c (bag_begins z h n) d × within b failed d
-    -- one more member, and its value
+    -- one more element, and its value
     pub coming : (a b failed c : S) → step a (further true) b → within a failed c → (d : S) × step c (further true) d
     pub member : (s : Schema) (v : Value) (a m b failed c : S) → step a (further true) m → Chain step (presents s v) m b
         → within a failed c
         → (d : S) × (e : S) × step c (further true) d × Chain step (presents s v) d e × within b failed e
-    -- no more members
+    -- no more elements
     pub last : (a b failed c : S) → step a (further false) b → within a failed c
         → (d : S) × step c (further false) d × few b failed d
-    -- where the input ends before it says whether there is one more member
+    -- if the input ends before it says whether there is one more element
     pub asked : (a failed : S) → ((c : S) → few a failed c → (v : Bool) (d : S) → step c (further v) d → ⊥)
         → (c : S) → within a failed c → (v : Bool) (d : S) → step c (further v) d → ⊥
-    -- where the input ends within a member, it lacks the members after that too
+    -- if the input ends within an element, it lacks the elements after that too
     pub stuck : (s : Schema) → IsLawful s → (a b failed : S) → step a (further true) b
         → ((c : S) → few b failed c → (v : Value) (d : S) → Fits s v → Chain step (presents s v) c d → ⊥)
         → (c d : S) → within a failed c → step c (further true) d → (v : Value) (vs : Values) (e : S) → Fits s v

@@ -7,15 +7,15 @@ ghost use Rattle.asn1_schema_presented.specs.Records.{Record};
 
 /// The states of a decoder.
 pub trait States {
-    /// The state before a record, the record, and the state after it.
+    /// Relates the state before a record, the record, and the state after it.
     ghost step: { Self → Record → Self → Type 0 };
 
-    /// At most one of the records that answer a question is next, as far as the decoder can tell, and one state follows
-    /// it.
+    /// At most one of the records that answer a question is next, as far as the decoder can say, and at most one state
+    /// follows it.
     ghost one_record: { OneRecord step };
 }
 
-/// Such a decoder satisfies the laws for the weakest statement: that a record is not next in the input as it is.
+/// Such a decoder satisfies the laws for the weakest statement: a record is not next in the input as it is.
 pub fn carries_at_once<S: States>()
     ensures { CarriesAtOnce S.step }
 {}

@@ -1,4 +1,4 @@
--- A number is made of the octets of another: only memory can be wanting.
+-- The conversion of a number through its octets fails only if memory runs out.
 use Rattle.std.proofs.Common.{◌≡◌, ◌∙◌, refl, ap, subst, ℕ, ◌<◌, ◌≤◌, ◌^◌, ℤ, pos, negsuc, List, length, arith, Result, Ok, Err}
 use Rattle.std.specs.Prelude.{IfErr}
 use Rattle.asn1_model.specs.Numbers.{signed_octets}

@@ -1,4 +1,4 @@
--- What a conversion to a number of the program's type answers.
+-- What a conversion to a number of the user-defined type returns.
 use Rattle.std.proofs.Common.{◌≡◌, ◌∙◌, refl, sym, ap, subst, ℕ, ◌<◌, ◌≤◌, ◌^◌, ℤ, List, length, arith, Result, Err, Bool, true, false}
 use Rattle.asn1_model.specs.Schema.{Range}
 use Rattle.asn1_model.specs.Numbers.{is_within}

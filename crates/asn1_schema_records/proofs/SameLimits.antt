@@ -1,4 +1,4 @@
--- When two value constraints are the same.
+-- When two value constraints are equal.
 use Rattle.std.proofs.Common.{◌≡◌, ◌∙◌, refl, sym, ap, ℤ, Bool, ◌&&◌, Option, Some, None, int_eq, Decides}
 use Rattle.std.specs.Option.{option_eq}
 use Rattle.std.specs.Cmp.{booleans_Decides}

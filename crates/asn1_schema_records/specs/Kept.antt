@@ -1,6 +1,6 @@
--- What the plain codec keeps: the records themselves, without what the program's types hold, of character strings
--- without their kind and alphabet, but for whether it is UTF8String, and of enumerations and choices without the
--- tables of their items and alternatives.
+-- What the plain codec keeps: the records themselves, without the bounds of the user-defined types; of character
+-- strings not their kind and alphabet, only whether they are UTF8String; of enumerations and choices not the tables of
+-- their items and alternatives.
 use Rattle.std.specs.Prelude.{◌≡◌, ◌++◌, Bool, true, false, List, [], ◌∷◌, None, string_bytes}
 use Rattle.asn1_model.specs.Schema.{Bounds, Size, StringKind, any_count, any_number, any_alphabet, utf8, visible}
 use Rattle.asn1_schema_faults.specs.declared.CodecKind.{CodecKind}
@@ -21,20 +21,20 @@ use Rattle.asn1_schema_records.specs.declared.items.Item.TheVariants.{GroupBegin
 use Rattle.asn1_schema_records.specs.declared.items.Item.TheVariants.{AdditionsBegin, Addition, AdditionEnds}
 use Rattle.asn1_schema_records.specs.declared.items.Item.TheVariants.{ChoiceBegins, Ends}
 
--- Bounds, as the model has them.
+-- Bounds in the terms of the model.
 abbrev pub bounds_in : Limits → Bounds
 bounds_in l = record { range = record { low = l.low; high = l.high }; extensible = l.extensible }
 
--- Sizes, as the model has them.
+-- Sizes in the terms of the model.
 abbrev pub sizes_in : Sizes → Size
 sizes_in z = record { counts = record { low = z.low; high = z.high }; extensible = z.extensible }
 
--- UTF8String, or one that stands for all other kinds of character strings.
+-- UTF8String, or one kind in place of all other kinds of character strings.
 abbrev pub kept_kind : StringKind → StringKind
 kept_kind utf8 = utf8
 kept_kind k = visible
 
--- A record without what the program's type holds, and without tables.
+-- A record without the bounds of the user-defined type, and without tables.
 abbrev pub kept : Record → Record
 kept (whole b h v) = whole b any_number v
 kept (one_of roots e adds v) = one_of [] e [] v
@@ -72,17 +72,17 @@ record_of AdditionEnds = addition_ends
 record_of (ChoiceBegins e c) = choice_begins [] e [] c.added c.place
 record_of Ends = ends
 
--- What an encoder holds: the records so far, whether it has failed, and its rules.
+-- The state of an encoder: the records so far, whether it has failed, and its encoding rules.
 pub record Written : Type 0 where
   pub records : List Record
   pub failed : Bool
   pub rules : CodecKind
 
--- A record is kept behind the others.
+-- A record is kept after the others.
 abbrev pub Puts : Written → Record → Written → Type 0
 Puts old r new = (old.failed ≡ false)
     × (new ≡ record { records = old.records ++ kept r ∷ []; failed = false; rules = old.rules })
 
--- Why the encoder refuses: for want of memory, or because it has failed.
+-- Why the encoder fails: memory ran out, or it has failed before.
 pub record Refusal (failed : Bool) (x : EncodeError) : Type 0 where
   pub had_failed : ¬ (x ≡ OutOfMemory) → failed ≡ true

@@ -9,7 +9,7 @@ use Rattle.asn1_schema_presented.specs.Records.{asks_bag, asks_sequence, asks_se
 use Rattle.asn1_schema_presented.specs.Records.{asks_whole, asks_one_of, asks_bits, asks_octets, asks_characters}
 use Rattle.asn1_schema_records.specs.Taken.{Left, Takes, Levels, IsKept}
 
--- what a decoder is told, by what it asks for and what is kept
+-- the record that a decoder finds, from the question and the kept record
 rebuilt : Question → Record → Record
 rebuilt (asks_whole b h) (whole b' h' v) = whole b h v
 rebuilt (asks_one_of roots e adds) (one_of roots' e' adds' v) = one_of roots e adds v

@@ -44,15 +44,15 @@ use std::alloc::Global;
 use std::marker::Model;
 use std::vec::IntoIter;
 
-/// A decoder that reads kept records, from the first on.
+/// A decoder that reads kept records, beginning with the first.
 ///
-/// Refused are, besides what the trait says: `Incomplete` where no record is left; `NotValidCanonicalEncoding` a record
-/// of another kind than the one that is asked for, and the end of what has not begun; `ValueConstraintNotSatisfied` a
-/// number under other bounds, or outside bounds without an extension marker; `IntegerOverflow` a number that the
-/// program's type does not hold; `SizeConstraintNotSatisfied` a length or count under another size, or one that the
-/// type does not hold; `PermittedAlphabet` a character that the type does not hold; `DiscriminantValueNotFound` the
-/// number of no item; `InvalidTagVariantOnChoice` the place of no alternative; `ExceedsMaxParseDepth` one level more
-/// than may be nested.
+/// Its errors, in addition to those of the trait: `Incomplete` if no record is left; `NotValidCanonicalEncoding` if the
+/// next record is of another kind than the call asks for, or is the end of something that has not begun;
+/// `ValueConstraintNotSatisfied` for a number with other bounds, or outside bounds without an extension marker;
+/// `IntegerOverflow` for a number that the user-defined type cannot hold; `SizeConstraintNotSatisfied` for a length or
+/// count with another size constraint, or one that the type cannot hold; `PermittedAlphabet` for a character that the
+/// type cannot hold; `DiscriminantValueNotFound` for a number of no enumeration item; `InvalidTagVariantOnChoice` for
+/// an index of no alternative; `ExceedsMaxParseDepth` if no further level may be nested.
 #[derive(Drop)]
 pub struct RecordDecoder {
     items: IntoIter<Item, Global>,
@@ -80,7 +80,7 @@ impl Model for RecordDecoder {
 }
 
 impl RecordDecoder {
-    /// A decoder of these records within 128 nested levels, which answers that it follows these rules.
+    /// A decoder of these records that allows 128 nested levels. Its `codec` is the given kind of encoding rules.
     pub fn new(items: Vec<Item>, kind: CodecKind) -> Self
         ensures { result ≡ record {
           records = map record_of items.items;
@@ -93,7 +93,7 @@ impl RecordDecoder {
         RecordDecoder::with_levels(items, kind, 128)
     }
 
-    /// The same within so many nested levels.
+    /// As `new`, for the given number of nested levels.
     pub fn with_levels(items: Vec<Item>, kind: CodecKind, levels: usize) -> Self
         ensures { result ≡ record {
           records = map record_of items.items;
@@ -112,7 +112,7 @@ impl RecordDecoder {
         }
     }
 
-    // Takes the item in front.
+    // Takes the next item.
     fn take_next(&mut self) -> Result<Item, DecodeError>
         ensures ok { IfOk result (λ item. Leaves self.old (record_of item) self.new) }
         ensures only { IfErr result (IsSpent self.old) }
@@ -128,7 +128,7 @@ impl RecordDecoder {
         }
     }
 
-    // Takes the item in front, and a level.
+    // Takes the next item, and a level.
     fn take_first(&mut self) -> Result<Item, DecodeError>
         ensures ok { IfOk result (λ item. Begins self.old (record_of item) self.new) }
         ensures only { IfErr result (IsDeep self.old) }
@@ -150,7 +150,7 @@ impl RecordDecoder {
         }
     }
 
-    // Gives a level back, if one is taken.
+    // Returns a level, if one is taken.
     fn give_back(&mut self) -> bool
         ensures { MatchBool result
             ((self.old.levels < self.old.most) × (self.new ≡ record self.old { levels = self.old.levels + 1 }))
@@ -726,7 +726,7 @@ impl Decoder for RecordDecoder {
     ghost same_rules = { takes_same };
 }
 
-// Whether the constraints have just these sizes, and the program's type holds so many.
+// Whether the constraints have exactly these sizes, and the user-defined type can hold the count.
 fn are_sizes(sizes: Sizes, constraints: &Constraints, held: Bounded<usize>, count: usize) -> bool
     ensures { IsTrue result ↔ ((sizes_in sizes ≡ sizes_of constraints.now.size)
         × (is_count_within (counts_of held) count ≡ true)) }
@@ -746,8 +746,8 @@ fn is_alternative(tables: &TagTables<'_>, chosen: Chosen) -> bool
     chosen.place < tags.len()
 }
 
-// Whether a number is one of 128 bits and within bounds that have no extension marker, where there is a value
-// constraint.
+// Whether the value constraint, if there is one, allows the number: it has at most 128 bits, and satisfies the
+// constraint unless that has an extension marker.
 fn is_admitted(constraints: &Constraints, number: &Integer) -> bool
     ensures { result ≡ admits_whole constraints.now.value number.now }
 {
@@ -760,7 +760,7 @@ fn is_admitted(constraints: &Constraints, number: &Integer) -> bool
     }
 }
 
-// The number in a type of the program, if that holds it and the constraints admit it.
+// The number as a value of the user-defined type, if the type can hold it and the constraints allow it.
 fn number_within<I: IntegerType>(
     alloc: Global,
     number: &Integer,

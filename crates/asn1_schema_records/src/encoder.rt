@@ -39,7 +39,7 @@ impl Model for RecordEncoder {
 }
 
 impl RecordEncoder {
-    /// An encoder that has no records, and answers that it follows these rules.
+    /// An encoder without records. Its `codec` is the given kind of encoding rules.
     pub fn new(alloc: Global, kind: CodecKind) -> Self
         ensures { result ≡ record { records = []; failed = false; rules = kind } }
     {
@@ -59,7 +59,7 @@ impl RecordEncoder {
         items
     }
 
-    // Fails for want of memory, or because it has failed before.
+    // Fails because memory ran out, or because it has failed before.
     fn fail(&mut self) -> Result<(), EncodeError>
         ensures never { OnOk result ⊥ }
         ensures only { IfErr result (Refusal self.old.failed) }
@@ -306,7 +306,7 @@ impl Encoder for RecordEncoder {
     ghost same_rules = { puts_same };
 }
 
-// The number that a value is.
+// The number that a value means.
 fn number_of<I: IntegerType>(alloc: Global, value: &I) -> Result<Integer, IntegerError>
     ensures value { IfOk result (λ n. n ≡ I.value value.now) }
     ensures memory { IfErr result (λ e. (e ≡ IntegerError.Memory) × (2 ^ 128 ≤ plain (I.value value.now))) }

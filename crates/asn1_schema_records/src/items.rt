@@ -19,9 +19,9 @@ use asn1_values_integers::Integer;
 /// A value constraint (X.680 51.4), and whether an extension marker follows it.
 #[derive(Clone, Copy, Debug, PartialEq, Eq)]
 pub struct Limits {
-    /// The least value, if there is one.
+    /// The least value, or `None` if there is none.
     pub low: Option<i128>,
-    /// The greatest value, if there is one.
+    /// The greatest value, or `None` if there is none.
     pub high: Option<i128>,
     /// Whether an extension marker follows.
     pub extensible: bool,
@@ -46,7 +46,7 @@ impl Limits {
         }
     }
 
-    /// Whether these constraints have just this value constraint.
+    /// Whether these constraints have exactly this value constraint.
     pub fn are_among(&self, constraints: &Constraints) -> bool
         ensures { IsTrue result ↔ (bounds_in self.now ≡ bounds_of constraints.now.value) }
     {
@@ -59,7 +59,7 @@ impl Limits {
 pub struct Sizes {
     /// The least size.
     pub low: usize,
-    /// The greatest size, if there is one.
+    /// The greatest size, or `None` if there is none.
     pub high: Option<usize>,
     /// Whether an extension marker follows.
     pub extensible: bool,
@@ -84,7 +84,7 @@ impl Sizes {
         }
     }
 
-    /// Whether these constraints have just this size constraint.
+    /// Whether these constraints have exactly this size constraint.
     pub fn are_among(&self, constraints: &Constraints) -> bool
         ensures { IsTrue result ↔ (sizes_in self.now ≡ sizes_of constraints.now.size) }
     {
@@ -92,7 +92,7 @@ impl Sizes {
     }
 }
 
-/// A record, without what the program's type holds, of a character string without its kind and its alphabet, and of
+/// A record, without the bounds of the user-defined type; of a character string without its kind and alphabet, and of
 /// an enumeration or a choice without its tables.
 #[derive(Debug, Drop)]
 pub enum Item {
@@ -114,38 +114,38 @@ pub enum Item {
     Characters(Sizes, Vec<u32>),
     /// OBJECT IDENTIFIER.
     Identifier(ObjectIdentifier),
-    /// SEQUENCE OF begins: its size, and how many members it has.
+    /// SEQUENCE OF begins: its size, and the number of elements.
     ListBegins(Sizes, usize),
-    /// SET OF begins: its size, and how many members it has.
+    /// SET OF begins: its size, and the number of elements.
     BagBegins(Sizes, usize),
-    /// Whether a further member comes.
+    /// Whether another element follows.
     Further(bool),
-    /// SEQUENCE begins: whether it has an extension marker, and how many root components may be absent.
+    /// SEQUENCE begins: whether it has an extension marker, and the number of root components that may be absent.
     SequenceBegins(bool, usize),
-    /// SET begins: whether it has an extension marker, and how many root components may be absent.
+    /// SET begins: whether it has an extension marker, and the number of root components that may be absent.
     SetBegins(bool, usize),
-    /// A group of additions begins: how many of its components may be absent.
+    /// An extension addition group begins: the number of its components that may be absent.
     GroupBegins(usize),
-    /// Whether a component is there.
+    /// Whether a component is present.
     PresenceBit(bool),
-    /// The component before is equal to its default.
+    /// The previous component is equal to its default.
     IsDefault,
-    /// The group before has no component.
+    /// The previous group has no component present.
     IsEmpty,
-    /// The additions begin: how many there are.
+    /// The extension additions begin: how many there are.
     AdditionsBegin(usize),
-    /// Whether an addition is there.
+    /// Whether an addition is present.
     Addition(bool),
     /// The end of an addition.
     AdditionEnds,
     /// CHOICE begins: whether it has an extension marker, and which alternative is chosen.
     ChoiceBegins(bool, Chosen),
-    /// The end of a list, bag, sequence, set, group or choice.
+    /// The end of a SEQUENCE OF, SET OF, SEQUENCE, SET, group or CHOICE.
     Ends,
 }
 
 impl Item {
-    /// The truth value of a BOOLEAN; `None` of any other item.
+    /// The value of a BOOLEAN; `None` for any other item.
     pub fn into_flag(self) -> Option<bool>
         ensures { MatchOption result ((b : Bool) → record_of self ≡ flag b → ⊥) (λ b. record_of self ≡ flag b) }
     {
@@ -162,7 +162,7 @@ impl Item {
         matches!(self, Item::Null)
     }
 
-    /// The bounds and the number of an INTEGER; `None` of any other item.
+    /// The bounds and the number of an INTEGER; `None` for any other item.
     pub fn into_integer(self) -> Option<(Limits, Integer)>
         ensures { MatchOption result ((b : Bounds) (v : ℤ) → record_of self ≡ whole b any_number v → ⊥)
             (λ p. record_of self ≡ whole (bounds_in p.0) any_number p.1) }
@@ -173,7 +173,7 @@ impl Item {
         }
     }
 
-    /// The number of an item of an ENUMERATED with or without an extension marker; `None` of any other item.
+    /// The number of the item of an ENUMERATED with or without an extension marker; `None` for any other item.
     pub fn into_one_of(self, extensible: bool) -> Option<isize>
         ensures { MatchOption result ((v : ℤ) → record_of self ≡ one_of [] extensible [] v → ⊥)
             (λ v. record_of self ≡ one_of [] extensible [] v) }
@@ -184,7 +184,7 @@ impl Item {
         }
     }
 
-    /// The size and the bits of a BIT STRING; `None` of any other item.
+    /// The size and the bits of a BIT STRING; `None` for any other item.
     pub fn into_bits(self) -> Option<(Sizes, BitString)>
         ensures { MatchOption result ((z : Size) (bs : List Bool) → record_of self ≡ bits z any_count bs → ⊥)
             (λ p. record_of self ≡ bits (sizes_in p.0) any_count p.1) }
@@ -195,7 +195,7 @@ impl Item {
         }
     }
 
-    /// The size and the octets of an OCTET STRING; `None` of any other item.
+    /// The size and the octets of an OCTET STRING; `None` for any other item.
     pub fn into_octets(self) -> Option<(Sizes, Vec<u8>)>
         ensures { MatchOption result ((z : Size) (os : List ℕ) → record_of self ≡ octets z any_count os → ⊥)
             (λ p. record_of self ≡ octets (sizes_in p.0) any_count p.1.items) }
@@ -206,7 +206,7 @@ impl Item {
         }
     }
 
-    /// The size and the text of a UTF8String; `None` of any other item.
+    /// The size and the text of a UTF8String; `None` for any other item.
     pub fn into_text(self) -> Option<(Sizes, String)>
         ensures { MatchOption result ((z : Size) (os : List ℕ) → record_of self
             ≡ characters utf8 z any_alphabet any_count os → ⊥)
@@ -218,7 +218,7 @@ impl Item {
         }
     }
 
-    /// The size and the characters of a character string of another kind; `None` of any other item.
+    /// The size and the characters of a character string that is no UTF8String; `None` for any other item.
     pub fn into_characters(self) -> Option<(Sizes, Vec<u32>)>
         ensures { MatchOption result ((z : Size) (cs : List ℕ) → record_of self
             ≡ characters visible z any_alphabet any_count cs → ⊥)
@@ -230,7 +230,7 @@ impl Item {
         }
     }
 
-    /// An OBJECT IDENTIFIER; `None` of any other item.
+    /// An OBJECT IDENTIFIER; `None` for any other item.
     pub fn into_identifier(self) -> Option<ObjectIdentifier>
         ensures { MatchOption result ((ns : List ℕ) → record_of self ≡ identifier ns → ⊥)
             (λ i. record_of self ≡ identifier i) }
@@ -241,7 +241,7 @@ impl Item {
         }
     }
 
-    /// The size of a SEQUENCE OF that begins, and how many members it has; `None` of any other item.
+    /// The size and the number of elements of a SEQUENCE OF that begins; `None` for any other item.
     pub fn into_list(self) -> Option<(Sizes, usize)>
         ensures { MatchOption result ((z : Size) (n : ℕ) → record_of self ≡ list_begins z any_count n → ⊥)
             (λ p. record_of self ≡ list_begins (sizes_in p.0) any_count p.1) }
@@ -252,7 +252,7 @@ impl Item {
         }
     }
 
-    /// The size of a SET OF that begins, and how many members it has; `None` of any other item.
+    /// The size and the number of elements of a SET OF that begins; `None` for any other item.
     pub fn into_bag(self) -> Option<(Sizes, usize)>
         ensures { MatchOption result ((z : Size) (n : ℕ) → record_of self ≡ bag_begins z any_count n → ⊥)
             (λ p. record_of self ≡ bag_begins (sizes_in p.0) any_count p.1) }
@@ -263,7 +263,7 @@ impl Item {
         }
     }
 
-    /// Whether a further member comes; `None` of any other item.
+    /// Whether another element follows; `None` for any other item.
     pub fn into_further(self) -> Option<bool>
         ensures { MatchOption result ((b : Bool) → record_of self ≡ further b → ⊥) (λ b. record_of self ≡ further b) }
     {
@@ -273,8 +273,8 @@ impl Item {
         }
     }
 
-    /// Whether it is the beginning of a SEQUENCE with or without an extension marker, of whose root components so many
-    /// may be absent.
+    /// Whether it is the beginning of a SEQUENCE with or without an extension marker, `optional` of whose root
+    /// components may be absent.
     pub fn is_sequence(&self, extensible: bool, optional: usize) -> bool
         ensures { IsTrue result ↔ (record_of self.now ≡ sequence_begins extensible optional) }
     {
@@ -285,8 +285,8 @@ impl Item {
         }
     }
 
-    /// Whether it is the beginning of a SET with or without an extension marker, of whose root components so many may
-    /// be absent.
+    /// Whether it is the beginning of a SET with or without an extension marker, `optional` of whose root components
+    /// may be absent.
     pub fn is_set(&self, extensible: bool, optional: usize) -> bool
         ensures { IsTrue result ↔ (record_of self.now ≡ set_begins extensible optional) }
     {
@@ -297,7 +297,7 @@ impl Item {
         }
     }
 
-    /// Whether it is the beginning of a group of additions, of whose components so many may be absent.
+    /// Whether it is the beginning of an extension addition group, `optional` of whose components may be absent.
     pub fn is_group(&self, optional: usize) -> bool
         ensures { IsTrue result ↔ (record_of self.now ≡ group_begins optional) }
     {
@@ -307,7 +307,7 @@ impl Item {
         }
     }
 
-    /// Whether a component is there; `None` of any other item.
+    /// Whether a component is present; `None` for any other item.
     pub fn into_presence_bit(self) -> Option<bool>
         ensures { MatchOption result ((b : Bool) → record_of self ≡ presence_bit b → ⊥)
             (λ b. record_of self ≡ presence_bit b) }
@@ -318,21 +318,21 @@ impl Item {
         }
     }
 
-    /// Whether it tells that the component before is equal to its default.
+    /// Whether it says that the previous component is equal to its default.
     pub fn is_default(&self) -> bool
         ensures { IsTrue result ↔ (record_of self.now ≡ is_default) }
     {
         matches!(self, Item::IsDefault)
     }
 
-    /// Whether it tells that the group before has no component.
+    /// Whether it says that the previous group has no component present.
     pub fn is_empty(&self) -> bool
         ensures { IsTrue result ↔ (record_of self.now ≡ is_empty) }
     {
         matches!(self, Item::IsEmpty)
     }
 
-    /// Whether it is the beginning of so many additions.
+    /// Whether it is the beginning of this number of additions.
     pub fn is_additions(&self, additions: usize) -> bool
         ensures { IsTrue result ↔ (record_of self.now ≡ additions_begin additions) }
     {
@@ -342,7 +342,7 @@ impl Item {
         }
     }
 
-    /// Whether an addition is there; `None` of any other item.
+    /// Whether an addition is present; `None` for any other item.
     pub fn into_addition(self) -> Option<bool>
         ensures { MatchOption result ((b : Bool) → record_of self ≡ addition b → ⊥) (λ b. record_of self ≡ addition b) }
     {
@@ -359,7 +359,7 @@ impl Item {
         matches!(self, Item::AdditionEnds)
     }
 
-    /// The chosen alternative of a CHOICE with or without an extension marker that begins; `None` of any other item.
+    /// The chosen alternative of a CHOICE with or without an extension marker that begins; `None` for any other item.
     pub fn into_choice(self, extensible: bool) -> Option<Chosen>
         ensures { MatchOption result ((added : Bool) (i : ℕ) → record_of self ≡ choice_begins [] extensible [] added i
             → ⊥) (λ c. record_of self ≡ choice_begins [] extensible [] c.added c.place) }
@@ -372,7 +372,7 @@ impl Item {
         }
     }
 
-    /// Whether it is the end of a list, bag, sequence, set, group or choice.
+    /// Whether it is the end of a SEQUENCE OF, SET OF, SEQUENCE, SET, group or CHOICE.
     pub fn is_end(&self) -> bool
         ensures { IsTrue result ↔ (record_of self.now ≡ ends) }
     {

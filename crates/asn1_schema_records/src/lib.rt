@@ -1,4 +1,4 @@
-//! The plain codec: an encoder that keeps the records of values themselves, and a decoder that reads them.
+//! The plain codec: an encoder that keeps the records of values without encoding them, and a decoder that reads them.
 #![tactic(auto)]
 
 pub mod decoder;

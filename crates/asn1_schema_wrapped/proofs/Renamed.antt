@@ -1,4 +1,4 @@
--- What is written and read, by another name of the same type and value.
+-- What is encoded and decoded, by another name of the same type and value.
 use Rattle.std.proofs.Common.{◌≡◌, ℕ, subst}
 use Rattle.asn1_model.specs.Schema.{Schema}
 use Rattle.asn1_model.specs.Value.{Value}

@@ -1,4 +1,4 @@
--- Bags by their members in order: they are the same exactly if these are equal at each place.
+-- SET OF values by their sorted elements: they are equal exactly if these are equal one by one.
 use Rattle.std.proofs.Common.{◌≡◌, ℕ, ◌+◌, ◌<◌, suc, Bool, true, false, cond, List, [], ◌∷◌, length, map, refl, sym, ap, ◌∙◌}
 use Rattle.std.proofs.Common.{arith}
 use Rattle.std.specs.Prelude.{get_or}
@@ -31,7 +31,7 @@ as_often_there : {A : Type 0} (e : A → A → Bool) (w : A) (xs us : List A) �
 as_often_there e w xs us p =
     summed e w us ∙ sum_by-IsPermutation (λ x. cond (e w x) 1 0) xs us p ∙ sym (summed e w xs)
 
--- Members that stand for others make the same bags as these.
+-- Elements that represent others give the same SET OF values as these.
 module _ {A B : Type 0} (e : A → A → Bool) (f : B → A) where
   as_often_as : (w : B) (xs : List B) → times (λ x y. e (f x) (f y)) w xs ≡ times e (f w) (map f xs)
   as_often_as w [] = refl
@@ -46,7 +46,7 @@ module _ {A B : Type 0} (e : A → A → Bool) (f : B → A) where
   mapped xs ys = rw (length-map xs f, length-map ys f, alike_as xs ys xs, alike_as xs ys ys) refl
 
 module _ {A : Type 0} {e : A → A → Bool} (q : IsEquivalence e) where
-  -- An order of the members changes no bag.
+  -- The order of the elements changes no SET OF value.
   pub reordered : (xs ys us vs : List A) → IsPermutation xs us → IsPermutation ys vs
       → same_items e us vs ≡ same_items e xs ys
   reordered xs ys us vs a b =
@@ -65,7 +65,7 @@ module _ {A : Type 0} {e : A → A → Bool} (q : IsEquivalence e) where
     equal_of Equal h = refl
     equal_of Greater h = absurd (let k : false ≡ true = h in cc)
 
-    -- neither is below the other
+    -- neither is less than the other
     tied : (r s : Ordering) → r ≡ ordering_reverse s → is_lt r ≡ false → is_lt s ≡ false → is_eq r ≡ true
     tied Less s h a b = absurd (let k : true ≡ false = a in cc)
     tied Equal s h a b = refl
@@ -73,7 +73,7 @@ module _ {A : Type 0} {e : A → A → Bool} (q : IsEquivalence e) where
     tied Greater Equal h a b = absurd (let k : Greater ≡ Equal = h in cc)
     tied Greater Greater h a b = absurd (let k : Greater ≡ Less = h in cc)
 
-    -- what occurs among members that are not below an element is not below it either
+    -- if no element of a list is less than a given one, nor is any that occurs in the list
     not_below : (u v : A) (ws : List A) → ((i : ℕ) (d : A) → i < length ws → is_lt (R (get_or ws i d) v) ≡ false)
         → (n : ℕ) → times e u ws ≡ suc n → is_lt (R u v) ≡ false
     not_below u v [] h n t = absurd (omega (arith, t))
@@ -107,7 +107,7 @@ module _ {A : Type 0} {e : A → A → Bool} (q : IsEquivalence e) where
         (not_below u v (v ∷ vs) (first_not_above v vs b) (times e u us) (sym x))
         (not_below v u (u ∷ us) (first_not_above u us a) (times e v vs) y)
 
-    -- Members in order are the same bags exactly if they are equal at each place.
+    -- Sorted lists have the same elements exactly if these are equal one by one.
     pub sorted_alike : (us vs : List A) → IsSorted R us → IsSorted R vs → same_items e us vs ≡ pointwise e us vs
     sorted_alike [] [] a b = refl
     sorted_alike [] (v ∷ vs) a b = both_ways (same_items e [] (v ∷ vs)) false
@@ -123,7 +123,8 @@ module _ {A : Type 0} {e : A → A → Bool} (q : IsEquivalence e) where
         (λ s. let k = firsts_alike u v us vs a b s in rw (k) (sym rest ∙ sym (front k us vs) ∙ s))
         (λ s. let k = and_parts (e u v) (pointwise e us vs) s in front k.0 us vs ∙ rest ∙ k.1)
 
--- Two bags are the same exactly if their members in order are, where these are found by what stands for them.
+-- Two SET OF values are equal exactly if their sorted elements are equal one by one, where the elements are sorted by
+-- what represents them.
 pub same_by_order : {A B : Type 0} {e : A → A → Bool} (q : IsEquivalence e) {R : A → A → Ordering} (o : IsTotalOrder R)
     (m : (x y : A) → e x y ≡ is_eq (R x y)) (f : B → A) {xs ys : List A} {ps qs us vs : List B} {r : Bool}
     → map f ps ≡ xs → map f qs ≡ ys → IsPermutation ps us → IsPermutation qs vs

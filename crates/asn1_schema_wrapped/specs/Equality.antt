@@ -1,4 +1,4 @@
--- Equality of bags: each element occurs in both equally often (X.680 28).
+-- Equality of SET OF values: each element occurs equally often in both (X.680 28).
 use Rattle.std.proofs.Common.{◌≡◌, ◌⊎◌, inl, inr, ℕ, suc, Bool, true, false, cond, List, [], ◌∷◌, length, refl, sym}
 use Rattle.std.proofs.Common.{◌∙◌, arith}
 use Rattle.std.specs.Prelude.{◌&&◌, nat_eq}
@@ -6,17 +6,17 @@ use Rattle.std.specs.Cmp.{IsPartialEquivalence, IsEquivalence, per_alike, equiv}
 use Rattle.std.proofs.lemmas.Bool.{and_parts}
 use Rattle.std.proofs.lemmas.Bool.Decides.{nat_tests}
 
--- How often an element occurs in a list, by what makes elements equal.
+-- How often an element occurs in a list, under this equality of elements.
 abbrev pub times : {A : Type 0} → (A → A → Bool) → A → List A → ℕ
 times e x [] = 0
 times e x (y ∷ ys) = cond (e x y) (suc (times e x ys)) (times e x ys)
 
--- Whether each of some elements occurs in two lists equally often.
+-- Whether each of these elements (the third list) occurs equally often in two lists.
 abbrev pub are_alike : {A : Type 0} → (A → A → Bool) → List A → List A → List A → Bool
 are_alike e xs ys [] = true
 are_alike e xs ys (w ∷ ws) = nat_eq (times e w xs) (times e w ys) && are_alike e xs ys ws
 
--- Whether two lists are the same bag.
+-- Whether two lists have the same elements, in any order.
 abbrev pub same_items : {A : Type 0} → (A → A → Bool) → List A → List A → Bool
 same_items e xs ys = nat_eq (length xs) (length ys) && are_alike e xs ys xs && are_alike e xs ys ys
 
@@ -74,7 +74,7 @@ module _ {A : Type 0} {e : A → A → Bool} (p : IsPartialEquivalence e) where
         | inr q ↦ q
       ]
 
--- Bags that are the same have equally many members.
+-- Equal SET OF values have equally many elements.
 pub same_length : {A : Type 0} (e : A → A → Bool) (xs ys : List A) → same_items e xs ys ≡ true → length xs ≡ length ys
 same_length e xs ys h =
     let a = and_parts (nat_eq (length xs) (length ys) && are_alike e xs ys xs) (are_alike e xs ys ys) h in
@@ -84,7 +84,7 @@ pub same_by_counts : {A : Type 0} (e : A → A → Bool) (xs ys : List A) → le
     → ((w : A) → times e w xs ≡ times e w ys) → same_items e xs ys ≡ true
 same_by_counts e xs ys l h = rw (l, same_count (length ys), alike_of e xs ys h xs, alike_of e xs ys h ys) refl
 
--- It is an equality, where the elements have one; f gives the members of a bag.
+-- It is an equality if that of the elements is one; f gives the elements of a SET OF value.
 pub bags_partial : {A K : Type 0} {e : A → A → Bool} (f : K → List A) → IsPartialEquivalence e
     → IsPartialEquivalence (λ (x y : K). same_items e (f x) (f y))
 bags_partial {e = e} f p = record {

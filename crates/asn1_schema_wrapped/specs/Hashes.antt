@@ -1,4 +1,5 @@
--- The hash of a bag, which no order of its members changes: that of their number, and that of the sum of their own.
+-- The hash of a SET OF value does not depend on the order of its elements: it is that of their number and of the sum of
+-- their hashes.
 use Rattle.std.proofs.Common.{◌≡◌, ℕ, ◌+◌, suc, Bool, true, false, cond, List, [], ◌∷◌, ◌++◌, length}
 use Rattle.std.proofs.Common.{Option, Some, None}
 use Rattle.std.proofs.Common.{option_map, refl, sym, ap, ◌∙◌, arith}
@@ -11,16 +12,16 @@ use Rattle.std.specs.List.{fold}
 use Rattle.asn1_schema_wrapped.specs.Equality.{times, same_items, same_length, all_alike}
 use Rattle.asn1_schema_wrapped.specs.Meaning.{without, left_counts, none_left, taken_off}
 
--- The hash of one member, by a hasher of its own (SipHash-1-3 with the keys 0).
+-- The hash of one element, by a separate hasher (SipHash-1-3 with the keys 0).
 abbrev pub own_hash : HashWrites → ℕ
 own_hash ws = finish (fold write initial ws)
 
--- This number and the hashes of all members, added modulo 2 ^ 64.
+-- The sum of this number and the hashes of all elements, modulo 2 ^ 64.
 abbrev pub hash_sum : {A : Type 0} → (A → HashWrites) → ℕ → List A → ℕ
 hash_sum f n [] = n
 hash_sum f n (x ∷ xs) = hash_sum f (wrapping_add n (own_hash (f x))) xs
 
--- What a bag feeds a hasher.
+-- What the hash of a SET OF value writes to a hasher.
 abbrev pub bag_hash : {A : Type 0} → (A → HashWrites) → List A → HashWrites
 bag_hash f xs = usize (length xs) ++ u64 (hash_sum f 0 xs)
 
@@ -31,7 +32,7 @@ exchanged n a b =
     ∙ sym (mod-add-mod (n + b) (2 ^ 64) a)
 
 module _ {A : Type 0} {e : A → A → Bool} (f : A → HashWrites) (h : (x y : A) → e x y ≡ true → f x ≡ f y) where
-  -- A member's hash may be added first.
+  -- The hash of any element may be added first.
   moved : (x : A) (n : ℕ) (ys zs : List A) → without e x ys ≡ Some zs
       → hash_sum f n ys ≡ hash_sum f (wrapping_add n (own_hash (f x))) zs
   moved x n [] zs q = absurd (let k : None ≡ Some zs = q in cc)
@@ -77,7 +78,7 @@ module _ {A : Type 0} {e : A → A → Bool} (f : A → HashWrites) (h : (x y : 
         ] in
         step (without e x ys) refl
 
-    -- Bags that are the same feed a hasher alike.
+    -- Equal SET OF values write the same to a hasher.
     pub same_hash : (xs ys : List A) → same_items e xs ys ≡ true → bag_hash f xs ≡ bag_hash f ys
     same_hash xs ys q =
         let l = same_length e xs ys q in

@@ -1,4 +1,4 @@
--- Bags are equal exactly if what they mean is.
+-- SET OF values are equal exactly if what they mean is.
 use Rattle.std.proofs.Common.{◌≡◌, ℕ, suc, Bool, true, false, cond, List, [], ◌∷◌, length, Option, Some, None}
 use Rattle.std.proofs.Common.{option_map, refl, sym, ap, ◌∙◌, arith}
 use Rattle.std.specs.Prelude.{not}
@@ -9,7 +9,7 @@ use Rattle.asn1_schema_presented.proofs.Same.{same_self}
 use Rattle.asn1_schema_wrapped.specs.Equality.{times, same_items, same_length, all_alike, same_by_counts}
 use Rattle.std.specs.Option.{option_map_or}
 
--- A list without the first element that is equal to this one, if one is.
+-- A list without the first element that is equal to this one, if there is one.
 abbrev pub without : {A : Type 0} → (A → A → Bool) → A → List A → Option (List A)
 without e x [] = None
 without e x (y ∷ ys) = cond (e x y) (Some ys) (option_map (λ zs. y ∷ zs) (without e x ys))
@@ -32,7 +32,7 @@ module _ {A : Type 0} {e : A → A → Bool} (f : A → Value) (h : (x y : A) �
   taken_as x [] = refl
   taken_as x (y ∷ ys) = rw (sym (h x y), taken_as x ys) (taken_one f y ys (e x y) (without e x ys))
 
--- what is left where one is taken out
+-- what is left if one is taken out
 add_once : (b c : Bool) (k : ℕ) → cond b (suc (cond c (suc k) k)) (cond c (suc k) k)
     ≡ cond c (suc (cond b (suc k) k)) (cond b (suc k) k)
 add_once true true k = refl
@@ -95,7 +95,7 @@ module _ {A : Type 0} {e : A → A → Bool} (p : IsPartialEquivalence e) where
       ] in
       step (e x y) (without e x ys) refl q
 
-  -- Elements in front that are equal change nothing.
+  -- Equal first elements change nothing.
   pub alike_front : (x y : A) → e x y ≡ true → (xs ys : List A)
       → same_items e (x ∷ xs) (y ∷ ys) ≡ same_items e xs ys
   alike_front x y q xs ys =
@@ -160,7 +160,7 @@ module _ {A : Type 0} {e : A → A → Bool} (p : IsPartialEquivalence e) where
         ] in
         step (without e x ys) refl (rw (taken_as f h x ys) at q)
 
-    -- Two lists are the same bag exactly if what they mean as bags is the same.
+    -- Two lists have the same elements exactly if the SET OF values that they mean are equal.
     pub bags_agree : (xs ys : List A) → same_items e xs ys ≡ same (bag (values_of f xs)) (bag (values_of f ys))
     unfolding same
     bags_agree xs ys = both_ways (same_items e xs ys) (same_bag (values_of f xs) (values_of f ys)) (same_there xs ys)

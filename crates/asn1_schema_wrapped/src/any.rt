@@ -16,7 +16,7 @@ use asn1_schema_types::{AsnType, Described, EqualByMeaning};
 use std::alloc::{AllocError, Global};
 use std::marker::Model;
 
-/// A value of any type, as the octets of its encoding in the rules of one codec.
+/// A value of any type, held as the octets of its encoding in the rules of one codec.
 #[derive(Debug, Drop)]
 pub struct Any {
     contents: Vec<u8>,
@@ -31,21 +31,21 @@ impl Model for Any {
 }
 
 impl Any {
-    /// The value of these octets, which are not copied.
+    /// A value with these octets, which are moved, not copied.
     pub fn new(contents: Vec<u8>) -> Self
         ensures { result ≡ contents.items }
     {
         Any { contents }
     }
 
-    /// Its octets.
+    /// The octets of the value.
     pub fn as_bytes(&self) -> &[u8]
         ensures { result.now ≡ self.now }
     {
         &self.contents
     }
 
-    /// Its octets, which are not copied.
+    /// The octets of the value, which are moved, not copied.
     pub fn into_bytes(self) -> Vec<u8>
         ensures { result.items ≡ self }
     {
@@ -69,7 +69,7 @@ impl Clone for Any {
     }
 }
 
-/// Values of any type are equal exactly if their octets are.
+/// Values of any type are equal exactly if their octets are equal.
 impl PartialEq for Any {
     ghost eq = { pointwise nat_eq };
 
@@ -84,7 +84,7 @@ impl Eq for Any {
     ghost laws = { nat_list_eq_equiv };
 }
 
-/// OCTET STRING without constraints; given ones have no effect.
+/// OCTET STRING without constraints; given constraints are ignored.
 impl Described for Any {
     ghost tags = { record { class = 0; number = 4 } ∷ [] };
 

@@ -1,4 +1,4 @@
-//! SET OF (X.680 28) as a type, and how it is written and read.
+//! SET OF (X.680 28) as a type, and how it is encoded and decoded.
 ghost use Rattle.std.specs.Prelude.{refl, [], ◌∷◌};
 ghost use Rattle.asn1_model.specs.Value.{bag};
 ghost use Rattle.asn1_schema_constraints.specs.Terms.{no_constraint};
@@ -51,7 +51,7 @@ impl<T: AsnType> AsnType for SetOf<T> {
     }
 }
 
-/// The members are written as they stand; the encoder puts them in the order that its rules ask for.
+/// The elements are given in their current order; the encoder writes them in the order of its rules.
 impl<T: Encode> Encode for SetOf<T> {
     fn encode_with_tag_and_constraints<E: Encoder>(
         &self,

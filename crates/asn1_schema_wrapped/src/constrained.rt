@@ -1,4 +1,4 @@
-//! Values under constraints of a component's own (X.680 49.1).
+//! Values under the constraints of a component (X.680 49.1).
 ghost use Rattle.std.specs.Prelude.{◌≡◌, ℕ, List, refl};
 ghost use Rattle.std.specs.Borrow.{Lends, sem};
 ghost use Rattle.std.proofs.Common.{ap, ◌∙◌};
@@ -18,8 +18,8 @@ use std::alloc::Global;
 use std::marker::PhantomData;
 use std::ops::{Deref, DerefMut};
 
-/// Constraints that stand in place of those that the type `T` has of its own. What `T` is under constraints is said
-/// here once more, as it stands in its `Described`.
+/// Constraints that replace those of the type `T`. What `T` is under constraints is repeated here as its `Described`
+/// says it.
 pub trait ConstraintsOf<T: Described> {
     /// The tags with which an encoding may begin.
     ghost tags: { List ModelTag };
@@ -30,10 +30,10 @@ pub trait ConstraintsOf<T: Described> {
     /// The type under constraints, unfolded to this many nested levels.
     ghost under: { Meant → ℕ → Schema };
 
-    /// The value that a value of the program means.
+    /// The abstract value that a Rust value means.
     ghost meaning: { T → Value };
 
-    /// The type under the constraints is a lawful one.
+    /// The type under the constraints is well-formed.
     ghost lawful: { IsType tags (under terms) };
 
     /// Each value is one of the type, whatever constraints it has.
@@ -43,7 +43,7 @@ pub trait ConstraintsOf<T: Described> {
     fn constraints() -> Constraints<'static>
         ensures { meant result ≡ terms };
 
-    /// This is what the type is.
+    /// They are the tags of `T`.
     ghost same_tags: { T.tags ≡ tags };
 
     ghost same_under: { (c : Meant) → T.under c ≡ under c };
@@ -51,8 +51,7 @@ pub trait ConstraintsOf<T: Described> {
     ghost same_meaning: { (x : T) → T.meaning x ≡ meaning x };
 }
 
-/// A value under the constraints of `C`, in place of those that its type has of its own: INTEGER (0..10) held in a
-/// `u8`, say.
+/// A value under the constraints of `C`, which replace those of its type: for example, INTEGER (0..10) held in a `u8`.
 #[derive(Drop)]
 #[derive_where(Clone, Debug, PartialEq, Eq; V)]
 pub struct Constrained<C, V> {
@@ -62,7 +61,7 @@ pub struct Constrained<C, V> {
 }
 
 impl<C, V> Constrained<C, V> {
-    /// This value under the constraints. That it satisfies them is seen when it is written.
+    /// This value under the constraints. Whether it satisfies them is checked when it is encoded.
     pub fn new(value: V) -> Self
         ensures { result.value ≡ value }
     {
@@ -91,7 +90,7 @@ impl<C, V> Deref for Constrained<C, V> {
     }
 }
 
-/// Once the value is given back, it is what was left in it.
+/// When the borrow ends, the value is what was left in it.
 impl<C, V> DerefMut for Constrained<C, V> {
     ghost use Rattle.asn1_schema_wrapped.specs.contracts.constrained.Constrained.{the_row};
 
@@ -126,7 +125,7 @@ impl<C: ConstraintsOf<V>, V: Described> Described for Constrained<C, V> {
     ghost valued_under = { λ c t. C.valued c t.value };
 }
 
-/// Values under constraints are equal exactly if what they mean is.
+/// Values under constraints are equal exactly if what they mean is equal.
 impl<C: ConstraintsOf<V>, V: EqualByMeaning> EqualByMeaning for Constrained<C, V> {
     ghost agrees = { λ x y. and-true _ ∙ V.agrees x.value y.value ∙ ap (λ m. same m (V.Described.meaning y.value))
         (C.same_meaning x.value) ∙ ap (λ m. same (C.meaning x.value) m) (C.same_meaning y.value) };

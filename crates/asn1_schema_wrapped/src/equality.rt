@@ -1,4 +1,4 @@
-//! Equality of bags, in which the order means nothing.
+//! Equality of SET OF values, in which the order of elements has no meaning.
 ghost use Rattle.std.specs.Prelude.{◌≡◌, IfOk};
 ghost use Rattle.std.specs.Cmp.{partial_equiv_from_equiv};
 ghost use Rattle.std.proofs.Common.{rules};
@@ -12,7 +12,7 @@ use asn1_schema_types::EqualByMeaning;
 use std::alloc::{AllocError, Global};
 use std::hash::{DefaultHasher, Hash, Hasher};
 
-/// Two bags are equal if each member occurs in both equally often.
+/// Two SET OF values are equal if each element occurs equally often in both.
 impl<T: PartialEq> PartialEq for SetOf<T> {
     ghost eq = { λ a b. same_items T.PartialEq.eq a.items.items b.items.items };
 
@@ -27,12 +27,12 @@ impl<T: PartialEq> PartialEq for SetOf<T> {
 }
 
 impl<T: Ord> SetOf<T> {
-    /// Whether both bags hold the same members, as `==` tells. The members are put in order first: n of them take some
-    /// n log n comparisons, where `==` takes n² of members that stand in another order.
+    /// Whether both have the same elements; the result is that of `==`. The elements are sorted first: n of them take
+    /// about n log n comparisons, while `==` takes n² for elements in another order.
     ///
     /// # Errors
     ///
-    /// Want of memory, for the places of the members.
+    /// If memory for the sorted references runs out.
     pub fn is_same(&self, alloc: Global, other: &Self) -> Result<bool, AllocError>
         ensures { IfOk result (λ same. same ≡ same_items T.PartialEq.eq self.now.items.items other.now.items.items) }
     {
@@ -48,7 +48,7 @@ impl<T: Eq> Eq for SetOf<T> {
     ghost laws = { bags_equal (λ s. s.items.items) T.PartialEq.laws };
 }
 
-/// The hash of a bag is that of its number of members and of the sum of their hashes, which no order changes.
+/// The hash is that of the number of elements and of the sum of their hashes, which does not depend on the order.
 impl<T: Hash> Hash for SetOf<T> {
     ghost hash_input = { λ s. bag_hash T.hash_input s.items.items };
 
@@ -61,7 +61,7 @@ impl<T: Hash> Hash for SetOf<T> {
     }
 }
 
-// The hashes of all items, each by a hasher of its own, added modulo 2^64.
+// The sum of the hashes of all items, each by a separate hasher, modulo 2^64.
 fn sum_of_hashes<T: Hash>(items: &[T]) -> u64
     ensures { result ≡ hash_sum T.hash_input 0 items.now }
 {
@@ -78,8 +78,8 @@ impl<T: EqualByMeaning> EqualByMeaning for SetOf<T> {
     ghost agrees = { λ x y. bags_agree T.PartialEq.laws T.Described.meaning T.agrees x.items.items y.items.items };
 }
 
-// What is left of two lists behind the items in front that are equal at the same places: bags that hold the same
-// members in the same order, as those of one message read twice do, are compared in one go.
+// The rests of two lists after their longest equal prefix. SET OF values with the same elements in the same order, such
+// as those of one message read twice, are so compared in one pass.
 fn behind_equal<'a, T: PartialEq>(left: &'a [T], right: &'a [T]) -> (&'a [T], &'a [T])
     ensures { same_items T.eq result.0.now result.1.now ≡ same_items T.eq left.now right.now }
 {
@@ -94,7 +94,7 @@ fn behind_equal<'a, T: PartialEq>(left: &'a [T], right: &'a [T]) -> (&'a [T], &'
     (xs, ys)
 }
 
-// Whether each of these items occurs in two lists equally often.
+// Whether each of these items occurs equally often in two lists.
 fn occur_alike<T: PartialEq>(left: &[T], right: &[T], items: &[T]) -> bool
     ensures { result ≡ are_alike T.eq left.now right.now items.now }
 {

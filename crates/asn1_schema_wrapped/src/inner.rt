@@ -1,4 +1,4 @@
-//! Constraints on what a value's components hold (X.680 51.8).
+//! Constraints on the components of a value (X.680 51.8).
 ghost use Rattle.std.specs.Prelude.{Option, None, Result};
 ghost use Rattle.asn1_schema_faults.specs.declared.CodecKind.{CodecKind};
 ghost use Rattle.asn1_schema_wrapped.specs.declared.inner.InnerSubtypeConstraintError.{InnerSubtypeConstraintError};
@@ -10,25 +10,29 @@ use thiserror::Error;
 #[derive(Clone, Copy, Debug, PartialEq, Eq, Error)]
 #[error("the component `{component}` does not satisfy its constraint")]
 pub struct InnerSubtypeConstraintError {
-    /// Its name.
+    /// The name of the component.
     pub component: &'static str,
 }
 
-/// A type with constraints on what its components hold (X.680 51.8).
+/// A type with constraints on its components (X.680 51.8).
 pub trait InnerSubtypeConstraint: Sized {
-    /// What holds of a value, the rules of what its components contain, if that is to be read, and the answer: which
-    /// values are answered, and which component is the wrong one where none is.
+    /// Relates a value, the encoding rules of what its components contain (if that is to be decoded), and the result:
+    /// the value, or the component that does not satisfy its constraint.
     ghost validates: { Self → Option CodecKind → Result Self InnerSubtypeConstraintError → Type 0 };
 
-    /// The value, if its components satisfy their constraints, and, where rules are given, what they contain
-    /// is an encoding in these; else the component that does not.
+    /// The value, if its components satisfy their constraints and, if encoding rules are given, what they contain is an
+    /// encoding in these.
+    ///
+    /// # Errors
+    ///
+    /// The component that does not satisfy its constraint.
     fn validate_and_decode_containing(
         self,
         codec: Option<CodecKind>,
     ) -> Result<Self, InnerSubtypeConstraintError>
         ensures { validates self codec result };
 
-    /// The same without reading what the components contain.
+    /// As `validate_and_decode_containing`, without decoding what the components contain.
     final fn validate_components(self) -> Result<Self, InnerSubtypeConstraintError>
         ensures { validates self None result }
     {

@@ -1,4 +1,4 @@
-//! Values with the identifier of their type beside them.
+//! Values with the identifier of their type.
 ghost use Rattle.std.specs.Prelude.{refl, [], ◌∷◌};
 ghost use Rattle.asn1_model.specs.Value.{fields};
 ghost use Rattle.asn1_schema_constraints.specs.Terms.{no_constraint};
@@ -20,8 +20,8 @@ use asn1_schema_types::{
 use asn1_values_identifiers::ObjectIdentifier;
 use std::alloc::Global;
 
-/// A value, and the identifier of its type beside it (X.681 annex C): a SEQUENCE under the tag of EXTERNAL,
-/// of the identifier and of the value under an explicit context tag of 0.
+/// A value with the identifier of its type (X.681 annex C): a SEQUENCE with the tag of EXTERNAL, of the identifier and
+/// the value, which has the explicit context tag 0.
 #[derive(Clone, Debug, Drop, PartialEq, Eq)]
 pub struct InstanceOf<T> {
     /// The identifier of the type.
@@ -57,7 +57,7 @@ impl<T: Described> Described for InstanceOf<T> {
         (record { 0 = x.type_id; 1 = record { 0 = record { value = x.value; tag = _ }; 1 = record {} } })) };
 }
 
-/// Values with the identifiers of their types are equal exactly if what they mean is.
+/// Values with the identifiers of their types are equal exactly if what they mean is equal.
 impl<T: EqualByMeaning> EqualByMeaning for InstanceOf<T> {
     ghost agrees = { λ x y. instances_agree _ _ _ _ (arcs_agree x.type_id y.type_id) (T.agrees x.value y.value) };
 }

@@ -1,6 +1,6 @@
-//! Types around others: under another tag, under constraints of a component's own, of which those of size are types,
-//! SET OF as a type of its members (X.680 28), a type that is named beside the value, and any value as octets; and the
-//! calls of encoders and decoders by the names of types.
+//! Types around other types: with another tag, or under the constraints of a component (size constraints are themselves
+//! types); SET OF as a type of its elements (X.680 28); a value with the identifier of its type; and any value as
+//! octets. The calls of encoders and decoders by the names of types.
 #![tactic(auto)]
 
 pub mod any;

@@ -1,4 +1,4 @@
-//! The calls of a decoder by the names of types.
+//! The calls of a decoder, by the names of types.
 ghost use Rattle.std.specs.Prelude.{◌≡◌, OnOk, OnErr, IfOk, IfErr};
 ghost use Rattle.asn1_model.specs.Schema.{visible, ia5, printable, numeric, general, graphic, teletex, bmp};
 ghost use Rattle.asn1_model.specs.Schema.{any_count, any_size};
@@ -17,7 +17,7 @@ use asn1_values_strings::{
 };
 use std::alloc::Global;
 
-/// What a decoder reads, by the names of types.
+/// Decodes values, by the names of types.
 pub trait DecodeNamed: Decoder {
     /// A value of any type, as its octets: OCTET STRING (X.680 23) without constraints. After an error the
     /// decoder has failed.
@@ -39,8 +39,8 @@ pub trait DecodeNamed: Decoder {
         Ok(Any::new(owned))
     }
 
-    /// A value with another tag around its own (X.680 31.2.8), which leaves no octet in the packed and the octet
-    /// encoding rules. After an error the decoder has failed.
+    /// A value with a further, explicit tag (X.680 31.2.8), which PER and OER do not encode. After an error the decoder
+    /// has failed.
     final fn decode_explicit_prefix<T: Decode>(
         &mut self,
         alloc: Global,
@@ -59,7 +59,7 @@ pub trait DecodeNamed: Decoder {
         T::decode(alloc, self)
     }
 
-    /// VisibleString (X.680 41) under a size and an alphabet constraint.
+    /// VisibleString (X.680 41) under size and alphabet constraints.
     final fn decode_visible_string(
         &mut self,
         alloc: Global,
@@ -79,7 +79,7 @@ pub trait DecodeNamed: Decoder {
         self.decode_characters(alloc, tag, constraints)
     }
 
-    /// IA5String (X.680 41) under a size and an alphabet constraint.
+    /// IA5String (X.680 41) under size and alphabet constraints.
     final fn decode_ia5_string(
         &mut self,
         alloc: Global,
@@ -99,7 +99,7 @@ pub trait DecodeNamed: Decoder {
         self.decode_characters(alloc, tag, constraints)
     }
 
-    /// PrintableString (X.680 41) under a size and an alphabet constraint.
+    /// PrintableString (X.680 41) under size and alphabet constraints.
     final fn decode_printable_string(
         &mut self,
         alloc: Global,
@@ -119,7 +119,7 @@ pub trait DecodeNamed: Decoder {
         self.decode_characters(alloc, tag, constraints)
     }
 
-    /// NumericString (X.680 41) under a size and an alphabet constraint.
+    /// NumericString (X.680 41) under size and alphabet constraints.
     final fn decode_numeric_string(
         &mut self,
         alloc: Global,
@@ -139,7 +139,7 @@ pub trait DecodeNamed: Decoder {
         self.decode_characters(alloc, tag, constraints)
     }
 
-    /// GeneralString (X.680 41) under a size and an alphabet constraint.
+    /// GeneralString (X.680 41) under size and alphabet constraints.
     final fn decode_general_string(
         &mut self,
         alloc: Global,
@@ -159,7 +159,7 @@ pub trait DecodeNamed: Decoder {
         self.decode_characters(alloc, tag, constraints)
     }
 
-    /// GraphicString (X.680 41) under a size and an alphabet constraint.
+    /// GraphicString (X.680 41) under size and alphabet constraints.
     final fn decode_graphic_string(
         &mut self,
         alloc: Global,
@@ -179,7 +179,7 @@ pub trait DecodeNamed: Decoder {
         self.decode_characters(alloc, tag, constraints)
     }
 
-    /// TeletexString (X.680 41) under a size and an alphabet constraint.
+    /// TeletexString (X.680 41) under size and alphabet constraints.
     final fn decode_teletex_string(
         &mut self,
         alloc: Global,
@@ -199,7 +199,7 @@ pub trait DecodeNamed: Decoder {
         self.decode_characters(alloc, tag, constraints)
     }
 
-    /// BMPString (X.680 41) under a size and an alphabet constraint.
+    /// BMPString (X.680 41) under size and alphabet constraints.
     final fn decode_bmp_string(
         &mut self,
         alloc: Global,

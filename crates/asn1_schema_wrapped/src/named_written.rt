@@ -1,4 +1,4 @@
-//! The calls of an encoder by the names of types.
+//! The calls of an encoder, by the names of types.
 ghost use Rattle.std.specs.Prelude.{◌≡◌, OnOk, OnErr, IfErr};
 ghost use Rattle.asn1_model.specs.Schema.{visible, ia5, printable, numeric, general, graphic, teletex, bmp};
 ghost use Rattle.asn1_model.specs.Schema.{any_count, any_size};
@@ -16,7 +16,7 @@ use asn1_values_strings::{
     TeletexString, VisibleString,
 };
 
-/// What an encoder writes, by the names of types.
+/// Encodes values, by the names of types.
 pub trait EncodeNamed: Encoder {
     /// A value of any type, as its octets: OCTET STRING (X.680 23) without constraints.
     final fn encode_any(
@@ -43,8 +43,7 @@ pub trait EncodeNamed: Encoder {
         )
     }
 
-    /// A value with another tag around its own (X.680 31.2.8), which leaves no octet in the packed and the octet
-    /// encoding rules.
+    /// A value with a further, explicit tag (X.680 31.2.8), which PER and OER do not encode.
     final fn encode_explicit_prefix<T: Encode>(
         &mut self,
         _tag: Tag,
@@ -63,7 +62,7 @@ pub trait EncodeNamed: Encoder {
         value.encode(self)
     }
 
-    /// VisibleString (X.680 41) under a size and an alphabet constraint.
+    /// VisibleString (X.680 41) under size and alphabet constraints.
     final fn encode_visible_string(
         &mut self,
         tag: Tag,
@@ -84,7 +83,7 @@ pub trait EncodeNamed: Encoder {
         self.encode_characters(tag, constraints, value, identifier)
     }
 
-    /// IA5String (X.680 41) under a size and an alphabet constraint.
+    /// IA5String (X.680 41) under size and alphabet constraints.
     final fn encode_ia5_string(
         &mut self,
         tag: Tag,
@@ -104,7 +103,7 @@ pub trait EncodeNamed: Encoder {
         self.encode_characters(tag, constraints, value, identifier)
     }
 
-    /// PrintableString (X.680 41) under a size and an alphabet constraint.
+    /// PrintableString (X.680 41) under size and alphabet constraints.
     final fn encode_printable_string(
         &mut self,
         tag: Tag,
@@ -126,7 +125,7 @@ pub trait EncodeNamed: Encoder {
         self.encode_characters(tag, constraints, value, identifier)
     }
 
-    /// NumericString (X.680 41) under a size and an alphabet constraint.
+    /// NumericString (X.680 41) under size and alphabet constraints.
     final fn encode_numeric_string(
         &mut self,
         tag: Tag,
@@ -147,7 +146,7 @@ pub trait EncodeNamed: Encoder {
         self.encode_characters(tag, constraints, value, identifier)
     }
 
-    /// GeneralString (X.680 41) under a size and an alphabet constraint.
+    /// GeneralString (X.680 41) under size and alphabet constraints.
     final fn encode_general_string(
         &mut self,
         tag: Tag,
@@ -168,7 +167,7 @@ pub trait EncodeNamed: Encoder {
         self.encode_characters(tag, constraints, value, identifier)
     }
 
-    /// GraphicString (X.680 41) under a size and an alphabet constraint.
+    /// GraphicString (X.680 41) under size and alphabet constraints.
     final fn encode_graphic_string(
         &mut self,
         tag: Tag,
@@ -189,7 +188,7 @@ pub trait EncodeNamed: Encoder {
         self.encode_characters(tag, constraints, value, identifier)
     }
 
-    /// TeletexString (X.680 41) under a size and an alphabet constraint.
+    /// TeletexString (X.680 41) under size and alphabet constraints.
     final fn encode_teletex_string(
         &mut self,
         tag: Tag,
@@ -210,7 +209,7 @@ pub trait EncodeNamed: Encoder {
         self.encode_characters(tag, constraints, value, identifier)
     }
 
-    /// BMPString (X.680 41) under a size and an alphabet constraint.
+    /// BMPString (X.680 41) under size and alphabet constraints.
     final fn encode_bmp_string(
         &mut self,
         tag: Tag,

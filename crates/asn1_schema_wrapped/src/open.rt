@@ -1,4 +1,4 @@
-//! A value of any of the types that stand in an open type.
+//! A value of any type that an open type may contain.
 use crate::UniversalString;
 use crate::instances::InstanceOf;
 use asn1_values_bit_strings::BitString;
@@ -7,7 +7,7 @@ use asn1_values_integers::Integer;
 use asn1_values_octets::OctetString;
 use asn1_values_strings::VisibleString;
 
-/// A value of an open type (X.681 14), by its type. It has no encoding of its own.
+/// A value of an open type (X.681 14), by its type. It has no encoding itself.
 #[derive(Clone, Debug, Drop, PartialEq, Eq)]
 pub enum Open {
     /// BIT STRING.

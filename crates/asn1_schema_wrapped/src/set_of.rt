@@ -1,4 +1,4 @@
-//! Bags of members.
+//! SET OF values.
 ghost use Rattle.std.specs.List.{list_any};
 ghost use Rattle.std.specs.Slice.Iter.{iter_rest};
 ghost use Rattle.std.specs.Prelude.{◌≡◌, ◌<◌, ℕ, true, false, [], ◌∷◌, ◌++◌, length, map, nat_eq, get_or};
@@ -7,15 +7,15 @@ ghost use Rattle.std.specs.Prelude.{swap_remove, MatchOption, IfOk, IfErr, OnOk,
 use std::alloc::{AllocError, AllocFailed, Global};
 use std::slice::Iter;
 
-/// SET OF (X.680 28): a bag of members. They stand in the order in which they were added, which means nothing. It
-/// keeps the allocator that its constructor, or the vector handed to it, brought.
+/// SET OF (X.680 28): elements whose order has no meaning. They are kept in the order in which they were added. It uses
+/// the allocator that its constructor, or the vector given to it, brought.
 #[derive(Clone, Debug, Drop)]
 pub struct SetOf<T> {
     pub(crate) items: Vec<T>,
 }
 
 impl<T> SetOf<T> {
-    /// A bag with no member. Takes no memory.
+    /// An empty value. Allocates nothing.
     pub fn new(alloc: Global) -> Self
         ensures { result.items.items ≡ [] }
     {
@@ -24,11 +24,11 @@ impl<T> SetOf<T> {
         }
     }
 
-    /// A bag with no member, and with room for so many.
+    /// An empty value, with room for `capacity` elements.
     ///
     /// # Errors
     ///
-    /// Want of memory.
+    /// If memory runs out.
     pub fn with_capacity(alloc: Global, capacity: usize) -> Result<Self, AllocError>
         ensures { IfOk result (λ s. s.items.items ≡ []) }
     {
@@ -36,18 +36,18 @@ impl<T> SetOf<T> {
         Ok(SetOf { items })
     }
 
-    /// A bag of these members.
+    /// A value with these elements.
     pub fn from_vec(items: Vec<T>) -> Self
         ensures { result.items ≡ items }
     {
         SetOf { items }
     }
 
-    /// Puts a member into the bag. Where memory is wanting, the member comes back, and the bag is as before.
+    /// Adds an element.
     ///
     /// # Errors
     ///
-    /// Want of memory, with the member in the error.
+    /// If memory runs out; the error returns the element, and the value is unchanged.
     pub fn insert(&mut self, item: T) -> Result<(), AllocFailed<T>>
         ensures inserted { OnOk result (self.new.items.items ≡ self.old.items.items ++ item ∷ []) }
         ensures unchanged { OnErr result (self.new.items.items ≡ self.old.items.items) }
@@ -56,21 +56,21 @@ impl<T> SetOf<T> {
         self.items.push(item)
     }
 
-    /// How many members there are.
+    /// The number of elements.
     pub fn len(&self) -> usize
         ensures { result ≡ length self.now.items.items }
     {
         self.items.as_slice().len()
     }
 
-    /// Whether there is none.
+    /// Whether there are no elements.
     pub fn is_empty(&self) -> bool
         ensures { result ≡ nat_eq (length self.now.items.items) 0 }
     {
         self.items.as_slice().len() == 0
     }
 
-    /// Whether a member is equal to this one.
+    /// Whether an element is equal to this one.
     pub fn contains(&self, item: &T) -> bool
     where
         T: PartialEq,
@@ -79,7 +79,8 @@ impl<T> SetOf<T> {
         self.items.as_slice().contains(item)
     }
 
-    /// Takes a member out that is equal to this one, if there is one; the member that stands last takes its place.
+    /// Removes and returns the first element that is equal to this one, if there is one. The last element takes its
+    /// place.
     pub fn remove(&mut self, item: &T) -> Option<T>
     where
         T: PartialEq,
@@ -95,18 +96,18 @@ impl<T> SetOf<T> {
         Some(self.items.swap_remove(place))
     }
 
-    /// The members, one after another, in the order in which they stand.
+    /// The elements, in the order in which they are kept.
     pub fn iter(&self) -> Iter<'_, T>
         ensures { iter_rest result ≡ self.now.items.items }
     {
         self.items.as_slice().iter()
     }
 
-    /// The members, each borrowed, in the order in which they stand.
+    /// References to the elements, in the order in which they are kept.
     ///
     /// # Errors
     ///
-    /// Want of memory.
+    /// If memory runs out.
     pub fn to_vec(&self, alloc: Global) -> Result<Vec<&T>, AllocError>
         ensures { IfOk result (λ v. map (λ x. x.now) v.items ≡ self.now.items.items) }
     {
@@ -117,14 +118,14 @@ impl<T> SetOf<T> {
         Ok(members)
     }
 
-    /// The members, borrowed, in the order in which they stand.
+    /// The elements, borrowed, in the order in which they are kept.
     pub fn as_slice(&self) -> &[T]
         ensures { result.now ≡ self.now.items.items }
     {
         self.items.as_slice()
     }
 
-    /// The members, in the order in which they stand.
+    /// The elements, in the order in which they are kept.
     pub fn into_vec(self) -> Vec<T>
         ensures { result ≡ self.items }
     {
@@ -132,7 +133,7 @@ impl<T> SetOf<T> {
     }
 }
 
-// The first place where an item equal to this one stands.
+// The index of the first item that is equal to this one.
 fn place_of<T: PartialEq>(items: &[T], wanted: &T) -> Option<usize>
     ensures { MatchOption result (list_any (λ y. T.eq y wanted.now) items.now ≡ false)
         (λ i. (i < length items.now) × ((d : T) → T.eq (get_or items.now i d) wanted.now ≡ true)) }

@@ -10,12 +10,12 @@ use asn1_schema_types::Described;
 use asn1_values_bit_strings::BitString;
 use asn1_values_octets::OctetString;
 
-/// A size constraint to LOW..HIGH, in bits, octets or members, with an extension marker (X.680 52) or without one.
-/// Where `HIGH` is less than `LOW`, it is SIZE (LOW).
+/// The size constraint LOW..HIGH, in bits, octets or elements, with an extension marker (X.680 52) or without one. If
+/// `HIGH` is less than `LOW`, it is SIZE (LOW).
 #[derive(Debug, Drop)]
 pub struct SizeConstraint<const LOW: usize, const HIGH: usize, const EXTENSIBLE: bool>;
 
-/// SIZE (LOW..HIGH): `Constrained<SizeRange<3, 3>, OctetString>` is OCTET STRING (SIZE (3)).
+/// SIZE (LOW..HIGH). For example, `Constrained<SizeRange<3, 3>, OctetString>` is OCTET STRING (SIZE (3)).
 pub type SizeRange<const LOW: usize, const HIGH: usize> = SizeConstraint<LOW, HIGH, false>;
 
 /// SIZE (LOW..HIGH, ...).
@@ -97,7 +97,7 @@ impl<T: Described, const LOW: usize, const HIGH: usize, const EXTENSIBLE: bool> 
     ghost same_meaning = { λ _. refl };
 }
 
-// The constraint to the sizes from one to another, or to the first alone where the other is less.
+// The constraint to the sizes from `low` to `high`, or only `low` if `high` is less.
 fn from_to(low: usize, high: usize, is_extensible: bool) -> Constraints<'static>
     ensures { meant result ≡ sizes_from_to low high is_extensible }
 {

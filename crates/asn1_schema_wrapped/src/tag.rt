@@ -1,6 +1,6 @@
 //! A type for each tag that X.680 itself defines (X.680 8.4), and for those of the other classes: the first parameter
-//! of [`crate::Implicit`] and [`crate::Explicit`]. A marker is itself a type, NULL (X.680 24) under its tag; any
-//! other type is a marker too, of its own tag.
+//! of [`crate::Implicit`] and [`crate::Explicit`]. A marker is itself a type: NULL (X.680 24) with its tag. Any other
+//! type is a marker too, of its tag.
 ghost use Rattle.std.specs.Prelude.{refl, [], ◌∷◌};
 ghost use Rattle.asn1_model.specs.Value.{nothing};
 ghost use Rattle.asn1_model.specs.Schema.{null};

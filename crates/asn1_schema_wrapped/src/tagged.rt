@@ -1,4 +1,4 @@
-//! Values under another tag (X.680 31).
+//! Values with another tag (X.680 31).
 ghost use Rattle.asn1_model.specs.Lawful.{smallest};
 ghost use Rattle.asn1_schema_presented.proofs.TypesByKind.{under_smallest};
 ghost use Rattle.asn1_schema_tags.specs.Trees.{greatest_tag};
@@ -17,7 +17,7 @@ use std::alloc::Global;
 use std::marker::PhantomData;
 use std::ops::{Deref, DerefMut};
 
-/// A value whose own tag another one replaces (X.680 31.2.7), that of `T`: of a choice the smallest.
+/// A value whose tag is replaced by that of `T` (X.680 31.2.7), which is the smallest one if `T` is a choice.
 #[derive(Drop)]
 #[derive_where(Clone, Debug, PartialEq, Eq; V)]
 pub struct Implicit<T, V> {
@@ -27,7 +27,7 @@ pub struct Implicit<T, V> {
 }
 
 impl<T, V> Implicit<T, V> {
-    /// This value under the tag.
+    /// This value with the tag.
     pub fn new(value: V) -> Self
         ensures { result.value ≡ value }
     {
@@ -56,7 +56,7 @@ impl<T, V> Deref for Implicit<T, V> {
     }
 }
 
-/// Once the value is given back, it is what was left in it.
+/// When the borrow ends, the value is what was left in it.
 impl<T, V> DerefMut for Implicit<T, V> {
     ghost use Rattle.asn1_schema_wrapped.specs.contracts.tagged.Implicit.{the_row};
 
@@ -91,7 +91,7 @@ impl<T: Described, V: Described> Described for Implicit<T, V> {
     ghost valued_under = { λ c t. V.valued_under c t.value };
 }
 
-/// Values under a tag are equal exactly if what they mean is.
+/// Values with a tag are equal exactly if what they mean is equal.
 impl<T: Described, V: EqualByMeaning> EqualByMeaning for Implicit<T, V> {
     ghost agrees = { λ x y. and-true _ ∙ V.agrees x.value y.value };
 }
@@ -133,7 +133,7 @@ impl<T: AsnType + Drop, V: Decode> Decode for Implicit<T, V> {
     }
 }
 
-/// A value with another tag around its own (X.680 31.2.8), that of `T`.
+/// A value with a further, explicit tag: that of `T` (X.680 31.2.8).
 #[derive(Drop)]
 #[derive_where(Clone, Debug, PartialEq, Eq; V)]
 pub struct Explicit<T, V> {
@@ -143,7 +143,7 @@ pub struct Explicit<T, V> {
 }
 
 impl<T, V> Explicit<T, V> {
-    /// This value under the tag.
+    /// This value with the tag.
     pub fn new(value: V) -> Self
         ensures { result.value ≡ value }
     {
@@ -172,7 +172,7 @@ impl<T, V> Deref for Explicit<T, V> {
     }
 }
 
-/// Once the value is given back, it is what was left in it.
+/// When the borrow ends, the value is what was left in it.
 impl<T, V> DerefMut for Explicit<T, V> {
     ghost use Rattle.asn1_schema_wrapped.specs.contracts.tagged.Explicit.{the_row};
 
@@ -207,7 +207,7 @@ impl<T: Described, V: Described> Described for Explicit<T, V> {
     ghost valued_under = { λ c t. V.valued_under c t.value };
 }
 
-/// Values under a tag are equal exactly if what they mean is.
+/// Values with a tag are equal exactly if what they mean is equal.
 impl<T: Described, V: EqualByMeaning> EqualByMeaning for Explicit<T, V> {
     ghost agrees = { λ x y. and-true _ ∙ V.agrees x.value y.value };
 }
@@ -226,7 +226,7 @@ impl<T: AsnType, V: AsnType> AsnType for Explicit<T, V> {
     }
 }
 
-/// The outer tag leaves no octet in the packed and the octet encoding rules.
+/// PER and OER do not encode the outer tag.
 impl<T: AsnType, V: Encode> Encode for Explicit<T, V> {
     fn encode_with_tag_and_constraints<E: Encoder>(
         &self,

@@ -1,4 +1,4 @@
--- Lists with no element.
+-- Lists without elements.
 use Rattle.std.proofs.Common.{◌≡◌, refl, ◌==◌, List, [], ◌∷◌, length, arith}
 use Rattle.std.proofs.lemmas.Bool.{ne_eqb}
 use Rattle.asn1_model.specs.Lawful.{is_empty}

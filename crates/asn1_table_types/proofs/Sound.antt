@@ -1,4 +1,5 @@
--- Types that meet what is asked of them, unfolded to two levels, are lawful in whatever depth they are unfolded.
+-- Types that satisfy the conditions on them, unfolded to two levels, are well-formed at any depth to which they are
+-- unfolded.
 use Rattle.std.proofs.Common.{◌≡◌, ◌∙◌, refl, sym, ap, ℕ, zero, suc, Bool, true, false, cond, not, ◌&&◌, ◌||◌, List, [], ◌∷◌, ◌++◌, map, length, ◌<◌, ◌≤◌, ◌⊎◌, inl, inr, arith, Option, Some, None, slice_get}
 use Rattle.std.proofs.lemmas.Bool.{and_parts, and_from, cases_lt}
 use Rattle.std.proofs.lemmas.Option.{slice_get_past}
@@ -19,7 +20,7 @@ use Rattle.asn1_table_types.specs.Flaws.{is_in_place, is_component, are_componen
 use Rattle.asn1_table_types.specs.Tables.{AreLawful}
 use Rattle.asn1_table_types.proofs.TagLaws.{tags_are, none_are}
 
--- What a component asks of its type is met by a type s where it is by a type t.
+-- What a component requires of its type is satisfied by a type s if it is by a type t.
 record Serves (s t : Schema) : Type 0 where
   begins : (ts : List Tag) → begins_with ts t ≡ true → begins_with ts s ≡ true
   group : not (is_group t) ≡ true → not (is_group s) ≡ true
@@ -58,7 +59,7 @@ sequence_typed : (cs ds : Components) (x : Bool) (xs ys : Components) (o : Prese
 sequence_typed cs ds x xs ys Required e = refl
 sequence_typed cs ds x xs ys Optional e = refl
 
--- At any number of levels a type serves where it does at one level.
+-- At any number of levels a type satisfies what it does at one level.
 serves : (ns : List TypeNode) (n : ℕ) (o : Option TypeNode) → Serves (type_of ns n o) (type_of ns 1 o)
 serves ns n None = itself _
 serves ns n (Some Boolean) = itself _
@@ -152,7 +153,7 @@ module _ (ns : List TypeNode) (sound : (i : ℕ) → is_sound (type_at ns 2 i) �
   pub all_lawful : AreLawful ns
   all_lawful n i = lawful_at n (slice_get ns i) (sound i)
 
--- Types that meet it at each place of a table meet it at every place.
+-- Types that satisfy the conditions for each index of a table satisfy them for every index.
 pub everywhere : (ns : List TypeNode) (n : ℕ) → length ns ≤ n → ((i : ℕ) → i < n → is_sound (type_at ns 2 i) ≡ true) → (i : ℕ) → is_sound (type_at ns 2 i) ≡ true
 everywhere ns n h sound i = go (cases_lt i n) where
   go : (i < n) ⊎ (n ≤ i) → is_sound (type_at ns 2 i) ≡ true

@@ -27,7 +27,7 @@ class_is_one Application n = refl
 class_is_one Context n = refl
 class_is_one Private n = refl
 
--- tags of the program have one of the four classes
+-- Rust tags have one of the four classes
 pub classes_are : (ts : List Tag) → list_all is_tag (map tag_of ts) ≡ true
 classes_are [] = refl
 classes_are (t ∷ ts) = and_from _ _ (class_is_one t.class t.value) (classes_are ts)
@@ -37,7 +37,7 @@ pub none_are : (f : ℕ → Schema) (cs : List Component) → are_no_components 
 none_are f [] = refl
 none_are f (c ∷ cs) = refl
 
--- components without an extension marker, and with a tag twice
+-- whether additions are without an extension marker, and whether a tag occurs twice
 pub marked : (f : ℕ → Schema) (cs : Components) (e : Bool) (adds : List Component) → (e || are_no_components (components_of f adds)) ≡ (e || is_empty adds)
 marked f cs e adds = ap (λ x. e || x) (none_are f adds)
 
@@ -52,22 +52,22 @@ unlike p q r = ap not (r ∙ sym p ∙ q)
 alike : {a b c : Bool} → a ≡ b → a ≡ true → c ≡ b → c ≡ true
 alike p q r = r ∙ sym p ∙ q
 
--- what a table lacks whose additions stand behind no extension marker
+-- a table whose additions do not follow an extension marker has this flaw
 pub unmarked_lacks : (f : ℕ → Schema) (cs : List Component) (e : Bool) (adds : List Component) {a : Bool} → a ≡ (e || is_empty adds) → a ≡ false → table_lacks MarkerMissing (components_of f cs) e (components_of f adds) ≡ true
 unmarked_lacks f cs e adds p q = or_left _ _ (unlike p q (marked f (components_of f cs) e adds))
 
--- what a table lacks in which a tag occurs twice
+-- a table in which a tag occurs twice has this flaw
 pub twice_lacks : (f : ℕ → Schema) (cs : List Component) (e : Bool) (adds : List Component) {a : Bool} → a ≡ are_distinct tag_same (tags_in cs ++ tags_in adds) → a ≡ false → table_lacks TagTwice (components_of f cs) e (components_of f adds) ≡ true
 twice_lacks f cs e adds p q = or_left _ _ (unlike p q (tags_together f cs adds))
 
--- a table in which neither is so, and each component is one of a lawful type
+-- a table with neither flaw, if each component is well-formed, is well-formed
 pub table_is : (f : ℕ → Schema) (cs : List Component) (e : Bool) (adds : List Component) {a b : Bool} → a ≡ (e || is_empty adds) → a ≡ true
     → b ≡ are_distinct tag_same (tags_in cs ++ tags_in adds) → b ≡ true
     → (are_components false (components_of f cs) && are_components true (components_of f adds)) ≡ true
     → is_table (components_of f cs) e (components_of f adds) ≡ true
 table_is f cs e adds p q r s t = and_from _ _ (and_from _ _ (alike p q (marked f (components_of f cs) e adds)) (alike r s (tags_together f cs adds))) t
 
--- a component that is asked for its tags, what its type begins with, and its place
+-- the checks of a component: its tags, those with which its type begins, and whether it is allowed there
 no_default : (s : Schema) (o : Presence) → has_typed_default s (presence_of o) ≡ true
 no_default s Required = refl
 no_default s Optional = refl
@@ -80,7 +80,7 @@ pub component_is : (added : Bool) (ts : List Tag) (o : Presence) (s : Schema) �
     → is_component added (map tag_of ts) (presence_of o) s ≡ true
 component_is added ts o s e b p = and_from _ _ (and_from _ _ (and_from _ _ (tagged ts e) b) (no_default s o)) p
 
--- the components from an index on are the one there and those behind it
+-- the components from an index on are the one with that index and those after it
 pub component_at : (f : ℕ → Schema) (cs : List Component) (i : ℕ) (d : Component) → i < length cs
     → components_of f (drop i cs) ≡ model.component (map tag_of (get_or cs i d).tags.items) (presence_of (get_or cs i d).presence) (f (get_or cs i d).place) (components_of f (drop (i + 1) cs))
 component_at f cs i d h = let e : suc i ≡ i + 1 = omega arith in from f cs i d h ∙ ap (λ k. model.component (map tag_of (get_or cs i d).tags.items) (presence_of (get_or cs i d).presence) (f (get_or cs i d).place) (components_of f (drop k cs))) e where

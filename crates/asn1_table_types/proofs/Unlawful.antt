@@ -1,4 +1,4 @@
--- A type that lacks something is not lawful.
+-- A type with a flaw is not well-formed.
 use Rattle.std.proofs.Common.{◌≡◌, ◌∙◌, refl, sym, ap, ℕ, ◌<◌, length, get_or, Some, slice_get, Bool, true, false, cond, not, ◌&&◌, ◌||◌, List, [], ◌∷◌, ◌++◌}
 use Rattle.std.proofs.lemmas.Bool.{and_parts, both_ways, or_right}
 use Rattle.asn1_model.specs.Schema.{Tag, Range, Counts, Schema, cut, boolean, null, integer, enumerated, bit_string, octet_string, character_string, object_identifier, sequence_of, set_of, sequence, set, group, choice, Components, no_component, component}
@@ -63,7 +63,7 @@ table_meets f cs e adds h k l =
     let c = and_parts (e || are_no_components adds) (are_distinct tag_same (component_tags cs ++ component_tags adds)) b.0 in
     neither _ _ (together_meet f cs e adds c.0 c.1) (neither _ _ (some_meet f false cs k b.1) (some_meet f true adds l a.1))
 
--- A lawful type lacks nothing.
+-- A well-formed type has no flaw.
 meets : (s : Schema) (f : Flaw) → is_lawful s ≡ true → lacks s f ≡ false
 unfolding is_lawful
 meets (integer b held) f e = bounds_meet f b.range (and_parts (is_range b.range) (is_range held) e).0
@@ -88,12 +88,12 @@ unlawful s f e = go (is_lawful s) refl where
 pub each_lacks : (f : Flaw) (cs : Components) (e : Bool) (adds : Components) → (some_lacks f false cs || some_lacks f true adds) ≡ true → table_lacks f cs e adds ≡ true
 each_lacks f cs e adds h = or_right _ _ h
 
--- What a node lacks, the type at its place lacks.
+-- A flaw of a node is one of the type with its index.
 pub refused_at : (ns : List TypeNode) (i : ℕ) (f : Flaw) (x : TypeNode) → slice_get ns i ≡ Some x → lacks (type_of ns 2 (Some x)) f ≡ true → IsUnlawful ns i f
 refused_at ns i f x e h =
     let l : lacks (type_at ns 2 i) f ≡ true = ap (λ o. lacks (type_of ns 2 o) f) e ∙ h in
     record { there = slice_get_within ns i x e; lacking = l; unlawful = unlawful (type_at ns 2 i) f l }
 
--- The same of a node that was looked up.
+-- The same for a node that was looked up.
 pub refused_found : (ns : List TypeNode) (i : ℕ) (f : Flaw) (x : TypeNode) → i < length ns → ((d : TypeNode) → x ≡ get_or ns i d) → lacks (type_of ns 2 (Some x)) f ≡ true → IsUnlawful ns i f
 refused_found ns i f x h e l = refused_at ns i f x (slice_get_read ns (length ns) i x refl h (e x)) l

@@ -1,4 +1,4 @@
--- What a type itself must meet to be lawful, apart from its parts, and what it lacks where it does not.
+-- The conditions on a type itself, apart from its parts, and which of them it violates.
 use Rattle.std.specs.Prelude.{Bool, true, false, cond, not, ◌&&◌, ◌||◌, List, ◌++◌}
 use Rattle.asn1_model.specs.Schema.{Tag, Range, Counts, Presence, Schema, integer, sequence_of, sequence, Components}
 use Rattle.asn1_model.specs.Schema.{no_component, component}
@@ -10,12 +10,12 @@ use Rattle.asn1_table_types.specs.declared.faults.Flaw.TheVariants.{BoundsOutOfO
 use Rattle.asn1_table_types.specs.declared.faults.Flaw.TheVariants.{TagTwice, TagMissing, TagsOfOtherType}
 use Rattle.asn1_table_types.specs.declared.faults.Flaw.TheVariants.{GroupOutOfPlace}
 
--- A group stands among additions (true) alone, and there as optional.
+-- A group is allowed only among additions (true), and only as optional.
 abbrev pub is_in_place : Bool → Presence → Schema → Bool
 is_in_place added o s = cond added (not (is_group s) || is_optional o) (not (is_group s))
 
 -- A component among root components, or among additions (true), has tags with which its type may begin, a default that
--- is a value of it, if any, and is no group where none may be (X.680 25).
+-- is a value of its type, if any, and is a group only where one is allowed (X.680 25).
 abbrev pub is_component : Bool → List Tag → Presence → Schema → Bool
 is_component added ts o s = are_tags_of ts s && has_typed_default s o && is_in_place added o s
 
@@ -23,8 +23,8 @@ abbrev pub are_components : Bool → Components → Bool
 are_components added no_component = true
 are_components added (component ts o s cs) = is_component added ts o s && are_components added cs
 
--- The components of a SEQUENCE or SET together: additions stand behind an extension marker, and all tags differ (X.680
--- 25 and 27).
+-- The components of a SEQUENCE or SET together: additions come after an extension marker, and all tags differ (X.680 25
+-- and 27).
 abbrev pub are_together : Components → Bool → Components → Bool
 are_together cs e adds =
     (e || are_no_components adds) && are_distinct tag_same (component_tags cs ++ component_tags adds)
@@ -32,7 +32,7 @@ are_together cs e adds =
 abbrev pub is_table : Components → Bool → Components → Bool
 is_table cs e adds = are_together cs e adds && (are_components false cs && are_components true adds)
 
--- A type meets what is asked of it, apart from its parts' types (X.680 19, 25 and 26).
+-- A type satisfies the conditions on it, apart from those on the types of its parts (X.680 19, 25 and 26).
 abbrev pub is_sound : Schema → Bool
 is_sound (integer b held) = is_range b.range
 is_sound (sequence_of z held s) = are_counts z.counts && not (is_group s)
@@ -46,7 +46,7 @@ component_lacks TagsOfOtherType added ts o s = not (begins_with ts s)
 component_lacks GroupOutOfPlace added ts o s = not (is_in_place added o s)
 component_lacks f added ts o s = false
 
--- It is wrong with one of some components.
+-- It is wrong with one of these components.
 abbrev pub some_lacks : Flaw → Bool → Components → Bool
 some_lacks f added no_component = false
 some_lacks f added (component ts o s cs) = component_lacks f added ts o s || some_lacks f added cs
@@ -61,7 +61,7 @@ together_lack f cs e adds = false
 abbrev pub table_lacks : Flaw → Components → Bool → Components → Bool
 table_lacks f cs e adds = together_lack f cs e adds || (some_lacks f false cs || some_lacks f true adds)
 
--- What is wrong with bounds, sizes and the type of a list's members.
+-- What is wrong with bounds, sizes and the type of a list's elements.
 abbrev pub bounds_lack : Flaw → Range → Bool
 bounds_lack BoundsOutOfOrder r = not (is_range r)
 bounds_lack f r = false
@@ -74,7 +74,7 @@ abbrev pub members_lack : Flaw → Schema → Bool
 members_lack GroupOutOfPlace s = is_group s
 members_lack f s = false
 
--- What is wrong with a type, apart from its parts' types.
+-- What is wrong with a type, apart from the types of its parts.
 abbrev pub lacks : Schema → Flaw → Bool
 lacks (integer b held) f = bounds_lack f b.range
 lacks (sequence_of z held s) f = sizes_lack f z.counts || members_lack f s

@@ -1,5 +1,5 @@
--- What a table of types means: the type at each place, unfolded to any number of nested levels. Each constructed type
--- takes a level, so a type may lead back to itself.
+-- What a table of types means: the type with each index, unfolded to any number of nested levels. Each constructed type
+-- takes a level, so types may be recursive.
 use Rattle.std.specs.Prelude.{ℕ, zero, suc, false, List, [], ◌∷◌, map, flat_map, Option, Some, None, slice_get}
 use Rattle.asn1_model.specs.Schema as model
 use Rattle.asn1_model.specs.Schema.{Range, Bounds, Schema, cut, boolean, integer, sequence_of, sequence, Components}
@@ -15,12 +15,12 @@ use Rattle.asn1_table_types.specs.declared.nodes.Presence.TheVariants.{Required,
 use Rattle.asn1_table_types.specs.declared.nodes.TypeNode.{TypeNode}
 use Rattle.asn1_table_types.specs.declared.nodes.TypeNode.TheVariants.{Boolean, Integer, SequenceOf, Sequence}
 
--- The bounds of a value constraint, where there is one (X.680 51.4 and 52).
+-- The bounds of a value constraint, if there is one (X.680 51.4 and 52).
 abbrev pub bounds_in : Option NumberLimits → Bounds
 bounds_in None = record { range = any_number; extensible = false }
 bounds_in (Some l) = record { range = range_of l.root; extensible = l.is_extensible }
 
--- The numbers that are held: under a value constraint those of 128 bits of two's complement.
+-- The numbers that a value can hold: under a value constraint those of 128 bits of two's complement.
 abbrev pub held_in : Option NumberLimits → Range
 held_in None = any_number
 held_in (Some l) = wide_range
@@ -29,17 +29,18 @@ abbrev pub presence_of : Presence → model.Presence
 presence_of Required = model.required
 presence_of Optional = model.optional
 
--- Components, with the type at each place.
+-- Components, given the type with each index.
 abbrev pub components_of : (ℕ → Schema) → List Component → Components
 components_of f [] = no_component
 components_of f (c ∷ cs) = component (map tag_of c.tags.items) (presence_of c.presence) (f c.place)
     (components_of f cs)
 
--- The tags of components, in turn.
+-- The tags of components, in their order.
 abbrev pub tags_in : List Component → List model.Tag
 tags_in cs = flat_map (λ c. map tag_of c.tags.items) cs
 
--- A node of a table with so many levels; a place outside of the table is as one below the cut of a recursive type.
+-- The type of a node of a table, for a number of levels. An index outside the table gives the same as a recursive type
+-- without levels.
 abbrev pub type_of : List TypeNode → ℕ → Option TypeNode → Schema
 type_of ns n None = cut
 type_of ns n (Some Boolean) = boolean
@@ -52,6 +53,6 @@ type_of ns (suc n) (Some (Sequence t)) =
     sequence (components_of (λ i. type_of ns n (slice_get ns i)) t.root.items) t.is_extensible
     (components_of (λ i. type_of ns n (slice_get ns i)) t.additions.items)
 
--- The type at a place of a table, unfolded to so many levels.
+-- The type with an index of a table, unfolded to a number of levels.
 abbrev pub type_at : List TypeNode → ℕ → ℕ → Schema
 type_at ns n i = type_of ns n (slice_get ns i)

@@ -1,4 +1,4 @@
-//! Whether a type of a table meets what is asked of it, apart from the types that it leads to.
+//! Whether a type of a table satisfies the conditions on it, apart from those on the types that it refers to.
 #![tactic(auto, using(std::proofs::lemmas::Grind::common_steps))]
 
 ghost use Rattle.std.specs.Prelude.{◌≡◌, true, false, IfErr, OnOk, Some};
@@ -14,7 +14,11 @@ use crate::{Flaw, TypeNode};
 use asn1_schema_constraints::{Bounded, Sizes};
 use std::alloc::Global;
 
-/// A node of a table meets what is asked of it.
+/// Checks a node of a table.
+///
+/// # Errors
+///
+/// The first flaw, or that memory runs out.
 pub fn check_node(alloc: Global, nodes: &[TypeNode], node: &TypeNode) -> Result<(), Refusal>
     ensures sound { OnOk result (is_sound (type_of nodes.now 2 (Some node.now)) ≡ true) }
     ensures lacking { IfErr result (λ r. IsDue (lacks (type_of nodes.now 2 (Some node.now))) r) }
@@ -38,7 +42,7 @@ pub fn check_node(alloc: Global, nodes: &[TypeNode], node: &TypeNode) -> Result<
     }
 }
 
-/// The lower bound, where there is one, is not above the upper one (X.680 51.4).
+/// Checks that the lower bound, if there is one, is at most the upper one (X.680 51.4).
 fn check_numbers(bounds: Bounded<i128>) -> Result<(), Flaw>
     ensures sound { OnOk result (is_range (range_of bounds) ≡ true) }
     ensures lacking { IfErr result (λ f. bounds_lack f (range_of bounds) ≡ true) }
@@ -52,7 +56,7 @@ fn check_numbers(bounds: Bounded<i128>) -> Result<(), Flaw>
     }
 }
 
-/// The least size is not above the greatest one (X.680 51.5).
+/// Checks that the least size is at most the greatest one (X.680 51.5).
 fn check_sizes(sizes: Sizes) -> Result<(), Flaw>
     ensures sound { OnOk result (are_counts (counts_of sizes.root) ≡ true) }
     ensures lacking { IfErr result (λ f. sizes_lack f (counts_of sizes.root) ≡ true) }
@@ -66,7 +70,7 @@ fn check_sizes(sizes: Sizes) -> Result<(), Flaw>
     }
 }
 
-/// The members of a list are no group of additions.
+/// Checks that the elements of a list are no extension addition group.
 fn check_members(nodes: &[TypeNode], place: usize) -> Result<(), Flaw>
     ensures sound { OnOk result (is_group (type_at nodes.now 1 place) ≡ false) }
     ensures lacking { IfErr result (λ f. members_lack f (type_at nodes.now 1 place) ≡ true) }

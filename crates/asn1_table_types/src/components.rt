@@ -15,7 +15,7 @@ use crate::{Component, ComponentTable, Flaw, Presence, TypeNode};
 use asn1_schema_tags::Tag;
 use std::alloc::{AllocError, Global};
 
-/// The components are those of a lawful SEQUENCE (X.680 25).
+/// Checks that the components are those of a well-formed SEQUENCE (X.680 25).
 pub fn check_sequence(
     alloc: Global,
     nodes: &[TypeNode],
@@ -38,14 +38,14 @@ pub fn check_sequence(
     Ok(())
 }
 
-/// Whether additions stand behind an extension marker.
+/// Whether additions come after an extension marker, or there are none.
 fn is_marked(table: &ComponentTable) -> bool
     ensures { result ≡ (table.now.is_extensible || is_empty table.now.additions.items) }
 {
     table.is_extensible || table.additions.as_slice().is_empty()
 }
 
-/// Whether no tag of root components and additions occurs twice.
+/// Whether no tag of the root components and additions occurs twice.
 fn has_distinct_tags(
     alloc: Global,
     root: &[Component],
@@ -69,7 +69,7 @@ fn append_tags(tags: &mut Vec<Tag>, components: &[Component]) -> Result<(), Allo
     Ok(())
 }
 
-/// The root components, and the additions, are each one of a lawful type.
+/// Checks each of the root components and additions.
 fn check_each(nodes: &[TypeNode], table: &ComponentTable) -> Result<(), Flaw>
     ensures sound { OnOk result ((are_components false
         (components_of (λ i. type_at nodes.now 1 i) table.now.root.items)
@@ -83,7 +83,7 @@ fn check_each(nodes: &[TypeNode], table: &ComponentTable) -> Result<(), Flaw>
     Ok(())
 }
 
-/// Root components, or additions (true), are each one of a lawful type (X.680 25).
+/// Checks each of some root components, or additions (true) (X.680 25).
 fn check_components(nodes: &[TypeNode], components: &[Component], added: bool) -> Result<(), Flaw>
     ensures sound { OnOk result (are_components added (components_of (λ i. type_at nodes.now 1 i) components.now)
         ≡ true) }
@@ -96,7 +96,7 @@ fn check_components(nodes: &[TypeNode], components: &[Component], added: bool) -
     Ok(())
 }
 
-/// A component among root components, or among additions (true), is one of a lawful type (X.680 25).
+/// Checks a component among root components, or among additions (true) (X.680 25).
 #[tactic(auto, using(crate::proofs::TagLaws::component_is, crate::proofs::Lists::empty_length))]
 fn check_component(nodes: &[TypeNode], component: &Component, added: bool) -> Result<(), Flaw>
     ensures sound { OnOk result (is_component added (map tag_of component.now.tags.items)
@@ -117,7 +117,7 @@ fn check_component(nodes: &[TypeNode], component: &Component, added: bool) -> Re
     Ok(())
 }
 
-/// Whether a component is no group of additions, or one that may stand there: among additions, as optional.
+/// Whether a component is no extension addition group, or one that is allowed: among additions, as optional.
 fn may_stand(nodes: &[TypeNode], component: &Component, added: bool) -> bool
     ensures { result ≡ is_in_place added (presence_of component.now.presence)
         (type_at nodes.now 1 component.now.place) }
@@ -126,7 +126,7 @@ fn may_stand(nodes: &[TypeNode], component: &Component, added: bool) -> bool
         || (added && matches!(component.presence, Presence::Optional))
 }
 
-/// Whether a group of additions stands at a place.
+/// Whether the type with an index is an extension addition group.
 pub fn is_group_at(nodes: &[TypeNode], place: usize) -> bool
     ensures { result ≡ is_group (type_at nodes.now 1 place) }
 {
@@ -134,7 +134,7 @@ pub fn is_group_at(nodes: &[TypeNode], place: usize) -> bool
     false
 }
 
-/// Whether the type at a place may begin with these tags (X.680 31).
+/// Whether the type with an index may begin with these tags (X.680 31).
 fn begins_with_tags(nodes: &[TypeNode], place: usize, tags: &[Tag]) -> bool
     ensures { result ≡ begins_with (map tag_of tags.now) (type_at nodes.now 1 place) }
 {

@@ -8,16 +8,16 @@ use thiserror::Error;
 /// What is wrong with a type.
 #[derive(Clone, Copy, Debug, PartialEq, Eq, Hash, Error)]
 pub enum Flaw {
-    /// The lower bound of an INTEGER is above the upper one.
+    /// The lower bound of an INTEGER is greater than the upper one.
     #[error("the lower bound is above the upper one")]
     BoundsOutOfOrder,
-    /// The least size is above the greatest one.
+    /// The least size is greater than the greatest one.
     #[error("the least size is above the greatest one")]
     SizesOutOfOrder,
     /// There are additions and no extension marker.
     #[error("there are additions without an extension marker")]
     MarkerMissing,
-    /// Two components have one tag.
+    /// Two components have the same tag.
     #[error("a tag occurs twice")]
     TagTwice,
     /// A component has no tag.
@@ -26,7 +26,7 @@ pub enum Flaw {
     /// The type of a component does not begin with the component's tags.
     #[error("a component has the tags of another type")]
     TagsOfOtherType,
-    /// A group of additions is no optional component among additions.
+    /// An extension addition group is not an optional component among additions.
     #[error("a group of additions stands where none may")]
     GroupOutOfPlace,
 }
@@ -34,15 +34,15 @@ pub enum Flaw {
 /// Why a table of types is refused.
 #[derive(Clone, Copy, Debug, PartialEq, Eq, Hash, Drop, Error)]
 pub enum TableError {
-    /// A type is not lawful.
+    /// A type is not well-formed.
     #[error("type {place} is not lawful: {flaw}")]
     Unlawful {
-        /// The place of the type.
+        /// The index of the type.
         place: usize,
         /// What is wrong with it.
         flaw: Flaw,
     },
-    /// No memory was found for the check.
+    /// Memory ran out during the check.
     #[error("out of memory")]
     OutOfMemory,
 }
@@ -50,9 +50,9 @@ pub enum TableError {
 /// Why a type of a table is refused.
 #[derive(Clone, Copy)]
 pub enum Refusal {
-    /// This is wrong with it.
+    /// The type has this flaw.
     Flawed(Flaw),
-    /// No memory was found for the check.
+    /// Memory ran out during the check.
     NoMemory,
 }
 

@@ -1,4 +1,4 @@
-//! Types as data: a table of ASN.1 types (X.680), and the check that each of them is lawful.
+//! Types as data: a table of ASN.1 types (X.680), and the check that each of them is well-formed.
 #![tactic(auto)]
 
 mod checks;

@@ -1,4 +1,4 @@
-//! The types of a table as an author writes them. A type names another by its place in the table, counted from 0.
+//! The types of a table as an author writes them. A type refers to another by its index in the table, counted from 0.
 use asn1_schema_constraints::{Bounded, Sizes};
 use asn1_schema_tags::Tag;
 
@@ -9,7 +9,7 @@ pub enum TypeNode {
     Boolean,
     /// INTEGER (X.680 19), with a value constraint if it has one.
     Integer(Option<NumberLimits>),
-    /// SEQUENCE OF (X.680 26): its sizes, and the place of its members' type.
+    /// SEQUENCE OF (X.680 26): its sizes, and the index of the type of its elements.
     SequenceOf(Sizes, usize),
     /// SEQUENCE (X.680 25).
     Sequence(ComponentTable),
@@ -31,26 +31,26 @@ pub struct ComponentTable {
     pub root: Vec<Component>,
     /// Whether there is an extension marker.
     pub is_extensible: bool,
-    /// The additions behind it.
+    /// The additions after it.
     pub additions: Vec<Component>,
 }
 
 /// A component.
 #[derive(Drop)]
 pub struct Component {
-    /// The tags with which it may begin: one, or of an untagged CHOICE those of all its alternatives, the added ones
+    /// The tags with which it may begin: one, or, for an untagged CHOICE, those of all its alternatives, the added ones
     /// last.
     pub tags: Vec<Tag>,
     /// Whether it may be absent.
     pub presence: Presence,
-    /// The place of its type.
+    /// The index of its type.
     pub place: usize,
 }
 
 /// Whether a component may be absent (X.680 25).
 #[derive(Drop)]
 pub enum Presence {
-    /// It is always there.
+    /// It is always present.
     Required,
     /// OPTIONAL.
     Optional,

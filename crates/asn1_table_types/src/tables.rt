@@ -1,4 +1,4 @@
-//! Tables of types that are lawful.
+//! Tables of types that are well-formed.
 ghost use Rattle.std.specs.Prelude.{◌≡◌, ℕ, true, IfOk, IfErr, OnOk, slice_get};
 ghost use Rattle.std.specs.Option.{option_copied};
 ghost use Rattle.asn1_table_types.specs.Flaws.{is_sound};
@@ -10,7 +10,7 @@ use crate::faults::Refusal;
 use crate::{TableError, TypeNode};
 use std::alloc::Global;
 
-/// Types each of which is lawful, in whatever depth it is unfolded.
+/// Types each of which is well-formed, at any depth to which it is unfolded.
 #[derive(Drop)]
 pub struct Types {
     nodes: Vec<TypeNode>,
@@ -18,7 +18,11 @@ pub struct Types {
 }
 
 impl Types {
-    /// A table of these types, where each of them is lawful in whatever depth it is unfolded.
+    /// A table of these types, each of which must be well-formed, at any depth to which it is unfolded.
+    ///
+    /// # Errors
+    ///
+    /// The first type that is not well-formed, or that memory runs out.
     pub fn new(alloc: Global, nodes: Vec<TypeNode>) -> Result<Types, TableError>
         ensures types { IfOk result (λ types. types.nodes ≡ nodes) }
         ensures refused { IfErr result (λ e. IsRefused nodes.items e) }
@@ -27,14 +31,14 @@ impl Types {
         Ok(Types { nodes })
     }
 
-    /// The types, by their places.
+    /// The types, by their indices.
     pub fn nodes(&self) -> &[TypeNode]
         ensures { result.now ≡ self.now.nodes.items }
     {
         self.nodes.as_slice()
     }
 
-    /// The type at a place, if there is one.
+    /// The type with an index, if there is one.
     pub fn node(&self, place: usize) -> Option<&TypeNode>
         ensures { option_copied result ≡ slice_get self.now.nodes.items place }
     {
@@ -42,7 +46,7 @@ impl Types {
     }
 }
 
-/// Each type of a table meets what is asked of it.
+/// Checks each type of a table.
 fn check_all(alloc: Global, nodes: &[TypeNode]) -> Result<(), TableError>
     ensures sound { OnOk result ((i : ℕ) → is_sound (type_at nodes.now 2 i) ≡ true) }
     ensures refused { IfErr result (λ e. IsRefused nodes.now e) }
@@ -53,7 +57,7 @@ fn check_all(alloc: Global, nodes: &[TypeNode]) -> Result<(), TableError>
     Ok(())
 }
 
-/// The type at a place meets what is asked of it.
+/// Checks the type with an index.
 fn check_place(alloc: Global, nodes: &[TypeNode], place: usize) -> Result<(), TableError>
     ensures sound { OnOk result (is_sound (type_at nodes.now 2 place) ≡ true) }
     ensures refused { IfErr result (λ e. IsRefused nodes.now e) }

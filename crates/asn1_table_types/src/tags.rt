@@ -1,4 +1,4 @@
-//! Tags in a row.
+//! Lists of tags.
 #![tactic(auto, using(std::proofs::lemmas::Grind::common_steps))]
 
 ghost use Rattle.std.specs.Prelude.{◌≡◌, not, map};
@@ -8,7 +8,7 @@ ghost use Rattle.asn1_schema_tags.specs.Tags.{tag_of};
 
 use asn1_schema_tags::Tag;
 
-/// Whether no tag occurs twice. It takes as many comparisons as there are pairs of tags.
+/// Whether no tag occurs twice. Compares every pair of tags at most once.
 pub fn are_distinct_tags(tags: &[Tag]) -> bool
     ensures { result ≡ are_distinct tag_same (map tag_of tags.now) }
 {
@@ -20,7 +20,7 @@ pub fn are_distinct_tags(tags: &[Tag]) -> bool
     true
 }
 
-/// Whether a tag is none of some others.
+/// Whether a tag differs from all of some others.
 fn differs_from_all(tag: Tag, others: &[Tag]) -> bool
     ensures { result ≡ list_all (λ y. not (tag_same (tag_of tag) y)) (map tag_of others.now) }
 {

@@ -1,7 +1,7 @@
 //! The values of ASN.1: bits, whole numbers, octets, object identifiers, character strings, and lists of fields as
 //! bits.
 //!
-//! This crate is a face: its items stand in the packages whose names begin with its own.
+//! This crate re-exports the items of the packages whose names begin with its own.
 #![tactic(auto)]
 
 pub use asn1_values_alphabets::{

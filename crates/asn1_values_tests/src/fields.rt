@@ -336,7 +336,7 @@ fn fields_are_written_and_read(rt: HostRuntime) {
     assert!(rt; is_told(alloc, &fault, "field 2: too few bits are left"));
 }
 
-/// Whether a number of `width` ones, written behind `offset` zero bits, reads back.
+/// Whether a number of `width` ones, written after `offset` zero bits, reads back.
 fn is_read_back(alloc: Global, offset: u32, width: u32) -> Result<bool, FieldFault>
     requires { width ≤ 128 }
 {

@@ -42,14 +42,14 @@ fn four_are_refused(alloc: Global, buffer: &mut Vec<u8>) -> Result<bool, AllocEr
     Ok(is_refused(alloc, &four, buffer))
 }
 
-/// Whether they refuse a list of four octets like that, after its count was written.
+/// Whether they refuse a SEQUENCE OF four octets like that, after its count was written.
 fn list_of_four_is_refused(alloc: Global, buffer: &mut Vec<u8>) -> Result<bool, AllocError> {
     let mut list = Vec::new(alloc);
     list.push(four(alloc)?)?;
     Ok(is_refused(alloc, &list, buffer))
 }
 
-/// Whether they refuse a bag of five octets and four like that, after its first member was written apart.
+/// Whether they refuse a SET OF with five octets and four like that, after its first element was encoded by itself.
 fn bag_is_refused(alloc: Global, buffer: &mut Vec<u8>) -> Result<bool, AllocError> {
     let mut members = Vec::new(alloc);
     members.push(five(alloc)?)?;
@@ -57,7 +57,7 @@ fn bag_is_refused(alloc: Global, buffer: &mut Vec<u8>) -> Result<bool, AllocErro
     Ok(is_refused(alloc, &SetOf::from_vec(members), buffer))
 }
 
-/// Adds true to the buffer twice. Returns whether it follows what was there.
+/// Appends TRUE to the buffer twice. Returns whether it follows what was there.
 fn adds_true(alloc: Global, buffer: &mut Vec<u8>) -> Result<bool, EncodeError> {
     coer::encode_buf(alloc, &true, buffer)?;
     let once = buffer.as_slice() == [0xAA, 0xFF].as_slice();
@@ -65,7 +65,7 @@ fn adds_true(alloc: Global, buffer: &mut Vec<u8>) -> Result<bool, EncodeError> {
     Ok(once && buffer.as_slice() == [0xAA, 0xFF, 0xFF].as_slice())
 }
 
-/// Adds a bag of 2 and 1 to the buffer. Returns whether it follows what was there.
+/// Appends a SET OF with 2 and 1 to the buffer. Returns whether it follows what was there.
 fn adds_bag(alloc: Global, buffer: &mut Vec<u8>) -> Result<bool, EncodeError> {
     let bag = SetOf::from_vec(vec![in alloc; 2u8, 1]?);
     coer::encode_buf(alloc, &bag, buffer)?;
@@ -91,7 +91,7 @@ fn refusal<T: Encode>(alloc: Global, constraint: Constraint<'_>, value: &T) -> O
     coer::encode_with_constraints(alloc, &Constraints::new(&list), value).err()
 }
 
-/// Whether an OCTET STRING has none, because its size is not allowed.
+/// Whether an OCTET STRING has none, because its size is not permitted.
 fn octets_are_refused(
     alloc: Global,
     size: Constraint<'_>,
@@ -101,7 +101,7 @@ fn octets_are_refused(
     Ok(refusal(alloc, size, &string) == Some(EncodeError::SizeConstraintNotSatisfied))
 }
 
-/// Whether a BIT STRING of 14 bits has none, because its size is not allowed.
+/// Whether a BIT STRING of 14 bits has none, because its size is not permitted.
 fn fourteen_are_refused(alloc: Global, size: Constraint<'_>) -> Result<bool, AllocError> {
     let bits = BitString::from_bitslice(alloc, BitStr::front_of(&[0xFF, 0x40], 14))?;
     Ok(refusal(alloc, size, &bits) == Some(EncodeError::SizeConstraintNotSatisfied))
@@ -125,7 +125,7 @@ fn values_outside_their_constraints(rt: HostRuntime) -> Result<(), Fail> {
     Ok(())
 }
 
-/// Whether `input` begins with true, and `rest` follows.
+/// Whether `input` begins with TRUE, and `rest` follows.
 fn is_true_before(alloc: Global, input: &[u8], rest: &[u8]) -> Result<bool, DecodeError> {
     let (value, behind) = decode_with_remainder::<bool>(alloc, input, EncodingRules::Coer)?;
     Ok(value && *behind == *rest)
@@ -142,7 +142,7 @@ fn is_seven_under(
     Ok(number == 7)
 }
 
-/// What follows a value is lent, or ignored; given constraints replace those of the type.
+/// What follows a value is returned as a borrowed slice, or ignored. Given constraints replace those of the type.
 #[test]
 fn octets_behind_a_value(rt: HostRuntime) -> Result<(), Fail> {
     let alloc = rt.alloc();

@@ -89,7 +89,7 @@ fn choices(rt: HostRuntime) {
     assert_none(&rt, &wrong_choice(rt.alloc()));
 }
 
-/// Reads a BOOLEAN at the start with a new decoder, which has not failed.
+/// Decodes a BOOLEAN at the start with a new decoder, which has not failed.
 fn truth_in_front(
     alloc: Global,
     octets: &[u8],
@@ -116,7 +116,7 @@ fn fails_for_good(decoder: &mut Decoder<'_>) -> bool {
         && decoder.decode_bool(Tag::BOOL) == Err(DecodeError::AlreadyFailed)
 }
 
-/// Whether true comes first, and one octet after it.
+/// Whether TRUE comes first, and one octet after it.
 fn is_true_before(decoder: &mut Decoder<'_>, octet: u8) -> bool {
     decoder.decode_bool(Tag::BOOL) == Ok(true) && *decoder.remaining() == *[octet].as_slice()
 }
@@ -140,12 +140,12 @@ fn a_decoder_that_has_failed(rt: HostRuntime) {
     assert!(rt; basic_rules_take(alloc, &[0x05, 0xFF]));
 }
 
-/// Begins a list.
+/// Begins a SEQUENCE OF.
 fn begin_list(decoder: &mut Decoder<'_>) -> Result<(), DecodeError> {
     decoder.begin_list(Tag::SEQUENCE, &Constraints::NONE, Bounded::None)
 }
 
-/// Begins 128 nested lists. Returns whether each of them has a member, and one more is refused.
+/// Begins 128 nested SEQUENCE OF. Returns whether each of them has an element, and one more is refused.
 fn is_full_of_lists(decoder: &mut Decoder<'_>) -> Result<bool, DecodeError> {
     for _ in 0..128u8 {
         begin_list(decoder)?;
@@ -160,7 +160,7 @@ fn is_full_of_lists(decoder: &mut Decoder<'_>) -> Result<bool, DecodeError> {
     )
 }
 
-/// Begins 128 nested sequences. Returns whether one more is refused.
+/// Begins 128 nested SEQUENCEs. Returns whether one more is refused.
 fn is_full_of_sequences(decoder: &mut Decoder<'_>) -> Result<bool, DecodeError> {
     for _ in 0..128u8 {
         decoder.begin_sequence(Tag::SEQUENCE, false, 0)?;
@@ -173,13 +173,13 @@ fn is_full_of_sequences(decoder: &mut Decoder<'_>) -> Result<bool, DecodeError> 
     )
 }
 
-/// Whether the list at level 129 of these octets is refused.
+/// Whether the SEQUENCE OF at level 129 of these octets is refused.
 fn are_full_of_lists(alloc: Global, octets: &[u8]) -> Result<bool, DecodeError> {
     let mut decoder = Decoder::new(alloc, octets, DecoderOptions::coer());
     is_full_of_lists(&mut decoder)
 }
 
-/// Whether the sequence at level 129, without octets, is refused.
+/// Whether the SEQUENCE at level 129, without octets, is refused.
 fn none_are_full_of_sequences(alloc: Global) -> Result<bool, DecodeError> {
     let mut decoder = Decoder::new(alloc, &[], DecoderOptions::coer());
     is_full_of_sequences(&mut decoder)

@@ -1,12 +1,13 @@
-//! The calls that decode a value at the start and ignore what follows, and the front readers, which return the number
-//! of octets of the value: each by itself.
+//! The calls that decode a value at the start and ignore what follows, and the readers that also return the number of
+//! octets of the value: each by itself.
 use asn1_schema_decode::FrontReader;
 use asn1_schema_faults::DecodeError;
 use oer_codec::{CoerFront, OerFront, coer, oer};
 use per_codec::{AperFront, UperFront, aper, uper};
 use std::alloc::Global;
 
-/// Whether PER reads INTEGER (0..4294967295): 32 bits in UPER, and octets after a length of two bits in APER.
+/// Whether PER decodes INTEGER (0..4294967295): 32 bits in UPER; in APER, octets after a length determinant of two
+/// bits.
 fn numbers_are_read(alloc: Global) -> bool {
     let unaligned = [0x00, 0x00, 0x00, 0x07, 0xFF];
     let aligned = [0x00, 0x07, 0xFF];
@@ -24,7 +25,7 @@ fn truths_are_read(alloc: Global) -> bool {
         && coer::decode::<bool>(alloc, &[0x05, 0x00]) == Err(DecodeError::InvalidBool)
 }
 
-/// Whether the front readers of PER find such a number, in four octets and in two.
+/// Whether the readers of PER find such a number, in four octets and in two.
 fn numbers_are_found(alloc: Global) -> bool {
     let unaligned: Result<(u32, usize), DecodeError> = UperFront.read_front(
         alloc,

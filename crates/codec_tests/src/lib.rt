@@ -1,5 +1,5 @@
-//! Tests of both codecs call by call, and of what no line of the vectors covers in OER and COER: what a call leaves
-//! in a borrowed buffer, values without an encoding, how many octets a refused input needs, and readers and writers of
+//! Tests of both codecs call by call, and of what no line of the vectors covers in OER and COER: what a call leaves in
+//! a borrowed buffer, values without an encoding, how many octets a rejected input needs, and readers and writers of
 //! tags and length determinants.
 #![tactic(auto)]
 

@@ -1,5 +1,5 @@
-//! Values call by call, in each set of rules: components that may be absent, bags, many additions, many alternatives,
-//! and long open types (X.691 11.2, 11.5 to 11.9, 19, 21 and 23, X.696 8.7, 16.4 and 20).
+//! Values call by call, in each set of rules: optional components, SET OF, many additions, many alternatives, and long
+//! open types (X.691 11.2, 11.5 to 11.9, 19, 21 and 23, X.696 8.7, 16.4 and 20).
 use crate::common::assert_none;
 use crate::spelled::octets;
 use crate::steps::{Choice, Lent, Step, are_found, places_of, put_all, tags};
@@ -389,7 +389,7 @@ fn wrong_row(alloc: Global, tables: Tables<'_>) -> Result<Option<&'static str>, 
     Ok(None)
 }
 
-/// Indices without an alternative, after 300 added ones and after 300 root ones.
+/// Indexes without an alternative, after 300 additions and after 300 root alternatives.
 const BEHIND_THE_LAST: [(Rules, &[Step], &str); 6] = [
     (UPER, addition!(300), "C0 80 4B 00 C0 80 53 40"),
     (APER, addition!(300), "C0 02 01 2C 03 02 01 4D"),
@@ -448,7 +448,7 @@ fn messages(rt: HostRuntime) -> Result<(), Fail> {
 }
 
 /// SEQUENCE {a BOOLEAN, b SET (SIZE (1..2)) OF SEQUENCE {c BOOLEAN, d INTEGER (0..65535)}}: a true, and in b a number
-/// of members.
+/// of elements.
 macro_rules! bag {
     ($count:literal, $(($c:literal, $d:literal)),*) => {
         &[
@@ -480,7 +480,7 @@ const OF_TWO: &[Step] = bag!(2, (true, 1), (false, 2));
 
 const OF_THREE: &[Step] = bag!(3, (true, 1), (false, 2), (false, 3));
 
-/// The members of a bag are in order, also after other bits, and are padded at their final position. Three are too
+/// The elements of a SET OF are in order, also after other bits, and are padded at their final position. Three are too
 /// many here.
 #[test]
 fn bags_behind_a_bit(rt: HostRuntime) -> Result<(), Fail> {

@@ -1,4 +1,4 @@
-//! How many octets more a refused input needs at least.
+//! How many more octets a rejected input needs at least.
 use asn1_schema_decode::Decode;
 use asn1_schema_example::grown::Grown;
 use asn1_schema_example::message::Message;
@@ -33,8 +33,8 @@ fn needed<T: Decode>(alloc: Global, input: &[u8]) -> (usize, usize) {
     )
 }
 
-/// Each member that is to come is an octet at least: ten of a thousand members are there; of a hundred lists, five of
-/// the fifty members of the first.
+/// Each further element takes at least one octet: ten of a thousand elements are there; of a hundred lists, five of the
+/// fifty elements of the first.
 #[test]
 fn members_that_are_to_come(rt: HostRuntime) -> Result<(), Fail> {
     let alloc = rt.alloc();
@@ -45,7 +45,7 @@ fn members_that_are_to_come(rt: HostRuntime) -> Result<(), Fail> {
     Ok(())
 }
 
-/// A string lacks what its length tells, or its one size, besides the strings that are to come behind it.
+/// A string needs the rest of its length determinant or fixed size, and the strings that follow it.
 #[test]
 fn octets_that_are_to_come(rt: HostRuntime) -> Result<(), Fail> {
     let alloc = rt.alloc();

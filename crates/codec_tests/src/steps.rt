@@ -10,17 +10,17 @@ use std::alloc::{AllocError, Global};
 /// A call, with what it writes and finds.
 #[derive(Clone, Copy)]
 pub enum Step {
-    /// Begins a SEQUENCE, with an extension marker or without, and a number of root components that may be absent.
+    /// Begins a SEQUENCE, with or without an extension marker, and with a number of optional root components.
     Sequence(bool, usize),
     /// Begins such a SET.
     Set(bool, usize),
-    /// Begins a SET (SIZE (1..2)) OF with a number of members.
+    /// Begins a SET (SIZE (1..2)) OF with a number of elements.
     Bag(usize),
     /// Begins a choice with one of its alternatives.
     Choice(Choice, Chosen),
     /// Whether a component is present.
     Present(bool),
-    /// Whether there is a further member.
+    /// Whether there is one more element.
     Further(bool),
     /// Begins a number of additions.
     Additions(usize),
@@ -30,7 +30,7 @@ pub enum Step {
     Addition(bool),
     /// Ends an addition.
     EndOfAddition,
-    /// Ends what began last.
+    /// Ends what was begun last.
     End,
     /// NULL.
     Null,
@@ -62,7 +62,7 @@ pub enum Choice {
 pub struct Lent<'a> {
     /// The tags from [0] to [300].
     pub tags: &'a [Tag],
-    /// These, each with its number as its index.
+    /// The same tags, each with its number as its index.
     pub places: &'a [TagPlace],
     /// The octets of the message's string.
     pub string: &'a [u8],
@@ -106,7 +106,7 @@ macro_rules! at {
     };
 }
 
-/// The indices of CHOICE {[0], [5], ..., [2]}.
+/// The indexes of CHOICE {[0], [5], ..., [2]}.
 const PLACES_OF_THREE: [TagPlace; 3] = [at!(0 0), at!(2 2), at!(5 1)];
 
 /// Its root alternatives.
@@ -115,7 +115,7 @@ const ROOTS_OF_THREE: [Tag; 2] = [context!(0), context!(5)];
 /// Its addition.
 const ADDITIONS_OF_THREE: [Tag; 1] = [context!(2)];
 
-/// The tags of a choice's root alternatives and of its additions, and the indices of all.
+/// The tags of a choice's root alternatives and of its additions, and the indexes of all.
 type Tags<'a> = (&'a [Tag], &'a [Tag], &'a [TagPlace]);
 
 /// The first `count` items, or all if there are no more, and those after them.
@@ -123,7 +123,7 @@ fn parted<T>(items: &[T], count: usize) -> (&[T], &[T]) {
     items.split_at(count.min(items.len()))
 }
 
-/// The tags of 300 root alternatives, and their indices.
+/// The tags of 300 root alternatives, and their indexes.
 fn tags_of_300(lent: Lent<'_>) -> Tags<'_> {
     let (roots, _) = parted(lent.tags, 300);
     let (places, _) = parted(lent.places, 300);

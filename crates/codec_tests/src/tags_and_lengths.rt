@@ -96,14 +96,14 @@ fn tags(rt: HostRuntime) -> Result<(), Fail> {
     Ok(())
 }
 
-/// Whether two octets after their length determinant are lent, and the one after them is too few for its own.
+/// Whether two octets after their length determinant are borrowed, and the one after them is too few for its own.
 fn lends_two(cursor: &mut Cursor<'_>) -> bool {
     read_counted(cursor, EncodingRules::Coer) == Ok([0xAA, 0xBB].as_slice())
         && cursor.remaining() == [0xCC].as_slice()
         && read_counted(cursor, EncodingRules::Coer) == Err(DecodeError::Incomplete)
 }
 
-/// Whether NULL takes nothing of these.
+/// Whether NULL takes none of these octets.
 fn takes_nothing(cursor: &mut Cursor<'_>) -> bool {
     let length = cursor.len();
     read_null(cursor, EncodingRules::Coer) == Ok(()) && cursor.len() == length

@@ -1,4 +1,4 @@
--- Additions in front, and their presence bits.
+-- How octets begin with additions, and their presence bits.
 use Rattle.std.proofs.Common.{◌≡◌, ℕ, zero, suc, ◌<◌, Bool, true, false, List, [], ◌∷◌, drop, refl, sym, ◌∙◌, subst, arith}
 use Rattle.asn1_model.specs.Oer
 use Rattle.asn1_schema_faults.specs.declared.DecodeError.{DecodeError}
@@ -12,7 +12,7 @@ use Rattle.asn1_schema_finding.specs.PresenceBits.{first_bits}
 use Rattle.oer_codec.specs.Refusals.{NoAdditions, NotFinished, NotOpened}
 use Rattle.oer_codec.specs.Scopes.{NextPresent}
 
--- ---- their beginning
+-- ---- the start of additions
 pub no_bitmap : (free : Oer.Freedom → Bool) (n : ℕ) (os : List ℕ) (m : Bool) (e : DecodeError) → m ≡ true → Misses free Oer.counted_bits os e → NoAdditions free m n os e
 no_bitmap free n os false e f h = cc f
 no_bitmap free n os true e f h = record { none = λ i k b t. missed free Oer.counted_bits os e h i t.0 b.0 (as_stands free (Oer.counted_bits t.0) os b.0 t.2); fresh = not_before free Oer.counted_bits os e h }
@@ -23,7 +23,7 @@ not_opened free os e h = record { none = λ i k b t. missed free Oer.counted os 
 
 -- ---- the next addition
 
--- what the next addition tells comes from the next presence bit
+-- whether the next addition is present is its presence bit
 pub none_next : (free : Oer.Freedom → Bool) (w : Bool) (os : List ℕ) (k : List Scope) (b : State) → ((v : Bool) (after : List Scope) → NextPresent v k after → ⊥) → NextAddition free w os k b → ⊥
 none_next free w os (added (true ∷ ms) us ∷ k) b none t = none true (added ms us ∷ k) (refl, refl)
 none_next free w os (added (false ∷ ms) us ∷ k) b none t = none false (added ms us ∷ k) (refl, refl)

@@ -1,4 +1,4 @@
--- Choices in front.
+-- How octets begin with a choice.
 use Rattle.std.proofs.Common.{◌≡◌, ℕ, Bool, true, false, List, [], ◌++◌, Some, None, refl, sym, ◌∙◌, subst}
 use Rattle.asn1_laws_fronts.proofs.Tags.{tags_alike}
 use Rattle.asn1_model.specs.Oer
@@ -33,7 +33,7 @@ module _ (free : Oer.Freedom → Bool) (roots : List Tag) (x : Bool) (others : L
   pub no_choice : (os : List ℕ) (e : DecodeError) → NoTag free roots others os e → NoChoice free roots x others os e
   no_choice os e h = record { none = λ i plus j k b c. h.none i x c.0 plus j c.1 c.2 (as_stands free (Oer.tag_form c.0) os c.1 c.3); fresh = h.fresh }
 
-  -- one tag at most stands in front
+  -- octets begin with at most one tag
   pub one_tag : (t u : Tag) (os r s : List ℕ) → Stands free (Oer.tag_form t) os r → Stands free (Oer.tag_form u) os s → (t ≡ u) × (r ≡ s)
   one_tag t u os r s h g =
       let q = same_fronts free (tags_alike free t u) os r s (as_front free (Oer.tag_form t) os r h) (as_front free (Oer.tag_form u) os s g) in
@@ -56,7 +56,7 @@ module _ (free : Oer.Freedom → Bool) (roots : List Tag) (x : Bool) (others : L
         entry.none i k b (subst (λ m. Enters free p m k b) q.1 (subst (λ a. Enters free a c.1 k b) s c.4));
   }
 
-  -- where an alternative lacks octets behind its tag, the choice does
+  -- if octets of an alternative are missing after its tag, octets of the choice are
   pub no_choice_yet : (t : Tag) (p : Bool) (n : ℕ) (os mid : List ℕ) (m : ℕ) → Stands free (Oer.tag_form t) os mid → IsPlace roots x others t p n → StillNoEntry free p mid m → StillNoChoice free roots x others os m
   no_choice_yet t p n os mid m h place entry more i l plus j k b c =
       let g = front_more free more (Oer.tag_form t) [] os mid (as_front free (Oer.tag_form t) os mid h) in

@@ -1,4 +1,4 @@
--- What an encoder holds behind the records of a value.
+-- What an encoder holds after the records of a value.
 use Rattle.std.proofs.Common.{◌≡◌, ℕ, ◌<◌, ◌≤◌, ◌^◌, true, false, List, [], ◌∷◌, ◌++◌, length, take, drop, Option, Some, None, Result, Ok, Err, OnOk, OnErr, IfErr, MatchResult, refl, sym, ◌∙◌, ap, subst, arith}
 use Rattle.std.proofs.lemmas.List.{drop_at, take_at}
 use Rattle.asn1_model.specs.Schema.{Schema}
@@ -26,21 +26,21 @@ use Rattle.oer_codec.specs.Encoded.{IsEncoded, NotEncoded}
 steps : IsWriter Step (λ s. s) (λ s. Unit {0})
 steps = record { takes = λ a r b p. (p, tt); takes_all = λ a r m k s. (m, s, refl) }
 
--- it has not failed behind records, if it had not before
+-- if it had not failed before some records, it has not failed after them
 still_ready : (rs : List Record) (a b : Written) → Chain Puts rs a b → a.failed ≡ false → b.failed ≡ false
 still_ready [] a b h k = ap (λ (w : Written). w.failed) h ∙ k
 still_ready (r ∷ rs) a b h k = still_ready rs h.0 b h.2 h.1.1
 
--- an encoder that begins behind these octets
+-- an encoder that starts with these octets
 abbrev pub beginning : List ℕ → Written
 beginning os = record { state = (os, []); failed = false; front = os }
 
 pub not_failed : {start : Written} {os : List ℕ} → start ≡ beginning os → start.failed ≡ true → ⊥
 not_failed e h = let f : true ≡ false = sym h ∙ ap (λ (w : Written). w.failed) e in cc f
 
--- ---- before any bound on the length
+-- ---- before any limit on the length
 
--- what the encoder takes, a writer takes, and the other way round
+-- what the encoder accepts, a writer accepts, and conversely
 chain_held : (rs : List Record) (a b : Written) → Chain Puts rs a b → Chain Step rs a.state b.state
 chain_held [] a b c = ap (λ (w : Written). w.state) c
 chain_held (r ∷ rs) a b c = (c.0.state, c.1.2, chain_held rs c.0 b c.2)
@@ -52,11 +52,11 @@ chain_taken (r ∷ rs) a m k c =
     let u = chain_taken rs b m refl c.2 in
     (u.0, (b, (k, refl, c.1, refl), u.1))
 
--- the octets that stand behind those in front
+-- the octets after those at the start
 abbrev added : List ℕ → State → List ℕ
 added os s = drop (length os) s.0
 
--- the records of a value add the same octets behind any
+-- the records of a value add the same octets after any others
 chain_alone : (s : Schema) (v : Value) (os : List ℕ) (new : State) → Chain Step (presents s v) (os, []) new → (new ≡ (os ++ added os new, [])) × Chain Step (presents s v) ([], []) (added os new, [])
 chain_alone s v os new c =
     let t = (chains_add s v os [] new).0 c in
@@ -74,10 +74,10 @@ as_text : (schema : ℕ → Schema) (v : Value) (o : Option (List ℕ)) → ((n 
 unfolding encoding
 as_text schema v o h n f = (h n f, h n f)
 
--- ---- what the calls answer
+-- ---- the results of the calls
 
 module _ (schema : ℕ → Schema) (v : Value) (start : Written) (os : List ℕ) (e : start ≡ beginning os) (i : IsValue schema v) where
-  -- behind the records of a value stand its octets
+  -- after the records of a value come its octets
   pub written_behind : (new : Written) → Writes Puts schema v start new → (new.failed ≡ false) × (new.state.1 ≡ []) × (new.state.0 ≡ os ++ added os new.state) × IsWrittenIn octet_rules schema v (of_moderate_length (added os new.state)) × HasTextIn octet_rules schema v (Some (added os new.state))
   written_behind new w =
       let x : Writes Puts schema v (beginning os) new = subst (λ s. Writes Puts schema v s new) e w in
@@ -93,7 +93,7 @@ module _ (schema : ℕ → Schema) (v : Value) (start : Written) (os : List ℕ)
         as_text schema v (Some (added os new.state)) ((written_by_records schema v alone i).0 y).1,
       )
 
-  -- a value whose records are refused has none
+  -- a value whose records are refused has no octets
   pub refused_behind : (x y : EncodeError) → CannotWrite Puts schema v start x → PassedOn x y → NotEncoded schema v y
   refused_behind x y c p =
       let d : CannotWrite Puts schema v (beginning os) x = subst (λ s. CannotWrite Puts schema v s x) e c in
@@ -104,7 +104,7 @@ module _ (schema : ℕ → Schema) (v : Value) (start : Written) (os : List ℕ)
         bare = λ n m. as_text schema v None ((refused_by_records schema v x i (no_memory_before x y p n)).0 z);
       }
 
--- the same where nothing is in front
+-- the same if nothing comes before
 pub written_all : (schema : ℕ → Schema) (v : Value) (start new : Written) (os : List ℕ) → start ≡ beginning os → os ≡ [] → IsValue schema v → Writes Puts schema v start new → (new.failed ≡ false) × (new.state.1 ≡ []) × IsWrittenIn octet_rules schema v (of_moderate_length new.state.0) × HasTextIn octet_rules schema v (Some new.state.0)
 written_all schema v start new os e f i w =
     let t = written_behind schema v start os e i new w in
@@ -114,9 +114,9 @@ written_all schema v start new os e f i w =
 pub refused_all : (schema : ℕ → Schema) (v : Value) (start : Written) (os : List ℕ) (x e : EncodeError) → start ≡ beginning os → os ≡ [] → IsValue schema v → CannotWrite Puts schema v start x → PassedOn x e → NotEncoded schema v e
 refused_all schema v start os x e k f i c p = refused_behind schema v start os k i x e c p
 
--- ---- behind what stands in a buffer
+-- ---- after the contents of a buffer
 
--- the octets behind so many in front, unless they are too many
+-- the octets after a number of first ones, unless they are too many
 abbrev pub CutAt : ℕ → List ℕ → List ℕ → Result (Unit {0}) EncodeError → Type 0
 CutAt n all new r = MatchResult r (λ _. (new ≡ all) × (length (drop n all) < 2 ^ 60)) (λ e. (e ≡ TooLongValue) × (2 ^ 60 ≤ length (drop n all)) × (new ≡ take n all))
 
@@ -142,6 +142,6 @@ module _ (schema : ℕ → Schema) (v : Value) (old w all new : List ℕ) (n : �
   buffer_same (Ok u) k = tt
   buffer_same (Err x) k = k.2 ∙ ap (take n) e ∙ take_at old w n (sym m)
 
--- behind an empty buffer it stands alone
+-- after an empty buffer it is alone
 pub encoded_alone : (schema : ℕ → Schema) (v : Value) (old new : List ℕ) → old ≡ [] → (octets : List ℕ) × IsEncoded schema v octets × (new ≡ old ++ octets) → IsEncoded schema v new
 encoded_alone schema v old new e w = subst (IsEncoded schema v) (sym (w.2 ∙ ap (λ l. l ++ w.0) e)) w.1

@@ -1,4 +1,4 @@
--- How a record that is asked for is found in front, and why none is.
+-- How a record that is asked for is found, and why none is.
 use Rattle.std.proofs.Common.{◌≡◌, ℕ, ℤ, zero, ◌+◌, ◌<◌, ◌≤◌, ◌^◌, suc, ltb, Bool, cond, true, false, ◌||◌, List, [], ◌∷◌, length, take, Some, Result, Ok, Err, refl, sym, ◌∙◌, ap, subst, arith}
 use Rattle.std.proofs.lemmas.Bool.{and_parts, le-leb, leb-true}
 use Rattle.std.specs.Prelude.{OnOk, leb}
@@ -24,7 +24,7 @@ use Rattle.oer_codec.specs.Members.{HasMembers, NoMembers}
 use Rattle.oer_codec.specs.Preamble.{HasPreamble}
 use Rattle.std.specs.Option.{option_map_or}
 
--- all of a list are its first ones, if there are not more
+-- a list is its own prefix of a length, if it is no longer
 pub take_whole : {X : Type 0} (k : ℕ) (l : List X) → length l ≤ k → take k l ≡ l
 take_whole zero [] h = refl
 take_whole zero (x ∷ l) h = absurd (omega (arith, h))
@@ -67,7 +67,7 @@ module _ (free : Oer.Freedom → Bool) (a b : State) where
   asked_identifier (identifier v) k t = (arcs v, t)
   asked_identifier r k t = cc k
 
--- none of a type is found where none stands in front
+-- no value of a type is found if the octets do not begin with one
 pub none_found : (old now : Held) (q : Question) (s : Schema) (e x : DecodeError) → now ≡ old → x ≡ e → NoFront (freedoms now.rules) s now.octets e → ((free : Oer.Freedom → Bool) (a b : State) (r : Record) → question r ≡ q → Takes free a r b → OfType free a b s) → NoneIn q old x
 none_found old now q s e x same faults m asked =
     let n : NoFront (freedoms old.rules) s old.octets e = subst (λ (h : Held). NoFront (freedoms h.rules) s h.octets e) same m in
@@ -161,15 +161,15 @@ no_list old now z h e x same faults m =
           n.none (λ y. i (faults ∙ y)) (members t.0) new.octets (t.2, stands t.3);
     }
 
--- where no number of members is in front none begin
+-- if the octets do not begin with a number of elements, none begin
 pub not_counted : (free : Oer.Freedom → Bool) (h : Counts) (n : ℕ) (a b : State) (e : DecodeError) → NoMembers free h a.0 e → ¬ (e ≡ OutOfMemory) → Counted free h n a b → ⊥
 not_counted free h n a b e m i t = m.none i (members t.0) b.0 (t.2, stands t.3)
 
--- what a number of members is between
+-- the bounds of a number of elements
 pub between : (h : Counts) (most n : ℕ) → h.high ≡ Some most → is_count_within h n ≡ true → (h.low ≤ n) × (n ≤ most)
 between h most n top e = let p = and_parts _ _ e in (leb-true h.low n p.0, leb-true n most (subst (λ t. (option_map_or (λ x. leb n x) t true) ≡ true) top p.1))
 
--- no other number of members is in front
+-- the octets begin with no other number of elements
 pub other_count : (free : Oer.Freedom → Bool) (h : Counts) (n : ℕ) (os rest : List ℕ) (e : DecodeError) → ¬ (e ≡ AlreadyFailed) → Stands free (Oer.unsigned n) os rest → (is_count_within h n ≡ true → ⊥) → NoMembers free h os e
 other_count free h n os rest e q f w = record { none = λ i s more g. go s more g; fresh = q }
   where
@@ -182,7 +182,7 @@ other_count free h n os rest e q f w = record { none = λ i s more g. go s more 
         w (ap (is_count_within h) j ∙ g.0)
     go s more g = g
 
--- nor any that 64 bits count, where none of those is
+-- nor with any of at most 64 bits, if they begin with none of those
 pub no_count : (free : Oer.Freedom → Bool) (h : Counts) (most : ℕ) (os : List ℕ) (e : DecodeError) → h.high ≡ Some most → most < 2 ^ 64 → Misses free count_in os e → NoMembers free h os e
 no_count free h most os e top small m = record { none = λ i s rest g. go i s rest g; fresh = not_before free count_in os e m }
   where

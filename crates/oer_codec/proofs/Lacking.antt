@@ -1,4 +1,4 @@
--- Why a decoder finds no string, also with as many octets more as are lacking.
+-- Why a decoder finds no string, also with as many octets more as are missing.
 use Rattle.std.proofs.Common.{◌≡◌, inl, inr, ◌≤◌, ◌<◌, ℕ, Bool, true, false, cond, List, [], ◌∷◌, ◌++◌, length, Option, Some, None, refl, sym, ◌∙◌, ap, subst, length-append, append-nil, arith}
 use Rattle.std.proofs.lemmas.Bool.{cases_lt}
 use Rattle.asn1_model.specs.Oer
@@ -25,7 +25,7 @@ use Rattle.oer_codec.proofs.Refused.{NoneIn}
 use Rattle.oer_codec.proofs.Finding.{OfType, stands}
 use Rattle.oer_codec.proofs.ShortStrings.{none_counted, no_bitmap_yet}
 
--- within an open type octets that come later stand behind all that is held
+-- within an open type, octets that come later follow all that is held
 within_more : (e : List ℕ) (k : List Scope) (os : List ℕ) → is_within k ≡ true → length e ≤ length (octets_behind os (scopes_with e k))
 within_more e [] os h = cc
 within_more e (open_type rest ∷ k) os h = at (λ i. within_more e k (octets_with e k rest) i) (is_within k) refl
@@ -44,7 +44,7 @@ no_octet : (e : List ℕ) → length e ≤ 0 → e ≡ []
 no_octet [] h = refl
 no_octet (x ∷ e) h = absurd (omega arith)
 
--- a record that takes no octets from those around an open type, and is not there where there are too few octets
+-- a record that takes no octets after the end of an open type, and is absent if there are too few octets
 module _ {q : Question} {x : DecodeError} (old failed : Held) (size : Option ℕ)
     (same : failed.scopes ≡ old.scopes)
     (short : StillTooShort (freedoms old.rules) size old.octets (failed.short))
@@ -83,7 +83,7 @@ module _ {q : Question} {x : DecodeError} (old failed : Held) (size : Option ℕ
     ];
   }
 
--- the encoding of a value of a type, after the decoder's position
+-- the encoding of a value of a type, at the position of the decoder
 pub still_short : {q : Question} {failed : Held} {x : DecodeError} (old now : Held) (s : Schema) (size : Option ℕ) (os : List ℕ) → now ≡ old → os ≡ now.octets → failed.scopes ≡ now.scopes → StillTooShort (freedoms now.rules) size os (failed.short) → ((rules : EncodingRules) (w : List ℕ) → TooShort (freedoms rules) size w → NoneStands (freedoms rules) (Oer.form s) w) → ((free : Oer.Freedom → Bool) (a b : State) (r : Record) → question r ≡ q → Takes free a r b → OfType free a b s) → NoneIn q old x → NoRecord Finds TooFewHeld q old failed x
 still_short {failed = failed} old now s size os e f g short none asked n =
     still_lacking old failed size (g ∙ ap (λ (h : Held). h.scopes) e)
@@ -152,7 +152,7 @@ module _ {x : DecodeError} (old failed : Held) (v : Bool) (after : List Scope) (
         none_at (λ y. i (faults ∙ y)) f.0 new.octets z.0 f.2 (is_within old.scopes) refl z.1;
   }
 
--- where the decoder stood there
+-- the state in which the decoder failed
 pub addition_short : {x : DecodeError} (old now failed : Held) (v : Bool) (after : List Scope) (e : DecodeError) → now ≡ old → x ≡ e → v ≡ true → NextPresent v now.scopes after → NotOpened (freedoms now.rules) now.octets e → (¬ (e ≡ OutOfMemory) → (failed.scopes ≡ after) × StillTooShort (freedoms now.rules) None now.octets (failed.short)) → NoRecord Finds TooFewHeld asks_addition old failed x
 addition_short old now failed v after e same faults there next closed kept =
     addition_lacking old failed v after e faults there (subst (λ (h : Held). NextPresent v h.scopes after) same next) (subst (λ (h : Held). NotOpened (freedoms h.rules) h.octets e) same closed) (λ i. let k = kept i in (k.0, subst (λ (h : Held). StillTooShort (freedoms h.rules) None h.octets (failed.short)) same k.1))
@@ -188,7 +188,7 @@ module _ {x : DecodeError} (old failed : Held) (roots : List Tag) (e : Bool) (ot
         none_chosen_at (λ y. i (faults ∙ y)) g.0 g.2 (is_within old.scopes) refl w.0 w.1 (scopes_with g.0 old.scopes) (state_of new) w.2;
   }
 
--- where the decoder stood there
+-- the state in which the decoder failed
 pub choice_short : {x : DecodeError} (old now failed : Held) (roots : List Tag) (e : Bool) (others : List Tag) (f : DecodeError) (os : List ℕ) → now ≡ old → os ≡ now.octets → x ≡ f → failed.scopes ≡ now.scopes → NoChoice (freedoms now.rules) roots e others now.octets f → StillNoChoice (freedoms now.rules) roots e others os (failed.short) → NoLevel Finds TooFewHeld (asks_choice roots e others) old.levels old failed x
 choice_short old now failed roots e others f os same stood faults kept closed short =
     choice_lacking old failed roots e others f faults (kept ∙ ap (λ (h : Held). h.scopes) same) (subst (λ (h : Held). NoChoice (freedoms h.rules) roots e others h.octets f) same closed) (subst (λ (h : Held). StillNoChoice (freedoms h.rules) roots e others h.octets (failed.short)) same (subst (λ l. StillNoChoice (freedoms now.rules) roots e others l (failed.short)) stood short))

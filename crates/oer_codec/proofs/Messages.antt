@@ -1,4 +1,4 @@
--- Which message a decoder has found, and why none stands in front where it has not.
+-- Which message a decoder has found, and why the octets begin with none if it has found none.
 use Rattle.std.proofs.Common.{◌≡◌, inl, inr, min, append-nil, ℕ, ◌+◌, ◌-◌, ◌<◌, ◌≤◌, ◌^◌, true, false, IsTrue, List, [], ◌++◌, length, take, drop, refl, ap, sym, ◌∙◌, subst, append_assoc, arith, length-append}
 use Rattle.std.proofs.lemmas.Bool.{cases_lt}
 use Rattle.std.proofs.lemmas.List.{length-take, take-append-drop, take-append-le}
@@ -48,7 +48,7 @@ unfolding IsEncoding
 form_of OerRules s v w e = e
 form_of CoerRules s v w e = e
 
--- ---- what a decoder is at the beginning
+-- ---- the state of a decoder at the start
 abbrev pub first : List ℕ → List ℕ
 first input = take (2 ^ 60 - 1) input
 
@@ -89,7 +89,7 @@ told r schema v input new t =
       means = t.means;
     }
 
--- no more octets are left than there were
+-- at most as many octets are left as there were
 pub left_within : (schema : ℕ → Schema) (v : Value) (old new : Held) → ReadsValue Finds schema old.levels v old new → length new.octets ≤ length old.octets
 left_within schema v old new t =
     let c = octets_taken (presents (schema old.levels) t.raw) old new t.chain in
@@ -109,7 +109,7 @@ front_of text rest input h e =
     sym (take-append-add text rest (2 ^ 60 - 1 - length text)) ∙ ap (λ k. take k (text ++ rest)) n ∙ ap first e
 
 module _ (r : EncodingRules) (schema : ℕ → Schema) (input : List ℕ) (lawful : IsLawful (schema 128)) where
-  -- a message in front has records that are found
+  -- the message with which octets begin has records that are found
   found_again : (v : Value) (rest : List ℕ) → HasMessage (rules_of r) (schema 128) v input rest → (w : Value) × (new : Held) × Fits (schema 128) w × Chain Finds (presents (schema 128) w) (begun r input) new
   found_again v rest m =
       let s = schema 128 in
@@ -125,7 +125,8 @@ module _ (r : EncodingRules) (schema : ℕ → Schema) (input : List ℕ) (lawfu
   pub none_told : (e : DecodeError) (failed : Held) → Unread Finds TooFewHeld schema 128 (begun r input) failed e → NoMessage (rules_of r) schema input e
   none_told e failed u = record { none = λ n v rest m. let f = found_again v rest m in u.none n (begun r input) (few_at_once 0 (begun r input) failed) f.0 f.1 f.2 f.3 }
 
--- an input and more octets: what is looked at of both is what is looked at of the input, and no more of the others
+-- an input and more octets: what is looked at of both begins with what is looked at of the input, and has at most the
+-- added octets after it
 begun_more : (input more : List ℕ) → (f : List ℕ) × (first (input ++ more) ≡ first input ++ f) × (length f ≤ length more)
 begun_more input more = elim (cases_lt (2 ^ 60 - 1) (length input)) [
   | inl i ↦ ([], take-append-le (2 ^ 60 - 1) input more (omega arith) ∙ sym (append-nil (first input)), omega arith)
@@ -136,7 +137,7 @@ begun_more input more = elim (cases_lt (2 ^ 60 - 1) (length input)) [
       (take k more, ap (λ m. take m (input ++ more)) n ∙ take-append-add input more k ∙ ap (λ x. x ++ take k more) (sym w), omega (arith, length-take k more))
 ]
 
--- Where a decoder was refused, no message is in front either once a few octets more stand behind the input.
+-- If a decoder failed, the input with a few octets appended begins with no message either.
 pub more_needed : (r : EncodingRules) (schema : ℕ → Schema) (input : List ℕ) (failed : Held) (n : ℕ) (e : DecodeError) → IsLawful (schema 128) → n ≤ lacks failed + 1 → Unread Finds TooFewHeld schema 128 (begun r input) failed e → NeedsMore (rules_of r) schema input n e
 more_needed r schema input failed n e lawful few u more h =
     let z = begun_more input more in

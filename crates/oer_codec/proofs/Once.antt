@@ -1,4 +1,4 @@
--- Of all beginnings of some octets one at most is an encoding.
+-- At most one prefix of any octets is an encoding.
 use Rattle.asn1_laws_fronts.specs.Laws.{OneFrontIn}
 use Rattle.asn1_laws_fronts.proofs.OctetForms.{one_front_oer, one_front_coer}
 use Rattle.oer_codec_reading_lengths.specs.declared.rules.EncodingRules.{EncodingRules}

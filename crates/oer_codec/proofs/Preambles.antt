@@ -1,4 +1,4 @@
--- Preambles in front of octets.
+-- How octets begin with a preamble.
 use Rattle.std.proofs.Common.{◌≡◌, ℕ, suc, ◌+◌, ◌*◌, ◌/◌, ◌<◌, Bool, false, cond, List, [], ◌∷◌, ◌++◌, length, replicate, Option, Some, None, refl, sym, ◌∙◌, ap, subst, arith}
 use Rattle.std.proofs.lemmas.List.{length-append, length-replicate}
 use Rattle.std.specs.List.{AllByRecursion}
@@ -11,7 +11,7 @@ use Rattle.oer_codec_fronts.specs.Takes.{Scope, components}
 use Rattle.asn1_schema_finding.specs.PresenceBits.{preamble_bits}
 use Rattle.oer_codec.specs.Preamble.{HasBits, HasPreamble}
 
--- beginnings of one length are equal, and what is behind them
+-- prefixes of the same length are equal, and so is what follows them
 pub fronts_equal : {X : Type 0} (a b r s : List X) → length a ≡ length b → a ++ r ≡ b ++ s → (a ≡ b) × (r ≡ s)
 fronts_equal [] [] r s l e = (refl, e)
 fronts_equal [] (y ∷ b) r s l e = absurd (omega arith)
@@ -40,7 +40,7 @@ has_bits : (e : Bool) (n : ℕ) (x : Option Bool) (ms : List Bool) → is_some x
 has_bits e n None ms p l = subst (λ b. length ms ≡ cond b 1 0 + n) p (omega (arith, l))
 has_bits e n (Some x) ms p l = subst (λ b. suc (length ms) ≡ cond b 1 0 + n) p (omega (arith, l))
 
--- the bits of the octets of a preamble are its own, and unused ones, which are zero
+-- the bits of the octets of a preamble are its bits followed by unused bits of zero
 pub zero_unused_bits : (e : Bool) (n : ℕ) (s : Scope) (w rest os : List ℕ) (r : List Bool) → AllByRecursion (λ o. o < 256) w → HasBits e n s (octet_bits w) r → length w * 8 ≡ (cond e 1 0 + n) + missing (cond e 1 0 + n) → r ≡ replicate (length r) false → w ++ rest ≡ os → HasPreamble e n s os rest
 zero_unused_bits e n (components x ms) w rest os r small h l z f =
     let p = has_bits e n x ms h.0 h.1 in
@@ -52,7 +52,7 @@ zero_unused_bits e n (components x ms) w rest os r small h l z f =
     (h.0, h.1, (w, ap packed q ∙ whole_octets w small, f))
 zero_unused_bits e n s w rest os r small h l z f = absurd h
 
--- where an unused bit is set there is no preamble
+-- if an unused bit is set there is no preamble
 pub other_unused_bits : (e : Bool) (n : ℕ) (s t : Scope) (w new rest os : List ℕ) (r : List Bool) → HasBits e n s (octet_bits w) r → length w * 8 ≡ (cond e 1 0 + n) + missing (cond e 1 0 + n) → w ++ new ≡ os → HasPreamble e n t os rest → r ≡ replicate (length r) false
 other_unused_bits e n (components x ms) (components y ns) w new rest os r h l f g =
     let p = has_bits e n x ms h.0 h.1 in
@@ -66,7 +66,7 @@ other_unused_bits e n (components x ms) (components y ns) w new rest os r h l f 
 other_unused_bits e n (components x ms) t w new rest os r h l f g = absurd g
 other_unused_bits e n s t w new rest os r h l f g = absurd h
 
--- nor where there are too few octets
+-- nor if there are too few octets
 pub not_short : (e : Bool) (n k : ℕ) (t : Scope) (rest os : List ℕ) → k * 8 ≡ (cond e 1 0 + n) + missing (cond e 1 0 + n) → length os < k → HasPreamble e n t os rest → ⊥
 not_short e n k (components y ns) rest os l f g =
     let q = has_bits e n y ns g.0 g.1 in
@@ -76,7 +76,7 @@ not_short e n k (components y ns) rest os l f g =
     omega (arith, j, m, f)
 not_short e n k t rest os l f g = g
 
--- what is left behind the bits of a preamble is less than an octet
+-- less than an octet is left after the bits of a preamble
 pub less_than_octet : (e : Bool) (n : ℕ) (s : Scope) (w : List ℕ) (r : List Bool) → HasBits e n s (octet_bits w) r → length w * 8 ≡ (cond e 1 0 + n) + missing (cond e 1 0 + n) → length r < 8
 less_than_octet e n (components x ms) w r h l =
     let p = has_bits e n x ms h.0 h.1 in

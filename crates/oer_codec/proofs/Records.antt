@@ -1,4 +1,4 @@
--- What a record that answers a question takes, and why none is found.
+-- What a record that answers a question does, and why none is found.
 use Rattle.std.proofs.Common.{◌≡◌, ℕ, ℤ, Bool, true, false, List, [], ◌∷◌, Some, refl, sym, ◌∙◌, subst}
 use Rattle.asn1_model.specs.Oer
 use Rattle.asn1_model.specs.Schema.{Tag, Counts, Size, enumerated}
@@ -26,7 +26,7 @@ no_record old now q e x same faults none = record { none = λ i r new k p. none 
 pub no_level : (old now : Held) (q : Question) (e x : DecodeError) → now ≡ old → x ≡ e → (¬ (e ≡ OutOfMemory) → (r : Record) (b : State) → question r ≡ q → Takes (freedoms now.rules) (state_of now) r b → ⊥) → NoneInLevel q old.levels old x
 no_level old now q e x same faults none = record { none = λ i l r new k p. none (λ y. i (faults ∙ y)) r (state_of new) k (subst (λ (h : Held). Takes (freedoms h.rules) (state_of h) r (state_of new)) (sym same) p.taken) }
 
--- ---- by what is asked
+-- ---- by the question
 module _ (free : Oer.Freedom → Bool) (a b : State) where
   pub asked_item : (roots : List ℤ) (e : Bool) (adds : List ℤ) (r : Record) → question r ≡ asks_one_of roots e adds → Takes free a r b → OfType free a b (enumerated roots e adds)
   asked_item roots e adds (one_of ss d bs v) k t = let p : enumerated ss d bs ≡ enumerated roots e adds = cc k in (item v, subst (λ s. Found free (Oer.form s (item v)) a b) p t)
@@ -76,7 +76,7 @@ not_chosen old now roots e others f x same faults m = no_level old now (asks_cho
 pub no_addition : (old now : Held) (x : DecodeError) → now ≡ old → ((v : Bool) (after : List Scope) → NextPresent v now.scopes after → ⊥) → NoneIn asks_addition old x
 no_addition old now x same none = no_record old now asks_addition x x same refl (λ i r b q t. let v = asked_addition (freedoms now.rules) (state_of now) b r q t in none_next (freedoms now.rules) v.0 now.octets now.scopes b none v.1)
 
--- ---- what asks for no octet of its own
+-- ---- questions that need no octets
 asked_further : (free : Oer.Freedom → Bool) (a b : State) (r : Record) → question r ≡ asks_further → Takes free a r b → (v : Bool) × NextMember v a.0 a.1 b
 asked_further free a b (further v) k t = (v, t)
 asked_further free a b r k t = cc k
@@ -105,7 +105,7 @@ asked_addition_end free a b r k t = cc k
 pub no_addition_end : (old now : Held) (e x : DecodeError) → now ≡ old → x ≡ e → NoAdditionEnd (freedoms now.rules) now.octets now.scopes e → NoneIn asks_addition_end old x
 no_addition_end old now e x same faults n = no_record old now asks_addition_end e x same faults (λ i r b q t. n.none i b (asked_addition_end (freedoms now.rules) (state_of now) b r q t))
 
--- additions begin behind an extension bit
+-- additions begin after an extension bit
 pub asked_additions : (free : Oer.Freedom → Bool) (n : ℕ) (a b : State) (r : Record) → question r ≡ asks_additions n → Takes free a r b → AdditionsBegin free n a.0 a.1 b
 asked_additions free n a b (additions_begin m) k t = let p : additions_begin m ≡ additions_begin n = cc k in subst (λ r. Takes free a r b) p t
 asked_additions free n a b r k t = cc k

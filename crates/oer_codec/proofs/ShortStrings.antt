@@ -1,4 +1,4 @@
--- Strings of which octets are lacking.
+-- Strings with missing octets.
 use Rattle.std.proofs.Common.{◌≡◌, ℕ, ◌+◌, ◌-◌, ◌*◌, ◌/◌, ◌≤◌, ◌<◌, ◌^◌, Bool, true, false, List, [], ◌∷◌, ◌++◌, length, take, Option, Some, None, refl, subst, length-append, arith}
 use Rattle.std.proofs.lemmas.List.{length-take}
 use Rattle.asn1_model.specs.Oer
@@ -31,7 +31,7 @@ use Rattle.oer_codec_reading.proofs.Skipping.{as_stands}
 use Rattle.oer_codec.specs.Missing.{TooShort, StillTooShort, octets_of_bits, bitmap_size}
 use Rattle.oer_codec.proofs.Finding.{take_whole}
 
--- ---- how many
+-- ---- the number of missing octets
 pub none_known : (free : Oer.Freedom → Bool) (size : Option ℕ) (os : List ℕ) (n : ℕ) → n ≡ 0 → StillTooShort free size os n
 none_known free size os n z more h l = absurd (omega arith)
 
@@ -46,7 +46,7 @@ behind_number free count os behind n s z more h l =
     let a : length (behind ++ more) ≡ length behind + length more = length-append behind more in
     (count, behind ++ more, as_stands free (Oer.length_form count) (os ++ more) (behind ++ more) (front_more free more (Oer.length_form count) [] os behind (front s)), omega arith)
 
--- all octets are looked at, where they are not more
+-- all octets are looked at if they are within the limit
 pub looked_at : (os : List ℕ) → length os ≤ length (take (2 ^ 60 - 1) os) → take (2 ^ 60 - 1) os ≡ os
 looked_at os h = take_whole (2 ^ 60 - 1) os (omega (arith, h, length-take (2 ^ 60 - 1) os))
 

@@ -1,4 +1,4 @@
--- What the calls that write answer.
+-- The results of the calls that encode.
 use Rattle.std.specs.Prelude.{ℕ, List, Some}
 use Rattle.asn1_model.specs.Schema.{Schema}
 use Rattle.asn1_model.specs.Value.{Value}
@@ -6,11 +6,11 @@ use Rattle.asn1_schema_faults.specs.declared.EncodeError.{EncodeError}
 use Rattle.asn1_schema_encode.specs.Written.{IsWrittenIn, NotWrittenIn}
 use Rattle.oer_codec_encoder.specs.Written.{octet_rules}
 
--- These octets are the canonical encoding of the value (X.696), in OER as in COER, in whatever depth its type is
+-- These octets are the canonical encoding of the value (X.696), in OER as in COER, at any depth to which its type is
 -- unfolded: `IsWrittenIn` for the rules of both.
 abbrev pub IsEncoded : (ℕ → Schema) → Value → List ℕ → Type 0
 IsEncoded schema v w = IsWrittenIn octet_rules schema v (Some w)
 
--- Why it is not written in either: `NotWrittenIn` for the same rules.
+-- Why it is encoded in neither: `NotWrittenIn` for the same rules.
 abbrev pub NotEncoded : (ℕ → Schema) → Value → EncodeError → Type 0
 NotEncoded schema v e = NotWrittenIn octet_rules schema v e

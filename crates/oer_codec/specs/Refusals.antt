@@ -1,5 +1,5 @@
--- Why a record is not found: want of memory, or nothing that it tells of stands in front. What looks for it knows of no
--- earlier refusal.
+-- Why a record is not found: memory ran out, or the octets do not begin with one. What looks for it does not know of
+-- earlier errors.
 use Rattle.std.specs.Prelude.{◌≡◌, ℕ, Bool, List, [], ◌∷◌, Some}
 use Rattle.asn1_model.specs.Oer
 use Rattle.asn1_model.specs.Schema.{Tag}
@@ -8,7 +8,7 @@ use Rattle.asn1_schema_faults.specs.declared.DecodeError.TheVariants.{AlreadyFai
 use Rattle.oer_codec_fronts.specs.Takes.{Scope, State, components, AdditionsBegin, Opens, AdditionEnds}
 use Rattle.oer_codec_fronts.specs.Takes.{Enters, Chooses, Ends}
 
--- No bitmap of additions (X.696 16.4).
+-- No presence bitmap of extension additions (X.696 16.4).
 pub record NoAdditions (free : Oer.Freedom → Bool) (is_extended : Bool) (n : ℕ) (os : List ℕ) (e : DecodeError) : Type 0
   where
     pub none : ¬ (e ≡ OutOfMemory) → (k : List Scope) (b : State)
@@ -30,7 +30,7 @@ pub record NoEnd (free : Oer.Freedom → Bool) (os : List ℕ) (k : List Scope) 
   pub none : ¬ (e ≡ OutOfMemory) → (b : State) → Ends free os k b → ⊥
   pub fresh : ¬ (e ≡ AlreadyFailed)
 
--- No end of a scope, whatever is around it.
+-- No end of a scope, whatever encloses it.
 pub record NotFinished (free : Oer.Freedom → Bool) (s : Scope) (os : List ℕ) (e : DecodeError) : Type 0 where
   pub none : ¬ (e ≡ OutOfMemory) → (k : List Scope) (b : State) → Ends free os (s ∷ k) b → ⊥
   pub fresh : ¬ (e ≡ AlreadyFailed)

@@ -1,4 +1,4 @@
--- What has begun and has not ended, as a reader of the octet encoding rules (X.696) holds it.
+-- What has begun and has not ended, as a decoder of OER (X.696) holds it.
 use Rattle.std.specs.Prelude.{◌≡◌, ℕ, suc, ◌+◌, Bool, List, [], ◌∷◌, drop, map, reverse, Option, Some, None}
 use Rattle.asn1_schema_finding.specs.PresenceBits.{first_bits}
 use Rattle.asn1_values_bits.specs.BitStr.{bits_of}
@@ -10,11 +10,11 @@ use Rattle.oer_codec.specs.declared.frames.Enclosing.TheVariants.{OpenType as En
 use Rattle.oer_codec.specs.declared.frames.Frame.{Frame}
 use Rattle.oer_codec.specs.declared.frames.Frame.TheVariants.{Components, Added, OpenType, Members, Alternative}
 
--- The presence bits of the type's additions that are still to come: those past the bitmap are 0.
+-- The presence bits of the type's additions that are still to come; those after the end of the bitmap are 0.
 abbrev pub own_presence : Additions → List Bool
 own_presence a = first_bits a.left (bits_of a.bitmap)
 
--- The presence bits of unknown ones.
+-- The presence bits of unknown additions.
 abbrev pub unknown_presence : Additions → List Bool
 unknown_presence a = drop a.left (bits_of a.bitmap)
 
@@ -26,24 +26,24 @@ scope_of (OpenType behind) = open_type behind
 scope_of (Members n) = members n
 scope_of Alternative = alternative
 
--- The frame of what encloses one value alone.
+-- The frame of a scope that contains a single value.
 abbrev pub frame_of : Enclosing → Frame
 frame_of EnclosingAlternative = Alternative
 frame_of (EnclosingOpenType behind) = OpenType behind
 
--- The open scopes that frames hold, the innermost first: it stands alone, and those around it in the order in which
--- they began.
+-- The open scopes that frames represent, the innermost first. The innermost frame is apart; those around it are in the
+-- order in which they began.
 abbrev pub framed : Option Frame → List Frame → List Scope
 framed None fs = []
 framed (Some f) fs = scope_of f ∷ map scope_of (reverse fs)
 
--- The open scopes, the innermost first: what encloses one value alone, if there is such a one, and those that frames
--- hold.
+-- The open scopes, the innermost first: one that contains a single value, if there is one, and those that frames
+-- represent.
 abbrev pub scopes_of : Option Enclosing → Option Frame → List Frame → List Scope
 scopes_of None f fs = framed f fs
 scopes_of (Some e) f fs = scope_of (frame_of e) ∷ framed f fs
 
--- The open scopes, where a number apart from the frames tells how many members of the innermost list are still to come.
+-- The open scopes, if a number outside the frames says how many elements of the innermost list are still to come.
 abbrev pub with_due : ℕ → List Scope → List Scope
 with_due (suc n) (members m ∷ k) = members (suc n) ∷ k
 with_due n k = k
@@ -53,7 +53,7 @@ abbrev pub NextPresent : Bool → List Scope → List Scope → Type 0
 NextPresent v (added (m ∷ ms) us ∷ k) after = (v ≡ m) × (after ≡ added ms us ∷ k)
 NextPresent v k after = ⊥
 
--- How many members are to come in frames, the outermost first, as far as the first open type.
+-- The number of elements that are still to come in frames, the outermost first, up to the first open type.
 abbrev pub owing : List Frame → ℕ
 owing [] = 0
 owing (OpenType behind ∷ fs) = 0

@@ -1,4 +1,4 @@
-//! Additions (X.696 16.4).
+//! Extension additions (X.696 16.4).
 ghost use Rattle.std.specs.Prelude.{◌≡◌, ◌∷◌, [], Some, IfOk, IfErr, IfSome, IfNone};
 ghost use Rattle.oer_codec_fronts.specs.Takes.{AdditionsBegin, added, components};
 ghost use Rattle.oer_codec_reading.specs.Fronts.{freedoms};
@@ -9,17 +9,18 @@ use asn1_schema_faults::DecodeError;
 use asn1_values_bits::BitStr;
 use oer_codec_reading::{Cursor, EncodingRules, read_bitmap, take_bit};
 
-/// The additions of a sequence that are still to come (X.696 16.4).
+/// The extension additions of a SEQUENCE that are still to come (X.696 16.4).
 #[derive(Drop)]
 pub(crate) struct Additions<'input> {
-    /// How many of the type's own.
+    /// The number of those that the type defines.
     pub(crate) left: usize,
-    /// The bits of the bitmap, behind those of the type's own additions the bits of unknown ones.
+    /// The bits of the presence bitmap: those of the type's additions, followed by those of unknown ones.
     pub(crate) bitmap: BitStr<'input>,
 }
 
 impl<'input> Additions<'input> {
-    /// Whether the next addition of the type is there. Those past the bits of the bitmap are not.
+    /// Whether the type's next addition is present. Additions after the end of the bitmap are absent. `None` if none is
+    /// to come.
     #[inline(always)]
     pub(crate) fn next(&mut self) -> Option<bool>
         ensures some { IfSome result (λ present. own_presence self.old ≡ present ∷ own_presence self.new) }
@@ -37,8 +38,8 @@ impl<'input> Additions<'input> {
     }
 }
 
-/// Reads what stands in front of the additions of a sequence, of which the type has so many: nothing where the
-/// extension bit is not set, else a presence bitmap of any width.
+/// Reads what precedes the additions of a SEQUENCE, of which the type has `count`: nothing if the extension bit is 0,
+/// otherwise a presence bitmap of any width.
 ///
 /// # Errors
 ///

@@ -12,7 +12,7 @@ use asn1_schema_variants::Chosen;
 use oer_codec_reading::alternatives::{find_alternative, read_alternative_tag};
 use oer_codec_reading::{Cursor, EncodingRules, enter_open_type};
 
-/// Enters an alternative: an added one is an open type (X.696 20).
+/// Enters an alternative. An added one is an open type (X.696 20).
 #[inline(always)]
 fn enter_alternative<'input>(
     cursor: &mut Cursor<'input>,

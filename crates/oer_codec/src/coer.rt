@@ -1,4 +1,4 @@
-//! Canonical octet encoding rules (X.696): values are written and read.
+//! The canonical octet encoding rules, COER (X.696): encodes and decodes values.
 ghost use Rattle.std.specs.Prelude.{◌≡◌, ◌++◌, ◌≤◌, ℕ, List, OnOk, OnErr, IfOk, IfErr};
 ghost use Rattle.asn1_model.specs.Lawful.{IsLawful};
 ghost use Rattle.asn1_model.specs.Rules.{coer};
@@ -17,8 +17,8 @@ use std::alloc::Global;
 ///
 /// # Errors
 ///
-/// Want of memory aside, only where the value has no encoding: `ValueConstraintNotSatisfied`,
-/// `SizeConstraintNotSatisfied`, or `TooLongValue` for 2^60 octets and more and for nothing else.
+/// `OutOfMemory` if memory runs out. Otherwise only if the value has no encoding: `ValueConstraintNotSatisfied`,
+/// `SizeConstraintNotSatisfied`, or `TooLongValue` for an encoding of 2^60 octets or more and for nothing else.
 pub fn encode<T: Encode>(alloc: Global, value: &T) -> Result<Vec<u8>, EncodeError>
     ensures ok { IfOk result (λ octets. IsEncoded T.schema (T.meaning value.now) octets.items) }
     ensures only { IfErr result (NotEncoded T.schema (T.meaning value.now)) }
@@ -29,11 +29,11 @@ pub fn encode<T: Encode>(alloc: Global, value: &T) -> Result<Vec<u8>, EncodeErro
     crate::writing::encode(alloc, value)
 }
 
-/// Adds the canonical encoding of a value (X.696) behind what stands in the buffer, in the buffer's own room.
+/// Appends the canonical encoding of a value (X.696) to the octets in the buffer, using its capacity.
 ///
 /// # Errors
 ///
-/// Those of `encode`; the buffer then holds what it held.
+/// Those of `encode`; the buffer then has its previous contents.
 pub fn encode_buf<T: Encode>(
     alloc: Global,
     value: &T,
@@ -51,7 +51,7 @@ pub fn encode_buf<T: Encode>(
     crate::writing::encode_buf(alloc, value, buffer)
 }
 
-/// The canonical encoding of a value (X.696) under these constraints, which stand in place of those of its type.
+/// The canonical encoding of a value (X.696) under these constraints, which replace those of its type.
 ///
 /// # Errors
 ///
@@ -71,12 +71,12 @@ pub fn encode_with_constraints<T: Encode>(
     crate::writing::encode_with_constraints(alloc, constraints, value)
 }
 
-/// Reads the value whose encoding (X.696) stands in front, and passes over the octets behind it.
+/// Decodes the value with whose encoding (X.696) the input begins, and ignores the octets after it.
 ///
 /// # Errors
 ///
-/// Want of memory aside, only where no octets in front, fewer than 2^60, are an encoding of a value that nests at
-/// most 128 levels.
+/// `OutOfMemory` if memory runs out. Otherwise only if no prefix of the input that is shorter than 2^60 octets is an
+/// encoding of a value with at most 128 nested levels.
 pub fn decode<T: Decode>(alloc: Global, input: &[u8]) -> Result<T, DecodeError>
     ensures ok { IfOk result (λ x. (rest : List ℕ) × Tells coer T.schema (T.meaning x) input.now rest) }
     ensures only { IfErr result (NoMessage coer T.schema input.now) }
@@ -85,7 +85,7 @@ pub fn decode<T: Decode>(alloc: Global, input: &[u8]) -> Result<T, DecodeError>
     crate::reading::decode(alloc, input, EncodingRules::Coer)
 }
 
-/// Reads the value whose encoding (X.696) stands in front, and lends the octets behind it.
+/// Decodes the value with whose encoding (X.696) the input begins, and returns the octets after it as well.
 ///
 /// # Errors
 ///
@@ -101,8 +101,8 @@ pub fn decode_with_remainder<'input, T: Decode>(
     crate::reading::decode_with_remainder(alloc, input, EncodingRules::Coer)
 }
 
-/// As `decode_with_remainder`, and an error also says how many more octets are needed at least: the input with fewer
-/// octets appended does not begin with an encoding either, apart from `OutOfMemory`.
+/// As `decode_with_remainder`; an error also says how many more octets are needed at least. With fewer octets appended,
+/// the input does not begin with an encoding either, unless the error was `OutOfMemory`.
 ///
 /// # Errors
 ///
@@ -120,11 +120,12 @@ pub fn decode_or_need<'input, T: Decode>(
     crate::reading::decode_or_need(alloc, input, EncodingRules::Coer)
 }
 
-/// Reads the value whose encoding (X.696) under these constraints, in place of the type's own, stands in front.
+/// Decodes the value with whose encoding (X.696) under these constraints, which replace those of the type, the input
+/// begins.
 ///
 /// # Errors
 ///
-/// Those of `decode`, if the type under these constraints is a lawful one.
+/// Those of `decode`, if the type under these constraints is well-formed.
 pub fn decode_with_constraints<T: Decode>(
     alloc: Global,
     constraints: &Constraints,

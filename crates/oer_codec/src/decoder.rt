@@ -1,4 +1,4 @@
-//! What finds the records of a value in octets.
+//! The decoder of OER, which finds the records of a value in octets.
 ghost use Rattle.std.specs.Prelude.{◌≡◌, ◌+◌, ◌-◌, ◌<◌, ◌≤◌, ◌^◌, [], ◌∷◌, None, false, length, take, min, OnOk, OnErr};
 ghost use Rattle.std.specs.Prelude.{IfErr, IfOk};
 ghost use Rattle.asn1_schema_decode.specs.Reads.{NoRecord};
@@ -39,7 +39,7 @@ use oer_codec_reading::{
 use std::alloc::Global;
 use std::marker::Model;
 
-/// A decoder of the octet encoding rules (X.696), which lends octets from its input.
+/// A decoder of the octet encoding rules (X.696). It borrows octets from its input.
 #[derive(Drop)]
 pub struct Decoder<'input> {
     cursor: Cursor<'input>,
@@ -47,7 +47,8 @@ pub struct Decoder<'input> {
     levels: usize,
     most: usize,
     failed: bool,
-    // After a refusal, how many octets are lacking at least besides those of members that are to come, less one.
+    // After an error, the number of octets that are missing at least, less one, without those of elements that are
+    // still to come.
     short: usize,
     rules: EncodingRules,
 }
@@ -70,8 +71,8 @@ impl<'input> Model for Decoder<'input> {
 }
 
 impl<'input> Decoder<'input> {
-    /// A decoder of this input by the rules of these options, within 128 nested levels. Of an input of 2^60 octets
-    /// or more the first ones are looked at, fewer than so many.
+    /// A decoder of this input by the rules of these options, with at most 128 nested levels. It looks at no more than
+    /// the first 2^60 - 1 octets of the input.
     #[inline(always)]
     pub fn new(alloc: Global, input: &'input [u8], options: DecoderOptions) -> Self
         ensures { result ≡ record {
@@ -103,9 +104,9 @@ impl<'input> Decoder<'input> {
         self.cursor.remaining()
     }
 
-    /// How many octets more are needed at least where this decoder was refused: one, the others that a string or an
-    /// open type lacks, and one for each member that is to come in a list or bag outside open types, as far as 64 bits
-    /// count them.
+    /// After an error, how many more octets are needed at least: one, plus the others that a string or an open type
+    /// lacks, plus one for each element that is still to come in a SEQUENCE OF or SET OF outside open types. Saturates
+    /// at 64 bits.
     #[inline(always)]
     pub(crate) fn needed(&mut self) -> usize
         ensures { result ≡ min (lacks self.old + 1) (2 ^ 64 - 1) }
@@ -116,8 +117,8 @@ impl<'input> Decoder<'input> {
             .saturating_add(1)
     }
 
-    // Fails for this reason where octets are lacking, or do not have the form. The scopes stay: they tell how many
-    // members are lacking besides.
+    // Fails for this reason: octets are missing, or do not have the required form. The scopes are kept, as they say how
+    // many elements are missing as well.
     #[inline(always)]
     fn lack(&mut self, error: DecodeError) -> DecodeError
         ensures refused { result ≡ error }
@@ -129,8 +130,8 @@ impl<'input> Decoder<'input> {
         error
     }
 
-    // The same where octets may be lacking, after these, of a fixed size, or of what follows a length determinant
-    // (X.696 8.6): the decoder then keeps how many.
+    // As `lack`, if octets may be missing after these, of a fixed size, or of what a length determinant counts (X.696
+    // 8.6). The decoder keeps how many.
     #[inline(always)]
     fn lack_octets(&mut self, octets: &[u8], size: Option<usize>, error: DecodeError) -> DecodeError
         ensures refused { result ≡ error }
@@ -143,7 +144,7 @@ impl<'input> Decoder<'input> {
         error
     }
 
-    // The same where octets may be lacking, behind these, of an added alternative of a choice (X.696 20).
+    // As `lack`, if octets may be missing after these, of an added alternative of a choice (X.696 20).
     #[inline(always)]
     fn lack_choice(
         &mut self,
@@ -162,7 +163,7 @@ impl<'input> Decoder<'input> {
         error
     }
 
-    // Goes on, unless the decoder has failed or no level is left.
+    // Continues, unless the decoder has failed or no further level may be nested.
     #[inline(always)]
     fn begin_level(&mut self) -> Result<(), DecodeError>
         ensures ok { OnOk result (IsReady self.old × (self.new ≡ self.old)) }
@@ -179,7 +180,7 @@ impl<'input> Decoder<'input> {
         Ok(())
     }
 
-    // Opens a scope, and takes a level for it.
+    // Opens a scope, which takes a level.
     #[inline(always)]
     fn enter(&mut self, frame: Frame<'input>) -> Result<(), DecodeError>
         requires { 0 < self.old.levels }
@@ -205,7 +206,7 @@ impl<'input> Decoder<'input> {
         Ok(())
     }
 
-    // Encloses one value alone, and takes a level for it.
+    // Opens a scope that contains a single value, which takes a level.
     #[inline(always)]
     fn enter_enclosing(&mut self, enclosing: Enclosing<'input>) -> Result<(), DecodeError>
         requires { 0 < self.old.levels }
@@ -232,7 +233,7 @@ impl<'input> Decoder<'input> {
         Ok(())
     }
 
-    // Opens the scope of an open type (X.696 30), and takes no level for it.
+    // Opens the scope of an open type (X.696 30), which takes no level.
     #[inline(always)]
     fn open_type(&mut self) -> Result<(), DecodeError>
         ensures opens { OnOk result (Opens (freedoms self.old.rules) self.old.octets self.old.scopes
@@ -266,7 +267,7 @@ impl<'input> Decoder<'input> {
     }
 }
 
-// One call: `AlreadyFailed` after a refusal, else what is found of its record, and after a refusal no more.
+// One call: `AlreadyFailed` after an error; otherwise the result of reading the record. The decoder fails with it.
 macro_rules! record {
     ($decoder:ident, $read:expr) => {{
         go_on($decoder.failed)?;
@@ -277,8 +278,8 @@ macro_rules! record {
     }};
 }
 
-// The same of what has this number of octets, or a length determinant: after an error the decoder keeps how many octets
-// are lacking.
+// As `record!`, for what has this number of octets or a length determinant: after an error the decoder keeps how many
+// octets are missing.
 macro_rules! string {
     ($decoder:ident, $size:expr, $read:expr) => {{
         go_on($decoder.failed)?;
@@ -290,7 +291,7 @@ macro_rules! string {
     }};
 }
 
-// The same of a call that opens a scope, for which a level has to be left.
+// As `record!`, for a call that opens a scope, which needs a free level.
 macro_rules! scope {
     ($decoder:ident, $read:expr) => {{
         $decoder.begin_level()?;
@@ -399,7 +400,7 @@ impl<'input> asn1_schema_decode::Decoder for Decoder<'input> {
         )
     }
 
-    /// The octets stand in the input as they are (X.696 14), and are lent.
+    /// The octets are contiguous in the input (X.696 14), and are borrowed from it.
     #[inline(always)]
     fn decode_octet_string(
         &mut self,

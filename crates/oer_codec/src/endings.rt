@@ -10,7 +10,7 @@ use crate::frames::Frame;
 use asn1_schema_faults::DecodeError;
 use oer_codec_reading::{Cursor, EncodingRules, leave_open_type, skip_additions};
 
-/// Goes on where nothing is still to come.
+/// Continues if nothing is still to come.
 #[inline(always)]
 fn at_end(is_at_end: bool) -> Result<(), DecodeError>
     ensures ok { OnOk result (is_at_end ≡ true) }
@@ -23,7 +23,7 @@ fn at_end(is_at_end: bool) -> Result<(), DecodeError>
     Err(DecodeError::NotValidCanonicalEncoding)
 }
 
-/// Passes over the unknown additions of a sequence, if none of the type is still to come.
+/// Skips the unknown additions of a SEQUENCE, if none of the type's additions is still to come.
 #[inline(never)]
 fn finish_additions<'input>(
     additions: Additions<'input>,
@@ -46,8 +46,8 @@ fn finish_additions<'input>(
 ///
 /// # Errors
 ///
-/// `SurplusOctets` if octets are left in an open type in the canonical rules, the errors of unknown additions that
-/// are passed over, and `NotValidCanonicalEncoding` if the calls do not come in the order of the records.
+/// `SurplusOctets` if octets are left in an open type under the canonical rules, the errors of unknown additions that
+/// are skipped, and `NotValidCanonicalEncoding` if the calls do not have the order of the records.
 #[inline(always)]
 pub(crate) fn finish<'input>(
     frame: Frame<'input>,

@@ -21,31 +21,31 @@ use std::marker::Model;
 /// What has begun and has not ended.
 #[derive(Drop)]
 pub(crate) enum Frame<'input> {
-    /// The components of a sequence, set or group (X.696 16): the bit of its extension marker, if it has an extension
-    /// marker, and the presence bits that are still to come.
+    /// The components of a SEQUENCE, SET or group (X.696 16): the extension bit, if there is an extension marker, and
+    /// the presence bits that are still to come.
     Components(Option<bool>, BitStr<'input>),
-    /// The additions of such a type (X.696 16.4).
+    /// The extension additions of such a type (X.696 16.4).
     Added(Additions<'input>),
-    /// An open type (X.696 30): its octets stand alone, and those behind it are these.
+    /// An open type (X.696 30): its octets are read by a separate cursor, and the octets after it are these.
     OpenType(Cursor<'input>),
-    /// The members of a list or bag (X.696 17 and 19): how many are still to come.
+    /// The elements of a SEQUENCE OF or SET OF (X.696 17 and 19): how many are still to come.
     Members(usize),
-    /// An alternative of the root of a choice (X.696 20).
+    /// A root alternative of a choice (X.696 20).
     Alternative,
 }
 
-/// What encloses one value alone.
+/// A scope that contains a single value.
 #[derive(Drop)]
 pub(crate) enum Enclosing<'input> {
-    /// An alternative of the root of a choice (X.696 20).
+    /// A root alternative of a choice (X.696 20).
     Alternative,
-    /// An open type (X.696 30): its octets stand alone, and those behind it are these.
+    /// An open type (X.696 30): its octets are read by a separate cursor, and the octets after it are these.
     OpenType(Cursor<'input>),
 }
 
 impl<'input> Frame<'input> {
-    /// So many members that are to come, and those of this frame besides, as far as 64 bits count them. None of an open
-    /// type: whatever is within it is there by its length (X.696 30).
+    /// `due` plus the number of elements of this frame that are still to come, saturating at 64 bits. `None` for an
+    /// open type: its length determinant says that all its octets are there (X.696 30).
     #[inline(always)]
     fn add_due(&self, due: usize) -> Option<usize>
         ensures some { IfSome result (λ n. (fs : List Frame)
@@ -62,7 +62,7 @@ impl<'input> Frame<'input> {
 }
 
 impl<'input> Enclosing<'input> {
-    /// Its frame among others.
+    /// The same scope as a frame among others.
     #[inline(always)]
     fn frame(self) -> Frame<'input>
         ensures { result ≡ frame_of self.entry }
@@ -74,8 +74,9 @@ impl<'input> Enclosing<'input> {
     }
 }
 
-/// How many members are to come in frames, the outermost first, as far as 64 bits count them: `Err` where an open type
-/// is among them. It takes no place of the decoder, so that a decoder whose reading succeeds need not stand in memory.
+/// The number of elements that are still to come in frames, the outermost first, saturating at 64 bits; `Err` with the
+/// number before the first open type, if there is one. It borrows only the frames, not the decoder, so that the
+/// compiler need not keep a decoder in memory unless it fails.
 #[cold]
 fn frames_due(frames: &[Frame<'_>]) -> Result<usize, usize>
     ensures ok { IfOk result (λ n. (fs : List Frame)
@@ -116,8 +117,8 @@ fn open_frame<'input>(
     Ok(())
 }
 
-/// Makes what encloses one value alone a frame inside all others. It is seldom called: where something begins in an
-/// open type or in an alternative.
+/// Turns the scope that contains a single value into a frame inside all others. Called seldom: if something begins in
+/// an open type or in an alternative.
 #[cold]
 fn settle_enclosing<'input>(
     enclosing: &mut Option<Enclosing<'input>>,
@@ -134,7 +135,7 @@ fn settle_enclosing<'input>(
     open_frame(innermost, outer, around.frame())
 }
 
-/// The same where something encloses one value alone, and nothing where nothing does.
+/// As `settle_enclosing`; does nothing if there is no scope that contains a single value.
 #[inline(always)]
 fn settle<'input>(
     enclosing: &mut Option<Enclosing<'input>>,
@@ -151,7 +152,7 @@ fn settle<'input>(
     settle_enclosing(enclosing, innermost, outer)
 }
 
-/// Closes what encloses one value alone. An open type (X.696 30) ends.
+/// Closes the scope that contains a single value. An open type (X.696 30) ends.
 #[inline(always)]
 fn close_enclosing<'input>(
     enclosing: Enclosing<'input>,
@@ -218,8 +219,8 @@ fn close_frame_of_addition<'input>(
     Ok(())
 }
 
-/// All that has begun and has not ended: what encloses one value alone, which stands inside all others if it is
-/// there, and the others, the innermost of them and what is around it.
+/// All open scopes: one that contains a single value, which is innermost if there is one; the innermost of the others;
+/// and those around it.
 #[derive(Drop)]
 pub(crate) struct Nested<'input> {
     enclosing: Option<Enclosing<'input>>,
@@ -238,7 +239,7 @@ impl<'input> Model for Nested<'input> {
 }
 
 impl<'input> Nested<'input> {
-    /// Nothing is open.
+    /// No open scope.
     pub(crate) fn new(alloc: Global) -> Self
         ensures { result ≡ [] }
     {
@@ -258,8 +259,8 @@ impl<'input> Nested<'input> {
         self.outer.clear();
     }
 
-    /// How many members are to come in the lists and bags that are open outside open types, as far as 64 bits count
-    /// them.
+    /// The number of elements that are still to come in each SEQUENCE OF and SET OF that is open outside open types,
+    /// saturating at 64 bits.
     #[inline(always)]
     pub(crate) fn due(&self) -> usize
         ensures { result ≡ min (due self.now) (2 ^ 64 - 1) }
@@ -282,7 +283,7 @@ impl<'input> Nested<'input> {
         open_frame(&mut self.innermost, &mut self.outer, frame)
     }
 
-    /// Opens inside all others what encloses one value alone.
+    /// Opens, inside all others, a scope that contains a single value.
     #[inline(always)]
     pub(crate) fn enclose(&mut self, enclosing: Enclosing<'input>) -> Result<(), AllocError>
         ensures { OnOk result (self.new ≡ scope_of (frame_of enclosing.entry) ∷ self.old) }
@@ -292,7 +293,7 @@ impl<'input> Nested<'input> {
         Ok(())
     }
 
-    /// Puts a scope in the place of the innermost, which is that of components.
+    /// Replaces the innermost scope, which is that of components.
     #[inline(always)]
     pub(crate) fn replace(&mut self, frame: Frame<'input>)
         ensures { (x : _) (ms : _) (k : _) → self.old ≡ components x ms ∷ k → self.new ≡ scope_of frame.entry ∷ k }
@@ -300,8 +301,8 @@ impl<'input> Nested<'input> {
         self.innermost = Some(frame);
     }
 
-    /// Tells how many members of the innermost list are still to come. It is seldom called: where something begins in a
-    /// member, or the list ends early.
+    /// Sets the number of elements of the innermost list that are still to come. Called seldom: if something begins in
+    /// an element, or the list ends early.
     #[cold]
     pub(crate) fn set_due(&mut self, due: usize)
         ensures { (n : _) (k : _) → self.old ≡ members n ∷ k → self.new ≡ members due ∷ k }
@@ -309,7 +310,7 @@ impl<'input> Nested<'input> {
         self.innermost = Some(Frame::Members(due));
     }
 
-    /// The extension bit of the innermost sequence, where all its presence bits are read.
+    /// The extension bit of the innermost SEQUENCE, if all its presence bits were read.
     #[inline(always)]
     pub(crate) fn extension_bit(&self) -> Option<bool>
         ensures some { IfSome result (λ set. (k : _) × (self.now ≡ components (Some set) [] ∷ k)) }
@@ -329,7 +330,7 @@ impl<'input> Nested<'input> {
         }
     }
 
-    /// The next presence bit of the innermost sequence.
+    /// The next presence bit of the innermost SEQUENCE.
     #[inline(always)]
     pub(crate) fn next_presence_bit(&mut self) -> Option<bool>
         ensures some { IfSome result (λ present. (os : _) → NextPresenceBit present os self.old (os, self.new)) }
@@ -344,7 +345,7 @@ impl<'input> Nested<'input> {
         }
     }
 
-    /// Whether the next addition of the innermost sequence is there.
+    /// Whether the next addition of the innermost SEQUENCE is present.
     #[inline(always)]
     pub(crate) fn next_addition(&mut self) -> Option<bool>
         ensures some { IfSome result (λ present. NextPresent present self.old self.new) }
@@ -359,7 +360,7 @@ impl<'input> Nested<'input> {
         }
     }
 
-    /// Whether a member of the innermost list is still to come.
+    /// Whether an element of the innermost list is still to come.
     #[inline(always)]
     pub(crate) fn next_member(&mut self) -> Option<bool>
         ensures some { IfSome result (λ more. (os : _) → NextMember more os self.old (os, self.new)) }
@@ -380,7 +381,7 @@ impl<'input> Nested<'input> {
         }
     }
 
-    /// Closes the innermost scope. Refused if something of it is still to come.
+    /// Closes the innermost scope. Fails if something of it is still to come.
     #[inline(always)]
     pub(crate) fn close(
         &mut self,

@@ -1,10 +1,10 @@
-//! Readers of the message in front of octets, by each set of rules.
+//! Readers of the message with which octets begin, for each set of rules.
 
 use asn1_schema_decode::{Decode, FrontReader};
 use asn1_schema_faults::DecodeError;
 use std::alloc::Global;
 
-/// Reads the message in front of octets by the basic octet encoding rules (X.696).
+/// Reads the message with which octets begin, by the basic octet encoding rules (X.696).
 #[derive(Clone, Copy, Debug, PartialEq, Eq)]
 pub struct OerFront;
 
@@ -22,7 +22,7 @@ impl<T: Decode> FrontReader<T> for OerFront {
     }
 }
 
-/// Reads the message in front of octets by the canonical octet encoding rules (X.696).
+/// Reads the message with which octets begin, by the canonical octet encoding rules (X.696).
 #[derive(Clone, Copy, Debug, PartialEq, Eq)]
 pub struct CoerFront;
 

@@ -1,4 +1,5 @@
-//! The octet encoding rules (X.696), basic and canonical: OER and COER. The decoder behind the trait, and the calls.
+//! The octet encoding rules (X.696), basic and canonical: OER and COER. The decoder, and the calls that encode and
+//! decode.
 #![tactic(auto)]
 
 mod additions;
@@ -21,5 +22,5 @@ pub mod writing;
 pub use asn1_schema_decode::Refusal;
 pub use front_readers::{CoerFront, OerFront};
 
-/// The edition of X.696 that is followed.
+/// The edition of X.696 that this crate follows.
 pub const ITU_T_X696_OER_EDITION: u32 = 3;

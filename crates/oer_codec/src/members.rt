@@ -1,4 +1,4 @@
-//! How many members a list has (X.696 17).
+//! The number of elements of a list (X.696 17).
 ghost use Rattle.std.specs.Prelude.{IfOk, IfErr};
 ghost use Rattle.asn1_schema_constraints.specs.Bounds.{members_of};
 ghost use Rattle.oer_codec_reading.specs.Fronts.{freedoms};
@@ -12,11 +12,12 @@ use asn1_schema_faults::DecodeError;
 use oer_codec_reading::numbers::read_count;
 use oer_codec_reading::{Cursor, EncodingRules};
 
-/// Reads how many members a list has, as many as the program's type holds.
+/// Reads the number of elements of a list; `held` bounds the number that the user-defined type can hold.
 ///
 /// # Errors
 ///
-/// `SizeConstraintNotSatisfied` if the program's type does not hold so many, and the errors of a number and its length.
+/// `SizeConstraintNotSatisfied` if the user-defined type cannot hold so many elements, and the errors of a number and
+/// its length.
 #[inline(always)]
 pub(crate) fn read_members<'input>(
     cursor: &mut Cursor<'input>,

@@ -1,5 +1,5 @@
-//! How many octets are lacking of what has a fixed number of octets or a length determinant, as a string or an open
-//! type.
+//! How many octets are missing of what has a fixed number of octets or a length determinant, such as a string or an
+//! open type.
 ghost use Rattle.std.specs.Prelude.{◌≡◌, None};
 ghost use Rattle.asn1_schema_constraints.specs.Terms.{bounds_of};
 ghost use Rattle.oer_codec_reading.specs.Fronts.{freedoms};
@@ -12,8 +12,8 @@ use oer_codec_reading::alternatives::{find_alternative, read_alternative_tag};
 use oer_codec_reading::lengths::read_length;
 use oer_codec_reading::{Cursor, EncodingRules};
 
-/// One less than the number of octets that are lacking at least after these, of those that the length determinant at
-/// the start counts (X.696 8.6): 0 if none are, or if no length determinant is there.
+/// One less than the number of octets that are missing at least, after these, of those that the length determinant at
+/// the start counts (X.696 8.6); 0 if none are, or if there is no length determinant.
 fn missing_behind_number(octets: &[u8], rules: EncodingRules) -> usize
     ensures { StillTooShort (freedoms rules) None octets.now result }
 {
@@ -27,8 +27,8 @@ fn missing_behind_number(octets: &[u8], rules: EncodingRules) -> usize
     }
 }
 
-/// One less than the number of octets that are lacking at least after these, of a fixed number of octets, or of those
-/// that the length determinant at the start counts: 0 if none are known to be.
+/// One less than the number of octets that are missing at least, after these, of a fixed number of octets, or of those
+/// that the length determinant at the start counts; 0 if none are known to be.
 #[cold]
 pub(crate) fn missing(octets: &[u8], rules: EncodingRules, size: Option<usize>) -> usize
     ensures { StillTooShort (freedoms rules) size octets.now result }
@@ -39,7 +39,7 @@ pub(crate) fn missing(octets: &[u8], rules: EncodingRules, size: Option<usize>) 
     }
 }
 
-/// The same of an alternative, which is an open type if it is an added one (X.696 20).
+/// As `missing`, for an alternative, which is an open type if it is an added one (X.696 20).
 fn missing_in_alternative(cursor: &Cursor<'_>, rules: EncodingRules, added: bool) -> usize
     ensures { StillNoEntry (freedoms rules) added cursor.now result }
 {
@@ -49,8 +49,8 @@ fn missing_in_alternative(cursor: &Cursor<'_>, rules: EncodingRules, added: bool
     missing_behind_number(cursor.remaining(), rules)
 }
 
-/// One less than the number of octets that are lacking at least after these, of a tag and an added alternative (X.696
-/// 20): 0 if none are known to be.
+/// One less than the number of octets that are missing at least, after these, of a tag and an added alternative (X.696
+/// 20); 0 if none are known to be.
 #[cold]
 pub(crate) fn missing_in_choice(
     octets: &[u8],
@@ -73,7 +73,7 @@ pub(crate) fn missing_in_choice(
     }
 }
 
-/// The number of octets of an INTEGER under a value constraint, if it is fixed (X.696 10).
+/// The number of octets of an INTEGER under a value constraint, or `None` if it is not fixed (X.696 10).
 #[inline(always)]
 pub(crate) fn size_of_number(constraints: &Constraints) -> Option<usize>
     ensures { result ≡ width_under (bounds_of constraints.now.value) }
@@ -90,7 +90,7 @@ pub(crate) fn size_of_number(constraints: &Constraints) -> Option<usize>
     }
 }
 
-/// The number of octets of a BIT STRING, if its number of bits is fixed (X.696 13).
+/// The number of octets of a BIT STRING with this number of bits, or `None` if that is not fixed (X.696 13).
 #[inline(always)]
 pub(crate) fn size_of_bits(size: Option<usize>) -> Option<usize>
     ensures { result ≡ octets_of_bits size }
@@ -101,8 +101,8 @@ pub(crate) fn size_of_bits(size: Option<usize>) -> Option<usize>
     }
 }
 
-/// The number of octets of a presence bitmap: none without the extension bit, else it has a length determinant (X.696
-/// 16.4).
+/// The number of octets of a presence bitmap: 0 if the extension bit is 0; otherwise `None`, as it has a length
+/// determinant (X.696 16.4).
 #[inline(always)]
 pub(crate) fn size_of_bitmap(is_extended: bool) -> Option<usize>
     ensures { result ≡ bitmap_size is_extended }

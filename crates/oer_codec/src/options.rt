@@ -1,4 +1,4 @@
-//! What a decoder is told besides its input.
+//! The options of a decoder.
 ghost use Rattle.std.specs.Prelude.{◌≡◌};
 
 use oer_codec_reading::EncodingRules;
@@ -6,12 +6,12 @@ use oer_codec_reading::EncodingRules;
 /// How a decoder of the octet encoding rules (X.696) reads.
 #[derive(Clone, Copy, Debug)]
 pub struct DecoderOptions {
-    /// The basic rules, of which all forms are taken, or the canonical ones.
+    /// The basic rules, with all the forms that they allow, or the canonical rules.
     pub rules: EncodingRules,
 }
 
 impl DecoderOptions {
-    /// The basic rules: all forms are taken.
+    /// The basic rules: all forms that they allow are accepted.
     pub fn oer() -> Self
         ensures { result.rules ≡ EncodingRules.Oer }
     {
@@ -20,7 +20,7 @@ impl DecoderOptions {
         }
     }
 
-    /// The canonical rules: the canonical forms alone are taken.
+    /// The canonical rules: only the canonical forms are accepted.
     pub fn coer() -> Self
         ensures { result.rules ≡ EncodingRules.Coer }
     {

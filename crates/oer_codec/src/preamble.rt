@@ -1,4 +1,4 @@
-//! The preamble of a sequence (X.696 16.2).
+//! The preamble of a SEQUENCE (X.696 16.2).
 ghost use Rattle.std.specs.Prelude.{◌≡◌, ◌+◌, ◌*◌, ◌^◌, ◌<◌, ◌≤◌, [], ◌∷◌, ◌++◌, cond, length, IfOk, IfErr};
 ghost use Rattle.asn1_values_bits.specs.BitStr.{bits_of};
 ghost use Rattle.oer_codec.specs.Preamble.{HasBits, HasPreamble};
@@ -10,7 +10,7 @@ use asn1_values_bits::BitStr;
 use oer_codec_reading::{Cursor, are_zero, take_bit};
 use oer_codec_writing::preamble_len;
 
-/// Takes off the extension bit, if there is one, and the presence bits.
+/// Takes the extension bit, if there is one, and the presence bits.
 #[inline(always)]
 fn take_presence<'input>(
     bits: &mut BitStr<'input>,
@@ -26,8 +26,8 @@ fn take_presence<'input>(
     Frame::Components(extension_bit, presence)
 }
 
-/// Reads the preamble of a sequence, with or without an extension marker, of which so many components may be
-/// absent: the extension bit, if there is one, the presence bits, and unused bits that are zero.
+/// Reads the preamble of a SEQUENCE with or without an extension marker, `optional` of whose components may be absent:
+/// the extension bit, if there is one, the presence bits, and unused bits of zero.
 ///
 /// # Errors
 ///

@@ -1,4 +1,4 @@
-//! A value is read from the front of octets.
+//! Decodes the value with whose encoding octets begin.
 ghost use Rattle.std.specs.Prelude.{◌≡◌, ◌≤◌, ℕ, List, IfOk, IfErr};
 ghost use Rattle.asn1_model.specs.Lawful.{IsLawful};
 ghost use Rattle.asn1_schema_constraints.specs.Terms.{meant};
@@ -13,12 +13,12 @@ use asn1_schema_faults::DecodeError;
 use oer_codec_reading::EncodingRules;
 use std::alloc::Global;
 
-/// Reads the value whose encoding stands in front (X.696), and passes over the octets behind it.
+/// Decodes the value with whose encoding (X.696) the input begins, and ignores the octets after it.
 ///
 /// # Errors
 ///
-/// `OutOfMemory` for want of memory. Any other only if no octets in front, fewer than 2^60, are an encoding of a
-/// value of the type that nests at most 128 levels.
+/// `OutOfMemory` if memory runs out. Otherwise only if no prefix of the input that is shorter than 2^60 octets is an
+/// encoding of a value of the type with at most 128 nested levels.
 #[inline(always)]
 pub fn decode<T: Decode>(
     alloc: Global,
@@ -33,7 +33,7 @@ pub fn decode<T: Decode>(
     Ok(value)
 }
 
-/// Reads the value whose encoding stands in front (X.696), and lends the octets behind it.
+/// Decodes the value with whose encoding (X.696) the input begins, and returns the octets after it as well.
 ///
 /// # Errors
 ///
@@ -54,8 +54,8 @@ pub fn decode_with_remainder<'input, T: Decode>(
     }
 }
 
-/// As `decode_with_remainder`, and an error also says how many more octets are needed at least: the input with fewer
-/// octets appended does not begin with an encoding either, apart from `OutOfMemory`.
+/// As `decode_with_remainder`; an error also says how many more octets are needed at least. With fewer octets appended,
+/// the input does not begin with an encoding either, unless the error was `OutOfMemory`.
 ///
 /// # Errors
 ///
@@ -87,13 +87,13 @@ pub fn decode_or_need<'input, T: Decode>(
     }
 }
 
-/// Reads the value whose encoding under these constraints, in place of the type's own, stands in front (X.696), and
-/// passes over the octets behind it.
+/// Decodes the value with whose encoding (X.696) under these constraints, which replace those of the type, the input
+/// begins, and ignores the octets after it.
 ///
 /// # Errors
 ///
-/// `OutOfMemory` for want of memory. Any other, if the type under these constraints is a lawful one, only if no
-/// octets in front, fewer than 2^60, are an encoding of a value of it that nests at most 128 levels.
+/// `OutOfMemory` if memory runs out. Otherwise, if the type under these constraints is well-formed, only if no prefix
+/// of the input that is shorter than 2^60 octets is an encoding of a value of it with at most 128 nested levels.
 pub fn decode_with_constraints<T: Decode>(
     alloc: Global,
     constraints: &Constraints,

@@ -1,4 +1,4 @@
-//! Open scopes, and how many members of the innermost list are still to come.
+//! Open scopes, and the number of elements of the innermost list that are still to come.
 ghost use Rattle.std.specs.Prelude.{◌≡◌, ◌∷◌, ◌<◌, ◌-◌, ◌^◌, [], List, Some, min, OnOk, OnErr, IfErr, IfSome};
 ghost use Rattle.std.specs.Prelude.{IfNone};
 ghost use Rattle.oer_codec_fronts.specs.Takes.{AdditionEnds, Ends, NextPresenceBit, NextMember, Scope};
@@ -14,12 +14,12 @@ use oer_codec_reading::{Cursor, EncodingRules};
 use std::alloc::{AllocError, Global};
 use std::marker::Model;
 
-/// All that has begun and has not ended. How many members of a list that is innermost of all are still to come is told
-/// by a number of its own, so that a member that is due is found without a look at the frames. Where something begins
-/// in a member, the list's frame tells it.
+/// All open scopes. If a list is innermost, a separate number says how many of its elements are still to come, so that
+/// the next element is found without a look at the frames. When something begins in an element, the number moves into
+/// the frame of the list.
 #[derive(Drop)]
 pub(crate) struct Scopes<'input> {
-    // Zero where no list is innermost, or its frame tells.
+    // Zero if no list is innermost, or if its frame has the number.
     due: usize,
     nested: Nested<'input>,
 }
@@ -36,7 +36,7 @@ impl<'input> Model for Scopes<'input> {
     ghost invariant = { λ s. 0 < s.due → (k : List Scope) × (s.nested ≡ members 0 ∷ k) };
 }
 
-/// Gives what is due of the innermost list back to its frame.
+/// Moves the number of due elements of the innermost list back into its frame.
 #[inline(always)]
 fn settle(due: &mut usize, nested: &mut Nested<'_>)
     requires { 0 < due.old → (k : List Scope) × (nested.old ≡ members 0 ∷ k) }
@@ -50,7 +50,7 @@ fn settle(due: &mut usize, nested: &mut Nested<'_>)
 }
 
 impl<'input> Scopes<'input> {
-    /// Nothing is open.
+    /// No open scope.
     pub(crate) fn new(alloc: Global) -> Self
         ensures { result ≡ [] }
     {
@@ -68,8 +68,8 @@ impl<'input> Scopes<'input> {
         self.nested.clear();
     }
 
-    /// How many members are to come in the lists and bags that are open outside open types, as far as 64 bits count
-    /// them.
+    /// The number of elements that are still to come in each SEQUENCE OF and SET OF that is open outside open types,
+    /// saturating at 64 bits.
     #[inline(always)]
     pub(crate) fn due(&mut self) -> usize
         ensures { result ≡ min (due self.old) (2 ^ 64 - 1) }
@@ -92,7 +92,7 @@ impl<'input> Scopes<'input> {
         self.nested.open(frame)
     }
 
-    /// Opens inside all others what encloses one value alone.
+    /// Opens, inside all others, a scope that contains a single value.
     #[inline(always)]
     pub(crate) fn enclose(&mut self, enclosing: Enclosing<'input>) -> Result<(), AllocError>
         ensures { OnOk result (self.new ≡ scope_of (frame_of enclosing.entry) ∷ self.old) }
@@ -101,7 +101,7 @@ impl<'input> Scopes<'input> {
         self.nested.enclose(enclosing)
     }
 
-    /// Puts a scope in the place of the innermost, which is that of components.
+    /// Replaces the innermost scope, which is that of components.
     #[inline(always)]
     pub(crate) fn replace(&mut self, frame: Frame<'input>)
         ensures { (x : _) (ms : _) (k : _) → self.old ≡ components x ms ∷ k → self.new ≡ scope_of frame.entry ∷ k }
@@ -110,7 +110,7 @@ impl<'input> Scopes<'input> {
         self.nested.replace(frame);
     }
 
-    /// The extension bit of the innermost sequence, where all its presence bits are read.
+    /// The extension bit of the innermost SEQUENCE, if all its presence bits were read.
     #[inline(always)]
     pub(crate) fn extension_bit(&mut self) -> Option<bool>
         ensures some { IfSome result (λ set. (k : _) × (self.old ≡ components (Some set) [] ∷ k)) }
@@ -121,7 +121,7 @@ impl<'input> Scopes<'input> {
         self.nested.extension_bit()
     }
 
-    /// The next presence bit of the innermost sequence.
+    /// The next presence bit of the innermost SEQUENCE.
     #[inline(always)]
     pub(crate) fn next_presence_bit(&mut self) -> Option<bool>
         ensures some { IfSome result (λ present. (os : _) → NextPresenceBit present os self.old (os, self.new)) }
@@ -131,7 +131,7 @@ impl<'input> Scopes<'input> {
         self.nested.next_presence_bit()
     }
 
-    /// Whether the next addition of the innermost sequence is there.
+    /// Whether the next addition of the innermost SEQUENCE is present.
     #[inline(always)]
     pub(crate) fn next_addition(&mut self) -> Option<bool>
         ensures some { IfSome result (λ present. NextPresent present self.old self.new) }
@@ -141,7 +141,7 @@ impl<'input> Scopes<'input> {
         self.nested.next_addition()
     }
 
-    /// Whether a member of the innermost list is still to come.
+    /// Whether an element of the innermost list is still to come.
     #[inline(always)]
     pub(crate) fn next_member(&mut self) -> Option<bool>
         ensures some { IfSome result (λ more. (os : _) → NextMember more os self.old (os, self.new)) }
@@ -155,7 +155,7 @@ impl<'input> Scopes<'input> {
         self.nested.next_member()
     }
 
-    /// Closes the innermost scope. Refused if something of it is still to come.
+    /// Closes the innermost scope. Fails if something of it is still to come.
     #[inline(always)]
     pub(crate) fn close(
         &mut self,

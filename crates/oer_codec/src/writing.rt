@@ -1,4 +1,4 @@
-//! A value is written.
+//! Encodes a value.
 ghost use Rattle.std.specs.Prelude.{◌≡◌, ◌++◌, [], List, ℕ, length, OnOk, OnErr, IfOk, IfErr, MatchResult, ◌<◌, ◌≤◌};
 ghost use Rattle.std.specs.Prelude.{◌^◌, take, drop};
 ghost use Rattle.asn1_schema_constraints.specs.Terms.{meant};
@@ -10,16 +10,16 @@ use asn1_schema_faults::{EncodeError, MOST_OCTETS, refusal, within_limit};
 use oer_codec_encoder::{Encoder, EncoderOptions};
 use std::alloc::{AllocError, Global};
 
-/// For how many octets there is room before the first one is written.
+/// The capacity, in octets, that is reserved before the first octet is written.
 const FIRST_CAPACITY: usize = 128;
 
 /// The canonical encoding of a value (X.696).
 ///
 /// # Errors
 ///
-/// `TooLongValue` for an encoding of 2^60 octets or more and for nothing else, `OutOfMemory`, and those of the
-/// value's type, where the value has no encoding of any length; a `TooLongValue` or `LengthExceedsPlatformSize`
-/// of the type's own comes as `SizeConstraintNotSatisfied`, its `CallOutOfPlace` as `ValueConstraintNotSatisfied`.
+/// `TooLongValue` for an encoding of 2^60 octets or more and for nothing else, `OutOfMemory`, and, if the value has no
+/// encoding of any length, the errors of its type. `TooLongValue` and `LengthExceedsPlatformSize` of the type are
+/// returned as `SizeConstraintNotSatisfied`, `CallOutOfPlace` of the type as `ValueConstraintNotSatisfied`.
 pub fn encode<T: Encode>(alloc: Global, value: &T) -> Result<Vec<u8>, EncodeError>
     ensures ok { IfOk result (λ octets. IsEncoded T.schema (T.meaning value.now) octets.items) }
     ensures only { IfErr result (NotEncoded T.schema (T.meaning value.now)) }
@@ -32,7 +32,7 @@ pub fn encode<T: Encode>(alloc: Global, value: &T) -> Result<Vec<u8>, EncodeErro
     Ok(octets)
 }
 
-/// The canonical encoding of a value (X.696) by its type under these constraints, which stand in place of its own.
+/// The canonical encoding of a value (X.696) by its type under these constraints, which replace its own.
 ///
 /// # Errors
 ///
@@ -59,7 +59,7 @@ pub fn encode_with_constraints<T: Encode>(
     }
 }
 
-/// Takes the octets behind so many in front off again, if they are too many for an encoding.
+/// Removes the octets after the first `front` ones, if they are too many for an encoding.
 ///
 /// # Errors
 ///
@@ -77,7 +77,7 @@ fn cut_at_limit(octets: &mut Vec<u8>, front: usize) -> Result<(), EncodeError>
     Ok(())
 }
 
-/// Makes room for the first octets in a buffer that has none. The only error is want of memory.
+/// Reserves capacity for the first octets in a buffer that has none. The only error is that memory runs out.
 #[inline(always)]
 fn make_room(buffer: &mut Vec<u8>) -> Result<(), AllocError>
     ensures { buffer.new.items ≡ buffer.old.items }
@@ -88,11 +88,11 @@ fn make_room(buffer: &mut Vec<u8>) -> Result<(), AllocError>
     Ok(())
 }
 
-/// Adds the canonical encoding of a value (X.696) behind what stands in the buffer, in the buffer's own room.
+/// Appends the canonical encoding of a value (X.696) to the octets in the buffer, using its capacity.
 ///
 /// # Errors
 ///
-/// Those of `encode`; the buffer then holds what it held.
+/// Those of `encode`; the buffer then has its previous contents.
 #[inline(always)]
 pub fn encode_buf<T: Encode>(
     alloc: Global,

@@ -31,8 +31,8 @@ RecordsRead =
     (free : Oer.Freedom → Bool) (s : Schema) (v : Value) (a b : State) → IsTrue (free Oer.other_bitmap)
     → IsTrue (free Oer.other_order) → Chain (Takes free) (presents s v) a b → Found free (Oer.form s v) a b
 
--- If the octets begin with the form of a value of a lawful type, then the records are next of a value that is equal
--- up to the order in SET OF.
+-- If the octets begin with the form of a value of a well-formed type, then the records are next of a value that is
+-- equal up to the order in SET OF.
 abbrev pub FormsShow : Type 0
 FormsShow =
     (free : Oer.Freedom → Bool) (s : Schema) (v : Value) (a b : State) → IsTrue (free Oer.other_bitmap) → IsLawful s
@@ -42,7 +42,7 @@ FormsShow =
 abbrev pub Bridges : (Oer.Freedom → Bool) → Schema → Value → Type 0
 Bridges free s v = (a b : State) → Chain (Takes free) (presents s v) a b ↔ Found free (Oer.form s v) a b
 
--- This holds for a lawful type without SET OF.
+-- This holds for a well-formed type without SET OF.
 abbrev pub EachBridges : Type 0
 EachBridges =
     (free : Oer.Freedom → Bool) (s : Schema) (v : Value) → IsTrue (free Oer.other_bitmap)

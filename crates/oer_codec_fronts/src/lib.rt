@@ -28,7 +28,7 @@ pub fn forms_are_found()
     ensures { FormsShow }
 {}
 
-/// The records of a value are next exactly if the octets begin with its form, for each lawful type without SET OF.
+/// The records of a value are next exactly if the octets begin with its form, for each well-formed type without SET OF.
 pub fn records_are_the_form()
     ensures { EachBridges }
 {}

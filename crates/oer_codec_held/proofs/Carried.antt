@@ -1,4 +1,4 @@
--- What a decoder finds it finds with few octets more.
+-- What a decoder finds it also finds with a few octets appended.
 use Rattle.std.proofs.Common.{◌≡◌, ◌⊎◌, inl, inr, ◌≤◌, ◌<◌, ℕ, zero, suc, ◌+◌, max, ltb, Bool, true, false, cond, IsTrue, List, [], ◌∷◌, ◌++◌, length, Option, Some, None, refl, ap, sym, ◌∙◌, subst, arith}
 use Rattle.std.proofs.lemmas.Bool.{ltb-true}
 use Rattle.asn1_model.specs.Value.{Value, Values, no_more, member, depth, depth_of_members}
@@ -56,7 +56,7 @@ level_within most (choice_begins roots x adds plus j) l m i e = inside_within mo
 level_within most ends l m i e = outside_within most l m (ltb l most) refl e
 level_within most r l m i e = let q : l ≡ m = cc e in omega arith
 
--- ---- few octets more
+-- ---- a few octets appended
 finds_more : (e : List ℕ) (a : Held) (r : Record) (b : Held) → Finds a r b → Finds (held_with e a) r (held_with e b)
 finds_more e a r b t = record {
   ready = t.ready;
@@ -112,8 +112,7 @@ held_values s v a b failed c t f = (
   (f.0, refl, fewer (due b.scopes) (due a.scopes) a b failed f.0 (as_many (due b.scopes) (due a.scopes) (ap (λ l. due l) (same_scopes s v a b t))) (all_within (presents s v) a b t) f.2),
 )
 
--- ---- lists
--- one record, and what is owed behind it
+-- one record, and what is due after it
 one_found : (r : Record) (m l : ℕ) (a b failed c : Held) → Finds a r b → m ≤ l → FewHeld l a failed c → (d : Held) × Finds c r d × FewHeld m b failed d
 one_found r m l a b failed c t h f = (
   held_with f.0 b,
@@ -124,7 +123,7 @@ one_found r m l a b failed c t h f = (
 level_kept : (a b : Held) (v : Bool) → Finds a (further v) b → b.levels ≡ a.levels
 level_kept a b v t = let e : Some a.levels ≡ Some b.levels = t.levels in cc e
 
--- whether a member comes depends on no octet
+-- whether an element comes does not depend on the octets
 held_asked : (a failed : Held) → ((c : Held) → TooFewHeld a failed c → (v : Bool) (d : Held) → Finds c (further v) d → ⊥) → (c : Held) → TooFewMembersHeld a failed c → (v : Bool) (d : Held) → Finds c (further v) d → ⊥
 held_asked a failed h c f v d t =
     let p : Finds (held_with f.0 a) (further v) d = subst (λ (s : Held). Finds s (further v) d) f.1 t in
@@ -133,7 +132,7 @@ held_asked a failed h c f v d t =
     let q : Finds a (further v) y = record { ready = p.ready; taken = z.2; levels = p.levels; most = p.most; ready_still = p.ready_still; short = p.short; rules = p.rules } in
     h a (few_at_once (due a.scopes) a failed) v y q
 
--- how deep members nest
+-- how deep elements nest
 members_deep : (free : Oer.Freedom → Bool) (s : Schema) (most : ℕ) (vs : Values) (a c : State) (l m : ℕ) → Chain (Takes free) (member_records (λ w. presents s w) vs) a c → Chain (Level most) (member_records (λ w. presents s w) vs) l m → l ≤ most → depth_of_members vs ≤ l
 unfolding depth_of_members
 members_deep free s most no_more a c l m q r i = omega arith
@@ -184,7 +183,7 @@ module _ (s : Schema) (lawful : IsLawful s) (a b failed : Held) (t : Finds a (fu
       let dvs = members_deep (freedoms b.rules) s d.most vs y.0 (state_of e) z.0 e.levels y.2 z.2 (omega arith) in
       stuck_within (freedoms b.rules) (any_bitmap b.rules) (any_order b.rules) s b.levels lawful (lacks failed) (state_of a) (state_of b) begun none_there (with_more more (state_of a)) (state_of d) (more, refl, inl j) begun' v vs (state_of e) (omega arith) (omega arith) all
 
--- where the refusal lacks no more than was there, at once
+-- if the decoder lacks no more than was there
 module _ (s : Schema) (lawful : IsLawful s) (a b failed : Held) (t : Finds a (further true) b) (h : (c : Held) → TooFewHeld b failed c → (v : Value) (d : Held) → Fits s v → Chain Finds (presents s v) c d → ⊥) where
   same_next : (d : Held) → Finds a (further true) d → d ≡ b
   same_next d p = (finds_one a (further true) (further true) d b refl p t).1

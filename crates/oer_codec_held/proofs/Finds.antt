@@ -1,4 +1,4 @@
--- What a decoder finds is one record, and leaves one state.
+-- A decoder finds at most one record, and its next state is unique.
 use Rattle.std.proofs.Common.{◌≡◌, ℕ, Bool, true, false, Some, sym, ◌∙◌, ap}
 use Rattle.asn1_model.specs.Schema.{Size, Counts}
 use Rattle.asn1_model.specs.Numbers.{is_count_within}

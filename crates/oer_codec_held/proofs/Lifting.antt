@@ -1,4 +1,4 @@
--- What a decoder finds goes with the octets that are taken and with the levels that are left, and both together are found.
+-- What a decoder finds is what the octets hold and the levels allow; if both do, it is found.
 use Rattle.std.proofs.Common.{◌≡◌, ℕ, List, [], ◌∷◌, Bool, false, refl, ap, sym, ◌∙◌, subst}
 use Rattle.asn1_schema_presented.specs.Records.{Record}
 use Rattle.asn1_schema_presented.specs.Chains.{Chain}
@@ -19,7 +19,7 @@ levels_taken (r ∷ rs) a b c =
     let p = c.1 in
     (c.0.levels, p.levels, subst (λ x. Chain (Level x) rs c.0.levels b.levels) p.most (levels_taken rs c.0 b c.2))
 
--- a decoder in this state, with so many levels left
+-- a decoder in this state, with this number of levels left
 abbrev pub held_at : Held → State → ℕ → Held
 held_at a s l = record { octets = s.0; scopes = s.1; levels = l; most = a.most; failed = false; short = a.short; rules = a.rules }
 

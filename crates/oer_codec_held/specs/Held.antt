@@ -1,4 +1,4 @@
--- What a decoder of the octet encoding rules (X.696) holds, and how each record that it finds changes that.
+-- The state of a decoder of OER (X.696), and how each record that it finds changes it.
 use Rattle.std.specs.Prelude.{◌≡◌, ℕ, Bool, true, false, List, Some}
 use Rattle.asn1_schema_faults.specs.declared.CodecKind.{CodecKind}
 use Rattle.asn1_schema_faults.specs.declared.CodecKind.TheVariants.{Oer as OerKind, Coer as CoerKind}
@@ -9,8 +9,8 @@ use Rattle.oer_codec_reading_lengths.specs.declared.rules.EncodingRules.{Encodin
 use Rattle.oer_codec_reading_lengths.specs.declared.rules.EncodingRules.TheVariants.{Oer, Coer}
 use Rattle.oer_codec_fronts.specs.Takes.{Scope, State, Takes}
 
--- What is held: the octets that are left, the open scopes, how many more levels may be nested, how many were so at
--- the beginning, whether the decoder has failed, how many octets are then told to be lacking at least, and its rules.
+-- The state: the octets that are left, the open scopes, how many more levels may be nested, how many could be at the
+-- start, whether the decoder has failed, how many octets are then missing at least, and its rules.
 pub record Held : Type 0 where
   pub octets : List ℕ
   pub scopes : List Scope
@@ -23,20 +23,20 @@ pub record Held : Type 0 where
 abbrev pub state_of : Held → State
 state_of h = (h.octets, h.scopes)
 
--- The rules as the traits name them.
+-- The rules under the names of the traits.
 abbrev pub kind_of : EncodingRules → CodecKind
 kind_of Oer = OerKind
 kind_of Coer = CoerKind
 
--- It has failed, and nothing else is said.
+-- It has failed.
 abbrev pub HasFailed : Held → Type 0
 HasFailed h = h.failed ≡ true
 
--- It has not.
+-- It has not failed.
 abbrev pub IsReady : Held → Type 0
 IsReady h = h.failed ≡ false
 
--- A record is found in front by a decoder that has not failed, within the levels that are left.
+-- A decoder that has not failed finds a record, within the levels that are left.
 pub record Finds (old : Held) (r : Record) (new : Held) : Type 0 where
   pub ready : IsReady old
   pub taken : Takes (freedoms old.rules) (state_of old) r (state_of new)

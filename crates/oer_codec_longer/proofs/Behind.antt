@@ -1,12 +1,11 @@
--- Octets behind all that is held, and fronts that do not reach into them.
+-- Octets after all that is held, and prefixes that do not reach into them.
 use Rattle.std.proofs.Common.{◌≡◌, ◌≤◌, ℕ, ◌+◌, Bool, true, false, List, [], ◌∷◌, ◌++◌, length, refl, ap, sym, ◌∙◌, subst, append_assoc, length-append, append-nil, cond, arith}
 use Rattle.asn1_model.specs.Oer
 use Rattle.oer_codec_fronts.specs.Takes.{State, Scope, components, added, open_type, members, alternative, Front}
 use Rattle.oer_codec_fronts.proofs.Next.{state_same}
 use Rattle.oer_codec_longer.specs.More.{is_within, octets_with, scopes_with, with_more, octets_behind}
 
--- ---- lists
--- what stands behind a front that does not reach into the last of a list
+-- what follows a prefix that does not reach into the last part of a list
 pub left_behind : (t r os e : List ℕ) → t ++ r ≡ os ++ e → length e ≤ length r → (rest : List ℕ) × (r ≡ rest ++ e) × (t ++ rest ≡ os)
 left_behind [] r os e q h = (os, q, refl)
 left_behind (x ∷ t) r [] e q h =
@@ -27,7 +26,7 @@ octets_front e k t rest = by_case (is_within k)
     by_case true = refl
     by_case false = append_assoc t rest e
 
--- scopes with more behind are within an open type where they were
+-- scopes with octets appended are within an open type exactly if they were before
 within_with : (e : List ℕ) (k : List Scope) → is_within (scopes_with e k) ≡ is_within k
 within_with e [] = refl
 within_with e (open_type rest ∷ k) = refl
@@ -70,7 +69,7 @@ scopes_none (alternative ∷ k) = ap (λ l. alternative ∷ l) (scopes_none k)
 pub more_none : (a : State) → with_more [] a ≡ a
 more_none a = state_same (with_more [] a) a (octets_none a.1 a.0) (scopes_none a.1)
 
--- outside all open types the octets in front are those behind all
+-- outside all open types, the octets that are left are those to which others are appended
 pub outside : (e : List ℕ) (k : List Scope) (os : List ℕ) → is_within k ≡ false → octets_behind os (scopes_with e k) ≡ os
 outside e [] os q = refl
 outside e (open_type rest ∷ k) os q = cc

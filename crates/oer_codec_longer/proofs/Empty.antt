@@ -1,4 +1,4 @@
--- Values that take no octet take none in every state.
+-- Values that take no octets in one state take none in every state.
 use Rattle.std.proofs.Common.{◌≡◌, inl, inr, ◌≤◌, ℕ, ◌+◌, Bool, List, [], ◌∷◌, ◌++◌, length, refl, ap, length-append, arith}
 use Rattle.std.proofs.lemmas.Bool.{cases_lt}
 use Rattle.asn1_model.specs.Oer
@@ -6,12 +6,12 @@ use Rattle.oer_codec_fronts.specs.Takes.{Front}
 use Rattle.oer_codec_fronts.proofs.Whole.{records_read, forms_show}
 use Rattle.oer_codec_longer.specs.Laws.{EmptyEverywhere, TakesSome}
 
--- a list with no element
+-- a list without elements
 no_text : (t : List ℕ) → length t ≡ 0 → t ≡ []
 no_text [] q = refl
 no_text (x ∷ t) q = absurd (omega arith)
 
--- a front that takes nothing is one of all octets
+-- a prefix that takes nothing can precede any octets
 empty_front : (free : Oer.Freedom → Bool) (x : Oer.OctetForm) (os rest : List ℕ) → Front free x os rest → length os ≤ length rest → (here : List ℕ) → Front free x here here
 empty_front free x os rest f h here =
     let l : length (f.text ++ rest) ≡ length f.text + length rest = length-append f.text rest in

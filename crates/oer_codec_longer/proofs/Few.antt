@@ -1,4 +1,4 @@
--- What is next is next with few octets more, and members lack what the laws say.
+-- What is next is also next with a few octets appended, and missing elements lack the octets that the laws say.
 use Rattle.std.proofs.Common.{◌≡◌, ◌⊎◌, inl, inr, ◌≤◌, ◌<◌, ℕ, zero, suc, ◌+◌, ◌-◌, Bool, true, false, cond, IsTrue, List, [], ◌∷◌, ◌++◌, length, drop, Option, Some, None, refl, ap, sym, ◌∙◌, subst, arith}
 use Rattle.std.proofs.lemmas.Bool.{cases_lt}
 use Rattle.asn1_model.specs.Value.{Value, Values}
@@ -93,7 +93,7 @@ module _ (free : Oer.Freedom → Bool) where
   takes_owed (bag_begins z h n) a b e f = cc
   takes_owed (further v) a b e f = cc
 
-  -- few octets more where no more is owed
+  -- a few octets appended, if no more elements are due
   pub fewer_owed : (n m l : ℕ) (a b : State) (e : List ℕ) → m ≤ l → (length e + l ≤ n) ⊎ (e ≡ []) → FewMore n m b (with_more e b)
   fewer_owed n m l a b e h (inl i) = (e, refl, inl (omega arith))
   fewer_owed n m l a b e h (inr i) = (e, refl, inr i)
@@ -151,7 +151,7 @@ module _ (free : Oer.Freedom → Bool) where
         let z = member_back free f.0 v a.0 a.1 d (subst (λ s. Takes free s (further v) d) f.1 t) in
         h a (at_once n a) v z.0 z.2
 
-    -- where a member is lacking, so are those behind it
+    -- if an element is missing, so are those after it
     abbrev Absent : ℕ → Schema → State → Type 0
     Absent n s b = (c : State) → TooFew n b c → (v : Value) (d : State) → Fits s v → Chain (Takes free) (presents s v) c d → ⊥
 

@@ -1,4 +1,4 @@
--- How many octets the members of a list lack at least.
+-- How many octets the elements of a list lack at least.
 use Rattle.std.proofs.Common.{◌≡◌, ◌≤◌, ◌<◌, ℕ, zero, suc, ◌+◌, Bool, true, false, IsTrue, List, [], ◌∷◌, ◌++◌, length, refl, ap, sym, ◌∙◌, subst, arith}
 use Rattle.asn1_model.specs.Value.{Value, Values, no_more, member}
 use Rattle.asn1_model.specs.Schema.{Schema}
@@ -15,7 +15,7 @@ use Rattle.oer_codec_longer.proofs.Behind.{more_twice, more_none, outside}
 use Rattle.oer_codec_longer.proofs.Chained.{chain_back}
 use Rattle.oer_codec_longer.proofs.Empty.{some}
 
--- a list in two parts, neither of them too long
+-- a list in two parts, each within a limit
 pub in_two : (n j : ℕ) (e : List ℕ) → length e ≤ n + j → (f : List ℕ) × (g : List ℕ) × (f ++ g ≡ e) × (length f ≤ n) × (length g ≤ j)
 in_two zero j e h = ([], e, refl, omega arith, omega arith)
 in_two (suc n) j [] h = ([], [], refl, omega arith, omega arith)
@@ -25,7 +25,7 @@ module _ (free : Oer.Freedom → Bool) (other : IsTrue (free Oer.other_bitmap)) 
   abbrev Each : Type 0
   Each = (v : Value) (a b : State) → Chain (Takes free) (presents s v) a b → length (b.0) < length (a.0)
 
-  -- members that are to come take as many octets as they are
+  -- the elements that are to come take at least one octet each
   members_take : Each → (j : ℕ) (k : List Scope) (os : List ℕ) (vs : Values) (c : State) → Chain (Takes free) (member_records (λ w. presents s w) vs) (os, members j ∷ k) c → j ≤ length os
   members_take h zero k os vs c q = omega arith
   members_take h (suc j) k os no_more c q = let e : false ≡ true = q.1.0 in cc

@@ -1,4 +1,4 @@
--- How many octets a length determinant asks for.
+-- How many octets a length determinant counts.
 use Rattle.std.proofs.Common.{◌≡◌, ℕ, ◌+◌, Bool, List, [], ◌++◌, length, ap, length-append, arith}
 use Rattle.asn1_model.specs.Form.{exactly, both, Reads}
 use Rattle.asn1_model.specs.Strings.{is_octet}
@@ -13,7 +13,7 @@ use Rattle.oer_codec_longer.specs.Laws.{LengthsAreLacking}
 use Rattle.oer_codec_longer.proofs.Behind.{front_more}
 
 module _ (free : Oer.Freedom → Bool) where
-  -- the octets in front are as many as the text
+  -- a prefix has as many octets as its form
   long : (ts os rest : List ℕ) → Front free (exactly ts) os rest → length ts + length rest ≡ length os
   unfolding Reads
   long ts os rest f =

@@ -1,4 +1,4 @@
--- The laws of members for values that nest at most so many levels.
+-- The laws of elements, for values with a limited number of nested levels.
 use Rattle.std.proofs.Common.{◌≡◌, ◌⊎◌, inl, inr, ◌≤◌, ◌<◌, ℕ, zero, suc, ◌+◌, ◌-◌, max, Bool, true, false, cond, IsTrue, List, [], ◌∷◌, ◌++◌, length, refl, ap, sym, ◌∙◌, subst, arith}
 use Rattle.std.proofs.lemmas.Bool.{cases_lt}
 use Rattle.asn1_model.specs.Value.{Value, Values, no_more, member, depth, depth_of_members}
@@ -25,7 +25,7 @@ module _ (free : Oer.Freedom → Bool) (other : IsTrue (free Oer.other_bitmap)) 
   abbrev Found : Value → State → State → Type 0
   Found v a b = Chain (Takes free) (presents s v) a b
 
-  -- where none that nests so deep is next in some state, each takes some octet in every state
+  -- if no value with so few levels is next in some state, each takes at least one octet in every state
   some_within : IsLawful s → (c : State) → ((w : Value) (d : State) → depth w ≤ deepest → Found w c d → ⊥) → (v : Value) (a b : State) → depth v ≤ deepest → Found v a b → length (b.0) < length (a.0)
   some_within l c none v a b i q =
       elim (cases_lt (length (b.0)) (length (a.0))) [
@@ -70,7 +70,7 @@ module _ (free : Oer.Freedom → Bool) (other : IsTrue (free Oer.other_bitmap)) 
       let x = chain_back free p.1 (presents s v) (with_more p.0 a) z.0 y (omega arith) in
       none p.0 v x.0 p.3 dv x.2
 
-  -- no value that nests so deep is next, also with few octets more
+  -- no value with so few levels is next, nor with a few octets appended
   abbrev pub Absent : ℕ → State → Type 0
   Absent n b = (c : State) → TooFew n b c → (v : Value) (d : State) → Fits s v → depth v ≤ deepest → Found v c d → ⊥
 

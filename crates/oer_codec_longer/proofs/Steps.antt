@@ -1,4 +1,4 @@
--- What more octets behind change for one record.
+-- What appending octets changes for one record.
 use Rattle.std.proofs.Common.{◌≡◌, ◌≤◌, ℕ, zero, suc, Bool, true, false, List, [], ◌∷◌, length, drop, Some, None, refl, ap, sym, ◌∙◌, subst, arith}
 use Rattle.asn1_model.specs.Value.{truth, nothing, number, item, bit_list, octet_list, text, arcs}
 use Rattle.asn1_model.specs.Schema.{Tag, Counts, boolean, null, integer, enumerated, bit_string, octet_string, character_string, object_identifier}
@@ -17,13 +17,12 @@ less rest os = length rest ≤ length os
 self_less : (l : List ℕ) → less l l
 self_less l = omega arith
 
--- at a state that is known by an equation
+-- in a state that is known by an equation
 at_less : (b c : State) (l : List ℕ) → b ≡ c → less (outermost c) l → less (outermost b) l
 at_less b c l q h = subst (λ s. less (outermost s) l) (sym q) h
 
 module _ (free : Oer.Freedom → Bool) where
-  -- ---- nothing grows
-  -- behind a front, in scopes that add no open type
+  -- after a prefix, in scopes that add no open type
   pushed_less : (x : Oer.OctetForm) (os : List ℕ) (k l : List Scope) (b : State) → Front free x os b.0 → b.1 ≡ l → octets_behind b.0 l ≡ octets_behind b.0 k → less (outermost b) (octets_behind os k)
   pushed_less x os k l b f q r = subst (λ i. less i (octets_behind os k)) (sym (ap (λ m. octets_behind b.0 m) q ∙ r)) (front_less free x k os b.0 f)
 
@@ -109,8 +108,7 @@ module _ (free : Oer.Freedom → Bool) where
   takes_less a mismatch b f = absurd f
 
   module _ (e : List ℕ) where
-    -- ---- more changes nothing
-    -- behind a front, in scopes with no open type more
+    -- after a prefix, in scopes without another open type
     pushed_more : (x : Oer.OctetForm) (os : List ℕ) (k l : List Scope) (b : State) → Front free x os b.0 → b.1 ≡ l → octets_with e l b.0 ≡ octets_with e k b.0 → Front free x (octets_with e k os) (octets_with e b.1 b.0)
     pushed_more x os k l b f q r = subst (λ i. Front free x (octets_with e k os) i) (sym (ap (λ m. octets_with e m b.0) q ∙ r)) (front_more free e x k os b.0 f)
 
@@ -205,7 +203,7 @@ module _ (free : Oer.Freedom → Bool) where
     abbrev pub Back : State → (State → Type 0) → Type 0
     Back c p = (b : State) × (c ≡ with_more e b) × p b
 
-    -- behind a front, in scopes with no open type more
+    -- after a prefix, in scopes without another open type
     pushed_back : (x : Oer.OctetForm) (os : List ℕ) (k l : List Scope) (c : State) → Front free x (octets_with e k os) c.0 → c.1 ≡ scopes_with e l → octets_behind c.0 (scopes_with e l) ≡ octets_behind c.0 (scopes_with e k) → ((r : List ℕ) → octets_with e k r ≡ octets_with e l r) → less e (outermost c) → Back c (λ b. Front free x os b.0 × (b.1 ≡ l))
     pushed_back x os k l c f q r s h =
         let z = front_back free e x k os c.0 f (subst (λ i. less e i) (ap (λ m. octets_behind c.0 m) q ∙ r) h) in

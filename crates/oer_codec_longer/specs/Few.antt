@@ -1,4 +1,4 @@
--- How many octets more a reader of the octet encoding rules (X.696) lacks at least where it was refused.
+-- How many more octets a decoder of OER (X.696) needs at least after an error.
 use Rattle.std.specs.Prelude.{◌≡◌, ◌⊎◌, ◌≤◌, ℕ, ◌+◌, cond, List, [], ◌∷◌, length}
 use Rattle.std.specs.Prelude.{Bool, true, false, IsTrue, ◌++◌}
 use Rattle.asn1_model.specs.Value.{Value, Values}
@@ -12,7 +12,7 @@ use Rattle.oer_codec_fronts.specs.Takes.{State, Scope, members, Takes}
 use Rattle.oer_codec_longer.specs.More.{is_within, with_more}
 use Rattle.asn1_schema_lacking.specs.Carried.{CarriesRecords, CarriesValues, CarriesMembers}
 
--- How many members are to come in all lists and bags outside open types.
+-- How many elements are still to come in all lists and SET OF values outside open types.
 abbrev pub due : List Scope → ℕ
 due [] = 0
 due (members n ∷ k) = cond (is_within k) (due k) (n + due k)
@@ -23,19 +23,19 @@ abbrev pub around : List Scope → List Scope
 around [] = []
 around (s ∷ k) = k
 
--- More octets than none stand behind, but fewer than are lacking: n at most, less one for each member that was to come.
+-- c is a with octets appended: at most n, less `owed`, the number of elements that are still to come; or none.
 abbrev pub FewMore : ℕ → ℕ → State → State → Type 0
 FewMore n owed a c = (e : List ℕ) × (c ≡ with_more e a) × ((length e + owed ≤ n) ⊎ (e ≡ []))
 
 abbrev pub TooFew : ℕ → State → State → Type 0
 TooFew n a c = FewMore n (due a.1) a c
 
--- The same where the innermost scope is that of a list, whose own members do not count.
+-- As `TooFew`, with a list as the innermost scope, whose own elements do not count.
 abbrev pub TooFewMembers : ℕ → State → State → Type 0
 TooFewMembers n a c = FewMore n (due (around a.1)) a c
 
--- What is next is next with few octets more, and members lack what the laws say: where the refusal lacks more than n
--- octets in all, which is the same for each state that it leaves.
+-- What is next is also next with a few octets appended, and missing elements lack the octets that the laws say. A
+-- failed decoder lacks more than n octets in all, a number that depends only on its state.
 abbrev pub FewCarried : Type 0
 FewCarried =
     (free : Oer.Freedom → Bool) (n : State → ℕ) → IsTrue (free Oer.other_bitmap) → IsTrue (free Oer.other_order)

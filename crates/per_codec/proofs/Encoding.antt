@@ -1,4 +1,4 @@
--- What an encoder holds behind the records of a value.
+-- What an encoder holds after the records of a value.
 use Rattle.std.proofs.Common.{◌≡◌, ℕ, Bool, true, false, cond, List, [], ◌∷◌, Option, Some, None, option_and_then, refl, sym, ◌∙◌, ap, subst, arith}
 use Rattle.asn1_model.specs.Schema.{Schema}
 use Rattle.asn1_model.specs.Value.{Value, depth}
@@ -37,7 +37,7 @@ is_writer = record {
   takes_all = λ a r m k s. let b : Written = record { state = m; aligned = a.aligned; failed = false } in (b, (k, refl, refl, s), refl);
 }
 
--- it has not failed behind records, if it had not before
+-- if it had not failed before some records, it has not failed after them
 still_ready : (rs : List Record) (a b : Written) → Chain Puts rs a b → a.failed ≡ false → b.failed ≡ false
 still_ready [] a b h k = ap (λ (w : Written). w.failed) h ∙ k
 still_ready (r ∷ rs) a b h k = still_ready rs h.0 b h.2 h.1.1
@@ -45,9 +45,9 @@ still_ready (r ∷ rs) a b h k = still_ready rs h.0 b h.2 h.1.1
 abbrev nothing_held : Bool → Written
 nothing_held al = record { state = ([], []); aligned = al; failed = false }
 
--- ---- before any bound on the length
+-- ---- before any limit on the length
 
--- what the encoder takes, a writer takes, and the other way round
+-- what the encoder accepts, a writer accepts, and conversely
 runs_held : (rs : List Record) (a b : Written) → Chain Puts rs a b → runs a.aligned rs a.state ≡ Some b.state
 runs_held [] a b c = ap (λ (w : Written). Some w.state) (sym c)
 runs_held (r ∷ rs) a b c = ap (option_and_then (λ m. runs a.aligned rs m)) c.1.3 ∙ subst (λ al. runs al rs c.0.state ≡ Some b.state) c.1.2 (runs_held rs c.0 b c.2)
@@ -68,7 +68,7 @@ unfolding encoding
 by_variant true s v = (refl, refl)
 by_variant false s v = (refl, refl)
 
--- the message of a value, by the state behind its records
+-- the message of a value, from the state after its records
 as_text : (al : Bool) (schema : ℕ → Schema) (v : Value) (o : Option (List ℕ)) → IsValue schema v → ((n : ℕ) → Fits (schema n) v → option_and_then octets_of (runs al (presents (schema n) v) ([], [])) ≡ o) → HasTextIn (packed_rules al) schema v o
 as_text al schema v o i h n f =
     let m : per al (schema n) (normal (schema n) v) ≡ o = ap (per al (schema n)) (i.normal n) ∙ sym (messages al (schema n) v) ∙ h n f in
@@ -85,9 +85,9 @@ no_text al schema v e i y c = as_text al schema v None i (λ n f. ap (option_and
     go n f None h = refl
     go n f (Some m) h = let u = runs_taken (presents (schema n) v) (nothing_held al) m refl h in absurd (c.none y n u.0 f u.1)
 
--- ---- what the calls answer
+-- ---- the results of the calls
 
--- behind the records of a value stand its bits
+-- after the records of a value come its bits
 pub written_all : (al : Bool) (schema : ℕ → Schema) (v : Value) (start new : Written) → start ≡ nothing_held al → IsValue schema v → Writes Puts schema v start new → (new.failed ≡ false) × (new.state.1 ≡ []) × IsWrittenIn (packed_rules al) schema v (option_and_then of_moderate_length (octets_of new.state)) × HasTextIn (packed_rules al) schema v (octets_of new.state)
 unfolding held aligned
 written_all al schema v start new e i w =
@@ -95,7 +95,7 @@ written_all al schema v start new e i w =
     let t = writes_the_octets is_writer schema v (nothing_held al) new i refl x in
     (still_ready _ (nothing_held al) new (x.chain (depth v) (i.fits (depth v) (omega arith))) refl, t.0, t.1, text_written al schema v new i x)
 
--- a value whose records are refused has none
+-- a value whose records are refused has no octets
 pub refused_all : (al : Bool) (schema : ℕ → Schema) (v : Value) (start : Written) (x e : EncodeError) → start ≡ nothing_held al → IsValue schema v → CannotWrite Puts schema v start x → PassedOn x e → NotWrittenIn (packed_rules al) schema v e
 unfolding held aligned Ready
 refused_all al schema v start x e k i c p =

@@ -1,4 +1,4 @@
--- Which message a decoder has found, and why none stands in front where it has not.
+-- Which message a decoder has found, and why the octets begin with none if it has found none.
 use Rattle.std.proofs.Common.{◌≡◌, inl, inr, min, ℕ, ◌+◌, ◌-◌, ◌*◌, ◌/◌, ◌<◌, ◌≤◌, ◌^◌, zero, suc, Bool, true, false, IsTrue, Some, None, List, [], ◌∷◌, ◌++◌, length, take, drop, refl, ap, sym, ◌∙◌, subst, append_assoc, append-nil, arith, length-append}
 use Rattle.std.specs.Prelude.{is_some}
 use Rattle.std.proofs.lemmas.Bool.{cases_lt}
@@ -64,7 +64,7 @@ form_of Aper s v w e = e
 form_of UperStrict s v w e = e
 form_of AperStrict s v w e = e
 
--- ---- what a decoder is at the beginning
+-- ---- the state of a decoder at the start
 abbrev pub first : List ℕ → List ℕ
 first input = take (2 ^ 60 - 1) input
 
@@ -72,7 +72,7 @@ abbrev pub begun : PackedRules → List ℕ → Held
 begun r input = record { place = (0, octet_bits (first input)); scopes = []; levels = 128; most = 128; failed = None; rules = r; stands = Some 0 ∷ [] }
 
 -- ---- what is found
--- so many octets of those that are looked at, and the input's others behind them
+-- some of the octets that are looked at, and the other octets of the input after them
 front_octets : (k : ℕ) (input : List ℕ) → k ≤ length (first input) → take k (first input) ++ drop k input ≡ input
 front_octets k input h =
     let text = take k (first input) in
@@ -138,7 +138,7 @@ told r schema v input new after t g =
       means = t.means;
     })
 
--- the same of a decoder as it was made
+-- the same for a new decoder
 pub told_from : (r : PackedRules) (schema : ℕ → Schema) (v : Value) (input : List ℕ) (old new : Held) (after : Place) → old ≡ begun r input → ReadsValue Finds schema old.levels v old new → Front (freedoms new.rules) (completion new.place.0) new.place after → Tells (rules_of r) schema v input (drop ((length old.place.1 - length after.1) / 8) input)
 told_from r schema v input old new after e t g =
     let u : ReadsValue Finds schema 128 v (begun r input) new = subst (λ (h : Held). ReadsValue Finds schema h.levels v h new) e t in
@@ -146,7 +146,7 @@ told_from r schema v input old new after e t g =
     let f : Finished r new after = subst (λ (x : PackedRules). Front (freedoms x) (completion new.place.0) new.place after) q g in
     subst (λ (n : ℕ). Tells (rules_of r) schema v input (drop ((n - length after.1) / 8) input)) (sym (ap (λ (h : Held). length h.place.1) e)) (told r schema v input new after u f)
 
--- no more bits are left than there were, and so many octets as were taken are in the input
+-- at most as many bits are left as there were, and the octets that were taken are in the input
 pub left_within : (r : PackedRules) (schema : ℕ → Schema) (v : Value) (input : List ℕ) (old new : Held) (after : Place) → old ≡ begun r input → ReadsValue Finds schema old.levels v old new → Front (freedoms new.rules) (completion new.place.0) new.place after → (length after.1 ≤ length old.place.1) × ((length old.place.1 - length after.1) / 8 ≤ length input)
 left_within r schema v input old new after e t g =
     let u : ReadsValue Finds schema 128 v (begun r input) new = subst (λ (h : Held). ReadsValue Finds schema h.levels v h new) e t in
@@ -165,7 +165,7 @@ front_of text rest input h e =
     sym (take-append-add text rest (2 ^ 60 - 1 - length text)) ∙ ap (λ k. take k (text ++ rest)) n ∙ ap first e
 
 module _ (r : PackedRules) (schema : ℕ → Schema) (input : List ℕ) (lawful : IsLawful (schema 128)) where
-  -- a message in front has records that are found, and its padding behind them
+  -- the message with which octets begin has records that are found, followed by its padding
   record Again : Type 0 where
     value : Value
     left : Place
@@ -248,7 +248,8 @@ take_whole n xs h =
     take_none zero = refl
     take_none (suc m) = refl
 
--- an input and more octets: what is looked at of both is what is looked at of the input, and no more of the others
+-- an input and more octets: what is looked at of both begins with what is looked at of the input, and has at most the
+-- added octets after it
 begun_more : (input more : List ℕ) → (f : List ℕ) × (first (input ++ more) ≡ first input ++ f) × (length f ≤ length more)
 begun_more input more = elim (cases_lt (2 ^ 60 - 1) (length input)) [
   | inl i ↦ ([], take-append-le (2 ^ 60 - 1) input more (omega arith) ∙ sym (append-nil (first input)), omega arith)
@@ -259,7 +260,7 @@ begun_more input more = elim (cases_lt (2 ^ 60 - 1) (length input)) [
       (take k more, ap (λ m. take m (input ++ more)) n ∙ take-append-add input more k ∙ ap (λ x. x ++ take k more) (sym w), omega (arith, length-take k more))
 ]
 
--- Where a decoder was refused, no message is in front either once a few octets more stand behind the input.
+-- If a decoder failed, the input with a few octets appended begins with no message either.
 more_needed : (r : PackedRules) (schema : ℕ → Schema) (input : List ℕ) (failed : Held) (n : ℕ) (e : DecodeError) → IsLawful (schema 128) → n ≤ lacks failed / 8 + 1 → Unread Finds TooFewHeld schema 128 (begun r input) failed e → NeedsMore (rules_of r) schema input n e
 more_needed r schema input failed n e lawful few u more h =
     let z = begun_more input more in
@@ -274,7 +275,7 @@ more_needed r schema input failed n e lawful few u more h =
 pub more_needed_from : (r : PackedRules) (schema : ℕ → Schema) (input : List ℕ) (old failed : Held) (n : ℕ) (e : DecodeError) → IsLawful (schema 128) → old ≡ begun r input → n ≡ min (lacks failed) (2 ^ 64 - 1) / 8 + 1 → Unread Finds TooFewHeld schema old.levels old failed e → NeedsMore (rules_of r) schema input n e
 more_needed_from r schema input old failed n e lawful q k u = more_needed r schema input failed n e lawful (omega (arith, k)) (subst (λ (h : Held). Unread Finds TooFewHeld schema h.levels h failed e) q u)
 
--- where no message is in front, none is with fewer octets than one more
+-- if the octets begin with no message, they begin with none with no octets appended
 pub none_with_fewer : (r : PackedRules) (schema : ℕ → Schema) (input : List ℕ) (e : DecodeError) → NoMessage (rules_of r) schema input e → NeedsMore (rules_of r) schema input 1 e
 none_with_fewer r schema input e none [] h = subst (λ l. NoMessage (rules_of r) schema l e) (sym (append-nil input)) none
 none_with_fewer r schema input e none (x ∷ more) h = absurd (omega (arith, h))

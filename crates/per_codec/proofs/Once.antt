@@ -1,4 +1,4 @@
--- Of all beginnings of some octets one at most is an encoding.
+-- At most one prefix of any octets is an encoding.
 use Rattle.asn1_laws_fronts.specs.Laws.{OneFrontIn}
 use Rattle.asn1_laws_fronts.proofs.Forms.{one_front_uper, one_front_aper, one_front_uper_strict, one_front_aper_strict}
 use Rattle.per_codec_reading.specs.declared.rules.PackedRules.{PackedRules}

@@ -1,4 +1,4 @@
--- What the calls that write answer.
+-- The results of the calls that encode.
 use Rattle.std.specs.Prelude.{ℕ, List, Some}
 use Rattle.asn1_model.specs.Schema.{Schema}
 use Rattle.asn1_model.specs.Value.{Value}
@@ -8,11 +8,11 @@ use Rattle.per_codec_encoder.specs.Written.{packed_rules}
 use Rattle.per_codec_limits.specs.Variants.{is_aligned}
 use Rattle.per_codec_limits.specs.declared.variant.Variant.{Variant}
 
--- These octets are the canonical encoding of the value (X.691) in this variant, in whatever depth its type is unfolded:
--- `IsWrittenIn` for the rules of the variant.
+-- These octets are the canonical encoding of the value (X.691) in this variant, at any depth to which its type is
+-- unfolded: `IsWrittenIn` for the rules of the variant.
 abbrev pub IsEncoded : Variant → (ℕ → Schema) → Value → List ℕ → Type 0
 IsEncoded variant schema v w = IsWrittenIn (packed_rules (is_aligned variant)) schema v (Some w)
 
--- Why it is not written in that variant: `NotWrittenIn` for the same rules.
+-- Why it is not encoded in that variant: `NotWrittenIn` for the same rules.
 abbrev pub NotEncoded : Variant → (ℕ → Schema) → Value → EncodeError → Type 0
 NotEncoded variant schema v e = NotWrittenIn (packed_rules (is_aligned variant)) schema v e

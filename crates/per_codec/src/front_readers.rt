@@ -1,10 +1,10 @@
-//! Readers of the message in front of octets, by each set of rules.
+//! Readers of the message with which octets begin, for each set of rules.
 
 use asn1_schema_decode::{Decode, FrontReader};
 use asn1_schema_faults::DecodeError;
 use std::alloc::Global;
 
-/// Reads the message in front of octets by the unaligned packed encoding rules (X.691).
+/// Reads the message with which octets begin, by the unaligned packed encoding rules (X.691).
 #[derive(Clone, Copy, Debug, PartialEq, Eq)]
 pub struct UperFront;
 
@@ -22,7 +22,7 @@ impl<T: Decode> FrontReader<T> for UperFront {
     }
 }
 
-/// Reads the message in front of octets by the aligned packed encoding rules (X.691).
+/// Reads the message with which octets begin, by the aligned packed encoding rules (X.691).
 #[derive(Clone, Copy, Debug, PartialEq, Eq)]
 pub struct AperFront;
 
@@ -40,7 +40,7 @@ impl<T: Decode> FrontReader<T> for AperFront {
     }
 }
 
-/// Reads the message in front of octets by the unaligned packed encoding rules (X.691), strictly: only the forms
+/// Reads the message with which octets begin, by the unaligned packed encoding rules (X.691), strictly: only the forms
 /// that an encoder writes.
 #[derive(Clone, Copy, Debug, PartialEq, Eq)]
 pub struct UperStrictFront;
@@ -59,8 +59,8 @@ impl<T: Decode> FrontReader<T> for UperStrictFront {
     }
 }
 
-/// Reads the message in front of octets by the aligned packed encoding rules (X.691), strictly: only the forms that an
-/// encoder writes.
+/// Reads the message with which octets begin, by the aligned packed encoding rules (X.691), strictly: only the forms
+/// that an encoder writes.
 #[derive(Clone, Copy, Debug, PartialEq, Eq)]
 pub struct AperStrictFront;
 

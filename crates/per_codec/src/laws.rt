@@ -1,8 +1,9 @@
-//! What is told is one value. The function does nothing; its contract is a law.
+//! The decoded value is unique. The function does nothing; its contract is a law.
 ghost use Rattle.per_codec.specs.Messages.{OneMessage};
 
-/// What the calls answer is the same whenever they answer a value of a lawful type: an input tells one at most, up to
-/// the order of bags, and one rest stands behind its message.
+/// The decoding calls return the same whenever they return a value of a well-formed type: an input begins with a
+/// message of at most one value, up to the order of the elements of each SET OF, and the rest after the message is
+/// unique.
 pub fn one_message_is_told()
     ensures { OneMessage }
 {}

@@ -1,5 +1,5 @@
-//! The packed encoding rules (X.691), unaligned (UPER) and aligned (APER): values are written, and read in all forms
-//! or, strictly, only in the forms that are written.
+//! The packed encoding rules (X.691), unaligned (UPER) and aligned (APER): values are encoded, and decoded from all
+//! forms or, strictly, only from the forms that an encoder writes.
 #![tactic(auto)]
 
 pub mod aper;

@@ -1,4 +1,4 @@
-//! A value is read from the front of octets.
+//! Decodes the value with whose encoding octets begin.
 ghost use Rattle.std.specs.Prelude.{◌≡◌, ◌≤◌, ℕ, List, IfOk, IfErr};
 ghost use Rattle.asn1_model.specs.Lawful.{IsLawful};
 ghost use Rattle.asn1_schema_constraints.specs.Terms.{meant};
@@ -12,12 +12,12 @@ use per_codec_decoder::{Decoder, DecoderOptions};
 use per_codec_reading::PackedRules;
 use std::alloc::Global;
 
-/// Reads the value whose encoding stands in front (X.691), and passes over the octets behind it.
+/// Decodes the value with whose encoding (X.691) the input begins, and ignores the octets after it.
 ///
 /// # Errors
 ///
-/// `OutOfMemory` for want of memory. Any other only if no octets in front, fewer than 2^60, are an encoding of a
-/// value of the type that nests at most 128 levels.
+/// `OutOfMemory` if memory runs out. Otherwise only if no prefix of the input that is shorter than 2^60 octets is an
+/// encoding of a value of the type with at most 128 nested levels.
 #[inline(always)]
 pub fn decode<T: Decode>(alloc: Global, input: &[u8], rules: PackedRules) -> Result<T, DecodeError>
     ensures ok { IfOk result (λ x. (rest : List ℕ) × Tells (rules_of rules) T.schema (T.meaning x) input.now rest) }
@@ -28,7 +28,7 @@ pub fn decode<T: Decode>(alloc: Global, input: &[u8], rules: PackedRules) -> Res
     Ok(value)
 }
 
-/// Reads the value whose encoding stands in front (X.691), and lends the octets behind it.
+/// Decodes the value with whose encoding (X.691) the input begins, and returns the octets after it as well.
 ///
 /// # Errors
 ///
@@ -49,8 +49,8 @@ pub fn decode_with_remainder<'input, T: Decode>(
     }
 }
 
-/// As `decode_with_remainder`, and a refusal says how many more octets are needed at least: with fewer behind the input
-/// no encoding stands in front either.
+/// As `decode_with_remainder`; an error also says how many more octets are needed at least. With fewer octets appended,
+/// the input does not begin with an encoding either, unless the error was `OutOfMemory`.
 ///
 /// # Errors
 ///
@@ -86,13 +86,13 @@ pub fn decode_or_need<'input, T: Decode>(
     Ok((value, rest))
 }
 
-/// Reads the value whose encoding under these constraints, in place of the type's own, stands in front (X.691), and
-/// passes over the octets behind it.
+/// Decodes the value with whose encoding (X.691) under these constraints, which replace those of the type, the input
+/// begins, and ignores the octets after it.
 ///
 /// # Errors
 ///
-/// `OutOfMemory` for want of memory. Any other, if the type under these constraints is a lawful one, only if no octets
-/// in front, fewer than 2^60, are an encoding of a value of it that nests at most 128 levels.
+/// `OutOfMemory` if memory runs out. Otherwise, if the type under these constraints is well-formed, only if no prefix
+/// of the input that is shorter than 2^60 octets is an encoding of a value of it with at most 128 nested levels.
 pub fn decode_with_constraints<T: Decode>(
     alloc: Global,
     constraints: &Constraints,

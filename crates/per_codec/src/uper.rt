@@ -1,4 +1,4 @@
-//! The unaligned packed encoding rules (X.691): values are written and read.
+//! The unaligned packed encoding rules, UPER (X.691): encodes and decodes values.
 ghost use Rattle.std.specs.Prelude.{◌≡◌, ◌≤◌, [], ℕ, List, OnOk, OnErr, IfOk, IfErr};
 ghost use Rattle.asn1_model.specs.Lawful.{IsLawful};
 ghost use Rattle.asn1_model.specs.Rules.{uper};
@@ -20,9 +20,9 @@ use std::alloc::Global;
 ///
 /// # Errors
 ///
-/// Want of memory aside, only where the value has no encoding: `ValueConstraintNotSatisfied`,
-/// `SizeConstraintNotSatisfied`, `AlphabetConstraintNotSatisfied`, or `TooLongValue` for 2^60 octets and more and
-/// for nothing else.
+/// `OutOfMemory` if memory runs out. Otherwise only if the value has no encoding: `ValueConstraintNotSatisfied`,
+/// `SizeConstraintNotSatisfied`, `AlphabetConstraintNotSatisfied`, or `TooLongValue` for an encoding of 2^60 octets or
+/// more and for nothing else.
 pub fn encode<T: Encode>(alloc: Global, value: &T) -> Result<Vec<u8>, EncodeError>
     ensures ok { IfOk result (λ octets. IsEncoded Variant.Unaligned T.schema (T.meaning value.now) octets.items) }
     ensures only { IfErr result (NotEncoded Variant.Unaligned T.schema (T.meaning value.now)) }
@@ -34,7 +34,7 @@ pub fn encode<T: Encode>(alloc: Global, value: &T) -> Result<Vec<u8>, EncodeErro
     Ok(octets)
 }
 
-/// Puts the canonical encoding of a value (X.691 11.1) in the place of what the buffer holds.
+/// Replaces the contents of the buffer by the canonical encoding of a value (X.691 11.1).
 ///
 /// # Errors
 ///
@@ -55,7 +55,7 @@ pub fn encode_buf<T: Encode>(
     Ok(())
 }
 
-/// The canonical encoding of a value (X.691 11.1) under these constraints, which stand in place of those of its type.
+/// The canonical encoding of a value (X.691 11.1) under these constraints, which replace those of its type.
 ///
 /// # Errors
 ///
@@ -78,12 +78,12 @@ pub fn encode_with_constraints<T: Encode>(
     Ok(octets)
 }
 
-/// Reads the value whose encoding (X.691 11.1) stands in front, and passes over the octets behind it.
+/// Decodes the value with whose encoding (X.691 11.1) the input begins, and ignores the octets after it.
 ///
 /// # Errors
 ///
-/// Want of memory aside, only where no octets in front, fewer than 2^60, are an encoding of a value that nests at
-/// most 128 levels.
+/// `OutOfMemory` if memory runs out. Otherwise only if no prefix of the input that is shorter than 2^60 octets is an
+/// encoding of a value with at most 128 nested levels.
 pub fn decode<T: Decode>(alloc: Global, input: &[u8]) -> Result<T, DecodeError>
     ensures ok { IfOk result (λ x. (rest : List ℕ) × Tells uper T.schema (T.meaning x) input.now rest) }
     ensures only { IfErr result (NoMessage uper T.schema input.now) }
@@ -93,7 +93,7 @@ pub fn decode<T: Decode>(alloc: Global, input: &[u8]) -> Result<T, DecodeError>
     Ok(value)
 }
 
-/// Reads the value whose encoding (X.691 11.1) stands in front, and lends the octets behind it.
+/// Decodes the value with whose encoding (X.691 11.1) the input begins, and returns the octets after it as well.
 ///
 /// # Errors
 ///
@@ -110,8 +110,8 @@ pub fn decode_with_remainder<'input, T: Decode>(
     Ok((value, rest))
 }
 
-/// As `decode_with_remainder`, and a refusal says how many more octets are needed at least: with fewer behind the input
-/// no encoding stands in front either.
+/// As `decode_with_remainder`; an error also says how many more octets are needed at least. With fewer octets appended,
+/// the input does not begin with an encoding either, unless the error was `OutOfMemory`.
 ///
 /// # Errors
 ///
@@ -129,11 +129,12 @@ pub fn decode_or_need<'input, T: Decode>(
     crate::reading::decode_or_need(alloc, input, PackedRules::Uper)
 }
 
-/// Reads the value whose encoding (X.691 11.1) under these constraints, in place of the type's own, stands in front.
+/// Decodes the value with whose encoding (X.691 11.1) under these constraints, which replace those of the type, the
+/// input begins.
 ///
 /// # Errors
 ///
-/// Those of `decode`, if the type under these constraints is a lawful one.
+/// Those of `decode`, if the type under these constraints is well-formed.
 pub fn decode_with_constraints<T: Decode>(
     alloc: Global,
     constraints: &Constraints,

@@ -1,9 +1,9 @@
-//! The unaligned packed encoding rules (X.691), read strictly: only the forms that an encoder writes are accepted.
-//! Padding bits are zero (X.691 11.1), lengths and numbers have their shortest form (X.691 11.5 to 11.9), the
-//! largest fragments come first (X.691 11.9.3.8), and a value in the root is not told to be outside it. Components
-//! at their default are absent (X.691 19.5), a bitmap of additions tells of one (X.691 19.7), and only padding is
-//! behind the value in an open type (X.691 11.2). Three things are free: the width of a bitmap of additions, the
-//! octets of unknown additions (X.691 19.8), and the order of the members of a SET OF.
+//! The unaligned packed encoding rules, UPER (X.691), decoded strictly: only the forms that an encoder writes are
+//! accepted. Padding bits are zero (X.691 11.1), lengths and numbers have their shortest form (X.691 11.5 to 11.9), the
+//! largest fragments come first (X.691 11.9.3.8), and a value of the root is not encoded as outside it. Components that
+//! are equal to their default are absent (X.691 19.5), a presence bitmap of extension additions has a bit set (X.691
+//! 19.7), and only padding follows the value in an open type (X.691 11.2). Three things are free: the width of a
+//! presence bitmap, the octets of unknown additions (X.691 19.8), and the order of the elements of a SET OF.
 ghost use Rattle.std.specs.Prelude.{◌≡◌, ◌≤◌, ℕ, List, IfOk, IfErr};
 ghost use Rattle.asn1_model.specs.Lawful.{IsLawful};
 ghost use Rattle.asn1_model.specs.Rules.{uper_strict};
@@ -16,12 +16,12 @@ use asn1_schema_faults::DecodeError;
 use per_codec_reading::PackedRules;
 use std::alloc::Global;
 
-/// Reads the value whose strict encoding (X.691 11.1) stands in front, and passes over the octets behind it.
+/// Decodes the value with whose strict encoding (X.691 11.1) the input begins, and ignores the octets after it.
 ///
 /// # Errors
 ///
-/// Want of memory aside, only where no octets in front, fewer than 2^60, are a strict encoding of a value that nests at
-/// most 128 levels.
+/// `OutOfMemory` if memory runs out. Otherwise only if no prefix of the input that is shorter than 2^60 octets is a
+/// strict encoding of a value with at most 128 nested levels.
 pub fn decode<T: Decode>(alloc: Global, input: &[u8]) -> Result<T, DecodeError>
     ensures ok { IfOk result (λ x. (rest : List ℕ) × Tells uper_strict T.schema (T.meaning x) input.now rest) }
     ensures only { IfErr result (NoMessage uper_strict T.schema input.now) }
@@ -31,7 +31,7 @@ pub fn decode<T: Decode>(alloc: Global, input: &[u8]) -> Result<T, DecodeError>
     Ok(value)
 }
 
-/// Reads the value whose strict encoding (X.691 11.1) stands in front, and lends the octets behind it.
+/// Decodes the value with whose strict encoding (X.691 11.1) the input begins, and returns the octets after it as well.
 ///
 /// # Errors
 ///
@@ -52,8 +52,8 @@ pub fn decode_with_remainder<'input, T: Decode>(
     Ok((value, rest))
 }
 
-/// As `decode_with_remainder`, and a refusal says how many more octets are needed at least: with fewer behind the input
-/// no strict encoding stands in front either.
+/// As `decode_with_remainder`; an error also says how many more octets are needed at least. With fewer octets appended,
+/// the input does not begin with a strict encoding either, unless the error was `OutOfMemory`.
 ///
 /// # Errors
 ///
@@ -71,11 +71,12 @@ pub fn decode_or_need<'input, T: Decode>(
     crate::reading::decode_or_need(alloc, input, PackedRules::UperStrict)
 }
 
-/// Reads the value whose encoding (X.691 11.1) under these constraints, in place of the type's own, stands in front.
+/// Decodes the value with whose encoding (X.691 11.1) under these constraints, which replace those of the type, the
+/// input begins.
 ///
 /// # Errors
 ///
-/// Those of `decode`, if the type under these constraints is a lawful one.
+/// Those of `decode`, if the type under these constraints is well-formed.
 pub fn decode_with_constraints<T: Decode>(
     alloc: Global,
     constraints: &Constraints,

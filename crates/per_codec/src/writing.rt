@@ -1,4 +1,4 @@
-//! A value is written.
+//! Encodes a value.
 ghost use Rattle.std.specs.Prelude.{◌≡◌, [], length, OnOk, OnErr, IfOk, IfErr, MatchResult, ◌<◌, ◌≤◌, ◌^◌};
 ghost use Rattle.per_codec_encoder.specs.Stepping.{variant_of};
 ghost use Rattle.asn1_schema_constraints.specs.Terms.{meant};
@@ -11,10 +11,10 @@ use per_codec_encoder::{Encoder, EncoderOptions};
 use std::alloc::Global;
 use std::mem;
 
-/// How many octets there is room for before the first one is written.
+/// The capacity, in octets, that is reserved before the first octet is written.
 const FIRST_CAPACITY: usize = 128;
 
-/// No octets, with room for those of a small value.
+/// An empty vector with capacity for the encoding of a small value.
 fn with_room(alloc: Global) -> Result<Vec<u8>, EncodeError>
     ensures { MatchResult result (λ octets. octets.items ≡ []) (λ e. e ≡ EncodeError.OutOfMemory) }
 {
@@ -22,13 +22,13 @@ fn with_room(alloc: Global) -> Result<Vec<u8>, EncodeError>
     Ok(octets)
 }
 
-/// The canonical encoding of a value (X.691), in the variant that the options name: at least one octet.
+/// The canonical encoding of a value (X.691), in the variant that the options give: at least one octet.
 ///
 /// # Errors
 ///
-/// `TooLongValue` for an encoding of 2^60 octets or more and for nothing else, `OutOfMemory`, and those of the
-/// value's type, where the value has no encoding of any length; a `TooLongValue` or `LengthExceedsPlatformSize`
-/// of the type's own comes as `SizeConstraintNotSatisfied`, its `CallOutOfPlace` as `ValueConstraintNotSatisfied`.
+/// `TooLongValue` for an encoding of 2^60 octets or more and for nothing else, `OutOfMemory`, and, if the value has no
+/// encoding of any length, the errors of its type. `TooLongValue` and `LengthExceedsPlatformSize` of the type are
+/// returned as `SizeConstraintNotSatisfied`, `CallOutOfPlace` of the type as `ValueConstraintNotSatisfied`.
 pub fn encode<T: Encode>(
     alloc: Global,
     options: EncoderOptions,
@@ -44,7 +44,7 @@ pub fn encode<T: Encode>(
     encode_into(alloc, options, value, room)
 }
 
-/// The same in the room of these octets, which are cleared.
+/// As `encode`, with the capacity of these octets, which are cleared.
 #[inline(always)]
 fn encode_into<T: Encode>(
     alloc: Global,
@@ -68,7 +68,7 @@ fn encode_into<T: Encode>(
     }
 }
 
-/// The canonical encoding of a value (X.691) by its type under these constraints, which stand in place of its own.
+/// The canonical encoding of a value (X.691) by its type under these constraints, which replace its own.
 ///
 /// # Errors
 ///
@@ -99,7 +99,7 @@ pub fn encode_with_constraints<T: Encode>(
     }
 }
 
-/// Puts the canonical encoding of a value (X.691) in the place of what the buffer holds, whose room is used.
+/// Replaces the contents of the buffer by the canonical encoding of a value (X.691), using its capacity.
 ///
 /// # Errors
 ///

@@ -1,4 +1,4 @@
--- What the ends of a message and of an open type are in bits in front.
+-- What the ends of a message and of an open type are in bits.
 use Rattle.std.proofs.Common.{◌≡◌, ◌⊎◌, ℕ, zero, suc, ◌+◌, ◌<◌, ◌==◌, ◌*◌, ◌/◌, ◌%◌, ◌^◌, ◌||◌, Bool, true, false, IsTrue, inl, inr, List, [], ◌∷◌, length, replicate, refl, sym, ◌∙◌, ap, subst, length-append, arith}
 use Rattle.std.proofs.lemmas.Bool.{eq-eqb, eqb-true, false≢true}
 use Rattle.asn1_model.specs.Numbers.{binary, missing, octet_bits, packed}
@@ -89,7 +89,7 @@ length-octets : (os : List ℕ) → length (octet_bits os) ≡ length os * 8
 length-octets [] = refl
 length-octets (o ∷ os) = let i = length-octets os in length-append (binary 8 o) (octet_bits os) ∙ omega arith
 
--- as many bits are left as octets are told to be
+-- as many bits are left as the octets need
 octets_left : (free : Per.Freedom → Bool) (a m rest : Place) (k : List Scope) (b : State) → Front free (completion a.0) a m → (g : Closes free a rest k b) → length m.1 ≡ length g.1 * 8
 octets_left free a m rest k b h g =
     let i = completion_long free a.0 a m h in

@@ -1,4 +1,4 @@
--- Length determinants of members in front.
+-- How bits begin with the length determinants of elements.
 use Rattle.std.proofs.Common.{◌≡◌, ◌⊎◌, ℕ, zero, ◌-◌, ◌*◌, ◌≤◌, ◌<◌, ltb, leb, Bool, true, false, not, cond, ◌||◌, ◌&&◌, IsTrue, inl, inr, List, [], ◌∷◌, Option, Some, None, Box, Global, refl, sym, ◌∙◌, ap, subst, arith}
 use Rattle.std.proofs.lemmas.Bool.{and_parts, and_from, leb-true, le-leb}
 use Rattle.asn1_model.specs.Schema.{Counts, Size}
@@ -27,24 +27,24 @@ use Rattle.per_codec_decoder.proofs.Largest.{largest_are_first, first_are_larges
 use Rattle.per_codec_decoder.specs.Members.{largest_behind, HasMembers, NoMembers, NoDeterminant, NoFurther, tally_in}
 use Rattle.std.specs.Option.{option_map_or}
 
--- want of memory aside, what is missed does not stand in front
+-- except if memory runs out, the bits do not begin with what is not found
 pub missed : {X : Type 0} (free : Per.Freedom → Bool) (f : X → Per.BitForm) (a : Place) (e : DecodeError) → Misses free f a e → ¬ (e ≡ OutOfMemory) → NoneStands free f a
 missed free f a OutOfMemory m n = absurd (n refl)
 missed free f a AlreadyFailed m n = absurd m
 missed free f a e m n = m
 
--- what is known of a list is what stands behind the pointer
+-- what is known of a list is what its pointer holds
 pub held_tally : (o : Option (Box Tally Global)) (boxed : Box Tally Global) (t : Tally) → o ≡ Some boxed → t ≡ boxed.value → tally_in o ≡ Some t
 held_tally o boxed t e f = ap tally_in e ∙ ap (λ x. Some x) (sym f)
 
--- what a number of members is between
+-- the bounds of a number of elements
 pub between : (h : Counts) (most n : ℕ) → h.high ≡ Some most → is_count_within h n ≡ true → (h.low ≤ n) × (n ≤ most)
 between h most n top e = let p = and_parts _ _ e in (leb-true h.low n p.0, leb-true n most (subst (λ t. (option_map_or (λ x. leb n x) t true) ≡ true) top p.1))
 
 pub untrue : false ≡ true → ⊥
 untrue e = cc
 
--- a count is told in the root alone, and by its highest
+-- a count is bounded only in the root, by its highest
 told_inside : (o : Bool) (high : Option ℕ) (x : ℕ) → told_highest o high ≡ Some x → (o ≡ false) × (high ≡ Some x)
 told_inside true high x e = cc
 told_inside false None x e = cc
@@ -93,7 +93,7 @@ module _ (free : Per.Freedom → Bool) (al : Bool) where
   abbrev pub MayBe : Tally → ℕ → Type 0
   MayBe t n = admitted t.held t.size.counts t.outside n ≡ true
 
-  -- a reader accepts so many
+  -- a reader accepts this number of elements
   abbrev pub Accepted : Tally → ℕ → Bool
   Accepted t n = may_be_outside (free Per.root_told_outside) t.outside (is_count_within t.size.counts n) && (free Per.other_fragments || largest_behind 4 t.sizes)
 
@@ -108,7 +108,7 @@ module _ (free : Per.Freedom → Bool) (al : Bool) where
       let f : Fragmented t n = elim (or_free (free Per.other_fragments) (largest_behind 4 t.sizes) q.1) [ inl x ↦ inl ((largest_are_first n l 4 t.sizes x).0) | inr x ↦ inr x ] in
       inr ((p.0, in_place t.outside root q.0 p.1), f, g, refl)
 
-  -- what a last length determinant in front tells is known
+  -- what a last length determinant says is known
   last_told : (t : Tally) (a b c : Place) (n due : ℕ) (hs : Option Tally) → Front free (Per.short_length al n) a b → NextDeterminant al free t a c due hs → Admits free t.size t.held t.outside (in_all t.sizes n) × Fragmented t n
   last_told t a b c n due hs f (inl x) = absurd ((same_fronts free (fragment_or_last x.0 n) a c b x.2 f).0)
   last_told t a b c n due hs f (inr x) =
@@ -132,7 +132,7 @@ module _ (free : Per.Freedom → Bool) (al : Bool) where
         untrue (sym y ∙ h);
   }
 
-  -- where no member is due behind a length determinant, none stands behind these
+  -- if no element is due after a length determinant, none follows these
   pub last_of : (t : Tally) (a b : Place) (due : ℕ) (hs : Option Tally) → NextDeterminant al free t a b due hs → due ≡ 0 → hs ≡ None
   last_of t a b due hs (inl x) e =
       let m = leb-true 1 x.0 ((and_parts (leb 1 x.0) (leb x.0 4) x.1).0) in
@@ -140,7 +140,7 @@ module _ (free : Per.Freedom → Bool) (al : Bool) where
       absurd (omega (arith, m, d, e))
   last_of t a b due hs (inr x) e = x.3
 
-  -- ---- members that are due
+  -- ---- elements that are due
   pub headed : (t : Tally) (v : Bool) (n : ℕ) (hs : Option Tally) (a mid : Place) (k : List Scope) (b : State) (due : ℕ) (ts : Option Tally) → n ≡ 0 → hs ≡ Some t → NextDeterminant al free t a mid due ts → MemberDue v due ts mid k b → NextMember al free v a (members n hs ∷ k) b
   headed t v n hs a mid k b due ts z s h m = subst (λ i. NextMember al free v a (members i hs ∷ k) b) (sym z) (subst (λ o. NextMember al free v a (members zero o ∷ k) b) (sym s) (due, ts, mid, h, m))
 
@@ -151,7 +151,7 @@ module _ (free : Per.Freedom → Bool) (al : Bool) where
         h.none i f.2 f.0 f.1 f.3;
   }
 
-  -- ---- what stands in front of members
+  -- ---- what precedes elements
   abbrev begun : Size → Counts → Bool → Tally
   begun z h out = record { size = z; held = h; outside = out; sizes = [] }
 
@@ -179,7 +179,7 @@ module _ (free : Per.Freedom → Bool) (al : Bool) where
           let i : is_count_within z.counts n ≡ true = subst (λ o. (o || is_count_within z.counts n) ≡ true) ((told_inside hd.is_outside z.counts.high x t).0) p.1 in
           (n, (p.0, i), (if_out free (leb z.counts.low n && leb n x) _ mid b f).1, refl)
 
-  -- or the length of a fragment or a last one
+  -- or the length of a fragment or of the last elements
   pub headed_by : (z : Size) (h : Counts) (hd : Heading) (l : Length) (ss : List ℕ) (due : ℕ) (hs : Option Tally) (a b : Place) → hd.determinant ≡ General l → ss ≡ [] → First z hd a b → ((c : Place) → Front free (length_form al l) c b → NextDeterminant al free (record { size = z; held = h; outside = hd.is_outside; sizes = ss }) c b due hs) → HasMembers al free z h due hs a b
   headed_by z h hd l ss due hs a b e q f g =
       let s = parts_of z hd (General l) a b e f in
@@ -189,8 +189,8 @@ module _ (free : Per.Freedom → Bool) (al : Bool) where
       go None mid f k = (due, hs, subst (λ (t : List ℕ). NextDeterminant al free (record { size = z; held = h; outside = hd.is_outside; sizes = t }) mid b due hs) q (g mid f), refl)
       go (Some x) mid f k = absurd (of_refused free mid b f)
 
-  -- ---- why nothing does
-  -- a length determinant is the first thing behind an extension bit
+  -- ---- why the bits do not begin with it
+  -- a length determinant is the first thing after an extension bit
   counted_headed : (z : Size) (h : Counts) (out : Bool) (told : Option ℕ) (mid : Place) (k : List Scope) (b : State) → told_highest out z.counts.high ≡ told → Counted al free z h out told mid k b → (d : LengthDeterminant) × Front free (determinant_form al z.counts told d) mid b.0
   counted_headed z h out None mid k b t g = by_determinant g.0 g.1 g.2
     where
@@ -208,7 +208,7 @@ module _ (free : Per.Freedom → Bool) (al : Bool) where
         missed free (heading_form al z) a e m i (record { is_outside = g.1; determinant = d.0 }) b.0 (join free (extension_bit z.extensible g.1) (determinant_form al z.counts (Told z g.1) d.0) a g.2 b.0 g.3 d.1);
   }
 
-  -- behind the same extension bit
+  -- after the same extension bit
   abbrev Begun : Size → Counts → Bool → Place → List Scope → State → Type 0
   Begun z h out mid k b = Counted al free z h out (Told z out) mid k b
 

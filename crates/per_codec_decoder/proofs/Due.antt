@@ -1,4 +1,4 @@
--- Additions that are still to come where their sequence ends.
+-- Extension additions that are still to come when their SEQUENCE ends.
 use Rattle.std.proofs.Common.{◌≡◌, ℕ, zero, suc, ◌<◌, ◌≤◌, Bool, List, [], ◌∷◌, drop, refl, sym, subst, arith}
 use Rattle.asn1_model.specs.Per
 use Rattle.asn1_schema_finding.specs.PresenceBits.{first_bits}

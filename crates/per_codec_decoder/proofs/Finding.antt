@@ -1,4 +1,4 @@
--- How a record that is asked for is found in front, and why none is.
+-- How a record that is asked for is found, and why none is.
 use Rattle.std.proofs.Common.{◌≡◌, ℕ, ℤ, suc, ◌+◌, Bool, true, false, ◌||◌, ◌&&◌, List, ◌∷◌, length, Some, Result, Ok, Err, refl, sym, ◌∙◌, ap, subst, arith}
 use Rattle.std.specs.Prelude.{OnOk, not, is_some}
 use Rattle.asn1_schema_presented.specs.Levels.{level}
@@ -64,7 +64,7 @@ module _ (al : Bool) (free : Per.Freedom → Bool) (a b : State) where
   asked_identifier (identifier v) k t = (arcs v, t)
   asked_identifier r k t = cc k
 
--- none of a type is found where none stands in front
+-- no value of a type is found if the bits do not begin with one
 pub none_found : {failed : Held} (old now : Held) (q : Question) (s : Schema) (e x : DecodeError) → now ≡ old → x ≡ e → Misses (freedoms now.rules) (Per.form (is_aligned now.rules) s) now.place e → ((al : Bool) (free : Per.Freedom → Bool) (a b : State) (r : Record) → question r ≡ q → Takes al free a r b → OfType al free a b s) → NoRecord Finds AtOnce q old failed x
 none_found old now q s e x same faults m asked =
     let n : Misses (freedoms old.rules) (Per.form (is_aligned old.rules) s) old.place e = subst (λ (h : Held). Misses (freedoms h.rules) (Per.form (is_aligned h.rules) s) h.place e) same m in
@@ -109,12 +109,12 @@ opens old now new s rest r same ready t lower u e f =
       stands = ap (λ (h : Held). h.stands) f ∙ ap (λ (h : Held). h.stands) same ∙ u;
     }
 
--- ---- sequences
+-- ---- SEQUENCE
 pub begins : (free : Per.Freedom → Bool) (e : Bool) (n : ℕ) (s : Scope) (a b : Place) (k : List Scope) → HasPreamble free e n s a b → Begins free e n (a, k) (b, s ∷ k)
 begins free e n (components x ms) a b k h = (x, ms, h.0, h.1, h.2, refl)
 begins free e n s a b k h = absurd h
 
--- ---- members
+-- ---- elements
 asked_further : (al : Bool) (free : Per.Freedom → Bool) (a b : State) (r : Record) → question r ≡ asks_further → Takes al free a r b → (v : Bool) × NextMember al free v a.0 a.1 b
 asked_further al free a b (further v) k t = (v, t)
 asked_further al free a b r k t = cc k

@@ -1,4 +1,4 @@
--- Why a decoder finds no string and no open type, also with as many bits more as are lacking.
+-- Why a decoder finds no string and no open type, also with as many bits more as are missing.
 use Rattle.std.proofs.Common.{◌≡◌, inl, inr, ◌≤◌, ℕ, Bool, true, false, cond, List, [], ◌∷◌, ◌++◌, length, refl, sym, ◌∙◌, ap, subst, append-nil, arith}
 use Rattle.std.proofs.lemmas.Bool.{cases_lt}
 use Rattle.asn1_model.specs.Per
@@ -39,14 +39,14 @@ few_told old failed c d f = elim f.2 [
       elim (cases_lt 0 (told failed.failed)) [ inl j ↦ (f.0, f.1, inr (j, omega arith)) | inr j ↦ (f.0, f.1, inl (no_bits f.0 (omega arith))) ]
 ]
 
--- none is found with few bits more if none is at once with any such bits
+-- none is found with a few bits more if none is found at once with any such bits
 still_lacking : {q : Question} {x : DecodeError} (old failed : Held) → due failed.scopes ≡ due old.scopes → (¬ (x ≡ OutOfMemory) → (e : List Bool) → IsFew (told failed.failed) e → NoRecord Finds AtOnce q (held_with e old) failed x) → NoRecord Finds TooFewHeld q old failed x
 still_lacking old failed d h = record { none = λ m c f r new k p. let z = few_told old failed c d f in (h m z.0 z.2).none m c z.1 r new k p }
 
 still_lacking_in : {q : Question} {x : DecodeError} (old failed : Held) → due failed.scopes ≡ due old.scopes → (¬ (x ≡ OutOfMemory) → (e : List Bool) → IsFew (told failed.failed) e → NoLevel Finds AtOnce q old.levels (held_with e old) failed x) → NoLevel Finds TooFewHeld q old.levels old failed x
 still_lacking_in old failed d h = record { none = λ m c f l r new k p. let z = few_told old failed c d f in (h m z.0 z.2).none m c z.1 l r new k p }
 
--- what does not stand in front does not with such bits behind
+-- bits that do not begin with something do not with such bits appended
 none_more : {X : Type 0} (free : Per.Freedom → Bool) (f : X → Per.BitForm) (k : List Scope) (a : Place) (n : ℕ) (e : List Bool) → NoneStands free f a → StillTooShort free f a n → IsFew n e → NoneStands free f (place_with e k a)
 none_more {X} free f k a n e none s w = by_case (is_within k)
   where
@@ -68,7 +68,7 @@ none_lacking {q} {x} old now failed s e same faults kept m short asked =
     subst (λ (h : Held). NoRecord Finds TooFewHeld q h failed x) same here
 
 -- ---- open types
--- an open type that is not there is not with such bits behind
+-- an open type that is not there is not there with such bits appended
 opening_more : (now : Held) (failed : Held) (k : List Scope) (e : DecodeError) → ¬ (e ≡ OutOfMemory) → ((l : List Scope) (b : State) → Opens (is_aligned now.rules) (freedoms now.rules) now.place l b → ⊥) → StillTooShort (freedoms now.rules) (counted_units (is_aligned now.rules) 8) now.place (told failed.failed) → (more : List Bool) → IsFew (told failed.failed) more → (l : List Scope) (b : State) → Opens (is_aligned now.rules) (freedoms now.rules) (place_with more k now.place) l b → ⊥
 opening_more now failed k e i none short more w l b o =
     none_more (freedoms now.rules) (Per.counted_octets (is_aligned now.rules)) k now.place (told failed.failed) more
@@ -82,7 +82,7 @@ flags_more e v s k f = (f.0, f.1, scopes_with e f.2, ap (λ l. scopes_with e l) 
 flags_due : (v : Bool) (s k : List Scope) → Flags v s k → due k ≡ due s
 flags_due v s k f = ap (λ l. due l) f.4 ∙ sym (ap (λ l. due l) f.3)
 
--- what stands in scopes behind what has passed
+-- what is left in scopes after what was read
 abbrev placed_in : Held → Place → List Scope → Held
 placed_in now p k = record { place = p; scopes = k; levels = now.levels; most = now.most; failed = now.failed; rules = now.rules; stands = now.stands }
 

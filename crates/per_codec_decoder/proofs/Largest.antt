@@ -11,7 +11,7 @@ kept : (ms : List ℕ) (n : ℕ) → (ms ≡ Per.largest_first n) ⊎ IsTrue fal
 kept ms n (inl e) = e
 kept ms n (inr e) = absurd (false≢true e)
 
--- what is first of the largest ones
+-- the first of the largest fragments
 range_of : (m : ℕ) (ms : List ℕ) (n : ℕ) → m ∷ ms ≡ Per.largest_first n → (1 ≤ m) × (m ≤ 4)
 range_of m ms n e = elim (cases_lt n 16384) [
   | inl l ↦ (let f : m ∷ ms ≡ [] = e ∙ none_of_them n l in cc)

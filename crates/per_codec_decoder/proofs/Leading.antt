@@ -1,4 +1,4 @@
--- Bits in front, and what a preamble is in them.
+-- What bits begin with, and what a preamble is in them.
 use Rattle.std.proofs.Common.{◌≡◌, ℕ, suc, ◌+◌, ◌<◌, Bool, true, cond, List, [], ◌∷◌, ◌++◌, length, Option, Some, None, refl, sym, ◌∙◌, ap, subst, length-append, arith}
 use Rattle.asn1_model.specs.Form.{Reads, exactly}
 use Rattle.std.specs.Prelude.{is_some}
@@ -20,7 +20,7 @@ pub leads_of : (free : Per.Freedom → Bool) (w : List Bool) (a b : Place) → F
 unfolding Reads
 leads_of free w a b f = (ap (λ t. t ++ b.1) f.has_form ∙ f.in_front, ap (λ (t : List Bool). a.0 + length t) f.has_form ∙ f.moved)
 
--- more bits than there are do not stand in front
+-- bits do not begin with more bits than there are
 pub too_many : (w : List Bool) (a b : Place) → Leads w a b → length a.1 < length w → ⊥
 too_many w a b h l =
     let e = sym (length-append w b.1) ∙ ap length h.0 in

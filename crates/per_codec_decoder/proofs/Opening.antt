@@ -53,7 +53,7 @@ pub on_err : {A : Type 0} {P Q : DecodeError → Type 0} (r : Result A DecodeErr
 on_err (Ok x) p f = tt
 on_err (Err e) p f = f e p
 
--- ---- lists and bags
+-- ---- SEQUENCE OF and SET OF
 pub list_entered : (old new : Held) (z : Size) (h : Counts) (n : ℕ) → is_count_within h n ≡ true → EntersMembers old z h new → Finds old (list_begins z h n) new
 list_entered old new z h n w g = entered old new (members g.0 g.1) (list_begins z h n) g.2 (w, g.3.0, g.3.1, g.3.2, g.3.3 old.scopes) (λ most l. refl) refl
 
@@ -78,7 +78,7 @@ no_bag old z y h x e m = no_level_at_once Finds (λ i l r new k p.
     let t = asked_bag (is_aligned old.rules) (freedoms old.rules) z h (state_of old) (state_of new) r k p.taken in
     (subst (λ s. NotMembers old s h x) e m p.ready l).none i t.0 old.scopes (state_of new) t.1)
 
--- ---- sequences, sets and groups
+-- ---- SEQUENCE, SET and groups
 pub components_entered : (old new : Held) (e : Bool) (n : ℕ) (r : Record) → ((a b : State) → Begins (freedoms old.rules) e n a b → Takes (is_aligned old.rules) (freedoms old.rules) a r b) → ((most l : ℕ) → level most r (suc l) ≡ Some l) → ((p : Place) (k : List Scope) → old.stands ≡ kept old r p k) → EntersComponents old e n new → Finds old r new
 components_entered old new e n r t v u g = entered old new g.0 r g.1 (t (state_of old) (new.place, g.0 ∷ old.scopes) (begins (freedoms old.rules) e n g.0 old.place new.place old.scopes g.2)) v (u new.place (g.0 ∷ old.scopes))
 
@@ -161,14 +161,14 @@ no_addition_due old now x same none = none_at_once Finds (λ i r new k p.
     let t = asked_addition (is_aligned old.rules) (freedoms old.rules) (state_of old) (state_of new) r k p.taken in
     none (is_aligned old.rules) (freedoms old.rules) t.0 old.place (state_of new) (subst (λ (h : Held). NextAddition (is_aligned old.rules) (freedoms old.rules) t.0 old.place h.scopes (state_of new)) (sym same) t.1))
 
--- one that is not there
+-- one that is absent
 pub addition_absent : (old now new : Held) (v : Bool) (k : List Scope) → now ≡ old → IsReady old → v ≡ false → Flags v now.scopes k → new ≡ record { place = now.place; scopes = k; levels = now.levels; most = now.most; failed = now.failed; rules = now.rules; stands = now.stands } → Finds old (addition v) new
 addition_absent old now new true k same ready e g f = cc
 addition_absent old now new false k same ready e g f =
     let t : NextAddition (is_aligned now.rules) (freedoms now.rules) false now.place (added (false ∷ g.0) g.1 ∷ g.2) (now.place, k) = (refl, ap (λ (l : List Scope). (now.place, l)) g.4) in
     steps old now new now.place k now.levels (addition false) now.stands same ready (subst (λ (l : List Scope). NextAddition (is_aligned now.rules) (freedoms now.rules) false now.place l (now.place, k)) (sym g.3) t) refl refl f
 
--- one that is there
+-- one that is present
 pub addition_there : (old now mid new : Held) (v : Bool) (k : List Scope) → now ≡ old → IsReady old → v ≡ true → Flags v now.scopes k → mid ≡ record { place = now.place; scopes = k; levels = now.levels; most = now.most; failed = now.failed; rules = now.rules; stands = now.stands } → HasOpened mid new → Finds old (addition v) new
 addition_there old now mid new false k same ready e g z f = cc
 addition_there old now mid new true k same ready e g z f =
@@ -248,7 +248,7 @@ end_out al free Nothing s k a e l n m b t = n
 end_out al free (Unknown r) s k a e l n m b t = let u = subst (λ (x : List Scope). Ends al free a x b) l t in n m b.0 u.0
 end_out al free (Padded q) s k a e l n m b t = let u : Closes free a q.place k b = subst (λ (x : List Scope). Ends al free a x b) l t in n q.place k b u
 
--- what is open where nothing is passed over is no open type
+-- a scope with nothing to skip at its end is no open type
 no_type_left : (p : Place) (s k : List Scope) → Leaves Nothing (open_type p ∷ s) k → ⊥
 no_type_left p s k l =
     let a : Place = (suc p.0, []) in
@@ -296,7 +296,7 @@ not_ended {failed} old now mid w k l e x same faults g z c =
     end_out (is_aligned now.rules) (freedoms now.rules) w now.scopes k now.place e g d (λ y. i (faults ∙ y)) (state_of new) t.1) in
     subst (λ (h : Held). NoRecord Finds AtOnce asks_end h failed x) same here
 
--- ---- what is left where a scope ends
+-- ---- what is left at the end of a scope
 pub passed_on : (old now new : Held) (w : Ending) (m : List Storage) → now ≡ old → m ≡ stands_behind w now.stands → new ≡ record { place = new.place; scopes = now.scopes; levels = now.levels; most = now.most; failed = now.failed; rules = now.rules; stands = m } → Passes (is_aligned now.rules) (freedoms now.rules) w now.place new.place → HasPassed w old new × Passes (is_aligned old.rules) (freedoms old.rules) w old.place new.place
 passed_on old now new w m same e f p =
     let g : HasPassed w now new = f ∙ ap (λ (b : List Storage). let h : Held = record { place = new.place; scopes = now.scopes; levels = now.levels; most = now.most; failed = now.failed; rules = now.rules; stands = b } in h) e in
@@ -371,19 +371,19 @@ chosen_front al free n e others false i a b t = (b.0, root_is free al n e others
 chosen_front al free n false others true i a b t = let h = t.0 in cc
 chosen_front al free n true others true i a b t = (t.2, added_is free al n others i a.0 t.2 (ltb-true i others t.1) t.3, λ h. t.4)
 
--- a choice whose alternative is one of the root
+-- a choice with a root alternative
 pub root_begun : (old now new : Held) (roots others : List Tag) (e : Bool) (c : Chosen) (there : Place) → now ≡ old → IsReady old → c.added ≡ false → Front (freedoms now.rules) (place_form (is_aligned now.rules) (length roots) e (length others) c) now.place there → now.levels ≡ suc new.levels → new ≡ record { place = there; scopes = alternative ∷ now.scopes; levels = new.levels; most = now.most; failed = now.failed; rules = now.rules; stands = now.stands } → Finds old (choice_begins roots e others c.added c.place) new
 root_begun old now new roots others e c there same ready t f l g = steps old now new there (alternative ∷ now.scopes) new.levels (choice_begins roots e others c.added c.place) now.stands same ready (root_chosen (is_aligned now.rules) (freedoms now.rules) (length roots) e (length others) c now.place there now.scopes t f) (ap (λ n. level now.most (choice_begins roots e others c.added c.place) n) l) (ap (λ b. stands_within b now.stands there (alternative ∷ now.scopes)) (sym t)) g
 
--- or an added one
+-- or with an added one
 pub added_begun : (old now mid new : Held) (roots others : List Tag) (e : Bool) (c : Chosen) (there : Place) → now ≡ old → IsReady old → c.added ≡ true → Front (freedoms now.rules) (place_form (is_aligned now.rules) (length roots) e (length others) c) now.place there → Opens (is_aligned now.rules) (freedoms now.rules) there now.scopes (state_of mid) → now.levels ≡ suc new.levels → new ≡ record { place = mid.place; scopes = mid.scopes; levels = new.levels; most = now.most; failed = now.failed; rules = now.rules; stands = stands_within true now.stands mid.place mid.scopes } → Finds old (choice_begins roots e others c.added c.place) new
 added_begun old now mid new roots others e c there same ready t f o l g = steps old now new mid.place mid.scopes new.levels (choice_begins roots e others c.added c.place) (stands_within true now.stands mid.place mid.scopes) same ready (added_chosen (is_aligned now.rules) (freedoms now.rules) (length roots) e (length others) c now.place there now.scopes (state_of mid) t f o) (ap (λ n. level now.most (choice_begins roots e others c.added c.place) n) l) (ap (λ b. stands_within b now.stands mid.place mid.scopes) (sym t)) g
 
--- one level more is left
+-- with one level more
 abbrev pub further_out : Held → Held
 further_out h = record { place = h.place; scopes = h.scopes; levels = h.levels + 1; most = h.most; failed = h.failed; rules = h.rules; stands = h.stands }
 
--- one place at most stands in front
+-- bits begin with at most one choice index
 behind_one : (free : Per.Freedom → Bool) (al : Bool) (n m : ℕ) (v w : Bool) (i j : ℕ) (p b c : Place) → v ≡ w → Front free (cond v (added_form al m i) (root_form al n i)) p b → Front free (cond w (added_form al m j) (root_form al n j)) p c → b ≡ c
 behind_one free al n m true false i j p b c e f g = cc
 behind_one free al n m false true i j p b c e f g = cc

@@ -1,4 +1,4 @@
--- Why a decoder finds no record, also with few bits more.
+-- Why a decoder finds no record, also with a few bits more.
 use Rattle.std.proofs.Common.{◌≡◌, inl, inr, ◌≤◌, ◌<◌, ℕ, ◌+◌, Bool, true, false, List, [], ◌∷◌, length, Result, Ok, Err, IfErr, refl, sym, ◌∙◌, ap, subst, arith}
 use Rattle.std.specs.Prelude.{OnErr}
 use Rattle.asn1_model.specs.Per
@@ -26,14 +26,14 @@ none_more old failed c h f =
     let e : f.0 ≡ [] = elim f.2 [ inl i ↦ no_bit f.0 (due old.scopes) (lacks failed) h.owed i.1 | inr i ↦ i ] in
     f.1 ∙ ap (λ l. held_with l old) e ∙ sym (nothing_more old)
 
--- where no more members are owed than before, no bit is too few
+-- if no more elements are due than before, no bits are missing
 pub still_none : {q : Question} {old failed : Held} {x : DecodeError} → OwesNoMore old failed → NoRecord Finds AtOnce q old failed x → NoRecord Finds TooFewHeld q old failed x
 still_none {old = old} {failed = failed} h n = record { none = λ m c f r new k p. n.none m c (none_more old failed c h f) r new k p }
 
 pub still_none_in : {q : Question} {levels : ℕ} {old failed : Held} {x : DecodeError} → OwesNoMore old failed → NoLevel Finds AtOnce q levels old failed x → NoLevel Finds TooFewHeld q levels old failed x
 still_none_in {old = old} {failed = failed} h n = record { none = λ m c f l r new k p. n.none m c (none_more old failed c h f) l r new k p }
 
--- the same where it is known of what had not failed, which alone finds anything
+-- the same if it is known only for a decoder that had not failed, as no other finds anything
 pub still_none_ready : {q : Question} {levels : ℕ} {old failed : Held} {x : DecodeError} → (IsReady old → OwesNoMore old failed) → NoLevel Finds AtOnce q levels old failed x → NoLevel Finds TooFewHeld q levels old failed x
 still_none_ready {old = old} {failed = failed} h n = record {
   none = λ m c f l r new k p.
@@ -41,7 +41,7 @@ still_none_ready {old = old} {failed = failed} h n = record {
       n.none m c (none_more old failed c (h t.ready) f) l r new k p;
 }
 
--- the scopes stay and nothing is told, or nothing is lacking
+-- the scopes are kept and no missing bits are counted, or nothing is missing
 pub kept_owes : {old failed : Held} → failed.scopes ≡ old.scopes → told failed.failed ≡ 0 → OwesNoMore old failed
 kept_owes {old = old} {failed = failed} s t = let h : due failed.scopes ≡ due old.scopes = ap (λ l. due l) s in record { owed = omega arith }
 
@@ -61,7 +61,7 @@ moved_owes {failed = failed} old mid s n =
 pub owes_behind : {failed : Held} (old mid : Held) → due mid.scopes ≤ due old.scopes → OwesNoMore mid failed → OwesNoMore old failed
 owes_behind {failed = failed} old mid h n = let i = n.owed in record { owed = omega arith }
 
--- a presence bit, and the end of a scope, leave it open how many members are to come
+-- a presence bit, and the end of a scope, do not change how many elements are still to come
 pub flags_owe : (v : Bool) (old now : Held) (k : List Scope) → now ≡ old → Flags v now.scopes k → due k ≤ due old.scopes
 flags_owe v old now k same f =
     let h : due now.scopes ≡ due f.2 = ap (λ l. due l) f.3 in
@@ -86,14 +86,14 @@ ended_owes al free old now failed w k a e same s t l n = left_owes old now faile
 pub addition_owes : (old now failed : Held) (p : Place) (k : List Scope) → now ≡ old → failed.scopes ≡ k → told failed.failed ≡ 0 → LeavesAddition p now.scopes k → OwesNoMore old failed
 addition_owes old now failed p k same s t l = let h : due now.scopes ≡ due k = ap (λ x. due x) l.0 in left_owes old now failed k same s t (omega arith)
 
--- what had failed finds nothing
+-- a decoder that had failed finds nothing
 pub none_ready : {q : Question} {old failed : Held} {x : DecodeError} → HasFailed old → NoRecord Finds TooFewHeld q old failed x
 none_ready {old = old} h = record { none = λ m c f r new k p. let t : Finds (held_with f.0 old) r new = subst (λ (s : Held). Finds s r new) f.1 p in let e : true ≡ false = sym h ∙ t.ready in cc }
 
 pub none_begun : {q : Question} {old failed : Held} {x : DecodeError} → (0 < old.levels → IsReady old → ⊥) → NoLevel Finds TooFewHeld q old.levels old failed x
 none_begun {old = old} h = record { none = λ m c f l r new k p. let t : Finds (held_with f.0 old) r new = subst (λ (s : Held). Finds s r new) f.1 p in h l t.ready }
 
--- a refusal that left the scopes, and why
+-- an error that kept the scopes, and why
 pub err_both : {A : Type 0} {P : Type 0} {Q R : DecodeError → Type 0} (r : Result A DecodeError) → OnErr r P → IfErr r Q → (P → (e : DecodeError) → Q e → R e) → IfErr r R
 err_both (Ok x) p q f = tt
 err_both (Err e) p q f = f p e q

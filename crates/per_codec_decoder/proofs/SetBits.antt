@@ -1,4 +1,4 @@
--- Bits of a bitmap that are set (X.691 19.7), and bitmaps that a reader does not accept.
+-- Bits of a presence bitmap that are set (X.691 19.7), and bitmaps that a reader does not accept.
 use Rattle.std.proofs.Common.{◌≡◌, ◌⊎◌, inl, inr, ℕ, zero, suc, ◌||◌, Bool, true, false, cond, IsTrue, Option, Some, None, List, [], ◌∷◌, ◌++◌, length, replicate, take, drop, map, refl, ap, sym, ◌∙◌, subst}
 use Rattle.std.proofs.lemmas.Bool.{false≢true}
 use Rattle.std.proofs.lemmas.List.{take-append-drop}
@@ -51,7 +51,7 @@ set_front n xs front p z =
     go true e = e
     go false e = absurd (z (all_zero front e))
 
--- ---- bitmaps in front
+-- ---- bitmaps at the start
 abbrev flagged : Bool → Option Per.BitForm
 flagged b = cond b (Some (exactly [])) None
 

@@ -1,4 +1,4 @@
--- How a decoder goes on behind what a reader found, and fails as it did.
+-- How a decoder continues after what a reader found, and fails as it did.
 use Rattle.std.proofs.Common.{◌≡◌, ℕ, zero, suc, ◌+◌, Bool, true, IsTrue, inl, inr, List, [], ◌∷◌, ◌++◌, Option, Some, None, Result, Ok, Err, IfOk, IfErr, refl, sym, ◌∙◌, ap, subst, arith}
 use Rattle.std.specs.Prelude.{OnOk, OnErr, is_some}
 use Rattle.asn1_schema_presented.specs.Levels.{level}
@@ -47,11 +47,11 @@ steps old now new p k l r m same ready t v u f =
 front_at : (free : Per.Freedom → Bool) (x : Per.BitForm) (a b c : Place) → a ≡ c → Front free x a b → Front free x c b
 front_at free x a b c e f = subst (λ (p : Place). Front free x p b) e f
 
--- where a reader went on from a place
+-- where a reader continues from a position
 pub moves_there : (now new : Held) (free : Per.Freedom → Bool) (x : Per.BitForm) (here there : Place) (n : ℕ) → here ≡ now.place → n ≡ there.0 → Front free x here there → Moves now n new → new ≡ record { place = there; scopes = now.scopes; levels = now.levels; most = now.most; failed = now.failed; rules = now.rules; stands = now.stands }
 moves_there now new free x here there n e p f m = let g = front_at free x here there now.place e f in m g.text there (sym p) (g.in_front, g.moved)
 
--- what a reader found is the answer
+-- what a reader found is returned
 pub found : {T : Type 0} (answer result : Result T DecodeError) (rec : T → Record) (form : T → Per.BitForm) (old now new : Held) (here there : Place) (n : ℕ) → now ≡ old → IsReady old → here ≡ now.place → n ≡ there.0 → result ≡ answer → IfOk answer (λ x. Front (freedoms now.rules) (form x) here there) → OnOk result (Moves now n new) → ((x : T) (a b : State) → Found (freedoms now.rules) (form x) a b → Takes (is_aligned now.rules) (freedoms now.rules) a (rec x) b) → ((x : T) (most l : ℕ) → level most (rec x) l ≡ Some l) → ((x : T) (h : Held) (p : Place) (k : List Scope) → h.stands ≡ kept h (rec x) p k) → IfOk result (λ x. Finds old (rec x) new)
 found (Ok x) (Err e) rec form old now new here there n same ready h p r f m t v u = tt
 found (Err x) (Err e) rec form old now new here there n same ready h p r f m t v u = tt
@@ -62,7 +62,7 @@ found (Ok x) (Ok y) rec form old now new here there n same ready h p r f m t v u
     let i = front_at (freedoms now.rules) (form y) here there now.place h g in
     steps old now new there now.scopes now.levels (rec y) now.stands same ready (t y (state_of now) (there, now.scopes) (i, refl)) (v y now.most now.levels) (u y now there now.scopes) (moves_there now new (freedoms now.rules) (form y) here there n h p g m)
 
--- what stands in its form is within its bounds
+-- what is read by its form is within its bounds
 pub also : {T : Type 0} (answer result : Result T DecodeError) (P Q : T → Type 0) → result ≡ answer → IfOk answer P → ((x : T) → P x → Q x) → IfOk result Q
 also (Ok x) (Err e) P Q r p h = tt
 also (Err x) (Err e) P Q r p h = tt
@@ -77,13 +77,13 @@ unfound failed (Err x) (Err e) q s old now here same h r stay m asked =
     let k : e ≡ x = cc in
     still_none stay (none_found old now q s x e same k (subst (λ (p : Place). Misses (freedoms now.rules) (Per.form (is_aligned now.rules) s) p x) h m) asked)
 
--- the same of any reason
+-- the same for any reason
 pub unless : {T : Type 0} (answer result : Result T DecodeError) (P Q : DecodeError → Type 0) → result ≡ answer → IfErr answer P → ((e : DecodeError) → P e → Q e) → IfErr result Q
 unless answer (Ok x) P Q r p h = tt
 unless (Ok x) (Err e) P Q r p h = cc
 unless (Err x) (Err e) P Q r p h = let k : e ≡ x = cc in h e (subst P (sym k) p)
 
--- ---- members
+-- ---- elements
 abbrev pub Led : Place → Place → Type 0
 Led a b = (w : List Bool) × Leads w a b
 
@@ -119,17 +119,17 @@ module _ (free : Per.Freedom → Bool) (al : Bool) where
       let j = counted_led z h g.0 (told_highest g.0 z.counts.high) g.1 [] (b, members due hs ∷ []) (g.3 []) in
       (i.0 ++ j.0, leads_join i.0 j.0 a g.1 b i.1 j.1)
 
--- where such a reader went on
+-- where such a reader continues
 pub moves_led : (now new : Held) (here there : Place) (n : ℕ) → here ≡ now.place → n ≡ there.0 → Led here there → Moves now n new → new ≡ record { place = there; scopes = now.scopes; levels = now.levels; most = now.most; failed = now.failed; rules = now.rules; stands = now.stands }
 moves_led now new here there n e p f m = let g = subst (λ (q : Place). Led q there) e f in m g.0 there (sym p) g.1
 
--- what a stretch of bits goes on to
+-- where a stretch of bits continues
 pub moves_to : (a m : Stretched) (k : List Scope) (levels most : ℕ) (failed : Option ℕ) (rules : PackedRules) (behind : List Storage) (n : ℕ) → ((w : List Bool) (b : Place) → b.0 ≡ n → Leads w a.place b → m.place ≡ b) → m.storage ≡ a.storage → Moves (record { place = a.place; scopes = k; levels = levels; most = most; failed = failed; rules = rules; stands = a.storage ∷ behind }) n (record { place = m.place; scopes = k; levels = levels; most = most; failed = failed; rules = rules; stands = m.storage ∷ behind })
 moves_to a m k levels most failed rules behind n there stored w b e l =
     ap (λ (p : Place). let h : Held = record { place = p; scopes = k; levels = levels; most = most; failed = failed; rules = rules; stands = m.storage ∷ behind } in h) (there w b e l)
     ∙ ap (λ (s : Storage). let h : Held = record { place = b; scopes = k; levels = levels; most = most; failed = failed; rules = rules; stands = s ∷ behind } in h) stored
 
--- a further member, or the end
+-- another element, or the end
 pub found_member : (answer result : Result Bool DecodeError) (old now mid new : Held) (here there : Place) (n : ℕ) (k : List Scope) (l : List Storage) → now ≡ old → IsReady old → here ≡ now.place → n ≡ there.0 → result ≡ answer → mid ≡ record { place = now.place; scopes = k; levels = now.levels; most = now.most; failed = now.failed; rules = now.rules; stands = l } → OnOk answer (l ≡ now.stands) → IfOk answer (λ v. NextMember (is_aligned now.rules) (freedoms now.rules) v here now.scopes (there, k)) → OnOk result (Moves mid n new) → IfOk result (λ v. Finds old (further v) new)
 found_member (Ok x) (Err e) old now mid new here there n k l same ready h p r z b g m = tt
 found_member (Err x) (Err e) old now mid new here there n k l same ready h p r z b g m = tt
@@ -142,7 +142,7 @@ found_member (Ok x) (Ok y) old now mid new here there n k l same ready h p r z b
     let j = moves_led mid new here there n (h ∙ sym (ap (λ (q : Held). q.place) z)) p w m in
     steps old now new there k now.levels (further y) now.stands same ready i refl refl (j ∙ ap (λ (q : Held). let t : Held = record { place = there; scopes = q.scopes; levels = q.levels; most = q.most; failed = q.failed; rules = q.rules; stands = q.stands } in t) z ∙ ap (λ (x : List Storage). let t : Held = record { place = there; scopes = k; levels = now.levels; most = now.most; failed = now.failed; rules = now.rules; stands = x } in t) b)
 
--- a member that is due takes nothing in front
+-- an element that is due takes no bits
 pub due_member : (old now new : Held) (k : List Scope) (l : List Storage) → now ≡ old → IsReady old → l ≡ now.stands → ((al : Bool) (free : Per.Freedom → Bool) (p : Place) → NextMember al free true p now.scopes (p, k)) → new ≡ record { place = now.place; scopes = k; levels = now.levels; most = now.most; failed = now.failed; rules = now.rules; stands = l } → Finds old (further true) new
 due_member old now new k l same ready b t f = steps old now new now.place k now.levels (further true) l same ready (t (is_aligned now.rules) (freedoms now.rules) now.place) refl b f
 
@@ -161,7 +161,7 @@ finished (Ok x) (Ok y) old now new here there n same ready h p r f m =
     let k : Front (freedoms now.rules) (completion now.place.0) now.place new.place = subst (λ (q : Place). Front (freedoms now.rules) (completion now.place.0) now.place q) (sym (ap (λ (w : Held). w.place) j)) i in
     (ready, subst (λ (w : Held). Front (freedoms w.rules) (completion w.place.0) w.place new.place) same k)
 
--- and all but the place is as it was
+-- and nothing changes except the position
 pub finished_there : (answer result : Result (Unit {0}) DecodeError) (old now new : Held) (here there : Place) (n : ℕ) → now ≡ old → here ≡ now.place → n ≡ there.0 → result ≡ answer → OnOk answer (Front (freedoms now.rules) (completion here.0) here there) → OnOk result (Moves now n new) → OnOk result (Stays old new)
 finished_there answer (Err e) old now new here there n same h p r f m = tt
 finished_there (Err x) (Ok y) old now new here there n same h p r f m = cc
@@ -177,7 +177,7 @@ unfinished_at old now here same p none ready b f =
     let g : Front (freedoms now.rules) (completion now.place.0) now.place b = subst (λ (w : Held). Front (freedoms w.rules) (completion w.place.0) w.place b) (sym same) f in
     none b (subst (λ (q : Place). Front (freedoms now.rules) (completion q.0) q b) (sym p) g)
 
--- ---- lists, bags, sequences, sets and groups
+-- ---- SEQUENCE OF, SET OF, SEQUENCE, SET and groups
 pub members_enter : {A : Type 0} (result : Result A DecodeError) (old now new : Held) (z : Size) (h : Counts) (due : ℕ) (hs : Option Tally) (there : Place) → now ≡ old → IsReady old → HasMembers (is_aligned now.rules) (freedoms now.rules) z h due hs now.place there → OnOk result (now.levels ≡ new.levels + 1) → OnOk result (new ≡ record { place = there; scopes = members due hs ∷ now.scopes; levels = new.levels; most = now.most; failed = now.failed; rules = now.rules; stands = now.stands }) → OnOk result (EntersMembers old z h new)
 members_enter (Err e) old now new z h due hs there same ready m l f = tt
 members_enter (Ok x) old now new z h due hs there same ready m l f = enters_members old now new z h due hs there same ready m l f
@@ -199,7 +199,7 @@ components_enter (Ok x) old now new e n s there b same ready h m l f =
     let u : EntersComponents now e n new = (s, (ap (λ (w : Held). is_some w.failed) same ∙ ready, omega (arith, l), g), i) in
     subst (λ (w : Held). EntersComponents w e n new) same u
 
--- what an answer is known to be
+-- what is known of a result
 pub ok_of : {T : Type 0} (P : T → Type 0) (answer : Result T DecodeError) (x : T) → Ok x ≡ answer → IfOk answer P → P x
 ok_of P (Ok y) x e p = let k : x ≡ y = cc in subst P (sym k) p
 ok_of P (Err y) x e p = cc
@@ -215,7 +215,7 @@ members_settle result old now settled new z h due hs here there n same ready p q
     let i : HasMembers (is_aligned now.rules) (freedoms now.rules) z h due hs now.place there = subst (λ (x : Place). HasMembers (is_aligned now.rules) (freedoms now.rules) z h due hs x there) p m in
     members_enter result old now new z h due hs there same ready i (ok_so result l (λ e. ap (λ (x : Held). x.levels) (sym s) ∙ e)) (ok_so result f (λ e. e ∙ ap (λ (x : Held). let y : Held = record { place = x.place; scopes = members due hs ∷ x.scopes; levels = new.levels; most = x.most; failed = x.failed; rules = x.rules; stands = x.stands } in y) s))
 
--- where an answer is gone on behind
+-- where the decoder continues after a result
 pub settled_at : (now new : Held) (free : Per.Freedom → Bool) (x : Per.BitForm) (here there : Place) (n : ℕ) → here ≡ now.place → n ≡ there.0 → Front free x here there → Moves now n new → new ≡ record { place = there; scopes = now.scopes; levels = now.levels; most = now.most; failed = now.failed; rules = now.rules; stands = now.stands }
 settled_at now new free x here there n p q f m = moves_there now new free x here there n p q f m
 
@@ -223,6 +223,6 @@ pub err_of : {T : Type 0} (P : DecodeError → Type 0) (answer : Result T Decode
 err_of P (Err y) x e p = let k : x ≡ y = cc in subst P (sym k) p
 err_of P (Ok y) x e p = cc
 
--- why none is found, under sizes that mean the same
+-- why none is found, under size constraints with the same meaning
 pub none_as : {failed : Held} (old : Held) (q : Size → Question) (z y : Size) (x : DecodeError) → z ≡ y → NoRecord Finds TooFewHeld (q z) old failed x → NoRecord Finds TooFewHeld (q y) old failed x
 none_as {failed} old q z y x e n = subst (λ s. NoRecord Finds TooFewHeld (q s) old failed x) e n

@@ -1,4 +1,5 @@
--- Why units do not stand in front once a few more bits have come: there are fewer than their number tells.
+-- Why bits do not begin with some units, even with a few bits appended: there are fewer units than their length
+-- determinant says.
 use Rattle.std.proofs.Common.{◌≡◌, ℕ, ◌-◌, ◌*◌, ◌==◌, ◌≤◌, ◌<◌, leb, ◌&&◌, Bool, true, false, IsTrue, List, [], ◌++◌, length, Option, Some, None, ap, sym, subst, length-append, arith}
 use Rattle.std.proofs.lemmas.Bool.{leb-true, eqb-true, and_parts}
 use Rattle.asn1_model.specs.Schema.{Counts, Size, octet_string}
@@ -36,7 +37,7 @@ module _ (free : Per.Freedom → Bool) where
       let e = m.0 in
       (omega arith, m.1)
 
-  -- bits in front are no more than there are
+  -- a prefix has no more bits than there are
   pub no_longer : (x : Per.BitForm) (a b : Place) → Front free x a b → length b.1 ≤ length a.1
   no_longer x a b f =
       let l = length-append f.text b.1 in
@@ -60,7 +61,7 @@ module _ (free : Per.Freedom → Bool) where
       omega arith
 
   module _ (al : Bool) (w : ℕ) where
-    -- ---- by what tells their number
+    -- ---- by what gives their number
     counted_short : (l : Length) (a m : Place) → Front free (length_form al l) a m → length m.1 < count_of l * w → NoneStands free (counted_units al w) a
     counted_short l a m f h us b g = no_piece free al w a (too_few free al w l a m f h) us.0 us.1 b (run_out free al w us.0 us.1 a b g)
 
@@ -86,7 +87,7 @@ module _ (free : Per.Freedom → Bool) where
         let s = split free (extension_bit z.extensible h.is_outside) (determinant_form al z.counts (told_highest h.is_outside z.counts.high) h.determinant) a m f in
         no_units free al z held w pad h.is_outside a s.0 s.1 (units_short pad z.counts (told_highest h.is_outside z.counts.high) h.determinant s.0 m s.2 l)
 
-    -- ---- once more bits have come
+    -- ---- with more bits appended
     short_still : {X : Type 0} (f : X → Per.BitForm) (g : Per.BitForm) (a m : Place) (count n : ℕ) → Front free g a m → ((p q : Place) → Front free g p q → length q.1 < count * w → NoneStands free f p) → n ≤ count * w - length m.1 - 1 → StillTooShort free f a n
     short_still f g a m count n h few k e i l =
         let j = length-append m.1 e in
@@ -100,13 +101,13 @@ module _ (free : Per.Freedom → Bool) where
         let c : count_in h.determinant ≡ k = ap count_in d in
         short_still (sized_units al z held w pad) (heading_form al z h) a m (count_in h.determinant) n f (λ p q g i. sized_short z held pad h p q g i) (subst (λ j. n ≤ j * w - length m.1 - 1) (sym c) l)
 
-    -- ---- behind fragments
+    -- ---- after fragments
     pub fragment_passed : (m : ℕ) (bs : List Bool) (a mid next : Place) (n : ℕ) → Front free (length_form al (Fragment m)) a mid → Leads bs mid next → length bs ≡ m * 16384 * w → StillTooShort free (counted_units al w) next n → StillTooShort free (counted_units al w) a n
     fragment_passed m bs a mid next n f l e s more i j us b g =
         let piece = front_more free more (piece_form al w (Fragment m, bs)) [] a next (piece_in free al w (Fragment m) bs a mid next f l e) in
         none_behind free al w m bs (a.0, a.1 ++ more) (next.0, next.1 ++ more) piece (λ k cs c h r. s more i j (k, cs) c (run_in free al w k cs (next.0, next.1 ++ more) c r)) us.0 us.1 b (run_out free al w us.0 us.1 (a.0, a.1 ++ more) b g)
 
-    -- units behind a length of the general form, behind the extension bit
+    -- units after a length determinant of the general form, after the extension bit
     general_short : (pad : ℕ → Counts → Bool) (c : Counts) (told : Option ℕ) (l : Length) (p m : Place) (n : ℕ) → Front free (determinant_form al c told (General l)) p m → ((q : Place) → Front free (length_form al l) q m → StillTooShort free (counted_units al w) q n) → StillTooShort free (units_told al w pad c told) p n
     general_short pad c None l p m n g s = s p g
     general_short pad c (Some high) l p m n g s = absurd (of_refused free p m g)

@@ -1,13 +1,13 @@
--- The additions of a sequence or set that are still to come (X.691 19.7).
+-- The extension additions of a SEQUENCE or SET that are still to come (X.691 19.7).
 use Rattle.std.specs.Prelude.{◌≡◌, Bool, List, ◌∷◌, drop}
 use Rattle.asn1_schema_finding.specs.PresenceBits.{first_bits}
 use Rattle.per_codec_decoder.specs.declared.additions.Additions.{Additions}
 
--- The presence bits of the type's own additions: those past the bitmap are absent.
+-- The presence bits of the type's additions; those after the end of the bitmap are absent.
 abbrev pub own_presence : Additions → List Bool
 own_presence a = first_bits a.left a.bitmap.place.1
 
--- The presence bits of unknown ones.
+-- The presence bits of unknown additions.
 abbrev pub unknown_presence : Additions → List Bool
 unknown_presence a = drop a.left a.bitmap.place.1
 

@@ -1,4 +1,4 @@
--- How what is left where a scope ends is passed over (X.691 11.2, 19.8), and why it is not.
+-- How the rest of a scope is skipped at its end (X.691 11.2, 19.8), and why it is not.
 use Rattle.std.specs.Prelude.{◌≡◌, Bool, List}
 use Rattle.asn1_model.specs.Per
 use Rattle.asn1_schema_faults.specs.declared.DecodeError.{DecodeError}
@@ -7,17 +7,17 @@ use Rattle.per_codec_fronts.specs.Takes.{Place, State, Scope, Closes, Skips}
 use Rattle.per_codec_decoder.specs.declared.frames.Ending.{Ending}
 use Rattle.per_codec_decoder.specs.declared.frames.Ending.TheVariants.{Nothing, Unknown, OpenType as Padded}
 
--- What stands in an open type behind its value, up to its end, may stand there.
+-- What follows the value in an open type, up to its end, is allowed there.
 abbrev pub IsClosed : (Per.Freedom → Bool) → Place → Type 0
 IsClosed free a = (rest : Place) (k : List Scope) → Closes free a rest k (rest, k)
 
--- What is left where a scope ends is passed over.
+-- The rest of a scope is skipped at its end.
 abbrev pub Passes : Bool → (Per.Freedom → Bool) → Ending → Place → Place → Type 0
 Passes al free Nothing a b = b ≡ a
 Passes al free (Unknown r) a b = Skips al free r.place.1 a b
 Passes al free (Padded p) a b = IsClosed free a × (b ≡ p.place)
 
--- Why it is not: for want of memory, or because something else stands there.
+-- Why it is not skipped: memory ran out, or something else is there.
 abbrev pub NotPassed : Bool → (Per.Freedom → Bool) → Ending → Place → DecodeError → Type 0
 NotPassed al free Nothing a x = ⊥
 NotPassed al free (Unknown r) a x = ¬ (x ≡ OutOfMemory) → (b : Place) → Skips al free r.place.1 a b → ⊥

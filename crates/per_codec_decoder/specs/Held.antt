@@ -1,4 +1,4 @@
--- What the calls of a decoder of the packed encoding rules (X.691) change of what it holds.
+-- How the calls of a decoder of PER (X.691) change its state.
 use Rattle.std.specs.Prelude.{◌≡◌, ◌<◌, ℕ, suc, Bool, true, List, ◌∷◌, length, drop, Option}
 use Rattle.asn1_model.specs.Schema.{Counts, Size}
 use Rattle.asn1_schema_faults.specs.declared.DecodeError.{DecodeError}
@@ -14,7 +14,7 @@ use Rattle.per_codec_decoder.specs.Preamble.{HasPreamble, NoPreamble}
 use Rattle.per_codec_decoder.specs.declared.frames.Ending.{Ending}
 use Rattle.per_codec_decoder.specs.declared.frames.Ending.TheVariants.{Nothing, Unknown, OpenType as Padded}
 
--- Another place, and all else as it was.
+-- Another position; nothing else changes.
 abbrev pub Stays : Held → Held → Type 0
 Stays old new = new ≡ record {
   place = new.place;
@@ -26,7 +26,7 @@ Stays old new = new ≡ record {
   stands = old.stands;
 }
 
--- The place that a reader reached that began at the old one, by its position.
+-- The position, in bits, that a reader reached from the old one.
 abbrev pub Moves : Held → ℕ → Held → Type 0
 Moves old n new = (w : List Bool) (b : Place) → b.0 ≡ n → Leads w old.place b
     → new ≡ record {
@@ -39,7 +39,7 @@ Moves old n new = (w : List Bool) (b : Place) → b.0 ≡ n → Leads w old.plac
       stands = old.stands;
     }
 
--- A scope is open inside all others, one level further in.
+-- A scope is opened inside all others, and takes a level.
 abbrev pub Enters : Held → Scope → Held → Type 0
 Enters old s new = IsReady old × (old.levels ≡ suc new.levels)
     × (new ≡ record {
@@ -52,32 +52,32 @@ Enters old s new = IsReady old × (old.levels ≡ suc new.levels)
       stands = old.stands;
     })
 
--- A list or bag is entered.
+-- A SEQUENCE OF or SET OF is entered.
 abbrev pub EntersMembers : Held → Size → Counts → Held → Type 0
 EntersMembers old z h new = (due : ℕ) × (hs : Option Tally) × Enters old (members due hs) new
     × HasMembers (is_aligned old.rules) (freedoms old.rules) z h due hs old.place new.place
 
--- Why none is.
+-- Why none is entered.
 abbrev pub NotMembers : Held → Size → Counts → DecodeError → Type 0
 NotMembers old z h x = IsReady old → 0 < old.levels
     → NoMembers (is_aligned old.rules) (freedoms old.rules) z h old.place x
 
--- A sequence, set or group is entered.
+-- A SEQUENCE, SET or group is entered.
 abbrev pub EntersComponents : Held → Bool → ℕ → Held → Type 0
 EntersComponents old e n new = (s : Scope) × Enters old s new
     × HasPreamble (freedoms old.rules) e n s old.place new.place
 
--- Why none is.
+-- Why none is entered.
 abbrev pub NotComponents : Held → Bool → ℕ → DecodeError → Type 0
 NotComponents old e n x = IsReady old → 0 < old.levels → NoPreamble (freedoms old.rules) e n old.place x
 
--- Where bits stand behind the end of a scope that is left: behind an open type, where those stand that are behind it.
+-- Where bits are stored after the end of a scope that is left: after an open type, where those that follow it are.
 abbrev pub stands_behind : Ending → List Storage → List Storage
 stands_behind Nothing l = l
 stands_behind (Unknown r) l = l
 stands_behind (Padded p) l = p.storage ∷ drop 1 l
 
--- Behind the end of a scope that is left is another place.
+-- After the end of a scope that is left comes another position.
 abbrev pub HasPassed : Ending → Held → Held → Type 0
 HasPassed w old new = new ≡ record {
   place = new.place;
@@ -102,13 +102,14 @@ HasOpened old new = Opens (is_aligned old.rules) (freedoms old.rules) old.place 
       stands = stands_within true old.stands new.place new.scopes;
     })
 
--- Why none is: for want of memory, or because no octets stand in front behind their number.
+-- Why no open type is entered: memory ran out, or the bits do not begin with octets after their length determinant.
 abbrev pub NoOpening : Held → DecodeError → Type 0
 NoOpening old x = ¬ (x ≡ OutOfMemory) → (k : List Scope) (b : State)
     → Opens (is_aligned old.rules) (freedoms old.rules) old.place k b → ⊥
 
--- The octets of a string stand in the input as they are: in one run (X.691 11.9.4) that ends, and so begins, at an
--- octet of it. What is in front tells whether their number is in the root: an extension bit, where there is one.
+-- The octets of a string are contiguous in the input: in a single fragment (X.691 11.9.4) that ends, and so begins, at
+-- an octet boundary. The bits begin with the extension bit, if there is one, which says whether their number is in the
+-- root.
 abbrev pub Lends : Held → Record → Held → Type 0
 Lends old (octets z h os) new = InOneRun (told_in_front z old.place.1) (length os)
     × EndsAtOctet (innermost old.stands) new.place.0

@@ -1,4 +1,4 @@
--- What stands in front of the members of a list (X.691 20), and why nothing does.
+-- What precedes the elements of a list (X.691 20), and why the bits do not begin with it.
 use Rattle.std.specs.Prelude.{◌≡◌, ℕ, leb, ◌==◌, ◌&&◌, Bool, true, List, [], ◌∷◌, Option, Some, None}
 use Rattle.std.proofs.Common.{Box, Global}
 use Rattle.asn1_model.specs.Schema.{Counts, Size}
@@ -13,49 +13,50 @@ use Rattle.per_codec_reading.specs.Fronts.{freedoms, is_aligned}
 use Rattle.per_codec_reading.specs.Lengths.{length_form}
 use Rattle.per_codec_reading.specs.declared.lengths.Length.{Length}
 
--- The members that stand behind one length determinant: how many are due, and what is known of the list if a further
--- length determinant stands behind these.
+-- The elements after one length determinant: how many are due, and what is known of the list if another length
+-- determinant follows them.
 pub record Due : Type 0 where
   pub due : ℕ
   pub tally : Option Tally
 
--- What is known of a list stands behind a pointer.
+-- What is known of a list is held by a pointer.
 abbrev pub tally_in : Option (Box Tally Global) → Option Tally
 tally_in None = None
 tally_in (Some boxed) = Some boxed.value
 
--- The extension bit of the size, if it has one, and the first length determinant: so many members are due behind it.
+-- The extension bit of the size, if it has one, and the first length determinant: this number of elements is due after
+-- it.
 abbrev pub HasMembers : Bool → (Per.Freedom → Bool) → Size → Counts → ℕ → Option Tally → Place → Place → Type 0
 HasMembers al free z h due hs a b = (out : Bool) × (mid : Place) × Front free (extension_bit z.extensible out) a mid
     × ((k : List Scope) → Counted al free z h out (told_highest out z.counts.high) mid k (b, members due hs ∷ k))
 
--- Why there is nothing such: want of memory, or no list begins here.
+-- Why the bits do not begin with it: memory ran out, or no list begins here.
 pub record NoMembers (al : Bool) (free : Per.Freedom → Bool) (z : Size) (h : Counts) (a : Place)
     (e : DecodeError) : Type 0 where
   pub none : ¬ (e ≡ OutOfMemory) → (n : ℕ) (k : List Scope) (b : State) → ListBegins al free z h n (a, k) b → ⊥
 
--- The same of a length determinant.
+-- As `NoMembers`, for a length determinant.
 pub record NoDeterminant (al : Bool) (free : Per.Freedom → Bool) (t : Tally) (a : Place)
     (e : DecodeError) : Type 0 where
   pub none : ¬ (e ≡ OutOfMemory) → (b : Place) (due : ℕ) (hs : Option Tally) → NextDeterminant al free t a b due hs → ⊥
 
--- The same of a further member, or the end.
+-- As `NoMembers`, for another element, or the end.
 pub record NoFurther (al : Bool) (free : Per.Freedom → Bool) (a : Place) (k : List Scope)
     (e : DecodeError) : Type 0 where
   pub none : ¬ (e ≡ OutOfMemory) → (v : Bool) (b : State) → NextMember al free v a k b → ⊥
 
--- So many members are due behind this length determinant, wherever it stands in front.
+-- This number of elements is due after this length determinant, wherever it occurs.
 abbrev pub AreBehind : PackedRules → Tally → Length → ℕ → Option Tally → Type 0
 AreBehind r t l due hs = (a b : Place) → Front (freedoms r) (length_form (is_aligned r) l) a b
     → NextDeterminant (is_aligned r) (freedoms r) t a b due hs
 
--- Why none are.
+-- Why no elements are due after it.
 abbrev pub NoneAreBehind : PackedRules → Tally → Length → DecodeError → Type 0
 NoneAreBehind r t l e = (a b : Place) → Front (freedoms r) (length_form (is_aligned r) l) a b
     → NoDeterminant (is_aligned r) (freedoms r) t a e
 
--- Behind a fragment of so many times 16384 members, these are the largest ones first: behind one of fewer than four
--- times 16384 stands no other (X.691 11.9.3.8).
+-- After a fragment of m times 16384 elements, these come in the order of the largest first: no fragment follows one of
+-- fewer than four times 16384 (X.691 11.9.3.8).
 abbrev pub largest_behind : ℕ → List ℕ → Bool
 largest_behind m [] = true
 largest_behind m (k ∷ ks) = (m == 4 && (leb 1 k && leb k 4)) && largest_behind k ks

@@ -1,4 +1,4 @@
--- What has begun and has not ended, as a reader of the packed encoding rules (X.691) holds it.
+-- What has begun and has not ended, as a decoder of PER (X.691) holds it.
 use Rattle.std.specs.Prelude.{◌≡◌, ℕ, ◌+◌, Bool, List, [], ◌∷◌, map, reverse, Option, Some, None}
 use Rattle.asn1_model.specs.Per
 use Rattle.per_codec_fronts.specs.Takes.{Place, State, Scope, components, added, open_type, members, alternative}
@@ -20,30 +20,30 @@ scope_of (OpenType p) = open_type p.place
 scope_of (Members p) = members p.due p.tally
 scope_of Alternative = alternative
 
--- An open scope that encloses one value alone.
+-- An open scope that contains a single value.
 abbrev pub scope_around : Enclosing → Scope
 scope_around (Opened p) = open_type p.place
 scope_around Chosen = alternative
 
--- The open scopes of frames, the innermost first: it stands alone, and those around it in the order in which they
--- began.
+-- The open scopes of frames, the innermost first. The innermost frame is apart; those around it are in the order in
+-- which they began.
 abbrev pub scopes_in : Option Frame → List Frame → List Scope
 scopes_in None fs = []
 scopes_in (Some f) fs = scope_of f ∷ map scope_of (reverse fs)
 
--- The open scopes, the innermost first: what encloses one value alone, if it is there, and those of the frames.
+-- The open scopes, the innermost first: one that contains a single value, if there is one, and those of the frames.
 abbrev pub scopes_of : Option Enclosing → Option Frame → List Frame → List Scope
 scopes_of None f fs = scopes_in f fs
 scopes_of (Some e) f fs = scope_around e ∷ scopes_in f fs
 
--- How many members are to come in frames, the outermost first, as far as the first open type.
+-- The number of elements that are still to come in frames, the outermost first, up to the first open type.
 abbrev pub owing : List Frame → ℕ
 owing [] = 0
 owing (OpenType behind ∷ fs) = 0
 owing (Members p ∷ fs) = p.due + owing fs
 owing (f ∷ fs) = owing fs
 
--- Behind each open type among the frames stand bits, the innermost first.
+-- Where the bits after each open type among the frames are stored, the innermost first.
 abbrev pub behind_frame : Frame → List Storage → List Storage
 behind_frame (OpenType p) k = p.storage ∷ k
 behind_frame f k = k
@@ -64,12 +64,12 @@ abbrev pub behind_of : Option Enclosing → Option Frame → List Frame → List
 behind_of None f fs = behind_in f fs
 behind_of (Some e) f fs = behind_around e (behind_in f fs)
 
--- What is open: the scopes, and where the bits stand behind each open type among them.
+-- What is open: the scopes, and where the bits after each open type among them are stored.
 pub record Open : Type 0 where
   pub scopes : List Scope
   pub behind : List Storage
 
--- A scope is opened where bits stand so.
+-- A scope is opened where bits are stored so.
 abbrev pub beneath : Storage → List Storage → List Storage
 beneath s [] = []
 beneath s (t ∷ k) = t ∷ s ∷ k
@@ -78,7 +78,7 @@ abbrev pub stands_in : Frame → List Storage → List Storage
 stands_in (OpenType p) l = beneath p.storage l
 stands_in f l = l
 
--- All root components of the innermost sequence or set have passed, and this is its extension bit.
+-- All root components of the innermost SEQUENCE or SET were read, and this is its extension bit.
 abbrev pub HasExtensionBit : Bool → List Scope → Type 0
 HasExtensionBit m s = (k : List Scope) × (s ≡ components (Some m) [] ∷ k)
 
@@ -87,7 +87,7 @@ abbrev pub NoAdditions : List Scope → Type 0
 NoAdditions s = (al : Bool) (free : Per.Freedom → Bool) (n : ℕ) (a : Place) (b : State) → AdditionsBegin al free n a s b
     → ⊥
 
--- The next bit of the innermost bitmap.
+-- The next bit of the innermost presence bitmap.
 abbrev pub Flags : Bool → List Scope → List Scope → Type 0
 Flags v old new = (ms : List Bool) × (us : List Bool) × (k : List Scope) × (old ≡ added (v ∷ ms) us ∷ k)
     × (new ≡ added ms us ∷ k)
@@ -96,13 +96,13 @@ Flags v old new = (ms : List Bool) × (us : List Bool) × (k : List Scope) × (o
 abbrev pub NoFlag : List Scope → Type 0
 NoFlag s = (al : Bool) (free : Per.Freedom → Bool) (v : Bool) (a : Place) (b : State) → NextAddition al free v a s b → ⊥
 
--- The innermost scope is left, and so much stands in front of its end.
+-- The innermost scope is left, with this before its end.
 abbrev pub Leaves : Ending → List Scope → List Scope → Type 0
 Leaves Nothing old new = (al : Bool) (free : Per.Freedom → Bool) (a : Place) → Ends al free a old (a, new)
 Leaves (Unknown r) old new = old ≡ added [] r.place.1 ∷ new
 Leaves (Padded p) old new = old ≡ open_type p.place ∷ new
 
--- And bits stand so behind the open types that are left, if it was one.
+-- And bits after the open types that are left, if it was one, are stored so.
 abbrev pub LeavesBehind : Ending → List Storage → List Storage → Type 0
 LeavesBehind Nothing old new = old ≡ new
 LeavesBehind (Unknown r) old new = old ≡ new
@@ -112,11 +112,11 @@ LeavesBehind (Padded p) old new = old ≡ p.storage ∷ new
 abbrev pub NoEnd : List Scope → Type 0
 NoEnd s = (al : Bool) (free : Per.Freedom → Bool) (a : Place) (b : State) → Ends al free a s b → ⊥
 
--- The innermost scope is that of additions.
+-- The innermost scope is that of extension additions.
 abbrev pub IsAdded : List Scope → Type 0
 IsAdded s = (ms : List Bool) × (us : List Bool) × (k : List Scope) × (s ≡ added ms us ∷ k)
 
--- An addition is left, behind which is this place.
+-- An addition is left, after which comes this position.
 abbrev pub LeavesAddition : Place → List Scope → List Scope → Type 0
 LeavesAddition p old new = (old ≡ open_type p ∷ new) × IsAdded new
 

@@ -1,4 +1,4 @@
-//! The additions of a sequence or set (X.691 19.7).
+//! The extension additions of a SEQUENCE or SET (X.691 19.7).
 ghost use Rattle.std.specs.Prelude.{◌≡◌, IfSome, IfNone};
 ghost use Rattle.per_codec_decoder.specs.Additions.{TellsOf};
 
@@ -7,14 +7,15 @@ use per_codec_reading_values::Stretch;
 /// The additions that are still to come.
 #[derive(Drop)]
 pub struct Additions<'input> {
-    /// How many of the type's own.
+    /// The number of those that the type defines.
     pub left: usize,
-    /// The bits of the bitmap, behind those of the type's own additions the bits of unknown ones.
+    /// The bits of the presence bitmap: those of the type's additions, followed by those of unknown ones.
     pub bitmap: Stretch<'input>,
 }
 
 impl Additions<'_> {
-    /// Whether the next addition is there, if one is due. Those past the bits of the bitmap are not.
+    /// Whether the type's next addition is present; `None` if none is due. Additions after the end of the bitmap are
+    /// absent.
     #[inline(always)]
     pub(crate) fn next(&mut self) -> Option<bool>
         ensures some { IfSome result (λ is_there. TellsOf is_there self.old self.new) }

@@ -1,4 +1,4 @@
-//! Which bits of a bitmap are set (X.691 19.7).
+//! Which bits of a presence bitmap are set (X.691 19.7).
 ghost use Rattle.std.specs.Prelude.{◌≡◌, ◌||◌};
 ghost use Rattle.asn1_model.specs.Per;
 ghost use Rattle.asn1_schema_finding.specs.PresenceBits as presence;
@@ -26,7 +26,7 @@ fn is_any_set(bits: BitStr<'_>) -> bool
     false
 }
 
-/// Whether a bitmap of additions is accepted: in strict rules only if it tells of one (X.691 19.7).
+/// Whether a presence bitmap of extension additions is accepted: strict rules require that a bit is set (X.691 19.7).
 #[inline(always)]
 pub(crate) fn is_accepted(rules: PackedRules, bitmap: BitStr<'_>) -> bool
     ensures { result ≡ (freedoms rules Per.empty_bitmap || presence.is_any_set (bits_of bitmap.entry)) }

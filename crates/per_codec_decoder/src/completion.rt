@@ -9,8 +9,8 @@ use asn1_schema_faults::DecodeError;
 use per_codec_reading::padding::skip_padding;
 use per_codec_reading::{Cursor, PackedRules};
 
-/// Passes over the padding of a message behind its value: the bits up to the next octet, which are zero in strict
-/// rules, or one zero octet where the value has no bits (X.691 11.1).
+/// Skips the padding of a message after its value: the bits up to the next octet, which are zero in strict rules, or
+/// one zero octet if the value has no bits (X.691 11.1).
 ///
 /// # Errors
 ///
@@ -35,7 +35,7 @@ pub(crate) fn read_completion(
     Ok(())
 }
 
-/// Whether so many bits may be left in an open type: in strict rules none (X.691 11.2).
+/// Whether this number of bits may be left in an open type: none in strict rules (X.691 11.2).
 #[inline(always)]
 fn may_be_left(rules: PackedRules, left: usize) -> bool
     ensures { result ≡ (freedoms rules Per.octets_behind || left == 0) }
@@ -43,13 +43,13 @@ fn may_be_left(rules: PackedRules, left: usize) -> bool
     !rules.is_strict() || left == 0
 }
 
-/// Passes over what stands behind the value in an open type (X.691 11.2): its padding, and any octets behind that if
-/// the rules are not strict.
+/// Skips what follows the value in an open type (X.691 11.2): its padding, and any octets after that if the rules are
+/// not strict.
 ///
 /// # Errors
 ///
-/// Those of [`read_completion`], `InvalidPadding` if what is left is not whole octets, and `SurplusOctets` if any are
-/// left, in strict rules.
+/// Those of [`read_completion`], `InvalidPadding` if what is left is no whole number of octets, and `SurplusOctets` if
+/// any are left, in strict rules.
 pub(crate) fn read_to_end(cursor: &mut Cursor<'_>, rules: PackedRules) -> Result<(), DecodeError>
     ensures ok { OnOk result (IsClosed (freedoms rules) cursor.old) }
     ensures only { IfErr result (λ _. (rest : _) (k : _) (b : _) → Closes (freedoms rules) cursor.old rest k b → ⊥) }

@@ -1,4 +1,4 @@
-//! What finds the records of a value in bits.
+//! The decoder of PER, which finds the records of a value in bits.
 ghost use Rattle.std.specs.Cow.{cow_slice_items, IsBorrowedSlice};
 ghost use Rattle.std.specs.Prelude.{◌≡◌, ◌+◌, ◌-◌, ◌/◌, ◌<◌, ◌^◌, [], ◌∷◌, true, Some, None, length, take, min};
 ghost use Rattle.std.specs.Prelude.{OnOk, OnErr, IfErr, IfOk};
@@ -47,15 +47,16 @@ use std::borrow::CowSlice;
 use std::marker::Model;
 use std::mem::{forget, replace};
 
-/// A decoder of the packed encoding rules (X.691), unaligned or aligned, which lends octets from its input where they
-/// stand there.
+/// A decoder of the packed encoding rules (X.691), unaligned or aligned. It borrows octets that are contiguous in its
+/// input.
 #[derive(Drop)]
 pub struct Decoder<'input> {
     place: Stretch<'input>,
     scopes: Scopes<'input>,
     levels: usize,
     most: usize,
-    // After a refusal, how many bits are lacking at least besides those of members that are to come.
+    // After an error, one less than the number of bits that are missing at least, without those of elements that are
+    // still to come.
     failed: Option<usize>,
     rules: PackedRules,
 }
@@ -77,8 +78,8 @@ impl<'input> Model for Decoder<'input> {
     } };
 }
 
-// One call: `AlreadyFailed` after a refusal, else what is found of its record by a cursor from the place that is
-// reached, and after a refusal no more.
+// One call: `AlreadyFailed` after an error; otherwise the result of reading the record with a cursor at the current
+// position. The decoder fails with it.
 macro_rules! record {
     ($decoder:ident, $cursor:ident, $read:expr) => {{
         go_on($decoder.failed.is_some())?;
@@ -90,8 +91,8 @@ macro_rules! record {
 }
 
 impl<'input> Decoder<'input> {
-    /// A decoder of this input, within 128 nested levels. Of an input of 2^60 octets or more the first ones are
-    /// looked at, fewer than so many.
+    /// A decoder of this input, with at most 128 nested levels. It looks at no more than the first 2^60 - 1 octets of
+    /// the input.
     #[inline(always)]
     pub fn new(alloc: Global, input: &'input [u8], options: DecoderOptions) -> Self
         ensures { result ≡ record {
@@ -122,8 +123,8 @@ impl<'input> Decoder<'input> {
         self.place.bits()
     }
 
-    /// How many more octets are needed at least where this decoder was refused: one, or as many as are taken by the
-    /// bits that a string or an open type lacks, and by the members, of a bit each, that are to come in lists and bags
+    /// After an error, how many more octets are needed at least. At least one, and enough octets for the bits that a
+    /// string or an open type lacks and for one bit for each element that is still to come in a SEQUENCE OF or SET OF
     /// outside open types.
     #[cold]
     pub fn needed(&self) -> usize
@@ -132,13 +133,13 @@ impl<'input> Decoder<'input> {
         self.scopes.due().saturating_add(self.failed.unwrap_or(0)) / 8 + 1
     }
 
-    /// Passes over the padding of a message behind its value (X.691 11.1): bits up to the next octet, or the one octet
-    /// of a value of no bits.
+    /// Skips the padding of a message after its value (X.691 11.1): bits up to the next octet, or the one octet of a
+    /// value without bits.
     ///
     /// # Errors
     ///
-    /// `AlreadyFailed` after a refusal, `InvalidPadding` if the octet of a value of no bits is not zero or, in strict
-    /// rules, a bit of padding is not, and `Incomplete` if the input ends early.
+    /// `AlreadyFailed` after an error, `InvalidPadding` if the octet of a value without bits is not zero or, in strict
+    /// rules, a padding bit is not, and `Incomplete` if the input ends early.
     #[inline(always)]
     pub fn finish(&mut self) -> Result<(), DecodeError>
         ensures ok { OnOk result (IsReady self.old
@@ -153,8 +154,8 @@ impl<'input> Decoder<'input> {
         record!(self, cursor, read_completion(&mut cursor, self.rules))
     }
 
-    /// Ends the work of the decoder, which has read a message: what memory it took is let go. Mostly it took none: then
-    /// there is nothing to call.
+    /// Drops the decoder after a message, and frees its memory. Usually nothing was allocated; then no destructor is
+    /// called.
     #[inline(always)]
     pub fn let_go(self) {
         if self.place.is_lent() && self.scopes.hold_no_memory() {
@@ -164,8 +165,8 @@ impl<'input> Decoder<'input> {
         }
     }
 
-    // The octets of a string (X.680 23) under a size constraint, lent where they stand in the input as they are, in
-    // one run (X.691 11.9.4) that begins at an octet of it.
+    // The octets of an OCTET STRING (X.680 23) under a size constraint. They are borrowed if they are contiguous in the
+    // input: in a single fragment (X.691 11.9.4) that begins at an octet boundary.
     #[inline(always)]
     fn find_octets(
         &mut self,
@@ -196,8 +197,8 @@ impl<'input> Decoder<'input> {
         }
     }
 
-    // Fails for this reason where bits are lacking, or do not have the form. The scopes stay: they tell how many
-    // members are lacking besides.
+    // Fails for this reason: bits are missing, or do not have the required form. The scopes are kept, as they say how
+    // many elements are missing as well.
     #[inline(always)]
     fn lack(&mut self, error: DecodeError) -> DecodeError
         ensures refused { result ≡ error }
@@ -209,7 +210,7 @@ impl<'input> Decoder<'input> {
         error
     }
 
-    // The same where so many bits are lacking besides.
+    // As `lack`, if more than `missing` bits are missing.
     #[cold]
     fn lack_bits(&mut self, error: DecodeError, missing: usize) -> DecodeError
         ensures refused { result ≡ error }
@@ -221,7 +222,7 @@ impl<'input> Decoder<'input> {
         error
     }
 
-    // Goes on behind what a reader found, at this position, or fails as it did. The scopes stay.
+    // Continues after what a reader found, at this position, or fails as it did. The scopes are kept.
     #[inline(always)]
     fn settle<T>(
         &mut self,
@@ -244,7 +245,7 @@ impl<'input> Decoder<'input> {
         }
     }
 
-    // Opens a scope, and takes a level for it.
+    // Opens a scope, which takes a level.
     #[inline(always)]
     fn enter(&mut self, frame: Frame<'input>) -> Result<(), DecodeError>
         requires { 0 < self.old.levels }
@@ -270,7 +271,7 @@ impl<'input> Decoder<'input> {
         Ok(())
     }
 
-    // Opens the scope of an alternative of the root, and takes a level for it.
+    // Opens the scope of a root alternative, which takes a level.
     #[inline(always)]
     fn enter_alternative(&mut self) -> Result<(), DecodeError>
         requires { 0 < self.old.levels }
@@ -314,7 +315,7 @@ impl<'input> Decoder<'input> {
         self.levels -= 1;
     }
 
-    // Begins a list or bag.
+    // Begins a SEQUENCE OF or SET OF.
     fn enter_members(&mut self, sizes: Sizes, held: Bounded<usize>) -> Result<(), DecodeError>
         ensures ok { OnOk result (EntersMembers self.old (size_of sizes) (members_of held) self.new) }
         ensures only { IfErr result (NotMembers self.old (size_of sizes) (members_of held)) }
@@ -335,7 +336,7 @@ impl<'input> Decoder<'input> {
         self.enter(Frame::Members(members))
     }
 
-    // Whether a further member comes, behind the next length determinant where none is due before it.
+    // Whether another element follows, after the next length determinant if none is due before it.
     fn find_further(&mut self) -> Result<bool, DecodeError>
         ensures ok { IfOk result (λ more. Finds self.old (further more) self.new) }
         ensures level { OnOk result (self.new.levels ≡ self.old.levels) }
@@ -356,7 +357,7 @@ impl<'input> Decoder<'input> {
         }
     }
 
-    // Begins a sequence, set or group.
+    // Begins a SEQUENCE, SET or group.
     #[inline(always)]
     fn enter_components(&mut self, extensible: bool, optional: usize) -> Result<(), DecodeError>
         ensures ok { OnOk result (EntersComponents self.old extensible optional self.new) }
@@ -377,7 +378,7 @@ impl<'input> Decoder<'input> {
         }
     }
 
-    // Begins an open type: what is read next is what stands in it.
+    // Begins an open type: what is read next is its contents.
     fn open_type(&mut self) -> Result<(), DecodeError>
         ensures ok { OnOk result (HasOpened self.old self.new) }
         ensures only { IfErr result (NoOpening self.old) }
@@ -402,7 +403,7 @@ impl<'input> Decoder<'input> {
         Ok(())
     }
 
-    // Passes over what is left where a scope ends.
+    // Skips the rest of a scope at its end.
     #[inline(always)]
     fn pass_over(&mut self, ending: Ending<'input>) -> Result<(), DecodeError>
         ensures ok { OnOk result (HasPassed ending.entry self.old self.new

@@ -23,42 +23,42 @@ use std::mem::replace;
 /// What has begun and has not ended.
 #[derive(Drop)]
 pub enum Frame<'input> {
-    /// The components of a sequence, set or group (X.691 19): the presence bits that are still to come, and the
+    /// The components of a SEQUENCE, SET or group (X.691 19): the presence bits that are still to come, and the
     /// extension bit, if there is one.
     Components(Stretch<'input>, Option<bool>),
-    /// The additions of a sequence or set (X.691 19.7) that are still to come.
+    /// The extension additions of a SEQUENCE or SET (X.691 19.7) that are still to come.
     Added(Additions<'input>),
-    /// An addition, or an added alternative (X.691 11.2): the place behind its open type.
+    /// An addition, or an added alternative (X.691 11.2): the position after its open type.
     OpenType(Stretch<'input>),
-    /// The members of a list (X.691 20): those that are due.
+    /// The elements of a list (X.691 20): those that are due.
     Members(DueMembers),
-    /// An alternative of the root of a choice (X.691 23).
+    /// A root alternative of a choice (X.691 23).
     Alternative,
 }
 
-/// What encloses one value alone.
+/// A scope that contains a single value.
 #[derive(Drop)]
 pub enum Enclosing<'input> {
-    /// An addition, or an added alternative (X.691 11.2): the place behind its open type.
+    /// An addition, or an added alternative (X.691 11.2): the position after its open type.
     OpenType(Stretch<'input>),
-    /// An alternative of the root of a choice (X.691 23).
+    /// A root alternative of a choice (X.691 23).
     Alternative,
 }
 
-/// What is left to pass over where a scope ends.
+/// What is left to skip at the end of a scope.
 #[derive(Drop)]
 pub enum Ending<'input> {
     /// Nothing.
     Nothing,
-    /// The unknown additions that these presence bits tell of (X.691 19.8).
+    /// The unknown additions with these presence bits (X.691 19.8).
     Unknown(Stretch<'input>),
-    /// The padding of an open type, behind which is this place (X.691 11.2).
+    /// The padding of an open type, after which comes this position (X.691 11.2).
     OpenType(Stretch<'input>),
 }
 
 impl<'input> Frame<'input> {
-    /// So many members that are to come, and those of this frame besides, as far as 64 bits count them. None of an open
-    /// type: whatever is within it is there by its length (X.691 11.2).
+    /// `due` plus the number of elements of this frame that are still to come, saturating at 64 bits. `None` for an
+    /// open type: its length determinant says that all its octets are there (X.691 11.2).
     fn add_due(&self, due: usize) -> Option<usize>
         ensures some { IfSome result (λ n. (fs : List Frame)
             → min (due + owing (self.now ∷ fs)) (2 ^ 64 - 1) ≡ min (n + owing fs) (2 ^ 64 - 1)) }
@@ -74,7 +74,7 @@ impl<'input> Frame<'input> {
 }
 
 impl<'input> Enclosing<'input> {
-    /// The frame of the same scope.
+    /// The same scope as a frame.
     #[inline(always)]
     fn frame(self) -> Frame<'input>
         ensures scope { scope_of result ≡ scope_around self.entry }
@@ -86,7 +86,7 @@ impl<'input> Enclosing<'input> {
         }
     }
 
-    /// What is left to pass over where it ends.
+    /// What is left to skip at its end.
     #[inline(always)]
     fn ending(self) -> Ending<'input>
         ensures scope { (k : _) → Leaves result (scope_around self.entry ∷ k) k }
@@ -124,7 +124,7 @@ fn open_frame<'input>(
     Ok(())
 }
 
-/// Moves what encloses one value alone to the frames: the scopes stay the same. It is seldom called: where something
+/// Moves the scope that contains a single value to the frames: the scopes stay the same. Called seldom: if something
 /// begins in an open type or in an alternative.
 #[cold]
 fn settle<'input>(
@@ -144,8 +144,8 @@ fn settle<'input>(
     Ok(())
 }
 
-/// All that has begun and has not ended: what encloses one value alone, which stands innermost of all if it is there,
-/// the innermost frame, and the frames around it.
+/// All open scopes: one that contains a single value, which is innermost if there is one; the innermost frame; and the
+/// frames around it.
 #[derive(Drop)]
 pub struct Scopes<'input> {
     enclosing: Option<Enclosing<'input>>,
@@ -166,7 +166,7 @@ impl<'input> Model for Scopes<'input> {
 }
 
 impl<'input> Scopes<'input> {
-    /// Nothing is open.
+    /// No open scope.
     #[inline(always)]
     pub fn new(alloc: Global) -> Self
         ensures { result ≡ record { scopes = []; behind = [] } }
@@ -178,7 +178,7 @@ impl<'input> Scopes<'input> {
         }
     }
 
-    /// Whether no scope is open and no memory was taken for any, as it is mostly at the end of a message.
+    /// Whether no scope is open and nothing was allocated for any, as usual at the end of a message.
     #[inline(always)]
     pub fn hold_no_memory(&self) -> bool {
         self.enclosing.is_none() && self.innermost.is_none() && self.outer.capacity() == 0
@@ -193,8 +193,8 @@ impl<'input> Scopes<'input> {
         self.outer.clear();
     }
 
-    /// How many members are to come in the lists and bags that are open outside open types, as far as 64 bits count
-    /// them.
+    /// The number of elements that are still to come in each SEQUENCE OF and SET OF that is open outside open types,
+    /// saturating at 64 bits.
     #[cold]
     pub fn due(&self) -> usize
         ensures { result ≡ min (due self.now.scopes) (2 ^ 64 - 1) }
@@ -212,7 +212,7 @@ impl<'input> Scopes<'input> {
         innermost.add_due(due).unwrap_or(due)
     }
 
-    /// Where the memory comes from.
+    /// The allocator.
     pub fn allocator(&self) -> Global {
         *self.outer.allocator()
     }
@@ -221,7 +221,7 @@ impl<'input> Scopes<'input> {
     ///
     /// # Errors
     ///
-    /// Want of memory; the scopes are then of no more use.
+    /// If memory runs out; the scopes must then not be used any more.
     #[inline(always)]
     pub fn open(&mut self, frame: Frame<'input>) -> Result<(), AllocError>
         ensures scopes { OnOk result (self.new.scopes ≡ scope_of frame.entry ∷ self.old.scopes) }
@@ -234,11 +234,11 @@ impl<'input> Scopes<'input> {
         open_frame(&mut self.innermost, &mut self.outer, frame)
     }
 
-    /// Opens a scope inside all others that encloses one value alone.
+    /// Opens, inside all others, a scope that contains a single value.
     ///
     /// # Errors
     ///
-    /// Want of memory; the scopes are then of no more use.
+    /// If memory runs out; the scopes must then not be used any more.
     #[inline(always)]
     pub fn enclose(&mut self, enclosing: Enclosing<'input>) -> Result<(), AllocError>
         ensures scopes { OnOk result (self.new.scopes ≡ scope_around enclosing.entry ∷ self.old.scopes) }
@@ -253,7 +253,7 @@ impl<'input> Scopes<'input> {
         Ok(())
     }
 
-    /// The next presence bit of the innermost sequence, set or group, if one is due.
+    /// The next presence bit of the innermost SEQUENCE, SET or group, if one is due.
     #[inline(always)]
     pub fn next_presence_bit(&mut self) -> Option<bool>
         ensures some { IfSome result (λ present. (p : _)
@@ -270,7 +270,7 @@ impl<'input> Scopes<'input> {
         }
     }
 
-    /// The extension bit of the innermost sequence or set, all of whose root components have passed.
+    /// The extension bit of the innermost SEQUENCE or SET, if all its root components were read.
     #[inline(always)]
     pub fn extension_bit(&self) -> Option<bool>
         ensures some { IfSome result (λ bit. HasExtensionBit bit self.now.scopes) }
@@ -285,7 +285,7 @@ impl<'input> Scopes<'input> {
         }
     }
 
-    /// The innermost sequence or set, all of whose root components have passed, gives place to another scope.
+    /// Replaces the innermost scope, that of a SEQUENCE or SET all of whose root components were read.
     #[inline(always)]
     pub fn replace(&mut self, frame: Frame<'input>)
         requires { (bit : _) × HasExtensionBit bit self.old.scopes }
@@ -295,8 +295,8 @@ impl<'input> Scopes<'input> {
         self.innermost = Some(frame);
     }
 
-    /// Whether the next addition of the innermost sequence or set is there, if one is due. Those past the bits of the
-    /// bitmap are not.
+    /// Whether the next addition of the innermost SEQUENCE or SET is present, if one is due. Additions after the end of
+    /// the bitmap are absent.
     #[inline(always)]
     pub fn next_addition(&mut self) -> Option<bool>
         ensures some { IfSome result (λ is_there. Flags is_there self.old.scopes self.new.scopes) }
@@ -312,7 +312,7 @@ impl<'input> Scopes<'input> {
         }
     }
 
-    /// Takes the innermost scope off.
+    /// Removes and returns the innermost scope.
     #[inline(always)]
     fn pop(&mut self) -> Option<Frame<'input>>
         ensures some { IfSome result (λ frame. self.old.scopes ≡ scope_of frame ∷ self.new.scopes) }
@@ -328,7 +328,7 @@ impl<'input> Scopes<'input> {
         replace(&mut self.innermost, self.outer.pop())
     }
 
-    /// Whether the innermost scope is that of additions.
+    /// Whether the innermost scope is that of extension additions.
     #[inline(always)]
     fn is_in_additions(&self) -> bool
         ensures { MatchBool result (IsAdded self.now.scopes) (IsAdded self.now.scopes → ⊥) }
@@ -339,7 +339,7 @@ impl<'input> Scopes<'input> {
         }
     }
 
-    /// Takes the innermost scope off, if it is an open type: the place behind it.
+    /// Removes the innermost scope and returns the position after it, if it is an open type.
     #[inline(always)]
     fn take_open_type(&mut self) -> Option<Stretch<'input>>
         ensures some { IfSome result (λ behind. self.old.scopes ≡ open_type behind.place ∷ self.new.scopes) }
@@ -358,8 +358,8 @@ impl<'input> Scopes<'input> {
         }
     }
 
-    /// Closes the innermost scope, if it is an addition: the place behind its open type. Where it is none, the scopes
-    /// are of no more use.
+    /// Closes the innermost scope and returns the position after its open type, if it is an addition. Otherwise the
+    /// scopes must not be used any more.
     #[inline(always)]
     pub fn leave_addition(&mut self) -> Option<Stretch<'input>>
         ensures some { IfSome result (λ behind. LeavesAddition behind.place self.old.scopes self.new.scopes) }
@@ -373,7 +373,7 @@ impl<'input> Scopes<'input> {
         Some(place)
     }
 
-    /// Takes a member of the innermost list that is due before any further length determinant, if there is one.
+    /// Takes an element of the innermost list that is due before any other length determinant, if there is one.
     #[inline(always)]
     pub fn take_due_member(&mut self) -> bool
         ensures there { result ≡ true → (al : _) (free : _) (p : _) → NextMember al free true p self.old.scopes
@@ -390,11 +390,11 @@ impl<'input> Scopes<'input> {
         }
     }
 
-    /// Whether a member of the innermost list is still to come, behind the next length determinant if none is due.
+    /// Whether an element of the innermost list is still to come, after the next length determinant if none is due.
     ///
     /// # Errors
     ///
-    /// Those of a length, and `SizeConstraintNotSatisfied` if all members are not as many as there may be.
+    /// Those of a length determinant, and `SizeConstraintNotSatisfied` if the number of all elements is not allowed.
     #[inline(always)]
     pub fn next_member(
         &mut self,
@@ -416,8 +416,8 @@ impl<'input> Scopes<'input> {
         }
     }
 
-    /// Closes the innermost scope, if nothing of it is still to come but what it leaves. Where more is, the scopes are
-    /// of no more use.
+    /// Closes the innermost scope and returns what is left to skip at its end, if nothing else of it is still to come.
+    /// Otherwise the scopes must not be used any more.
     #[inline(always)]
     pub fn leave(&mut self) -> Option<Ending<'input>>
         ensures some { IfSome result (λ ending. Leaves ending self.old.scopes self.new.scopes) }

@@ -1,5 +1,5 @@
-//! The decoder of the packed encoding rules (X.691), unaligned and aligned, and what is open in it: the preambles of
-//! sequences, sets and groups, the bitmaps of additions, and the members that are due.
+//! The decoder of the packed encoding rules (X.691), unaligned and aligned, and its open scopes: the preambles of
+//! SEQUENCE, SET and groups, the presence bitmaps of extension additions, and the elements that are due.
 #![tactic(auto)]
 
 mod additions;

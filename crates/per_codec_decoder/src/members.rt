@@ -1,4 +1,4 @@
-//! How many members a list or bag has (X.691 20 and 22): behind their number, or in fragments.
+//! The number of elements of a SEQUENCE OF or SET OF (X.691 20 and 22), in one length determinant or in fragments.
 ghost use Rattle.std.specs.Prelude.{◌≡◌, ◌+◌, ◌*◌, ◌^◌, ◌≤◌, ◌<◌, ◌∷◌, leb, ◌==◌, ◌&&◌, ◌||◌};
 ghost use Rattle.std.specs.Prelude.{true, false, None, IsTrue, ◌↔◌, IfOk, IfErr, IfSome, IfNone};
 ghost use Rattle.asn1_model.specs.Numbers.{is_count_within};
@@ -23,8 +23,8 @@ use per_codec_reading::{
 use std::alloc::Global;
 use std::marker::Model;
 
-/// What is known of a list in fragments (X.691 11.9.3.8): how many members there may be, whether their number is
-/// told to be outside the root, and how many times 16384 members each fragment so far has.
+/// What is known of a list in fragments (X.691 11.9.3.8): how many elements it may have, whether the extension bit says
+/// that their number is outside the root, and how many times 16384 elements each fragment so far has.
 #[derive(Drop)]
 pub(crate) struct Tally {
     sizes: Sizes,
@@ -48,9 +48,9 @@ impl Model for Tally {
     } };
 }
 
-/// The members that stand behind one length determinant: how many are due, and what is known of the list if a further
-/// length determinant stands behind these. That stands behind a pointer: few lists come in fragments, and what is open
-/// is moved at each scope.
+/// The elements after one length determinant: how many are due, and what is known of the list if another length
+/// determinant follows them. That is held by a pointer, since few lists come in fragments and every scope moves this
+/// struct.
 #[derive(Drop)]
 pub struct DueMembers {
     due: usize,
@@ -66,8 +66,8 @@ impl Model for DueMembers {
 }
 
 impl Tally {
-    /// How many members are in the fragments so far and so many behind them, if there may be as many: the program's
-    /// type holds them, and they are in the root or told to be outside it.
+    /// The number of elements in the fragments so far and of `last` more, if it is allowed: the user-defined type can
+    /// hold it, and it is in the root or encoded as outside it.
     fn admitted(&self, last: usize) -> Option<usize>
         ensures some { IfSome result (λ total. total ≡ in_all self.now.sizes last) }
         ensures admitted { IfSome result (λ total.
@@ -87,8 +87,8 @@ impl Tally {
         }
     }
 
-    /// Whether so many members are accepted: in strict rules a number in the root is not told to be outside it (X.691
-    /// 20.4), and the largest fragments come first (X.691 11.9.3.8).
+    /// Whether this number of elements is accepted: in strict rules a number in the root is not encoded as outside it
+    /// (X.691 20.4), and the largest fragments come first (X.691 11.9.3.8).
     #[inline(always)]
     fn is_accepted(&self, rules: PackedRules, total: usize) -> bool
         ensures { result ≡ (may_be_outside (freedoms rules Per.root_told_outside) self.now.outside
@@ -99,13 +99,13 @@ impl Tally {
             && (!rules.is_strict() || are_largest_first(&self.fragments))
     }
 
-    /// The members behind a length determinant that was read: those of a fragment, or the last ones, by which all
-    /// members are judged.
+    /// The elements after a length determinant that was read: those of a fragment, or the last ones, with which the
+    /// number of all elements is checked.
     ///
     /// # Errors
     ///
-    /// `SizeConstraintNotSatisfied` if the members are not as many as there may be, `NotValidCanonicalEncoding` if
-    /// strict rules do not accept so many, and `OutOfMemory`.
+    /// `SizeConstraintNotSatisfied` if the number of elements is not allowed, `NotValidCanonicalEncoding` if strict
+    /// rules do not accept it, and `OutOfMemory`.
     fn behind(mut self, rules: PackedRules, length: Length) -> Result<DueMembers, DecodeError>
         requires { IsLength length }
         ensures ok { IfOk result (λ members. AreBehind rules self length members.due members.tally) }
@@ -135,14 +135,14 @@ impl Tally {
 }
 
 impl DueMembers {
-    /// How many are due before any further length determinant.
+    /// How many elements are due before any other length determinant.
     pub(crate) fn due(&self) -> usize
         ensures { result ≡ self.now.due }
     {
         self.due
     }
 
-    /// Whether none is due, and no length determinant stands behind.
+    /// Whether no element is due, and no length determinant follows.
     #[inline(always)]
     pub(crate) fn is_last(&self) -> bool
         ensures { IsTrue result ↔ ((self.now.due ≡ 0) × (self.now.tally ≡ None)) }
@@ -150,12 +150,12 @@ impl DueMembers {
         self.due == 0 && self.tally.is_none()
     }
 
-    /// Whether a member comes, behind the next length determinant where none is due before it.
+    /// Whether another element follows, after the next length determinant if none is due before it.
     ///
     /// # Errors
     ///
-    /// Those of a length, `SizeConstraintNotSatisfied` if the members are not as many as there may be, and
-    /// `NotValidCanonicalEncoding` if strict rules do not accept so many.
+    /// Those of a length determinant, `SizeConstraintNotSatisfied` if the number of elements is not allowed, and
+    /// `NotValidCanonicalEncoding` if strict rules do not accept it.
     #[inline(always)]
     pub(crate) fn next(
         &mut self,
@@ -185,7 +185,7 @@ impl DueMembers {
         }
     }
 
-    /// Takes a member that is due before any further length determinant, if there is one.
+    /// Takes an element that is due before any other length determinant, if there is one.
     #[inline(always)]
     pub(crate) fn take_due(&mut self) -> bool
         ensures there { result ≡ true → (al : _) (free : _) (p : _) (k : _) → NextMember al free true p
@@ -199,7 +199,7 @@ impl DueMembers {
         true
     }
 
-    /// Takes one of the members that are due, if there is one.
+    /// Takes one of the elements that are due, if there is one.
     #[inline(always)]
     fn take_member(&mut self) -> bool
         requires { self.old.due ≡ 0 → self.old.tally ≡ None }
@@ -214,14 +214,15 @@ impl DueMembers {
     }
 }
 
-/// Whether a fragment of so many times 16384 members may stand behind another one where the largest ones come first.
+/// Whether a fragment of `multiple` times 16384 elements may follow one of `before` times 16384, if the largest ones
+/// come first.
 fn may_be_behind(before: u8, multiple: u8) -> bool
     ensures { result ≡ (before == 4 && (leb 1 multiple && leb multiple 4)) }
 {
     before == 4 && (1 <= multiple && multiple <= 4)
 }
 
-/// Whether the largest fragments come first: all but the last one have four times 16384 members (X.691 11.9.3.8).
+/// Whether the largest fragments come first: all except the last one have four times 16384 elements (X.691 11.9.3.8).
 #[cold]
 #[inline(never)]
 fn are_largest_first(fragments: &[u8]) -> bool
@@ -237,7 +238,7 @@ fn are_largest_first(fragments: &[u8]) -> bool
     true
 }
 
-/// How many members there are in fragments of so many times 16384 and so many behind them, if 64 bits count them.
+/// The number of elements in fragments of these multiples of 16384 and of `last` more, or `None` above 64 bits.
 fn total_of(fragments: &[u8], last: usize) -> Option<usize>
     ensures some { IfSome result (λ count. count ≡ in_all fragments.now last) }
     ensures none { IfNone result (2 ^ 64 ≤ in_all fragments.now last) }
@@ -249,12 +250,12 @@ fn total_of(fragments: &[u8], last: usize) -> Option<usize>
     total.checked_add(last)
 }
 
-/// Reads what stands in front of the members of a list or bag under a size constraint (X.691 20 and 22).
+/// Reads what precedes the elements of a SEQUENCE OF or SET OF under a size constraint (X.691 20 and 22).
 ///
 /// # Errors
 ///
-/// `SizeConstraintNotSatisfied` if the members are not as many as there may be, `NotValidCanonicalEncoding` if strict
-/// rules do not accept so many, the errors of a constrained whole number and of a length, and `OutOfMemory`.
+/// `SizeConstraintNotSatisfied` if the number of elements is not allowed, `NotValidCanonicalEncoding` if strict rules
+/// do not accept it, the errors of a constrained whole number and of a length determinant, and `OutOfMemory`.
 pub fn read_members(
     alloc: Global,
     cursor: &mut Cursor<'_>,

@@ -1,4 +1,4 @@
-//! How many bits of a string or of an open type are lacking.
+//! How many bits of a string or of an open type are missing.
 ghost use Rattle.std.specs.Prelude.{◌≡◌, ◌≤◌, ◌<◌, ◌-◌, ◌*◌, length, OnOk, IfErr};
 ghost use Rattle.asn1_schema_constraints.specs.Terms.{size_of};
 ghost use Rattle.per_codec_fronts.specs.Takes.{Front};
@@ -13,7 +13,7 @@ use asn1_schema_constraints::Sizes;
 use per_codec_reading::lengths::{Length, read_length};
 use per_codec_reading::{Cursor, LengthDeterminant, PackedRules, read_heading};
 
-/// How many bits so many octets lack of those that are left, less one.
+/// One less than the number of bits that are missing after those that are left, for this number of octets.
 fn lacking(cursor: &Cursor<'_>, octets: usize) -> usize
     ensures { result ≤ octets * 8 - length cursor.now.1 - 1 }
 {
@@ -23,8 +23,12 @@ fn lacking(cursor: &Cursor<'_>, octets: usize) -> usize
         .saturating_sub(1)
 }
 
-/// Passes over the octets of a fragment behind its length (X.691 11.9.3.8). Where they are not there, or no fragment's:
-/// how many bits of those behind the length are lacking, less one.
+/// Skips the octets of a fragment after its length determinant (X.691 11.9.3.8).
+///
+/// # Errors
+///
+/// If the octets are not there, or are not those of a fragment: one less than the number of bits that are missing after
+/// the length determinant.
 fn pass_fragment(
     cursor: &mut Cursor<'_>,
     rules: PackedRules,
@@ -50,8 +54,8 @@ fn pass_fragment(
     Ok(())
 }
 
-/// How many bits are lacking at least, less one, of octets behind their number (X.691 11.9): 0 where none are known to
-/// be.
+/// One less than the number of bits that are missing at least, for octets after their length determinant (X.691 11.9);
+/// 0 if none are known to be.
 #[cold]
 pub(crate) fn missing_octets(cursor: Cursor<'_>, rules: PackedRules) -> usize
     ensures { StillTooShort (freedoms rules) (counted_units (is_aligned rules) 8) cursor.entry result }
@@ -67,7 +71,7 @@ pub(crate) fn missing_octets(cursor: Cursor<'_>, rules: PackedRules) -> usize
     }
 }
 
-/// The same of octets of a size (X.691 17).
+/// As `missing_octets`, for octets under a size constraint (X.691 17).
 #[cold]
 pub(crate) fn missing_of_string(cursor: Cursor<'_>, rules: PackedRules, sizes: Sizes) -> usize
     ensures { (held : _) → StillTooShort (freedoms rules)

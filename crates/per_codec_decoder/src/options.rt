@@ -1,4 +1,4 @@
-//! What a decoder is told besides its input.
+//! The options of a decoder.
 ghost use Rattle.std.specs.Prelude.{◌≡◌};
 
 use per_codec_reading::PackedRules;
@@ -6,12 +6,12 @@ use per_codec_reading::PackedRules;
 /// How a decoder of the packed encoding rules (X.691) reads.
 #[derive(Clone, Copy, Debug)]
 pub struct DecoderOptions {
-    /// The rules, with a lenient or a strict reader.
+    /// The encoding rules, with a lenient or a strict reader.
     pub rules: PackedRules,
 }
 
 impl DecoderOptions {
-    /// The aligned variant, all forms.
+    /// The aligned variant; all forms are accepted.
     pub fn aligned() -> Self
         ensures { result.rules ≡ PackedRules.Aper }
     {
@@ -20,7 +20,7 @@ impl DecoderOptions {
         }
     }
 
-    /// The unaligned variant, all forms.
+    /// The unaligned variant; all forms are accepted.
     pub fn unaligned() -> Self
         ensures { result.rules ≡ PackedRules.Uper }
     {
@@ -29,7 +29,7 @@ impl DecoderOptions {
         }
     }
 
-    /// The aligned variant, only the forms that an encoder writes.
+    /// The aligned variant; only the forms that an encoder writes are accepted.
     pub fn aligned_strict() -> Self
         ensures { result.rules ≡ PackedRules.AperStrict }
     {
@@ -38,7 +38,7 @@ impl DecoderOptions {
         }
     }
 
-    /// The unaligned variant, only the forms that an encoder writes.
+    /// The unaligned variant; only the forms that an encoder writes are accepted.
     pub fn unaligned_strict() -> Self
         ensures { result.rules ≡ PackedRules.UperStrict }
     {

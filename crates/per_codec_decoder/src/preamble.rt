@@ -1,4 +1,4 @@
-//! The preamble of a sequence, set or group (X.691 19.1 to 19.3).
+//! The preamble of a SEQUENCE, SET or group (X.691 19.1 to 19.3).
 ghost use Rattle.std.specs.Prelude.{◌≡◌, [], true, OnOk, IfOk, IfErr};
 ghost use Rattle.std.specs.Prelude.{is_some};
 ghost use Rattle.asn1_schema_finding.specs.PresenceBits.{preamble_bits};
@@ -39,8 +39,8 @@ fn read_extension_bit(
     Ok(Some(bit))
 }
 
-/// Reads the preamble of a sequence, set or group, extensible or not, of which so many components may be absent: the
-/// extension bit, if there is one, and the presence bits.
+/// Reads the preamble of a SEQUENCE, SET or group with or without an extension marker, `optional` of whose components
+/// may be absent: the extension bit, if there is one, and the presence bits.
 ///
 /// # Errors
 ///
@@ -65,12 +65,13 @@ pub fn read_preamble<'input>(
     Ok(Frame::Components(presence, extension_bit))
 }
 
-/// Reads the bitmap of the additions of a sequence or set (X.691 19.7), if the extension bit tells that there is one.
+/// Reads the presence bitmap of the extension additions of a SEQUENCE or SET (X.691 19.7), if the extension bit says
+/// that there is one.
 ///
 /// # Errors
 ///
-/// `Incomplete` if the bits end early, the errors of a length, `NotValidCanonicalEncoding` if no bit is set, in strict
-/// rules, and `OutOfMemory`.
+/// `Incomplete` if the bits end early, the errors of a length determinant, `NotValidCanonicalEncoding` if no bit is
+/// set, in strict rules, and `OutOfMemory`.
 pub fn read_bitmap<'input>(
     alloc: Global,
     place: &mut Stretch<'input>,

@@ -240,7 +240,7 @@ extended_sequences cs adds h ha al (fields ps qs) os k rest =
     place = preamble_place true (optional_count cs) os k (as_text (true ∷ presence_bits cs ps)) (let c = presence_bits_count cs ps in let t = length-text (presence_bits cs ps) in omega arith)
 extended_sequences cs adds h ha al v os k rest = refl
 
--- additions without an extension bit, which no lawful type has, have no text
+-- additions without an extension bit, which no well-formed type has, have no text
 not_extended : (al : Bool) (ms : List Bool) (x : Per.BitForm) (p : Option ℕ) (t : List Tag) (o : Presence) (s : Schema) (cs : Components) (qs : Parts) → text_at (given (Per.addition_forms al (component t o s cs) qs) (Per.sequence_form al false ms x)) p ≡ None
 unfolding text_at Per.addition_forms Per.sequence_form
 not_extended al ms x p t o s cs end = refl

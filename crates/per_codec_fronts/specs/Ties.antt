@@ -36,15 +36,15 @@ RecordsRead =
     (al : Bool) (free : Per.Freedom → Bool) (s : Schema) (v : Value) (a b : State) → IsTrue (free Per.other_bitmap)
     → IsTrue (free Per.other_order) → Chain (Takes al free) (presents s v) a b → Found free (Per.form al s v) a b
 
--- If the bits begin with the form of a value of a lawful type at their position, then the records are next of a value
--- that is equal up to the order in SET OF.
+-- If the bits begin with the form of a value of a well-formed type at their position, then the records are next of a
+-- value that is equal up to the order in SET OF.
 abbrev pub FormsShow : Type 0
 FormsShow =
     (al : Bool) (free : Per.Freedom → Bool) (s : Schema) (v : Value) (a b : State) → IsTrue (free Per.other_bitmap)
     → IsLawful s → Found free (Per.form al s v) a b → (w : Value) × (same v w ≡ true)
     × Chain (Takes al free) (presents s w) a b
 
--- For a lawful type without SET OF the records are next exactly there.
+-- For a well-formed type without SET OF the records are next exactly there.
 abbrev pub EachBridges : Type 0
 EachBridges =
     (al : Bool) (free : Per.Freedom → Bool) (s : Schema) (v : Value) → IsTrue (free Per.other_bitmap)
@@ -61,8 +61,8 @@ FoundFirst al free s v w rest =
     (left : Place) × Chain (Takes al free) (presents s v) ((0, octet_bits (w ++ rest)), []) (left, [])
     × Front free (completion left.0) left (8 * length w, octet_bits rest)
 
--- This holds only if the octets begin with an encoding of the value; and in an encoding of a value of a lawful type,
--- the records are found of a value that is equal up to the order in SET OF.
+-- This holds only if the octets begin with an encoding of the value; and in an encoding of a value of a well-formed
+-- type, the records are found of a value that is equal up to the order in SET OF.
 abbrev pub FindsIn : Rules → Bool → (Per.Freedom → Bool) → Type 0
 FindsIn r al free =
     (s : Schema) (v : Value) (w rest : List ℕ) → length w < 2 ^ 60
@@ -83,7 +83,7 @@ EndsAtOctet =
     → Front free (completion left.0) left after → (w : List ℕ) × (rest : List ℕ) × (w ++ rest ≡ os)
     × (after ≡ (8 * length w, octet_bits rest))
 
--- If the octets begin with a message of a lawful type, it is padded after the records of whichever value is found.
+-- If the octets begin with a message of a well-formed type, it is padded after the records of whichever value is found.
 abbrev pub PaddedMessages : Type 0
 PaddedMessages =
     (al : Bool) (free : Per.Freedom → Bool) (s : Schema) (u v : Value) (w rest : List ℕ) (left : Place)

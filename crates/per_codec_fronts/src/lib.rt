@@ -29,7 +29,7 @@ pub fn forms_are_found()
     ensures { FormsShow }
 {}
 
-/// The records of a value are next exactly if the bits begin with its form at their position, for each lawful type
+/// The records of a value are next exactly if the bits begin with its form at their position, for each well-formed type
 /// without SET OF.
 pub fn records_are_the_form()
     ensures { EachBridges }
@@ -45,14 +45,15 @@ pub fn messages_end_at_octets()
     ensures { EndsAtOctet }
 {}
 
-/// If the octets begin with a message of a lawful type, it is padded after the records of whichever value is found.
+/// If the octets begin with a message of a well-formed type, it is padded after the records of whichever value is
+/// found.
 pub fn messages_are_padded()
     ensures { PaddedMessages }
 {}
 
 /// The records of a value, and the padding of a message after them, are found at the start of octets only if these
 /// begin with an encoding of it, in UPER and APER, for a lenient and for a strict reader. In each encoding of a value
-/// of a lawful type they are found, up to the order of the members of SET OF.
+/// of a well-formed type they are found, up to the order of the members of SET OF.
 pub fn encodings_are_found()
     ensures { FindsEncodings }
 {}

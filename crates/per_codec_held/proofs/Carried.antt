@@ -1,4 +1,4 @@
--- What a decoder finds it finds with few bits more.
+-- What a decoder finds it also finds with a few bits appended.
 use Rattle.std.proofs.Common.{◌≡◌, ◌⊎◌, inl, inr, ◌≤◌, ℕ, zero, suc, ◌+◌, ltb, Bool, true, false, cond, IsTrue, List, [], ◌∷◌, ◌++◌, length, Some, None, refl, ap, sym, ◌∙◌, subst, arith}
 use Rattle.std.proofs.lemmas.Bool.{ltb-true}
 use Rattle.asn1_model.specs.Value.{Value, Values, no_more, member, depth, depth_of_members}
@@ -61,8 +61,8 @@ level_within most (choice_begins roots x adds plus j) l m i e = inside_within mo
 level_within most ends l m i e = outside_within most l m (ltb l most) refl e
 level_within most r l m i e = let q : l ≡ m = cc e in omega arith
 
--- ---- few bits more
--- bits stand where they stood
+-- ---- a few bits appended
+-- bits are stored where they were
 opened_more : (e : List Bool) (s : Storage) (p : Place) (k : List Scope) → opened_in s (place_with e k p) (scopes_with e k) ≡ opened_in s p k
 opened_more e s p (open_type rest ∷ k) = refl
 opened_more e s p [] = refl
@@ -146,8 +146,7 @@ held_values s v a b failed c t f = (
   (f.0, refl, fewer (due b.scopes) (due a.scopes) a b failed f.0 (as_many (due b.scopes) (due a.scopes) (ap (λ l. due l) (same_scopes s v a b t))) (all_within (presents s v) a b t) f.2),
 )
 
--- ---- lists
--- one record, and what is owed behind it
+-- one record, and what is due after it
 one_found : (r : Record) (m l : ℕ) (a b failed c : Held) → Finds a r b → m ≤ l → FewHeld l a failed c → (d : Held) × Finds c r d × FewHeld m b failed d
 one_found r m l a b failed c t h f = (
   held_with f.0 b,
@@ -158,7 +157,7 @@ one_found r m l a b failed c t h f = (
 level_kept : (a b : Held) (v : Bool) → Finds a (further v) b → b.levels ≡ a.levels
 level_kept a b v t = let e : Some a.levels ≡ Some b.levels = t.levels in cc e
 
--- a member that is due comes in any case; where none is due, none is owed
+-- an element that is due comes in any case; if none is due, none is missing
 asked_in : (a failed : Held) → ((c : Held) → TooFewHeld a failed c → (v : Bool) (d : Held) → Finds c (further v) d → ⊥) → (k : List Scope) → a.scopes ≡ k → (e : List Bool) → Fewer (due (around k)) a failed e → (v : Bool) (d : Held) → Finds (held_with e a) (further v) d → ⊥
 asked_in a failed h (members (suc m) hs ∷ k) q e f v d p =
     let b : Held = record { place = a.place; scopes = members m hs ∷ k; levels = a.levels; most = a.most; failed = a.failed; rules = a.rules; stands = a.stands } in
@@ -177,7 +176,7 @@ asked_in a failed h (alternative ∷ k) q e f v d p = absurd (subst (λ l. NextM
 held_asked : (a failed : Held) → ((c : Held) → TooFewHeld a failed c → (v : Bool) (d : Held) → Finds c (further v) d → ⊥) → (c : Held) → TooFewMembersHeld a failed c → (v : Bool) (d : Held) → Finds c (further v) d → ⊥
 held_asked a failed h c f v d t = asked_in a failed h a.scopes refl f.0 f.2 v d (subst (λ (s : Held). Finds s (further v) d) f.1 t)
 
--- how deep members nest
+-- how deep elements nest
 members_deep : (al : Bool) (free : Per.Freedom → Bool) (s : Schema) (most : ℕ) (vs : Values) (a c : State) (l m : ℕ) → Chain (Takes al free) (member_records (λ w. presents s w) vs) a c → Chain (Level most) (member_records (λ w. presents s w) vs) l m → l ≤ most → depth_of_members vs ≤ l
 unfolding depth_of_members
 members_deep al free s most no_more a c l m q r i = omega arith
@@ -229,7 +228,7 @@ module _ (s : Schema) (lawful : IsLawful s) (a b failed : Held) (t : Finds a (fu
         let dvs = members_deep (is_aligned b.rules) (freedoms b.rules) s d.most vs y.0 (state_of e) z.0 e.levels y.2 z.2 (omega arith) in
         stuck_within (is_aligned b.rules) (freedoms b.rules) (any_bitmap b.rules) (any_order b.rules) s b.levels lawful (lacks failed) (state_of a) (state_of b) begun none_there (with_more more (state_of a)) (state_of d) (more, refl, inl j) begun' v vs (state_of e) (omega arith) (omega arith) all
 
-  -- where the refusal lacks no more than was there, at once
+  -- if the decoder lacks no more than was there
   same_next : (d : Held) → Finds a (further true) d → d ≡ b
   same_next d p = (finds_one a (further true) (further true) d b refl p t).1
 

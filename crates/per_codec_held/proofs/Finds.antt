@@ -1,4 +1,4 @@
--- What a decoder finds is one record, and leaves one state.
+-- A decoder finds at most one record, and its next state is unique.
 use Rattle.std.proofs.Common.{◌≡◌, ℕ, List, true, false, Option, Some, None, refl, sym, ◌∙◌, ap}
 use Rattle.std.specs.Prelude.{is_some}
 use Rattle.asn1_model.specs.Schema.{Size, Counts}

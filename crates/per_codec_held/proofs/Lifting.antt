@@ -1,4 +1,4 @@
--- What a decoder finds goes with the bits that are taken and with the levels that are left, and both together are found.
+-- What a decoder finds is what the bits hold and the levels allow; if both do, it is found.
 use Rattle.std.proofs.Common.{◌≡◌, ℕ, List, [], ◌∷◌, Option, None, refl, ap, sym, ◌∙◌, subst}
 use Rattle.std.specs.Prelude.{is_some}
 use Rattle.asn1_schema_presented.specs.Records.{Record}
@@ -22,7 +22,7 @@ levels_taken (r ∷ rs) a b c =
     let p = c.1 in
     (c.0.levels, p.levels, subst (λ x. Chain (Level x) rs c.0.levels b.levels) p.most (levels_taken rs c.0 b c.2))
 
--- a decoder in this state, with so many levels left, whose bits stand so
+-- a decoder in this state, with this number of levels left and its bits stored so
 abbrev pub held_at : Held → State → ℕ → List Storage → Held
 held_at a s l m = record { place = s.0; scopes = s.1; levels = l; most = a.most; failed = None; rules = a.rules; stands = m }
 
@@ -45,7 +45,7 @@ pub ready_still : (rs : List Record) (a b : Held) → IsReady a → Chain Finds 
 ready_still [] a b h c = ap (λ (x : Held). is_some x.failed) c ∙ h
 ready_still (r ∷ rs) a b h c = let p = c.1 in ready_still rs c.0 b p.ready_still c.2
 
--- and reads by the same rules
+-- and has the same rules
 pub rules_still : (rs : List Record) (a b : Held) → Chain Finds rs a b → b.rules ≡ a.rules
 rules_still [] a b c = ap (λ (x : Held). x.rules) c
 rules_still (r ∷ rs) a b c = let p = c.1 in rules_still rs c.0 b c.2 ∙ p.rules

@@ -1,4 +1,4 @@
--- What a decoder of the packed encoding rules (X.691) holds, and how each record that it finds changes that.
+-- The state of a decoder of PER (X.691), and how each record that it finds changes it.
 use Rattle.std.specs.Prelude.{◌≡◌, ℕ, Bool, true, false, List, [], ◌∷◌, length, drop, Option, Some, None, is_some}
 use Rattle.asn1_schema_faults.specs.declared.CodecKind.{CodecKind}
 use Rattle.asn1_schema_faults.specs.declared.CodecKind.TheVariants.{Uper as UperKind, Aper as AperKind}
@@ -10,10 +10,10 @@ use Rattle.per_codec_reading.specs.declared.rules.PackedRules.{PackedRules}
 use Rattle.per_codec_reading.specs.declared.rules.PackedRules.TheVariants.{Uper, Aper, UperStrict, AperStrict}
 use Rattle.per_codec_fronts.specs.Takes.{Place, Scope, State, open_type, Takes}
 
--- What is held: the place in the message and the bits that are left, the open scopes, how many more levels may be
--- nested, how many were so at the beginning, where the decoder has failed how many bits are lacking at least behind
--- those that are left, the rules that it reads, and where the bits stand: those of the innermost message or open
--- type, and behind them, from the innermost one on, those of each message or open type around it.
+-- The state: the position in the message and the bits that are left, the open scopes, how many more levels may be
+-- nested, how many could be at the start, how many bits are missing at least after those that are left if the decoder
+-- has failed, its rules, and where the bits are stored: those of the innermost message or open type, then those of each
+-- message or open type around it.
 pub record Held : Type 0 where
   pub place : Place
   pub scopes : List Scope
@@ -26,19 +26,19 @@ pub record Held : Type 0 where
 abbrev pub state_of : Held → State
 state_of h = (h.place, h.scopes)
 
--- The rules as the traits name them.
+-- The rules under the names of the traits.
 abbrev pub kind_of : PackedRules → CodecKind
 kind_of Uper = UperKind
 kind_of Aper = AperKind
 kind_of UperStrict = UperKind
 kind_of AperStrict = AperKind
 
--- Where the bits of the innermost message or open type stand.
+-- Where the bits of the innermost message or open type are stored.
 abbrev pub innermost : List Storage → Storage
 innermost [] = None
 innermost (s ∷ k) = s
 
--- Where the bits of an open type stand that has begun, by its own bits and the place behind it (X.691 11.2).
+-- Where the bits of an open type that has begun are stored, from its bits and the position after it (X.691 11.2).
 abbrev pub opened_in : Storage → Place → List Scope → Storage
 opened_in s p (open_type rest ∷ k) = storage_inside s (length p.1) rest.0
 opened_in s p k = None
@@ -53,8 +53,8 @@ abbrev pub stands_outside : List Scope → List Storage → List Storage
 stands_outside (open_type p ∷ k) l = drop 1 l
 stands_outside s l = l
 
--- Where bits stand behind a record, at this place in these scopes: they stay where they are unless an open type begins
--- or ends there.
+-- Where bits are stored after a record, at this position in these scopes: where they were, unless an open type begins
+-- or ends.
 abbrev pub kept : Held → Record → Place → List Scope → List Storage
 kept h (addition v) p k = stands_within v h.stands p k
 kept h addition_ends p k = drop 1 h.stands
@@ -62,15 +62,15 @@ kept h (choice_begins roots e others v i) p k = stands_within v h.stands p k
 kept h ends p k = stands_outside h.scopes h.stands
 kept h r p k = h.stands
 
--- It has failed, and nothing else is said.
+-- It has failed.
 abbrev pub HasFailed : Held → Type 0
 HasFailed h = is_some h.failed ≡ true
 
--- It has not.
+-- It has not failed.
 abbrev pub IsReady : Held → Type 0
 IsReady h = is_some h.failed ≡ false
 
--- A record is found in front by a decoder that has not failed, within the levels that are left.
+-- A decoder that has not failed finds a record, within the levels that are left.
 pub record Finds (old : Held) (r : Record) (new : Held) : Type 0 where
   pub ready : IsReady old
   pub taken : Takes (is_aligned old.rules) (freedoms old.rules) (state_of old) r (state_of new)

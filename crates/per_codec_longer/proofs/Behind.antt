@@ -1,12 +1,11 @@
--- Bits behind all that is held, and fronts that do not reach into them.
+-- Bits after all that is held, and prefixes that do not reach into them.
 use Rattle.std.proofs.Common.{◌≡◌, ◌≤◌, ◌+◌, Bool, true, false, List, [], ◌∷◌, ◌++◌, length, refl, ap, sym, ◌∙◌, subst, append_assoc, length-append, append-nil, cond, arith}
 use Rattle.asn1_model.specs.Per
 use Rattle.per_codec_fronts.specs.Takes.{Place, State, Scope, components, added, open_type, members, alternative, Front}
 use Rattle.per_codec_fronts.proofs.Next.{place_same, state_same}
 use Rattle.per_codec_longer.specs.More.{is_within, place_with, scopes_with, with_more, bits_behind}
 
--- ---- lists
--- what stands behind a front that does not reach into the last of a list
+-- what follows a prefix that does not reach into the last part of a list
 pub left_behind : (t r os e : List Bool) → t ++ r ≡ os ++ e → length e ≤ length r → (rest : List Bool) × (r ≡ rest ++ e) × (t ++ rest ≡ os)
 left_behind [] r os e q h = (os, q, refl)
 left_behind (x ∷ t) r [] e q h =
@@ -27,7 +26,7 @@ place_front e k t rest p q = by_case (is_within k)
     by_case true = q
     by_case false = sym (append_assoc t rest e) ∙ ap (λ l. l ++ e) q
 
--- scopes with more behind are within an open type where they were
+-- scopes with bits appended are within an open type exactly if they were before
 within_with : (e : List Bool) (k : List Scope) → is_within (scopes_with e k) ≡ is_within k
 within_with e [] = refl
 within_with e (open_type rest ∷ k) = refl
@@ -72,7 +71,7 @@ scopes_none (alternative ∷ k) = ap (λ l. alternative ∷ l) (scopes_none k)
 pub more_none : (a : State) → with_more [] a ≡ a
 more_none a = state_same (with_more [] a) a (place_none a.1 a.0) (scopes_none a.1)
 
--- outside all open types the bits in front are those behind all
+-- outside all open types, the bits that are left are those to which others are appended
 pub outside : (e : List Bool) (k : List Scope) (p : Place) → is_within k ≡ false → bits_behind p (scopes_with e k) ≡ p.1
 outside e [] p q = refl
 outside e (open_type rest ∷ k) p q = cc

@@ -1,4 +1,4 @@
--- The laws of one record lifted over records one after another.
+-- The laws of one record, for a sequence of records.
 use Rattle.std.proofs.Common.{◌≤◌, [], ◌∷◌, length, refl, ap, sym, subst, arith}
 use Rattle.asn1_schema_presented.specs.Chains.{Chain}
 use Rattle.per_codec_fronts.specs.Takes.{Takes}

@@ -1,4 +1,4 @@
--- Values that take no bit take none at every position.
+-- Values that take no bits at one position take none at every position.
 use Rattle.std.proofs.Common.{◌≡◌, inl, inr, ◌≤◌, ◌+◌, Bool, List, [], ◌∷◌, ◌++◌, length, refl, ap, subst, length-append, arith}
 use Rattle.std.proofs.lemmas.Bool.{cases_lt}
 use Rattle.asn1_model.specs.Form.{Reads}
@@ -8,12 +8,12 @@ use Rattle.per_codec_fronts.proofs.Whole.{records_read, forms_show}
 use Rattle.per_codec_longer.specs.Laws.{EmptyEverywhere, TakesSome}
 use Rattle.per_codec_longer.proofs.Steady.{Steady, steady_form}
 
--- a list with no element
+-- a list without elements
 no_text : (t : List Bool) → length t ≡ 0 → t ≡ []
 no_text [] q = refl
 no_text (x ∷ t) q = absurd (omega arith)
 
--- a front that takes nothing is one of all bits at every position
+-- a prefix that takes nothing can precede any bits at every position
 empty_front : (free : Per.Freedom → Bool) (x : Per.BitForm) → Steady free x → (p rest : Place) → Front free x p rest → length (p.1) ≤ length (rest.1) → (here : Place) → Front free x here here
 empty_front free x s p rest f h here =
     let l : length (f.text ++ rest.1) ≡ length f.text + length (rest.1) = length-append f.text rest.1 in

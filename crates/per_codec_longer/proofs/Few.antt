@@ -1,4 +1,4 @@
--- What is next is next with few bits more, and members lack what the laws say.
+-- What is next is also next with a few bits appended, and missing elements lack the bits that the laws say.
 use Rattle.std.proofs.Common.{◌≡◌, ◌⊎◌, inl, inr, ◌≤◌, ℕ, zero, suc, ◌+◌, ◌-◌, Bool, true, false, cond, IsTrue, List, [], ◌∷◌, ◌++◌, length, Option, Some, None, refl, ap, sym, ◌∙◌, subst, arith}
 use Rattle.std.proofs.lemmas.Bool.{cases_lt}
 use Rattle.asn1_model.specs.Value.{Value, Values}
@@ -93,7 +93,7 @@ module _ (al : Bool) (free : Per.Freedom → Bool) where
   takes_owed (bag_begins z h n) a b e f = cc
   takes_owed (further v) a b e f = cc
 
-  -- few bits more where no more is owed
+  -- a few bits appended, if no more elements are due
   pub fewer_owed : (n m l : ℕ) (a b : State) (e : List Bool) → m ≤ l → (length e + l ≤ n) ⊎ (e ≡ []) → FewMore n m b (with_more e b)
   fewer_owed n m l a b e h (inl i) = (e, refl, inl (omega arith))
   fewer_owed n m l a b e h (inr i) = (e, refl, inr i)
@@ -164,7 +164,7 @@ module _ (al : Bool) (free : Per.Freedom → Bool) where
         let g = subst (λ s. Takes al free s (further false) (with_more f.0 b)) (sym f.1) (takes_more al free f.0 a (further false) b t) in
         (with_more f.0 b, g, fewer_owed n (due b.1) (due (around a.1)) a b f.0 (same_owed b.1 (around a.1) (last_owed a.0 a.1 b t)) f.2)
 
-    -- where no member is due, none is owed; where one is, it comes
+    -- if no element is due, none is missing; if one is due, it comes
     asked_at : (n : ℕ) (p : Place) (k : List Scope) → ((c : State) → TooFew n (p, k) c → (v : Bool) (d : State) → Takes al free c (further v) d → ⊥) → (e : List Bool) → (length e + due (around k) ≤ n) ⊎ (e ≡ []) → (v : Bool) (d : State) → NextMember al free v (place_with e k p) (scopes_with e k) d → ⊥
     asked_at n p (members (suc m) hs ∷ k) h e q v d t = h (p, members (suc m) hs ∷ k) (at_once n (p, members (suc m) hs ∷ k)) true (p, members m hs ∷ k) (refl, refl)
     asked_at n p (members zero hs ∷ k) h e q v d t =
@@ -180,7 +180,7 @@ module _ (al : Bool) (free : Per.Freedom → Bool) where
     pub asked : (n : ℕ) (a : State) → ((c : State) → TooFew n a c → (v : Bool) (d : State) → Takes al free c (further v) d → ⊥) → (c : State) → TooFewMembers n a c → (v : Bool) (d : State) → Takes al free c (further v) d → ⊥
     asked n a h c f v d t = asked_at n a.0 a.1 h f.0 f.2 v d (subst (λ s. Takes al free s (further v) d) f.1 t)
 
-    -- where a member is lacking, so are those behind it
+    -- if an element is missing, so are those after it
     abbrev Absent : ℕ → Schema → State → Type 0
     Absent n s b = (c : State) → TooFew n b c → (v : Value) (d : State) → Fits s v → Chain (Takes al free) (presents s v) c d → ⊥
 

@@ -1,4 +1,4 @@
--- How many bits the members of a list lack at least.
+-- How many bits the elements of a list lack at least.
 use Rattle.std.proofs.Common.{◌≡◌, ◌≤◌, ◌<◌, ℕ, zero, suc, ◌+◌, Bool, true, false, IsTrue, List, [], ◌∷◌, ◌++◌, length, Option, refl, ap, sym, ◌∙◌, subst, arith}
 use Rattle.asn1_model.specs.Value.{Value, Values, no_more, member}
 use Rattle.asn1_model.specs.Schema.{Schema}
@@ -15,7 +15,7 @@ use Rattle.per_codec_longer.proofs.Behind.{more_twice, more_none, outside}
 use Rattle.per_codec_longer.proofs.Chained.{chain_back}
 use Rattle.per_codec_longer.proofs.Empty.{some}
 
--- a list in two parts, neither of them too long
+-- a list in two parts, each within a limit
 pub in_two : (n j : ℕ) (e : List Bool) → length e ≤ n + j → (f : List Bool) × (g : List Bool) × (f ++ g ≡ e) × (length f ≤ n) × (length g ≤ j)
 in_two zero j e h = ([], e, refl, omega arith, omega arith)
 in_two (suc n) j [] h = ([], [], refl, omega arith, omega arith)
@@ -25,7 +25,7 @@ module _ (al : Bool) (free : Per.Freedom → Bool) (other : IsTrue (free Per.oth
   abbrev Each : Type 0
   Each = (v : Value) (a b : State) → Chain (Takes al free) (presents s v) a b → length (b.0.1) < length (a.0.1)
 
-  -- members that are to come take as many bits as they are
+  -- the elements that are to come take at least one bit each
   members_take : Each → (j : ℕ) (hs : Option Tally) (k : List Scope) (p : Place) (vs : Values) (c : State) → Chain (Takes al free) (member_records (λ w. presents s w) vs) (p, members j hs ∷ k) c → j ≤ length (p.1)
   members_take h zero hs k p vs c q = omega arith
   members_take h (suc j) hs k p no_more c q = let e : false ≡ true = q.1.0 in cc

@@ -1,4 +1,4 @@
--- How many bits a length determinant asks for.
+-- How many bits a length determinant counts.
 use Rattle.std.proofs.Common.{◌≡◌, ◌<◌, ℕ, ◌+◌, ◌*◌, ltb, Bool, true, false, cond, List, [], ◌∷◌, ◌++◌, length, map, refl, ap, sym, ◌∙◌, length-append, suc, subst, arith}
 use Rattle.std.proofs.lemmas.List.{length-map}
 use Rattle.asn1_model.specs.Numbers.{binary}
@@ -13,7 +13,7 @@ use Rattle.per_codec_longer.specs.Laws.{LengthsAreLacking}
 use Rattle.per_codec_longer.proofs.Behind.{front_more}
 
 module _ (free : Per.Freedom → Bool) where
-  -- the bits in front are as many as the text
+  -- a prefix has as many bits as its form
   long : (l : List Bool) (p rest : Place) → Front free (exactly l) p rest → length l + length (rest.1) ≡ length (p.1)
   unfolding Reads
   long l p rest f =
@@ -42,7 +42,7 @@ module _ (free : Per.Freedom → Bool) where
   fragment_or_last al m n = at_octet_alike free al (agree_varied_right free (λ b. apart_from_last m n b))
 
   module _ (al : Bool) (n : ℕ) (p behind : Place) (f : Front free (Per.short_length al n) p behind) where
-    -- behind the length that is in front all units are
+    -- after a length determinant come all its units
     all_units : (us : List Per.BitForm) (rest : Place) (ms : List ℕ) → Front free (Per.fragments al ms us) p rest → (n ≡ length us) × Front free (joined us) behind rest
     unfolding Per.fragments
     all_units us rest [] g =

@@ -1,4 +1,4 @@
--- A form that holds no bit at one position holds none at each: padding stands only where bits follow.
+-- A form that has no bits at one position has none at every position: padding occurs only if bits follow.
 use Rattle.std.proofs.Common.{◌≡◌, ℕ, ℤ, zero, suc, ◌+◌, ◌*◌, ◌==◌, ltb, leb, not, ◌&&◌, ◌||◌, Bool, true, false, cond, List, [], ◌∷◌, ◌++◌, length, map, Option, Some, None, refl, sym, subst, arith}
 use Rattle.std.proofs.lemmas.Bool.{and_parts, leb-true, eq-eqb}
 use Rattle.std.specs.Prelude.{flat_map}
@@ -11,11 +11,11 @@ use Rattle.asn1_model.specs.Form.{exactly, refused, both, varied, within, Reads,
 use Rattle.asn1_model.specs.Per
 use Rattle.asn1_laws_values.proofs.Listed.{listed, each_is_map, order_map}
 
--- a form that, where it is read as no bit at one position, is so at each
+-- a form that, if it is read as no bits at one position, is so at every position
 pub record Steady (free : Per.Freedom → Bool) (x : Per.BitForm) : Type 0 where
   pub steady : (p q : ℕ) → Reads free x p [] → Reads free x q []
 
--- a form that is never read as no bit
+-- a form that is never read as no bits
 pub record Full (free : Per.Freedom → Bool) (x : Per.BitForm) : Type 0 where
   pub some : (p : ℕ) → Reads free x p [] → ⊥
 
@@ -240,7 +240,7 @@ module _ (free : Per.Freedom → Bool) where
   unfolding Per.string_form
   steady_string al k z a held cs = steady_if (may_hold k cs) (steady_cond (is_of_octets k) (steady_if (is_count_within held (length cs)) (as_steady (full_counted_octets al cs))) (steady_characters al z held (permitted k a) cs))
 
-  -- ---- items
+  -- ---- enumeration items
   steady_extension_bit : (e m : Bool) → St (Per.extension_bit_of e m)
   steady_extension_bit false m = steady_exactly _
   steady_extension_bit true m = steady_exactly _
@@ -252,7 +252,7 @@ module _ (free : Per.Freedom → Bool) where
   steady_item al roots true None None = steady_refused
   steady_item al roots false None j = steady_refused
 
-  -- ---- members
+  -- ---- elements
   steady_all : (f : Value → Per.BitForm) → ((v : Value) → St (f v)) → (vs : Values) → St (joined (each f vs))
   steady_all f h no_more = steady_exactly []
   steady_all f h (member v vs) = steady_both (h v) (steady_all f h vs)

@@ -1,4 +1,4 @@
--- What more bits behind change for one record.
+-- What appending bits changes for one record.
 use Rattle.std.proofs.Common.{◌≡◌, inl, inr, ◌≤◌, ℕ, zero, suc, ◌-◌, Bool, true, false, List, [], ◌∷◌, length, drop, Option, Some, None, refl, ap, sym, ◌∙◌, subst, arith}
 use Rattle.asn1_model.specs.Value.{truth, nothing, number, item, bit_list, octet_list, text, arcs}
 use Rattle.asn1_model.specs.Schema.{Counts, Size, boolean, null, integer, enumerated, bit_string, octet_string, character_string, object_identifier}
@@ -19,13 +19,12 @@ less rest os = length rest ≤ length os
 self_less : (l : List Bool) → less l l
 self_less l = omega arith
 
--- at a state that is known by an equation
+-- in a state that is known by an equation
 at_less : (b c : State) (l : List Bool) → b ≡ c → less (outermost c) l → less (outermost b) l
 at_less b c l q h = subst (λ s. less (outermost s) l) (sym q) h
 
 module _ (al : Bool) (free : Per.Freedom → Bool) where
-  -- ---- nothing grows
-  -- behind a front, in scopes that add no open type
+  -- after a prefix, in scopes that add no open type
   pushed_less : (x : Per.BitForm) (p : Place) (k l : List Scope) (b : State) → Front free x p b.0 → b.1 ≡ l → bits_behind b.0 l ≡ bits_behind b.0 k → less (outermost b) (bits_behind p k)
   pushed_less x p k l b f q r = subst (λ i. less i (bits_behind p k)) (sym (ap (λ m. bits_behind b.0 m) q ∙ r)) (front_less free x k p b.0 f)
 
@@ -129,8 +128,7 @@ module _ (al : Bool) (free : Per.Freedom → Bool) where
   takes_less a mismatch b f = absurd f
 
   module _ (e : List Bool) where
-    -- ---- more changes nothing
-    -- behind a front, in scopes with no open type more
+    -- after a prefix, in scopes without another open type
     pushed_more : (x : Per.BitForm) (p : Place) (k l : List Scope) (b : State) → Front free x p b.0 → b.1 ≡ l → place_with e l b.0 ≡ place_with e k b.0 → Front free x (place_with e k p) (place_with e b.1 b.0)
     pushed_more x p k l b f q r = subst (λ i. Front free x (place_with e k p) i) (sym (ap (λ m. place_with e m b.0) q ∙ r)) (front_more free e x k p b.0 f)
 
@@ -237,7 +235,7 @@ module _ (al : Bool) (free : Per.Freedom → Bool) where
     abbrev pub Back : State → (State → Type 0) → Type 0
     Back c p = (b : State) × (c ≡ with_more e b) × p b
 
-    -- behind a front, in scopes with no open type more
+    -- after a prefix, in scopes without another open type
     pushed_back : (x : Per.BitForm) (p : Place) (k l : List Scope) (c : State) → Front free x (place_with e k p) c.0 → c.1 ≡ scopes_with e l → bits_behind c.0 (scopes_with e l) ≡ bits_behind c.0 (scopes_with e k) → ((r : Place) → place_with e k r ≡ place_with e l r) → less e (outermost c) → Back c (λ b. Front free x p b.0 × (b.1 ≡ l))
     pushed_back x p k l c f q r s h =
         let z = front_back free e x k p c.0 f (subst (λ i. less e i) (ap (λ m. bits_behind c.0 m) q ∙ r) h) in

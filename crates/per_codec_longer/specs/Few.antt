@@ -1,4 +1,4 @@
--- How many bits more a reader of the packed encoding rules (X.691) lacks at least where it was refused.
+-- How many more bits a decoder of PER (X.691) needs at least after an error.
 use Rattle.std.specs.Prelude.{◌≡◌, ◌⊎◌, ◌≤◌, ℕ, ◌+◌, cond, List, [], ◌∷◌, length}
 use Rattle.std.specs.Prelude.{Bool, IsTrue}
 use Rattle.asn1_model.specs.Per
@@ -6,7 +6,7 @@ use Rattle.per_codec_fronts.specs.Takes.{State, Scope, members, Takes}
 use Rattle.per_codec_longer.specs.More.{is_within, with_more}
 use Rattle.asn1_schema_lacking.specs.Carried.{CarriesRecords, CarriesValues, CarriesMembers}
 
--- How many members are to come in all lists and bags outside open types.
+-- How many elements are still to come in all lists and SET OF values outside open types.
 abbrev pub due : List Scope → ℕ
 due [] = 0
 due (members n hs ∷ k) = cond (is_within k) (due k) (n + due k)
@@ -17,19 +17,19 @@ abbrev pub around : List Scope → List Scope
 around [] = []
 around (s ∷ k) = k
 
--- More bits than none stand behind, but fewer than are lacking: n at most, less one for each member that was to come.
+-- c is a with bits appended: at most n, less `owed`, the number of elements that are still to come; or none.
 abbrev pub FewMore : ℕ → ℕ → State → State → Type 0
 FewMore n owed a c = (e : List Bool) × (c ≡ with_more e a) × ((length e + owed ≤ n) ⊎ (e ≡ []))
 
 abbrev pub TooFew : ℕ → State → State → Type 0
 TooFew n a c = FewMore n (due a.1) a c
 
--- The same where the innermost scope is that of a list, whose own members do not count.
+-- As `TooFew`, with a list as the innermost scope, whose own elements do not count.
 abbrev pub TooFewMembers : ℕ → State → State → Type 0
 TooFewMembers n a c = FewMore n (due (around a.1)) a c
 
--- What is next is next with few bits more, and members lack what the laws say: where the refusal lacks more than n
--- bits in all, which is the same for each state that it leaves.
+-- What is next is also next with a few bits appended, and missing elements lack the bits that the laws say. A failed
+-- decoder lacks more than n bits in all, a number that depends only on its state.
 abbrev pub FewCarried : Type 0
 FewCarried =
     (al : Bool) (free : Per.Freedom → Bool) (n : State → ℕ) → IsTrue (free Per.other_bitmap)

@@ -1,4 +1,4 @@
--- What more bits behind change for a reader of the packed encoding rules (X.691), and which of them it takes.
+-- What appending bits changes for a decoder of PER (X.691), and which of them it takes.
 use Rattle.std.specs.Prelude.{◌≡◌, ◌≤◌, ◌<◌, ℕ, ◌+◌, ◌*◌, Bool, true, false, IsTrue, List, [], ◌∷◌, ◌++◌, length}
 use Rattle.std.specs.Prelude.{Option}
 use Rattle.asn1_model.specs.Schema.{Schema}
@@ -11,40 +11,41 @@ use Rattle.asn1_schema_presented.specs.Chains.{Chain}
 use Rattle.per_codec_fronts.specs.Takes.{Place, State, Tally, Scope, members, Front, Takes}
 use Rattle.per_codec_longer.specs.More.{is_within, with_more, outermost}
 
--- Records that are next are still next, and the bits that came later stand behind what is left then.
+-- Records that are next are still next, and the appended bits follow what is left then.
 abbrev pub MoreChangesNothing : Type 0
 MoreChangesNothing =
     (al : Bool) (free : Per.Freedom → Bool) (e : List Bool) (rs : List Record) (a b : State)
     → Chain (Takes al free) rs a b → Chain (Takes al free) rs (with_more e a) (with_more e b)
 
--- Where records are next with the bits e behind, and as many are left behind them as e has, they are next without e.
+-- If records are next with the bits e appended, and as many bits are left after them as e has, the records are next
+-- without e.
 abbrev pub LeftIsNotNeeded : Type 0
 LeftIsNotNeeded =
     (al : Bool) (free : Per.Freedom → Bool) (e : List Bool) (rs : List Record) (a c : State)
     → Chain (Takes al free) rs (with_more e a) c → length e ≤ length (outermost c)
     → (b : State) × (c ≡ with_more e b) × Chain (Takes al free) rs a b
 
--- Bits that come in two pieces are the same as in one, and none are none.
+-- Appending bits in two pieces is the same as in one, and appending none changes nothing.
 abbrev pub MoreInPieces : Type 0
 MoreInPieces =
     ((e f : List Bool) (a : State) → with_more (e ++ f) a ≡ with_more f (with_more e a))
     × ((a : State) → with_more [] a ≡ a)
 
--- No record adds a bit to those that stand outside all open types.
+-- After records no more bits are left outside all open types than before.
 abbrev pub NothingGrows : Type 0
 NothingGrows =
     (al : Bool) (free : Per.Freedom → Bool) (rs : List Record) (a b : State) → Chain (Takes al free) rs a b
     → length (outermost b) ≤ length (outermost a)
 
--- Where a value of a lawful type takes no bit, one that is the same up to the order of bags is next in every state,
--- and takes none there.
+-- If a value of a well-formed type takes no bits, one that is equal up to the order of the elements of each SET OF is
+-- next in every state, and takes none there.
 abbrev pub EmptyEverywhere : Type 0
 EmptyEverywhere =
     (al : Bool) (free : Per.Freedom → Bool) (s : Schema) (v : Value) (a b c : State) → IsTrue (free Per.other_bitmap)
     → IsTrue (free Per.other_order) → IsLawful s → Chain (Takes al free) (presents s v) a b
     → length (a.0.1) ≤ length (b.0.1) → (w : Value) × (same v w ≡ true) × Chain (Takes al free) (presents s w) c c
 
--- Where no value of a lawful type is next in some state, each takes at least one bit in every state.
+-- If no value of a well-formed type is next in some state, each takes at least one bit in every state.
 abbrev pub TakesSome : Type 0
 TakesSome =
     (al : Bool) (free : Per.Freedom → Bool) (s : Schema) (c : State) → IsTrue (free Per.other_bitmap)
@@ -52,9 +53,9 @@ TakesSome =
     → ((w : Value) (d : State) → Chain (Takes al free) (presents s w) c d → ⊥)
     → (v : Value) (a b : State) → Chain (Takes al free) (presents s v) a b → length (b.0.1) < length (a.0.1)
 
--- Where no member is next, not even with n bits more behind, and j members are to come behind that one, the members
--- are not next with n + j bits more: each takes at least one bit. Outside all open types, since what stands within
--- one is there by its length.
+-- If no element is next, not even with n bits appended, and j elements are to come after that one, the elements are not
+-- next with n + j bits appended: each takes at least one bit. This holds outside all open types, since the length
+-- determinant of an open type says that its octets are there.
 abbrev pub MembersAreLacking : Type 0
 MembersAreLacking =
     (al : Bool) (free : Per.Freedom → Bool) (s : Schema) (n j : ℕ) (hs : Option Tally) (p : Place)
@@ -65,8 +66,8 @@ MembersAreLacking =
     → Chain (Takes al free) (presents s v ++ member_records (λ w. presents s w) vs)
     (with_more e (p, members j hs ∷ k)) c → ⊥
 
--- Where a length determinant for n units is in front that no fragment follows, no octets behind their number are, those
--- of a string or of an open type, nor bits behind theirs, before so many stand behind it.
+-- If the bits begin with a length determinant of n units that no fragment follows, the units that it counts, the octets
+-- of a string or of an open type or bits, are not there until as many follow it.
 abbrev pub LengthsAreLacking : Type 0
 LengthsAreLacking =
     (al : Bool) (free : Per.Freedom → Bool) (n : ℕ) (p behind : Place) → Front free (Per.short_length al n) p behind

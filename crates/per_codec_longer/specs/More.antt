@@ -1,4 +1,4 @@
--- What a reader of the packed encoding rules (X.691) holds once more bits have come.
+-- The state of a decoder of PER (X.691) after bits were appended.
 use Rattle.std.specs.Prelude.{Bool, true, false, cond, List, [], ◌∷◌, ◌++◌}
 use Rattle.per_codec_fronts.specs.Takes.{Place, State, Scope, open_type}
 
@@ -8,7 +8,7 @@ is_within [] = false
 is_within (open_type rest ∷ k) = true
 is_within (s ∷ k) = is_within k
 
--- A place in scopes k: an open type has its own bits by its length, and what comes later stands behind it.
+-- A position in scopes k: the bits of an open type are fixed by its length, and appended ones follow it.
 abbrev pub place_with : List Bool → List Scope → Place → Place
 place_with e k p = (p.0, cond (is_within k) p.1 (p.1 ++ e))
 
@@ -17,12 +17,12 @@ scopes_with e [] = []
 scopes_with e (open_type rest ∷ k) = open_type (place_with e k rest) ∷ scopes_with e k
 scopes_with e (s ∷ k) = s ∷ scopes_with e k
 
--- A state with the bits e behind all that is held: behind those in front where no open type is open, else behind those
--- that stand behind the outermost one.
+-- A state with the bits e appended: to those left if no open type is open, otherwise to those after the outermost open
+-- type.
 abbrev pub with_more : List Bool → State → State
 with_more e a = (place_with e a.1 a.0, scopes_with e a.1)
 
--- The bits to which they are put.
+-- The bits to which they are appended.
 abbrev pub bits_behind : Place → List Scope → List Bool
 bits_behind p [] = p.1
 bits_behind p (open_type rest ∷ k) = bits_behind rest k

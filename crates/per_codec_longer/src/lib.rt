@@ -1,54 +1,56 @@
-//! What more bits behind change for a reader of the packed encoding rules (X.691): nothing, where it takes none of
-//! them. Each function does nothing; its contract is a law.
+//! What appending bits changes for a decoder of PER (X.691): nothing, if it takes none of them. The functions do
+//! nothing; their contracts are laws.
 #![tactic(auto)]
 
 ghost use Rattle.per_codec_longer.specs.Few.{FewCarried};
 ghost use Rattle.per_codec_longer.specs.Laws.{EmptyEverywhere, LeftIsNotNeeded, LengthsAreLacking, MembersAreLacking};
 ghost use Rattle.per_codec_longer.specs.Laws.{MoreChangesNothing, MoreInPieces, NothingGrows, TakesSome};
 
-/// Records that are next are still next when more bits come, and these stand behind what is left then.
+/// Records that are next are still next when bits are appended, and these follow what is left then.
 pub fn more_changes_nothing()
     ensures { MoreChangesNothing }
 {}
 
-/// Where as many bits are left behind records as came last, the records are next without these.
+/// If as many bits are left after records as were appended last, the records are next without these.
 pub fn what_is_left_is_not_needed()
     ensures { LeftIsNotNeeded }
 {}
 
-/// Bits that come in two pieces are the same as in one.
+/// Appending bits in two pieces is the same as in one.
 pub fn more_comes_in_pieces()
     ensures { MoreInPieces }
 {}
 
-/// No record adds a bit to those that stand outside all open types.
+/// After records no more bits are left outside all open types than before.
 pub fn nothing_grows()
     ensures { NothingGrows }
 {}
 
-/// Where a value of a lawful type takes no bit at one position, one that is the same up to the order of bags takes none
-/// at every position.
+/// If a value of a well-formed type takes no bits at one position, one that is equal up to the order of the elements of
+/// each SET OF takes none at every position.
 pub fn empty_everywhere()
     ensures { EmptyEverywhere }
 {}
 
-/// Where no value of a lawful type is next in some state, the records of each take at least one bit at every position.
+/// If no value of a well-formed type is next in some state, the records of each take at least one bit at every
+/// position.
 pub fn values_take_some()
     ensures { TakesSome }
 {}
 
-/// Where no member of a list is next, not even with some bits more, and further members are to come, the list lacks at
-/// least one more for each of them.
+/// If no element of a list is next, not even with some bits appended, and further elements are to come, the list lacks
+/// at least one more bit for each of them.
 pub fn members_are_lacking()
     ensures { MembersAreLacking }
 {}
 
-/// Where a length determinant is in front, the octets or bits that it counts are not, before as many stand behind it.
+/// If bits begin with a length determinant, the octets or bits that it counts are not there until as many follow it.
 pub fn lengths_are_lacking()
     ensures { LengthsAreLacking }
 {}
 
-/// What is next is next with few bits more, and where a member is lacking, so are those that are to come behind it.
+/// What is next is also next with a few bits appended, and if an element is missing, so are those that are to come
+/// after it.
 pub fn few_more_are_carried()
     ensures { FewCarried }
 {}

@@ -1,4 +1,4 @@
--- The complete encoding of a text that stands alone (X.691 11.1).
+-- The complete encoding of a text by itself (X.691 11.1).
 use Rattle.std.proofs.Common.{◌≡◌, ℕ, ◌==◌, Bool, true, false, List, [], ◌∷◌, ◌++◌, length, replicate, Option, Some, None, option_map, option_and_then, refl, ap, sym, ◌∙◌, append_assoc, eq-eqb}
 use Rattle.std.proofs.lemmas.List.{length-replicate}
 use Rattle.asn1_model.specs.Form.{exactly, only_if, written}

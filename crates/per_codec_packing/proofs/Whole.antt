@@ -1,4 +1,4 @@
--- Texts of whole octets that stand alone (X.691 11.1).
+-- Texts of whole octets by themselves (X.691 11.1).
 use Rattle.std.proofs.Common.{◌≡◌, ℕ, ◌+◌, ◌-◌, ◌%◌, ◌<◌, ◌≤◌, Bool, false, List, [], ◌∷◌, ◌++◌, length, take, drop, get_or, replicate, Option, Some, None, IsSome, IfSome, ◌↔◌, Bor, refl, ap, subst, sym, ◌∙◌, append-nil, arith}
 use Rattle.std.proofs.lemmas.List.{length-take-le, take-append-drop, drop_more}
 use Rattle.asn1_model.specs.Form.{placed, written}

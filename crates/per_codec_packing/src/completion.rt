@@ -10,9 +10,9 @@ use crate::packing::Packing;
 use crate::text_view::TextView;
 use std::alloc::AllocError;
 
-/// The complete encoding of a text that stands alone (X.691 11.1): padded with zero bits to whole octets, and one
-/// zero octet if there are no bits. It determines the order of the members of a SET OF (X.691 22). It is written to
-/// `room`, which is cleared first.
+/// The complete encoding of a text by itself (X.691 11.1): padded with zero bits to whole octets, and one zero octet if
+/// there are no bits. It determines the order of the members of a SET OF (X.691 22). It is written to `room`, which is
+/// cleared first.
 ///
 /// # Errors
 ///

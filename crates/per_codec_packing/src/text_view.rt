@@ -35,8 +35,8 @@ fn are_whole(paddings: &[usize]) -> bool
 impl<'a> TextView<'a> {
     ghost use Rattle.per_codec_packing.specs.Viewed.{text_of};
 
-    /// The complete encoding of a text that stands alone (X.691 11.1), lent from the text: if that has whole octets,
-    /// at least one, and none of its padding adds a bit.
+    /// The complete encoding of a text by itself (X.691 11.1), borrowed from the text, if that has whole octets, at
+    /// least one, and none of its padding adds a bit.
     #[inline]
     pub fn complete_octets(&self) -> Option<&'a [u8]>
         ensures { IfSome result (λ octets. written (complete (as_form (text_of self.now))) 0 ≡ Some

@@ -1,4 +1,4 @@
--- Parts of forms that stand in front.
+-- Parts of the forms with which bits begin.
 use Rattle.std.proofs.Common.{◌≡◌, ◌⊎◌, inl, inr, ℕ, ◌+◌, ◌^◌, ◌<◌, ◌==◌, ◌↔◌, Bool, true, false, not, ◌||◌, IsTrue, Result, Ok, Err, IfOk, IfErr, List, [], ◌∷◌, ◌++◌, length, replicate, take, refl, ap, sym, ◌∙◌, subst, append_assoc, length-append, arith}
 use Rattle.std.proofs.lemmas.Bool.{eq-eqb, eqb-true, false≢true}
 use Rattle.std.proofs.lemmas.List.{take_all}
@@ -55,7 +55,7 @@ long_small_number_is_lenient Aper = refl
 long_small_number_is_lenient UperStrict = refl
 long_small_number_is_lenient AperStrict = refl
 
--- a condition, or the freedom to do without it
+-- a condition, or the freedom to ignore it
 pub or_free : (t b : Bool) → (t || b) ≡ true → (b ≡ true) ⊎ IsTrue t
 or_free true b e = inr refl
 or_free false b e = inl e
@@ -66,7 +66,7 @@ free_or false b (inl e) = e
 free_or false b (inr e) = absurd (false≢true e)
 
 -- ---- zero bits
--- bits are zero where their number is
+-- bits are zero exactly if their number is
 pub zero_bits : (w n : ℕ) (bs : List Bool) → w ≡ length bs → binary w n ≡ take w bs → n < 2 ^ w → IsTrue (n == 0) ↔ (bs ≡ replicate (length bs) false)
 zero_bits w n bs l d h =
     let all : take w bs ≡ bs = take_all w bs (omega arith) in
@@ -74,14 +74,13 @@ zero_bits w n bs l d h =
     let p : 0 < 2 ^ w = pow_pos w in
     (λ t. sym all ∙ sym d ∙ ap (binary w) (eqb-true n 0 t) ∙ zeros, λ e. eq-eqb n 0 (binary_equal w n 0 h p (d ∙ all ∙ e ∙ sym zeros)))
 
--- ---- refusals
--- One form is missed where another is, if none of the one stands where none of the other does.
+-- One form is missed where another is, if the bits begin with none of the one where they begin with none of the other.
 pub misses_also : {X Y : Type 0} (free : Per.Freedom → Bool) (f : X → Per.BitForm) (g : Y → Per.BitForm) (a b : Place) (e : DecodeError) → (NoneStands free f a → NoneStands free g b) → Misses free f a e → Misses free g b e
 misses_also free f g a b OutOfMemory h m = tt
 misses_also free f g a b AlreadyFailed h m = m
 misses_also free f g a b e h m = h m
 
--- Where none stands, each reason of a reader's own is one.
+-- If the bits begin with none, each error that a reader chooses is allowed.
 pub none_misses : {X : Type 0} (free : Per.Freedom → Bool) (f : X → Per.BitForm) (a : Place) (e : DecodeError) → IsFresh e → NoneStands free f a → Misses free f a e
 none_misses free f a OutOfMemory n h = tt
 none_misses free f a AlreadyFailed n h = n refl
@@ -93,7 +92,7 @@ ends_early {e} p q = let r : Incomplete ≡ AlreadyFailed = sym p ∙ q in cc
 pub misses_fresh : {X : Type 0} (free : Per.Freedom → Bool) (f : X → Per.BitForm) (a : Place) (e : DecodeError) → Misses free f a e → IsFresh e
 misses_fresh free f a e m q = subst (λ x. Misses free f a x) q m
 
--- ---- answers
+-- ---- results
 pub ok_also : {X : Type 0} {P Q : X → Type 0} (r : Result X DecodeError) → ((x : X) → P x → Q x) → IfOk r P → IfOk r Q
 ok_also (Ok x) h p = h x p
 ok_also (Err e) h p = tt
@@ -102,7 +101,7 @@ pub err_also : {X : Type 0} {P Q : DecodeError → Type 0} (r : Result X DecodeE
 err_also (Ok x) h p = tt
 err_also (Err e) h p = h e p
 
--- Bits of one number are in front of one place alone.
+-- Bits begin with at most one list of a given length, and the rest is unique.
 pub leads_same : (u w : List Bool) (a b c : Place) → length u ≡ length w → Leads u a b → Leads w a c → u ≡ w
 leads_same u w a b c l h k = fronts u w b.1 c.1 l (h.0 ∙ sym k.0)
   where
@@ -116,7 +115,7 @@ leads_same u w a b c l h k = fronts u w b.1 c.1 l (h.0 ∙ sym k.0)
         let q = fronts u w r s (omega arith) t in
         cc
 
--- Bits behind others.
+-- Bits after others.
 pub leads_join : (u w : List Bool) (a b c : Place) → Leads u a b → Leads w b c → Leads (u ++ w) a c
 leads_join u w a b c h k =
     let l : length (u ++ w) ≡ length u + length w = length-append u w in
@@ -150,7 +149,7 @@ module _ (free : Per.Freedom → Bool) where
   pub paddings_same : (a b c : Place) → Front free to_octet a b → Front free to_octet a c → b ≡ c
   paddings_same a b c f g = (same_fronts free (agree_placed free (λ p. padding_alike free (Per.missing p))) a b c f g).1
 
-  -- a form behind padding stands just behind it
+  -- a form after padding comes directly after it
   pub after_padding : (al : Bool) (x : Per.BitForm) (a mid b : Place) → Front free (Per.at_octet al (exactly [])) a mid → Front free x mid b → Front free (Per.at_octet al x) a b
   unfolding Per.at_octet
   after_padding false x a mid b f g = subst (λ m. Front free x m b) (of_nothing free a mid f) g

@@ -5,7 +5,7 @@ use Rattle.asn1_model.specs.Per
 use Rattle.per_codec_reading.specs.declared.lengths.Length.TheVariants.{Fragment}
 use Rattle.per_codec_reading.specs.Units.{may_follow, length_may_follow}
 
--- a fragment of so many times 16384, if there is one
+-- a fragment of m times 16384, if m is not zero
 abbrev unless_zero : ℕ → List ℕ
 unless_zero r = filter (λ m. not (m == 0)) (r ∷ [])
 
@@ -66,11 +66,11 @@ follow_cases t m n h = elim (or_cases t _ h) [
   | inr e ↦ elim (or_cases (m == 4) _ e) [ inl f ↦ inr (inl (eqb-true m 4 f)) | inr f ↦ inr (inr (ltb-true n 16384 f)) ]
 ]
 
--- a further fragment may stand there, and so may all units that begin with it
+-- another fragment is allowed, and so are all units that begin with it
 pub fragment_follows : (t : Bool) (m k n : ℕ) → length_may_follow t m (Fragment k) ≡ true → may_follow t m n ≡ true
 fragment_follows t m k n h = elim (or_cases t _ h) [ inl e ↦ follows_any t m n e | inr e ↦ follows_four t m n (eqb-true m 4 e) ]
 
--- where it may not, no units that begin with a fragment may
+-- if it is not allowed, no units that begin with a fragment are
 pub fragment_refused : (t : Bool) (m k n : ℕ) → length_may_follow t m (Fragment k) ≡ false → 16384 ≤ n → may_follow t m n ≡ true → ⊥
 fragment_refused t m k n h l e = elim (follow_cases t m n e) [
   | inl x ↦ false≢true (sym h ∙ any t x)

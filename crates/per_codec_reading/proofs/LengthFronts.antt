@@ -1,4 +1,4 @@
--- What stands in front where a length does.
+-- The bits with which a length determinant begins.
 use Rattle.std.proofs.Common.{◌≡◌, inl, inr, ◌⊎◌, ℕ, ◌+◌, ◌-◌, ◌*◌, ◌/◌, ◌%◌, ◌^◌, ◌<◌, ◌≤◌, ◌==◌, leb, ltb, ◌&&◌, ◌||◌, Bool, true, false, IsTrue, List, [], ◌∷◌, ◌++◌, length, drop, refl, ap, sym, ◌∙◌, subst, cond, append_assoc, length-append, arith}
 use Rattle.std.proofs.lemmas.Bool.{lt-ltb, ltb-true, le-leb, leb-true, and_parts, and_from, eq-eqb, false_from_ne_true, false≢true}
 use Rattle.std.proofs.lemmas.List.{append-nil}
@@ -48,7 +48,7 @@ long_octets n h =
 abbrev pub IsFirst : ℕ → Place → Type 0
 IsFirst o a = (o < 128) ⊎ (((128 ≤ o) × (o < 192) × (16 ≤ length a.1)) ⊎ ((193 ≤ o) × (o ≤ 196)))
 
--- the first octet of a length that stands in front
+-- the first octet of a length with which the bits begin
 pub record Begun (a : Place) : Type 0 where
   pub first : ℕ
   pub small : first < 256
@@ -91,7 +91,7 @@ module _ (free : Per.Freedom → Bool) where
       if_in free (leb 1 m && leb m 4) _ a b (and_from _ _ (le-leb 1 m i) (le-leb m 4 j)) (exactly_in free (true ∷ true ∷ binary 6 m) a b (subst (λ w. Leads w a b) (ap (binary 8) p ∙ head_octet m (omega arith)) h))
 
   -- ---- no length
-  -- the first octet of bits that stand in front
+  -- the first octet of the bits
   first_octet : (o : ℕ) (w t : List Bool) (a b : Place) → o < 256 → binary 8 o ++ w ≡ t → Front free (exactly t) a b → (mid : Place) × Leads (binary 8 o) a mid
   first_octet o w t a b l e f =
       let h = exactly_out free t a b f in
@@ -185,7 +185,7 @@ module _ (free : Per.Freedom → Bool) where
     | inr q ↦ elim q [ inl r ↦ (let v = r.1 in omega arith) | inr r ↦ (let v = r.0 in let z = r.1 in elim w [ inl t ↦ omega arith | inr t ↦ omega arith ]) ]
   ])
 
-  -- ---- behind padding
+  -- ---- after padding
   pub length_after : (al : Bool) (l : Length) (a mid b : Place) → Front free (Per.at_octet al (exactly [])) a mid → Front free (length_form false l) mid b → Front free (length_form al l) a b
   unfolding Per.short_length
   length_after al (Short n) a mid b f g = after_padding free al _ a mid b f (unpadded free _ mid b g)

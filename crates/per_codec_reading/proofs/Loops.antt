@@ -47,8 +47,8 @@ module _ (free : Per.Freedom → Bool) where
   abbrev any : Bool
   any = free Per.other_fragments
 
-  -- Some units are joined behind a first fragment, and what may follow the last of them goes on with them; where
-  -- nothing that may does, nothing that may follow the first did.
+  -- Some units are joined to a first fragment, and what may follow the last of them continues them. If nothing that is
+  -- allowed follows the last, nothing that is allowed followed the first.
   pub record Joins (al : Bool) (w l : ℕ) (first : Units) (start : Place) (m : ℕ) (joined : Units) (here : Place) : Type 0 where
     pub whole : (n : ℕ) (bs : List Bool) (b : Place) → may_follow any m n ≡ true → Run free al w n bs here b
         → (k : ℕ) × (cs : List Bool) × (first.0 + k ≡ joined.0 + n) × (first.1 ++ cs ≡ joined.1 ++ bs) × (may_follow any l k ≡ true) × Run free al w k cs start b

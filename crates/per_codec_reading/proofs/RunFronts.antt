@@ -1,4 +1,4 @@
--- Units of one width behind their number, by what stands in front: a length and as many units, and what is behind a fragment.
+-- Units of one width after their length determinant: a length and as many units, and what comes after a fragment.
 use Rattle.std.proofs.Common.{◌≡◌, ◌⊎◌, inl, inr, ℕ, ◌+◌, ◌*◌, ◌<◌, ◌≤◌, ◌==◌, leb, ltb, cond, ◌&&◌, Bool, true, false, List, [], ◌∷◌, ◌++◌, length, ap, sym, ◌∙◌, subst, arith, length-append}
 use Rattle.std.proofs.lemmas.List.{append_cancel_left}
 use Rattle.std.proofs.lemmas.Bool.{leb-true, ltb-true, eqb-true, eq-eqb, and_parts}
@@ -20,7 +20,7 @@ use Rattle.per_codec_reading.proofs.LargestFirst.{AreKept, kept_at, kept_last, k
 use Rattle.per_codec_reading.proofs.UnitFronts.{Divided, length-units, last_in, last_out, more_in, more_out}
 
 module _ (free : Per.Freedom → Bool) where
-  -- ---- one front
+  -- ---- at most one prefix
   pub one : {x y : Per.BitForm} {P : Type 0} (a b c : Place) → Alike free x y P → Front free x a b → Front free y a c → P × (b ≡ c)
   one a b c h f g =
       let q = h.fronts a.0 f.text g.text b.1 c.1 f.has_form g.has_form (f.in_front ∙ sym g.in_front) in
@@ -30,7 +30,7 @@ module _ (free : Per.Freedom → Bool) where
       let r : f.text ++ b.1 ≡ f.text ++ c.1 = f.in_front ∙ sym g.in_front ∙ ap (λ t. t ++ c.1) (sym q.0) in
       (q.1, place_same b c (omega arith) (append_cancel_left f.text b.1 c.1 r))
 
-  -- bits in front that are equally many
+  -- bits begin with at most one list of a given length
   pub leads_one : (xs ys : List Bool) (a b c : Place) → length xs ≡ length ys → Leads xs a b → Leads ys a c → (xs ≡ ys) × (b ≡ c)
   leads_one xs ys a b c e l m = one a b c (agree_exactly free xs ys e) (exactly_in free xs a b l) (exactly_in free ys a c m)
 
@@ -55,7 +55,7 @@ module _ (free : Per.Freedom → Bool) where
   determinant_out : (al : Bool) (m : ℕ) (a b : Place) → Front free (length_form al (Fragment m)) a b → (m ≤ 4) × Front free (Per.at_octet al (head m)) a b
   determinant_out al m a b f = let i = if_out free (leb 1 m && leb m 4) _ a b f in (leb-true _ _ ((and_parts _ _ i.0).1), i.1)
 
-  -- One length at most stands in front.
+  -- Bits begin with at most one length.
   pub length_one : (al : Bool) (l k : Length) (a b c : Place) → Front free (length_form al l) a b → Front free (length_form al k) a c → (l ≡ k) × (b ≡ c)
   length_one al (Short n) (Short m) a b c f g = let q = one a b c (short_length_alike free al n m) f g in (ap Short q.0, q.1)
   length_one al (Short n) (Fragment m) a b c f g = absurd ((one a c b (head_or_last al m n) (determinant_out al m a c g).1 f).0)
@@ -99,7 +99,7 @@ module _ (free : Per.Freedom → Bool) where
       omega arith
 
   -- ---- all units
-  -- how large lengths in front are
+  -- how large lengths are
   last_bound : (long : Bool) (n : ℕ) (a b : Place) → Front free (last long n) a b → n < 16384
   last_bound true n a b f = ltb-true n 16384 (if_out free (ltb n 16384) _ a b f).0
   last_bound false n a b f = let l = ltb-true n 128 (if_out free (ltb n 128) _ a b f).0 in omega arith
@@ -117,11 +117,11 @@ module _ (free : Per.Freedom → Bool) where
       let p = and_parts (leb 1 m) (leb m 4) (if_out free (leb 1 m && leb m 4) _ a b f).0 in
       (leb-true 1 m p.0, leb-true m 4 p.1)
 
-  -- the units behind a last length
+  -- the units after a last length
   pub short_small : (al : Bool) (w n : ℕ) (bs : List Bool) (a b : Place) → Front free (piece_form al w (Short n, bs)) a b → n < 16384
   short_small al w n bs a b f = let p = piece_out al w (Short n) bs a b f in short_bound al n a p.1 p.2
 
-  -- so many units stand in front behind their number, in fragments that the reader takes
+  -- the bits begin with n units after their length determinants, in fragments that the reader accepts
   pub record Run (al : Bool) (w n : ℕ) (bs : List Bool) (a b : Place) : Type 0 where
     pub sizes : List ℕ
     pub divided : Divided free al w sizes n bs a b
@@ -138,7 +138,7 @@ module _ (free : Per.Freedom → Bool) where
       let i = multiple_bounds al m a p.1 p.2 in
       record { sizes = m ∷ r.sizes; divided = more_in free al w m n r.sizes xs ys a p.1 mid b p.2 p.0 p.3 r.divided; kept = kept_more _ m n r.sizes i.0 i.1 h r.kept }
 
-  -- a fragment in front, and the units behind it
+  -- the bits begin with a fragment and the units after it
   pub record Further (al : Bool) (w n : ℕ) (bs : List Bool) (a b : Place) : Type 0 where
     pub size : ℕ
     pub rest : ℕ
@@ -181,7 +181,7 @@ module _ (free : Per.Freedom → Bool) where
   pub no_piece : (al : Bool) (w : ℕ) (a : Place) → ((x : Piece) (b : Place) → Front free (piece_form al w x) a b → ⊥) → NoRun al w a
   no_piece al w a h n bs b r = elim (run_cases al w n bs a b r) [ inl p ↦ h (Short n, bs) b p | inr f ↦ h (Fragment f.size, f.first) f.mid f.piece ]
 
-  -- no units stand there that may follow a fragment
+  -- the bits begin with no units that may follow a fragment
   abbrev pub NoneAfter : Bool → ℕ → ℕ → Place → Type 0
   NoneAfter al w m a = (n : ℕ) (bs : List Bool) (b : Place) → may_follow (free Per.other_fragments) m n ≡ true → Run al w n bs a b → ⊥
 

@@ -1,4 +1,4 @@
--- Units of a size that stand in front: an extension bit, and the units behind it.
+-- Units under a size constraint with which the bits begin: an extension bit, and the units after it.
 use Rattle.std.proofs.Common.{◌≡◌, ◌⊎◌, inl, inr, ℕ, ◌-◌, ◌*◌, ◌≤◌, ◌==◌, leb, ltb, not, ◌&&◌, ◌||◌, Bool, true, false, cond, IsTrue, Option, Some, None, List, [], ◌∷◌, length, refl, ap, sym, ◌∙◌, subst, arith}
 use Rattle.std.proofs.lemmas.Bool.{false≢true, leb-true, eqb-true, eq-eqb, and_parts, and_from}
 use Rattle.asn1_model.specs.Schema.{Counts, Size}
@@ -21,7 +21,7 @@ use Rattle.per_codec_reading.proofs.RunsOne.{counted_one}
 use Rattle.std.specs.Option.{option_map_or}
 
 module _ (free : Per.Freedom → Bool) where
-  -- ---- units behind a number that bounds tell
+  -- ---- units after a number that bounds determine
   same_at_octet : (al : Bool) (x y : Per.BitForm) (a b : Place) → ((m : Place) → Front free x m b → Front free y m b) → Front free (Per.at_octet al x) a b → Front free (Per.at_octet al y) a b
   unfolding Per.at_octet
   same_at_octet false x y a b h f = h a f
@@ -57,7 +57,7 @@ module _ (free : Per.Freedom → Bool) where
       let q : c.low ≤ vs.0 = leb-true _ _ ((and_parts _ _ l.0).0) in
       omega arith
 
-  -- ---- units of the root, or told as outside
+  -- ---- units of the root, or encoded as outside it
   pub told_size : (al : Bool) (w : ℕ) (has_padding : ℕ → Counts → Bool) (c : Counts) (told : Option ℕ) (us : Units) (a b : Place) → Front free (units_told al w has_padding c told us) a b → length us.1 ≡ us.0 * w
   told_size al w has_padding c None us a b f = eqb-true _ _ (if_out free (length us.1 == us.0 * w) _ a b f).0
   told_size al w has_padding c (Some high) us a b f = eqb-true _ _ (if_out free (length us.1 == us.0 * w) _ a b f).0
@@ -91,7 +91,7 @@ module _ (free : Per.Freedom → Bool) where
   told_one al w has_padding c (Some high) us vs a b d f g = told_same al w has_padding c high us vs a b d f g
 
   -- ---- all of it
-  -- the extension bit, and the units behind it
+  -- the extension bit, and the units after it
   pub record WithExtensionBit (al : Bool) (z : Size) (held : Counts) (w : ℕ) (has_padding : ℕ → Counts → Bool) (us : Units) (a b : Place) : Type 0 where
     pub outside : Bool
     pub mid : Place
@@ -107,7 +107,7 @@ module _ (free : Per.Freedom → Bool) where
   with_extension_bit_in true true i x y a mid b t m k f g = varied_in free _ true (elim (or_free _ _ t) [ inl z ↦ inl (sym z) | inr z ↦ inr z ]) a b (join free (exactly (true ∷ [])) y a mid b m (g refl))
   with_extension_bit_in true false i x y a mid b t m k f g = varied_in free _ false (inl (sym (ap not k))) a b (if_in free i _ a b k (join free (exactly (false ∷ [])) x a mid b m (f refl)))
 
-  -- an extension bit, and one of two forms behind it
+  -- an extension bit, and one of two forms after it
   record Parts (e in_root : Bool) (x y : Per.BitForm) (a b : Place) : Type 0 where
     pub outside : Bool
     pub mid : Place

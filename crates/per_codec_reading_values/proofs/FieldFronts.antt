@@ -1,4 +1,4 @@
--- Bits that are taken as a whole, as they stand in front.
+-- Bits with which an encoding begins and that are taken as a whole.
 use Rattle.std.proofs.Common.{◌≡◌, ◌⊎◌, inl, inr, ℕ, ◌+◌, ◌-◌, ◌*◌, ◌/◌, ◌^◌, ◌<◌, ◌==◌, leb, ltb, cond, not, ◌&&◌, ◌||◌, Bool, true, false, IsTrue, List, [], ◌∷◌, ◌++◌, length, refl, ap, sym, ◌∙◌, subst, length-append, arith}
 use Rattle.std.proofs.lemmas.Bool.{leb-true, le-leb, lt-ltb, eqb-true, eq-eqb, and_parts, and_from, false≢true}
 use Rattle.asn1_model.specs.Numbers.{binary, octet_bits, packed}
@@ -29,7 +29,7 @@ bit_count : (bs : List Bool) → length (Per.bit_units bs) ≡ length bs
 bit_count bs = length_of_map (λ (b : Bool). exactly (b ∷ [])) bs
 
 module _ (free : Per.Freedom → Bool) where
-  -- ---- so many bits
+  -- ---- n bits
   pub bits_read : (n : ℕ) (bs : List Bool) (a b : Place) → length bs ≡ n → Leads bs a b → Front free (bits_form n bs) a b
   bits_read n bs a b e h = if_in free (length bs == n) (exactly bs) a b (eq-eqb _ _ e) (exactly_in free bs a b h)
 
@@ -109,7 +109,7 @@ module _ (free : Per.Freedom → Bool) where
         let rest : Front free (joined us) p b = subst (λ x. Front free (joined x) p b) (bit_pieces bs) (units_in free 1 (length bs) bs p b (omega arith) h) in
         varied_in free (λ long. long_or_short us long) false (inl (sym (ap not c))) a b (if_in free (Per.is_from_1_to_64 (length us)) _ a b c (join free _ (joined us) a p b own rest))
 
-    -- what stands behind the bit that tells which
+    -- what follows the bit that selects the form
     abbrev Behind : Bool → List Bool → Place → Place → Type 0
     Behind true bs m b = Front free (counted_units al 1 (length bs, bs)) m b
     Behind false bs m b = (n : ℕ) × (p : Place) × Front free (number_within 6 63 n) m p × (length bs ≡ n + 1) × Leads bs p b

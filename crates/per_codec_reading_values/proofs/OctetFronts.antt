@@ -1,4 +1,4 @@
--- What stands in front where a number in octets behind how many they are does.
+-- The bits with which a number in octets begins, after its length determinant.
 use Rattle.asn1_model.specs.Schema.{wide_range}
 use Rattle.std.proofs.Common.{◌≡◌, ℕ, zero, suc, ◌^◌, ◌≤◌, ◌<◌, leb, ltb, ◌==◌, ◌+◌, ◌*◌, not, ◌&&◌, ◌||◌, ℤ, Bool, true, false, IsTrue, ◌⊎◌, inl, inr, List, [], ◌∷◌, length, refl, sym, ap, ◌∙◌, subst, arith}
 use Rattle.std.proofs.lemmas.Bool.{false≢true, leb-true, le-leb, ltb-true, lt-ltb, and_parts, and_from, eqb-true, eqb-false, cases_lt}
@@ -46,7 +46,7 @@ unsigned_back k n h =
     let b = (octet_width-octets n).below in
     unsigned-digits k n (omega (arith, p, b))
 
--- octets are fewest where the first is not redundant
+-- octets are fewest if the first is not redundant
 fewest_signed : (os : List ℕ) → AreOctets os → 0 < length os → is_padded os ≡ false → signed_octets (signed_number os) ≡ length os
 fewest_signed [] a l e = absurd (omega arith)
 fewest_signed (o ∷ os) a l e = signed_octets-fewest o os a e

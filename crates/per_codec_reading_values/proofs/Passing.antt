@@ -1,4 +1,4 @@
--- Octets that are passed over, one fragment after another and one unknown addition after another.
+-- Octets that are skipped, one fragment after another and one unknown addition after another.
 use Rattle.std.proofs.Common.{◌≡◌, ℕ, ◌+◌, ◌*◌, ◌<◌, Bool, true, false, Some, None, List, [], ◌∷◌, ◌++◌, length, map, refl, ap, sym, subst}
 use Rattle.asn1_model.specs.Numbers as Numbers
 use Rattle.asn1_model.specs.Form.{joined, present_ones}
@@ -19,26 +19,26 @@ use Rattle.per_codec_reading.proofs.LargestFirst.{follows_four}
 use Rattle.per_codec_reading_values.specs.Fields.{HasPiece, HasUnits, NoSkip}
 use Rattle.per_codec_reading_values.proofs.FieldFronts.{octets_of, units_told}
 
--- want of memory aside, what is missed does not stand in front
+-- except if memory runs out, the bits do not begin with what is not found
 pub missed : {X : Type 0} (free : Per.Freedom → Bool) (f : X → Per.BitForm) (a : Place) (e : DecodeError) → Misses free f a e → ¬ (e ≡ OutOfMemory) → NoneStands free f a
 missed free f a OutOfMemory m n = absurd (n refl)
 missed free f a AlreadyFailed m n = absurd m
 missed free f a e m n = m
 
--- the same of a place that is known by its equal
+-- the same for a position that is known by its equal
 pub misses_at : {X : Type 0} (free : Per.Freedom → Bool) (f : X → Per.BitForm) (a b : Place) (e : DecodeError) → a ≡ b → Misses free f a e → Misses free f b e
 misses_at free f a b e q m = subst (λ (p : Place). Misses free f p e) q m
 
 module _ (free : Per.Freedom → Bool) (al : Bool) where
   -- ---- fragments
-  -- octets of fragments so far are passed over
+  -- octets of the fragments so far are skipped
   abbrev pub Passed : Place → ℕ → Place → Type 0
   Passed start m here = (us : Units) × Joins free al 8 4 (0, []) start m us here
 
   abbrev any : Bool
   any = free Per.other_fragments
 
-  -- behind a fragment of four times 16384 all units may stand
+  -- after a fragment of four times 16384, all units are allowed
   after_four : (start : Place) → NoneStands free (units_after any 4 al 8) start → NoneStands free (counted_units al 8) start
   after_four start n us b f = n us b (if_in free (may_follow any 4 us.0) _ start b (follows_four any 4 us.0 refl) f)
 
@@ -94,7 +94,7 @@ module _ (free : Per.Freedom → Bool) (al : Bool) where
   one_octets : (us : Units) (os : List ℕ) (a b c : Place) → Front free (counted_units al 8 us) a b → Front free (Per.counted_octets al os) a c → b ≡ c
   one_octets us os a b c f g = let o = octets_of free al us a b f in (same_fronts free (counted_octets_alike free al o.0 os) a b c o.2 g).1
 
-  -- some presence bits are looked at, and these are left
+  -- some presence bits were visited, and these are left
   pub record Reaches (all : List Bool) (start : Place) (left : List Bool) (here : Place) : Type 0 where
     pub whole : (b : Place) → Skips al free left here b → Skips al free all start b
     pub back : (b : Place) → Skips al free all start b → Skips al free left here b

@@ -16,7 +16,7 @@ use Rattle.per_codec_fronts.specs.Sizes.{extension_bit}
 use Rattle.per_codec_fronts.proofs.Next.{same_extension_bit}
 use Rattle.per_codec_reading_values.specs.Places.{root_form, added_form, place_form, NoItem}
 
--- ---- tables of items
+-- ---- tables of enumeration items
 moved_place : (v d : ℤ) (ds : List ℤ) (i : ℕ) (t : Bool) (o : Option ℕ) → cond t (Some zero) (option_map suc o) ≡ Some i → ((j : ℕ) → o ≡ Some j → j < length ds) → i < suc (length ds)
 moved_place v d ds i true o e h = let z : zero ≡ i = cc in omega (arith, z)
 moved_place v d ds i false None e h = cc

@@ -1,4 +1,4 @@
--- Normally small numbers that stand in front.
+-- Normally small numbers with which the bits begin.
 use Rattle.std.proofs.Common.{◌≡◌, ◌⊎◌, inl, inr, ℕ, ◌+◌, ◌^◌, ◌<◌, ◌≤◌, leb, ltb, cond, ◌&&◌, ◌||◌, Bool, true, false, IsTrue, [], ◌∷◌, ◌++◌, refl, ap, sym, ◌∙◌, subst, arith}
 use Rattle.std.proofs.lemmas.Bool.{ltb-true, lt-ltb, leb-true, le-leb, and_parts, and_from, false_from_ne_true, false≢true}
 use Rattle.std.proofs.Math.Nat.{pow-le-pow_right}
@@ -49,7 +49,7 @@ module _ (free : Per.Freedom → Bool) where
         let may : (true ≡ leb 64 n) ⊎ IsTrue (free Per.long_small_number) = elim (or_free _ _ t) [ inl e ↦ inl (sym e) | inr e ↦ inr e ] in
         if_in free (is_offset n) _ a b i.0 (varied_in free (λ long. long_or_short n long) true may a b (join free _ _ a m b f i.1))
 
-    -- what stands behind the bit that tells which
+    -- what follows the bit that selects the form
     abbrev Behind : Bool → ℕ → Place → Place → Type 0
     Behind true n m b = Front free (offset_form al n) m b
     Behind false n m b = Front free (number_within 6 63 n) m b
@@ -97,7 +97,7 @@ module _ (free : Per.Freedom → Bool) where
         let q = bit_one false s.0 a m s.1 f s.2 in
         n k b (subst (λ p. Front free (number_within 6 63 k) p b) (sym q.1) (subst (λ v. Behind v k s.1 b) (sym q.0) s.3))
 
-    -- ---- the place of an added one
+    -- ---- the index of an added one
     pub added_read : (count n : ℕ) (a b : Place) → n < count → Front free (small_form al n) a b → Front free (added_form al count n) a b
     added_read count n a b l f = if_in free (ltb n count) _ a b (lt-ltb n count l) (if_out free (is_offset n) (Per.normally_small al n) a b f).1
 

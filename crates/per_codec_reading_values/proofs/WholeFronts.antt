@@ -1,4 +1,4 @@
--- What stands in front where a number under bounds does, or an INTEGER.
+-- The bits with which a number under bounds, or an INTEGER, begins.
 use Rattle.asn1_model.specs.Schema.{wide_range}
 use Rattle.std.specs.Prelude.{FitsSigned, unsigned_abs, ◌+ℤ◌, ◌-ℤ◌, ◌<ℤ◌, ◌≤ℤ◌}
 use Rattle.std.specs.Int.{w128}
@@ -47,7 +47,7 @@ is_not : (b : Bool) → not b ≡ true → b ≡ false
 is_not true e = absurd (false≢true e)
 is_not false e = refl
 
--- ---- how far a number is above a bound
+-- ---- the difference of a number and a bound
 natural_some : (z : ℤ) (d : ℕ) → elim z [ pos n ↦ Some n | negsuc n ↦ None ] ≡ Some d → z ≡ pos d
 natural_some (pos n) d e = cc
 natural_some (negsuc n) d e = cc
@@ -67,7 +67,7 @@ span_told low high span n e = told (high -ℤ low) refl e
     told (negsuc d) f g = absurd (omega (arith, ints, f, n))
 
 module _ (free : Per.Freedom → Bool) where
-  -- ---- a form behind which is how far a number is above its lower bound
+  -- ---- a form that is followed by the difference of a number and its lower bound
   shifted_in : (x : ℕ → Per.BitForm) (low v : ℤ) (d : ℕ) (a b : Place) → v ≡ low +ℤ pos d → Front free (x d) a b → Front free (given (above low v) x) a b
   shifted_in x low v d a b e f = given_in free (above low v) x d (above_is low v d e) a b f
 

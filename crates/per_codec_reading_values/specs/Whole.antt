@@ -18,8 +18,8 @@ has_spare true os = is_padded os
 has_spare false (a ∷ b ∷ os) = a == 0
 has_spare false os = false
 
--- The octets of a number, signed or unsigned, after a length determinant (X.691 11.7 and 11.8): at least one, and no
--- redundant one in front unless such octets are accepted.
+-- The octets of a number, signed or unsigned, after a length determinant (X.691 11.7 and 11.8): at least one, and the
+-- first one is not redundant, unless redundant octets are accepted.
 abbrev pub number_octets : Bool → Bool → Bool → List ℕ → BitForm
 number_octets any_octets signed al os =
     only_if (ltb 0 (length os) && (any_octets || not (has_spare signed os))) (counted_octets al os)

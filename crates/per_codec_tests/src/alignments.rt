@@ -30,7 +30,7 @@ enum Value {
     Bmp(&'static str),
     Identifier(&'static [u32]),
     Numbers(&'static [i64]),
-    /// Lists with these numbers of members, all of them true.
+    /// Lists with these numbers of elements, all of them TRUE.
     Lists(&'static [usize]),
 }
 
@@ -49,8 +49,8 @@ enum Limit {
 /// the aligned one.
 type Row = (Value, Limit, &'static str);
 
-/// BOOLEAN, NULL, and numbers (X.691 11.5, 12, 13 and 24). A message without bits has an octet. Ranges of 256 and of
-/// 65536 values take whole octets; for a wider one the number of octets comes first in the aligned variant.
+/// BOOLEAN, NULL, and numbers (X.691 11.5, 12, 13 and 24). A message without bits has one octet. Ranges of 256 and of
+/// 65536 values take whole octets. For a wider range, the number of octets comes first in the aligned variant.
 const NUMBERS: [Row; 8] = [
     (Value::Truth(true), Limit::Any, "b1"),
     (Value::Nothing, Limit::Any, ""),
@@ -122,7 +122,7 @@ const SIZED: [Row; 12] = [
     ),
 ];
 
-/// Lists (X.691 20). After the bits of a member the next one is padded again.
+/// SEQUENCE OF (X.691 20). After the bits of an element the next one is padded again.
 const LISTS: [Row; 2] = [
     (Value::Numbers(&[1, 2]), Limit::Any, "| 02 01 01 01 02"),
     (Value::Lists(&[1, 3]), Limit::Any, "| 02 | 01 b1 | 03 b111"),
@@ -286,7 +286,8 @@ fn readers(variant: Variant) -> [DecoderOptions; 2] {
     }
 }
 
-/// Whether the value has these bits after a number of others in one variant, and is read back, leniently and strictly.
+/// Whether the value has these bits after a number of others in one variant, and is decoded again, leniently and
+/// strictly.
 fn stands_behind<T: Encode + Decode + PartialEq>(
     alloc: Global,
     front: (Variant, usize),
@@ -322,7 +323,7 @@ fn stands<T: Encode + Decode + PartialEq>(
     Ok(true)
 }
 
-/// These bits.
+/// A BIT STRING of these bits.
 fn bits(alloc: Global, spelled: &str) -> Result<BitString, Fail> {
     let mut bits = BitBuffer::new(alloc);
     push_spelled(&mut bits, spelled, Variant::Unaligned)?;
@@ -344,7 +345,7 @@ fn numbers(alloc: Global, members: &[i64]) -> Result<Vec<Integer>, AllocError> {
     Ok(list)
 }
 
-/// Lists with these numbers of members, all of them true.
+/// Lists with these numbers of elements, all of them TRUE.
 fn lists(alloc: Global, counts: &[usize]) -> Result<Vec<Vec<bool>>, AllocError> {
     let mut lists = Vec::new(alloc);
     for count in counts {
@@ -354,7 +355,7 @@ fn lists(alloc: Global, counts: &[usize]) -> Result<Vec<Vec<bool>>, AllocError> 
     Ok(lists)
 }
 
-/// Whether a value that is no character string is as its row says.
+/// Whether a value other than a character string is as its row says.
 fn is_right(alloc: Global, (value, limit, spelled): &Row) -> Result<bool, Fail> {
     let row = (*limit, *spelled);
     match value {

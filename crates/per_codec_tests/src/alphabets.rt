@@ -22,7 +22,7 @@ type Alphabet = (Kind, Variant, Option<(&'static [u32], bool)>);
 /// Characters and their codes, a character without a code, and a code without a character.
 type Codes = (&'static [(u32, u32)], Option<u32>, Option<u32>);
 
-/// Alphabets, the widths of their codes, and some of these.
+/// Alphabets, the widths of their codes in bits, and some of the codes.
 const ROWS: [(Alphabet, u32, Codes); 17] = [
     (
         (Kind::Numeric, Variant::Unaligned, None),

@@ -1,4 +1,4 @@
-//! What the calls leave in a buffer, what they lend, and the values that they refuse.
+//! What the calls leave in a buffer, what they borrow, and the values that they refuse.
 use crate::reading::PACKED;
 use asn1_schema_constraints::{Bounded, Constraint, Constraints, Extensible, Size, Value};
 use asn1_schema_encode::Encode;
@@ -53,7 +53,7 @@ fn a_buffer_is_replaced(rt: HostRuntime) -> Result<(), Fail> {
     Ok(())
 }
 
-/// Whether true, and NULL in another message, are read, with these octets after them.
+/// Whether TRUE, and NULL in another message, are decoded, with these octets after them.
 fn lends(
     alloc: Global,
     rules: PackedRules,
@@ -105,7 +105,7 @@ fn is_outside(alloc: Global, (number, low, high): (i64, i128, i128)) -> bool {
     )
 }
 
-/// Whether 2^128 is refused above a lower bound with an extension marker.
+/// Whether 2^128 is refused for a lower bound with an extension marker.
 fn is_past_128_bits(alloc: Global) -> Result<bool, Fail> {
     let octets = [1, 0, 0, 0, 0, 0, 0, 0, 0, 0, 0, 0, 0, 0, 0, 0, 0];
     let number = Integer::from_signed_octets(alloc, &octets)?;
@@ -114,7 +114,7 @@ fn is_past_128_bits(alloc: Global) -> Result<bool, Fail> {
     Ok(is_unwritten(alloc, Constraint::Value(bounds), &number, error))
 }
 
-/// Whether a string of three characters, and one octet, are refused where the size is two.
+/// Whether a string of three characters, and one octet, are refused if the size is two.
 fn are_not_two(alloc: Global) -> Result<bool, Fail> {
     let two = Constraint::Size(Extensible::new(Size::new(Bounded::Single(2))));
     let error = EncodeError::SizeConstraintNotSatisfied;

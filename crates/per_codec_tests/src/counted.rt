@@ -1,5 +1,5 @@
-//! Octets after a length determinant, in one piece and in fragments, after 0 to 7 bits (X.691 11.9), and what is lent
-//! of them.
+//! Octets after a length determinant, in one piece and in fragments, after 0 to 7 bits (X.691 11.9), and which of them
+//! are borrowed.
 use crate::spelled::octets;
 use asn1_schema_faults::{DecodeError, EncodeError};
 use asn1_values_bits::BitBuffer;
@@ -164,7 +164,7 @@ fn octets_behind_bits(rt: HostRuntime) -> Result<(), Fail> {
     Ok(())
 }
 
-/// Octets with a length determinant, the octets alone, and whether they are lent.
+/// Octets with a length determinant, the octets alone, and whether they are borrowed.
 const LENT: [(Variant, &str, &str, bool); 5] = [
     (Variant::Aligned, "03 01 02 03", "01 02 03", true),
     (Variant::Unaligned, "80 03 01 02 03", "01 02 03", true),
@@ -183,7 +183,7 @@ const LENT: [(Variant, &str, &str, bool); 5] = [
     ),
 ];
 
-/// Whether the octets at the start are these, and lent or not.
+/// Whether the octets at the start are these, and borrowed or not.
 fn is_lent(
     alloc: Global,
     (variant, counted, contents, is_lent): (Variant, &str, &str, bool),
@@ -197,7 +197,7 @@ fn is_lent(
     Ok(is_found)
 }
 
-/// Octets in one piece are lent; fragments are joined.
+/// Octets in one piece are borrowed; fragments are joined.
 #[test]
 fn what_is_lent(rt: HostRuntime) -> Result<(), Fail> {
     for row in LENT {

@@ -1,6 +1,6 @@
 //! Tests of UPER and APER beyond the octets of one message, which are lines of `asn1_relay_vectors`: values and parts
-//! of encodings after bits, texts at positions that become known later, codes of characters, errors of calls, and
-//! what is lent.
+//! of encodings after bits, field-lists at positions that become known later, codes of characters, errors of calls, and
+//! what is borrowed.
 #![tactic(auto)]
 
 #[cfg(test)]

@@ -1,11 +1,11 @@
-//! How many octets more a refused input needs at least.
+//! How many more octets a rejected input needs at least.
 use asn1_schema_decode::Decode;
 use asn1_values_octets::OctetString;
 use per_codec::{aper, uper};
 use std::alloc::Global;
 use std::test::Fail;
 
-/// How many octets more are needed at least behind these, which begin a value of the type: none where one is there.
+/// How many more octets are needed at least to decode a value of the type, in UPER and APER: 0 if there is a value.
 fn needed<T: Decode>(alloc: Global, input: &[u8]) -> (usize, usize) {
     let unaligned = match uper::decode_or_need::<T>(alloc, input) {
         Ok(_) => 0,
@@ -18,8 +18,8 @@ fn needed<T: Decode>(alloc: Global, input: &[u8]) -> (usize, usize) {
     (unaligned, aligned)
 }
 
-/// Each member that is to come is a bit at least: eight of a thousand members are there, and 991 are to come behind the
-/// ninth; of a hundred lists, four of the fifty members of the first.
+/// Each further element takes at least one bit: of a thousand elements, eight are there and 991 follow the ninth; of a
+/// hundred lists, four of the fifty elements of the first.
 #[test]
 fn members_that_are_to_come(rt: HostRuntime) -> Result<(), Fail> {
     let alloc = rt.alloc();
@@ -31,8 +31,8 @@ fn members_that_are_to_come(rt: HostRuntime) -> Result<(), Fail> {
     Ok(())
 }
 
-/// A string behind its length lacks what the length tells, less what is there: two octets of 512 are there, in a
-/// list as well, behind whose string two more are to come.
+/// A string needs the rest of its length determinant: two of 512 octets are there. In a list, two more octets follow
+/// that string.
 #[test]
 fn octets_of_a_string(rt: HostRuntime) -> Result<(), Fail> {
     let alloc = rt.alloc();
@@ -43,7 +43,7 @@ fn octets_of_a_string(rt: HostRuntime) -> Result<(), Fail> {
     Ok(())
 }
 
-/// Of octets in fragments the first fragment that is not there counts: one of 16384 octets is there, and one of another.
+/// Of octets in fragments, only the first missing fragment counts: one of two fragments of 16384 octets is there.
 #[test]
 fn octets_in_fragments(rt: HostRuntime) -> Result<(), Fail> {
     let alloc = rt.alloc();

@@ -1,9 +1,9 @@
-//! Texts at known positions, and texts that are positioned later.
+//! Field-lists at known positions, and field-lists that get a position later.
 use per_codec_packing::{Packing, complete_in};
 use std::alloc::{AllocError, Global};
 use std::test::Fail;
 
-/// Adds a bit, padding, an octet, padding, and a bit.
+/// Appends a bit, padding, an octet, padding, and a bit.
 fn push_member(text: &mut Packing) -> Result<(), AllocError> {
     text.push(true)?;
     text.push_padding()?;
@@ -12,14 +12,14 @@ fn push_member(text: &mut Packing) -> Result<(), AllocError> {
     text.push(true)
 }
 
-/// These at an unknown position.
+/// The same at an unknown position.
 fn member(alloc: Global) -> Result<Packing, AllocError> {
     let mut text = Packing::unplaced(alloc);
     push_member(&mut text)?;
     Ok(text)
 }
 
-/// Adds a bit, and a member after it.
+/// Appends a bit, and an element after it.
 fn push_within(outer: &mut Packing, inner: &Packing) -> Result<(), AllocError> {
     outer.push(true)?;
     outer.append_text(inner.as_text())
@@ -33,7 +33,7 @@ fn within_a_member(alloc: Global) -> Result<Packing, AllocError> {
     Ok(outer)
 }
 
-/// Whether a text after a number of zero bits has these octets.
+/// Whether a field-list after a number of zero bits has these octets.
 fn stands_behind(
     alloc: Global,
     zeros: usize,
@@ -46,7 +46,7 @@ fn stands_behind(
     Ok(text.as_bits().as_bytes() == octets)
 }
 
-/// The number of zero bits before it, whether the member is in another member, and the octets.
+/// The number of zero bits before it, whether the element is in another element, and the octets.
 const ROWS: [(usize, bool, &[u8]); 4] = [
     (0, false, &[0x80, 0xAB, 0x80]),
     (3, false, &[0x10, 0xAB, 0x80]),
@@ -54,7 +54,7 @@ const ROWS: [(usize, bool, &[u8]); 4] = [
     (6, true, &[0x03, 0xAB, 0x80]),
 ];
 
-/// Whether a member has the octets of its row.
+/// Whether an element has the octets of its row.
 fn is_right(alloc: Global, (zeros, is_nested, octets): (usize, bool, &[u8])) -> Result<bool, Fail> {
     let text = if is_nested {
         within_a_member(alloc)?
@@ -64,13 +64,13 @@ fn is_right(alloc: Global, (zeros, is_nested, octets): (usize, bool, &[u8])) -> 
     Ok(stands_behind(alloc, zeros, &text, octets)?)
 }
 
-/// Whether these octets are the complete encoding of a text.
+/// Whether these octets are the complete encoding of a field-list.
 fn completes(alloc: Global, text: &Packing, octets: &[u8]) -> Result<bool, AllocError> {
     let complete = complete_in(text.as_text(), Vec::new(alloc))?;
     Ok(complete.as_slice() == octets)
 }
 
-/// Whether the complete encodings of a member and of an empty text are these.
+/// Whether the complete encodings of an element and of an empty field-list are these.
 fn are_complete(alloc: Global, of_member: &[u8], of_nothing: &[u8]) -> Result<bool, Fail> {
     let text = member(alloc)?;
     let empty = Packing::unplaced(alloc);

@@ -1,5 +1,5 @@
-//! Parts of encodings after a number of bits: numbers, length determinants, indices, and other parts that are no
-//! message alone (X.691 11).
+//! Parts of encodings after a number of bits: numbers, length determinants, indexes, and other parts that are not a
+//! message by themselves (X.691 11).
 use crate::spelled::push_spelled;
 use asn1_schema_faults::EncodeError;
 use asn1_schema_variants::Chosen;
@@ -18,7 +18,7 @@ use std::test::Fail;
 #[derive(Clone, Copy)]
 enum Part {
     Truth(bool),
-    /// A number from 0 to a span: the span and the number.
+    /// A number from 0 to a maximum: the maximum and the number.
     Number(u128, u128),
     Small(u64),
     Length(usize),
@@ -30,7 +30,7 @@ enum Part {
     Added(usize),
     /// An open type without bits.
     OpenType,
-    /// A bitmap of one addition, which is present.
+    /// A presence bitmap for one addition, which is present.
     Bitmap,
 }
 
@@ -74,14 +74,14 @@ const APER: Variant = Variant::Aligned;
 
 const TRUTHS: [Part; 3] = [Part::Truth(true), Part::Truth(false), Part::Truth(true)];
 
-/// A bitmap of one addition, which is present.
+/// A presence bitmap for one addition, which is present.
 fn bitmap_of_one(alloc: Global) -> Result<BitBuffer, AllocError> {
     let mut bitmap = BitBuffer::new(alloc);
     bitmap.push(true)?;
     Ok(bitmap)
 }
 
-/// Writes a bitmap of one addition, which is present.
+/// Writes a presence bitmap for one addition, which is present.
 fn push_bitmap_of_one(
     alloc: Global,
     output: &mut Packing,
@@ -163,7 +163,7 @@ fn parts_behind_bits(rt: HostRuntime) -> Result<(), Fail> {
     Ok(())
 }
 
-/// Whether a number is refused for a span.
+/// Whether a number above its maximum is refused.
 fn is_outside(alloc: Global, variant: Variant, span: u128, number: u128) -> bool {
     let answer = push_constrained(&mut Packing::new(alloc), variant, span, number);
     answer == Err(EncodeError::ValueConstraintNotSatisfied)

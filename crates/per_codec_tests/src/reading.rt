@@ -1,4 +1,4 @@
-//! What readers and a decoder leave, lend and refuse.
+//! What readers and a decoder leave, borrow and reject.
 ghost use Rattle.std.specs.Prelude.{◌<◌, ◌≡◌, IfErr};
 
 use asn1_schema_constraints::{Bounded, Constraints};
@@ -47,7 +47,7 @@ fn bits_that_are_left(rt: HostRuntime) -> Result<(), Fail> {
     Ok(())
 }
 
-/// Whether a length determinant is read after a number of bits: immediately in the unaligned rules, and at the next
+/// Whether a length determinant is read after a number of bits: immediately in the unaligned variant, and at the next
 /// octet boundary in the aligned one.
 fn is_length_behind(used: u32) -> Result<bool, DecodeError>
     requires { used < 8 }
@@ -107,7 +107,7 @@ const THIRD: Tag = Tag {
     value: 2,
 };
 
-/// The tags [0] to [2], with their numbers as indices.
+/// The tags [0] to [2], with their numbers as indexes.
 const PLACES: [TagPlace; 3] = [
     TagPlace {
         tag: FIRST,
@@ -133,7 +133,7 @@ fn lacks_an_alternative(decoder: &mut Decoder<'_>) -> bool {
         && decoder.end() == Err(DecodeError::AlreadyFailed)
 }
 
-/// Whether 128 nested sequences may begin, and no further one.
+/// Whether 128 nested sequences may begin, and no more.
 fn nests_128_levels(decoder: &mut Decoder<'_>) -> Result<bool, DecodeError> {
     for _ in 0..128 {
         decoder.begin_sequence(Tag::SEQUENCE, false, 0)?;
@@ -192,7 +192,7 @@ fn decoders_that_have_failed(rt: HostRuntime) {
     }
 }
 
-/// Whether a string is lent, and has these octets.
+/// Whether a string is borrowed, and has these octets.
 fn is_lent(found: &CowSlice<u8, Global>, octets: &[u8]) -> bool {
     match found {
         CowSlice::Borrowed(found) => *found == octets,
@@ -207,7 +207,7 @@ fn lends(alloc: Global, decoder: &mut Decoder<'_>, octets: &[u8]) -> Result<bool
     Ok(is_lent(&found, octets))
 }
 
-/// Whether a true comes next, and a borrowed OCTET STRING after it.
+/// Whether TRUE comes next, and a borrowed OCTET STRING after it.
 fn lends_behind_true(
     alloc: Global,
     decoder: &mut Decoder<'_>,

@@ -1,4 +1,4 @@
-//! What readers accept leniently and refuse strictly, and what both accept.
+//! What decoders accept leniently and reject strictly, and what both accept.
 use crate::spelled::octets;
 use asn1_schema_decode::{Decode, Decoder as _};
 use asn1_schema_faults::DecodeError;
@@ -8,7 +8,7 @@ use per_codec::{aper, aper_strict, uper, uper_strict};
 use std::alloc::Global;
 use std::test::Fail;
 
-/// Why there is no answer, if there is none.
+/// Why there is no value, if there is none.
 fn refusal<T: Drop>(answer: Result<T, DecodeError>) -> Option<DecodeError> {
     match answer {
         Ok(_) => None,
@@ -16,7 +16,7 @@ fn refusal<T: Drop>(answer: Result<T, DecodeError>) -> Option<DecodeError> {
     }
 }
 
-/// Whether these octets are read leniently, and strictly refused for this reason or also read, in both variants.
+/// Whether these octets are decoded leniently, and strictly rejected for this reason or also decoded, in both variants.
 fn is_strictly<T: Decode + Drop>(alloc: Global, input: &[u8], reason: Option<DecodeError>) -> bool {
     refusal(uper::decode::<T>(alloc, input)).is_none()
         && refusal(aper::decode::<T>(alloc, input)).is_none()
@@ -71,8 +71,8 @@ fn reads_an_addition(decoder: &mut Decoder<'_>) -> Result<bool, DecodeError> {
     Ok(value)
 }
 
-/// Octets of UPER, and why they are refused strictly: a bitmap of no set bit, one of no width, octets and bits behind
-/// the value in the open type, and neither.
+/// Octets of UPER, and their results, lenient and strict: a presence bitmap without a set bit, one without bits, octets
+/// and bits after the value in the open type, and none of these.
 const ADDITIONS: [(&[u8], Result<bool, DecodeError>, Result<bool, DecodeError>); 5] = [
     (
         &[0x80, 0x00],

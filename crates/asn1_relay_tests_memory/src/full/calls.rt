@@ -1,4 +1,4 @@
-//! Calls that take memory, where there is none, and where there is little.
+//! Calls that take memory, with no memory or little memory available.
 use crate::full::memory::take_all_but;
 use asn1_relay_core::Codec;
 use asn1_relay_trials::{
@@ -9,13 +9,13 @@ use oer_codec::CoerFront;
 use per_codec::UperFront;
 use std::alloc::{AllocError, Global};
 
-/// How many octets are left free, time after time, until a call is granted all that it requests.
+/// How many octets are left free, in successive attempts, until all requests of a call are granted.
 const ROOMS: [usize; 20] = [
     0, 24, 48, 96, 144, 208, 304, 448, 672, 1008, 1520, 2288, 3440, 5168, 7760, 11648, 17472,
     26208, 39312, 58976,
 ];
 
-/// What came of a call, with all memory taken but so many octets.
+/// The outcome of a call while all memory but `room` octets is taken.
 fn starved<T: Trial>(alloc: Global, trial: &mut T, room: usize) -> Outcome {
     match take_all_but(alloc, room) {
         Ok(_taken) => trial.call(),
@@ -23,7 +23,7 @@ fn starved<T: Trial>(alloc: Global, trial: &mut T, room: usize) -> Outcome {
     }
 }
 
-/// The same, and of a call that found no memory, that it was right once more.
+/// The same; a call that ran out of memory must be right once repeated.
 fn tried<T: Trial>(alloc: Global, trial: &mut T, room: usize) -> Outcome {
     match starved(alloc, trial, room) {
         Outcome::Wanting => {
@@ -37,7 +37,7 @@ fn tried<T: Trial>(alloc: Global, trial: &mut T, room: usize) -> Outcome {
     }
 }
 
-/// The same of a new call.
+/// The same for a new call.
 fn outcome_within<T: Trial>(alloc: Global, plan: T::Plan, room: usize) -> Outcome {
     match T::begin(alloc, plan) {
         Ok(mut trial) => tried(alloc, &mut trial, room),
@@ -45,8 +45,8 @@ fn outcome_within<T: Trial>(alloc: Global, plan: T::Plan, room: usize) -> Outcom
     }
 }
 
-/// Whether a call is refused for want of memory where there is none, and each time where there is too little, until
-/// it gives the answer of ample memory. It is made with that first, so that the stack has grown.
+/// Whether a call runs out of memory when there is none, and each time there is too little, until its result is that
+/// with enough memory. It is made with enough memory first, so that the stack has grown.
 fn is_right<T: Trial>(alloc: Global, plan: T::Plan) -> bool {
     let mut refusals = 0u32;
     if !is_ample::<T>(alloc, plan) {

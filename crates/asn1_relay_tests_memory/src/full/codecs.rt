@@ -1,4 +1,4 @@
-//! Calls of codecs and of relays that take no memory, and the test of all such calls.
+//! Calls of codecs and relays that take no memory, and the test of all such calls.
 use crate::full::memory::{is_taken, take_memory};
 use crate::full::values::wrong_values;
 use asn1_relay_core::{Codec, DecodeError, EncodeError, Relay, RelayFault, RelayFaultKind};
@@ -10,7 +10,7 @@ use per_codec::uper;
 use std::alloc::{AllocError, Global};
 use std::process::Abort;
 
-/// Whether a decoder finds TRUE, NULL and nothing behind them.
+/// Whether a decoder finds TRUE, NULL and nothing after them.
 fn finds_both<D: Decoder>(decoder: &mut D) -> bool {
     decoder.decode_bool(Tag::BOOL) == Ok(true)
         && decoder.decode_null(Tag::NULL) == Ok(())
@@ -32,7 +32,7 @@ fn is_bit_found(alloc: Global, options: uper::DecoderOptions) -> bool {
         && decoder.input().len() == 7
 }
 
-/// Whether the plain decoder does.
+/// Whether the decoder over records does.
 fn are_records_found(records: Vec<Item>) -> bool {
     let mut decoder = RecordDecoder::new(records, CodecKind::Uper);
     finds_both(&mut decoder)
@@ -51,12 +51,12 @@ fn are_options() -> bool {
     uper::EncoderOptions::aligned().is_aligned() && !uper::EncoderOptions::unaligned().is_aligned()
 }
 
-/// The fault of the first message.
+/// The error at the first message.
 fn at_first(kind: RelayFaultKind) -> Result<(), RelayFault> {
     Err(RelayFault { number: 0, kind })
 }
 
-/// Whether a new relay tells what it has, and an empty piece changes nothing.
+/// Whether a new relay reports its state, and an empty piece changes nothing.
 fn is_idle(relay: &mut Relay<Small>, out: &mut Vec<u8>) -> bool {
     relay.unread_len() == 0
         && !relay.has_failed()
@@ -64,32 +64,32 @@ fn is_idle(relay: &mut Relay<Small>, out: &mut Vec<u8>) -> bool {
         && relay.feed(&[], out) == Ok(())
 }
 
-/// Whether a relay that is new does so.
+/// Whether a relay that is just created does.
 fn is_new_idle(alloc: Global) -> bool {
     let mut relay = Relay::new(alloc, Codec::Coer, Codec::Uper, 1);
     is_idle(&mut relay, &mut Vec::new(alloc))
 }
 
-/// Whether a relay that waits for more than an octet tells that.
+/// Whether a relay that waits for more than an octet reports that.
 fn is_waiting(relay: &Relay<Small>) -> bool {
     relay.unread_len() == 1
         && !relay.has_failed()
         && relay.finish() == at_first(RelayFaultKind::NoForm)
 }
 
-/// Whether a relay that has stopped for want of memory tells that.
+/// Whether a relay that stopped because memory ran out reports that.
 fn is_stopped(relay: &Relay<Small>) -> bool {
     relay.has_failed() && relay.finish() == at_first(RelayFaultKind::AlreadyFailed)
 }
 
-/// What the calls are made on, which took memory.
+/// What the calls are made on. It was created before memory was taken.
 #[derive(Drop)]
 struct Prepared {
     records: Vec<Item>,
     relay: Relay<Small>,
 }
 
-/// It, with a relay that waits.
+/// Creates it, with a relay that waits.
 fn prepare(alloc: Global) -> Result<Prepared, EncodeError> {
     let records = records(alloc)?;
     let mut relay = Relay::new(alloc, Codec::Coer, Codec::Uper, 1);
@@ -99,7 +99,7 @@ fn prepare(alloc: Global) -> Result<Prepared, EncodeError> {
     }
 }
 
-/// The first calls of codecs and relays that are not right, if there are such.
+/// The first group of calls of codecs and relays that is not right, if there is one.
 fn wrong_calls(alloc: Global, prepared: Prepared) -> Option<&'static str> {
     let found = [
         ("oer", are_octets_found(alloc, oer::DecoderOptions::oer())),
@@ -122,7 +122,7 @@ fn wrong_calls(alloc: Global, prepared: Prepared) -> Option<&'static str> {
     wrong_values(alloc)
 }
 
-/// The first calls that are not right with ample memory.
+/// The first group of calls that is not right with enough memory.
 fn wrong_first(alloc: Global) -> Option<&'static str> {
     match prepare(alloc) {
         Ok(prepared) => wrong_calls(alloc, prepared),
@@ -130,7 +130,7 @@ fn wrong_first(alloc: Global) -> Option<&'static str> {
     }
 }
 
-/// The first calls that are not right where all memory is taken.
+/// The first group of calls that is not right while all memory is taken.
 fn wrong_when_taken(alloc: Global, prepared: Prepared) -> Option<&'static str> {
     match take_memory(alloc) {
         Ok(_taken) if is_taken(alloc) => wrong_calls(alloc, prepared),
@@ -138,12 +138,12 @@ fn wrong_when_taken(alloc: Global, prepared: Prepared) -> Option<&'static str> {
     }
 }
 
-/// Ends the test, and shows what is wrong, unless nothing is.
+/// Ends the test, and shows what is wrong, if anything is.
 fn assert_none(rt: &impl Abort, wrong: &Option<&'static str>) {
     assert!(rt; wrong.is_none(), "{wrong:?}");
 }
 
-/// They are made with ample memory first, so that the stack has grown.
+/// The calls are made with enough memory first, so that the stack has grown.
 #[test]
 fn calls_that_take_no_memory(rt: HostRuntime) {
     assert_none(&rt, &wrong_first(rt.alloc()));

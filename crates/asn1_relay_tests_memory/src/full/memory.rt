@@ -1,13 +1,13 @@
-//! All memory, taken.
+//! Allocation of all memory.
 use std::alloc::{AllocError, Global};
 
-/// How many blocks are taken at most.
+/// The maximum number of blocks.
 const BLOCKS: usize = 40_000;
 
-/// The octets out of which room is left: more than are taken from the heap's own lists of small blocks.
+/// The octets from which room is left: more than come from the heap's own lists of small blocks.
 const SPARE: usize = 65_536;
 
-/// Takes blocks of a size until one is refused.
+/// Allocates blocks of a size until one is refused.
 fn take_all(alloc: Global, blocks: &mut Vec<Vec<u8>>, size: usize) {
     for _ in 0..BLOCKS {
         if blocks.len() == blocks.capacity() {
@@ -22,12 +22,12 @@ fn take_all(alloc: Global, blocks: &mut Vec<Vec<u8>>, size: usize) {
     }
 }
 
-/// Takes all memory, in blocks of 2^46, 2^45 and so on to 16 octets, and then of each size of which the heap keeps
-/// blocks that were let go. It is let go with them.
+/// Allocates all memory, in blocks of 2^46, 2^45 and so on to 16 octets, and then of each size of which the heap keeps
+/// freed blocks. The memory is freed when the blocks are dropped.
 ///
 /// # Errors
 ///
-/// Want of memory for the list of the blocks.
+/// If there is no memory for the list of the blocks.
 pub fn take_memory(alloc: Global) -> Result<Vec<Vec<u8>>, AllocError> {
     let mut blocks = Vec::with_capacity(alloc, BLOCKS)?;
     for place in 0..43u32 {
@@ -39,11 +39,11 @@ pub fn take_memory(alloc: Global) -> Result<Vec<Vec<u8>>, AllocError> {
     Ok(blocks)
 }
 
-/// Takes all memory but so many octets, some more or less.
+/// Allocates all memory except for about `room` octets.
 ///
 /// # Errors
 ///
-/// Want of memory for the list of the blocks, and for the octets themselves.
+/// If there is no memory for the list of the blocks, or for the octets themselves.
 pub fn take_all_but(alloc: Global, room: usize) -> Result<Vec<Vec<u8>>, AllocError> {
     let spare: Vec<u8> = Vec::with_capacity(alloc, SPARE)?;
     let mut blocks = take_memory(alloc)?;

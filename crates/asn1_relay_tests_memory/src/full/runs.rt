@@ -1,12 +1,12 @@
-//! Runs that find no memory from one call of their reader or writer on.
+//! Runs that run out of memory from one call of their reader or writer on.
 use crate::full::starving::Starving;
 use asn1_relay_core::{Codec, MemorySink, MemorySource, RunFault, run};
 use asn1_relay_trials::{STRING, two_strings, written};
 use asn1_values::OctetString;
 use std::alloc::{AllocError, Global};
 
-/// Before which call of the reader or of the writer all memory is taken, how many strings are written then, and what
-/// the run answers.
+/// The call of the reader or of the writer before which all memory is taken, how many strings have been written then,
+/// and the result of the run.
 struct Row {
     read: Option<u32>,
     write: Option<u32>,
@@ -14,8 +14,8 @@ struct Row {
     answer: Result<(), RunFault>,
 }
 
-/// The first string is whole in the first block of 4096 octets, and the second ends in the second. A third call of the
-/// reader tells the end.
+/// The first string is whole in the first block of 4096 octets, and the second ends in the second block. A third call
+/// of the reader reports the end.
 const ROWS: [Row; 6] = [
     Row {
         read: None,

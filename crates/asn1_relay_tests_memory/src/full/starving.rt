@@ -5,7 +5,7 @@ use crate::full::memory::take_memory;
 use asn1_relay_core::{ReadFailed, Sink, Source, WriteFailed};
 use std::alloc::Global;
 
-/// A reader or a writer, and before which of its calls of `read` or `write` all memory is taken.
+/// A reader or a writer, and the call of `read` or `write` before which all memory is taken.
 #[derive(Drop)]
 pub struct Starving<S> {
     /// The reader or the writer.
@@ -13,7 +13,7 @@ pub struct Starving<S> {
     hunger: Hunger,
 }
 
-/// How many calls come before that, and the memory.
+/// How many calls precede that call, and the memory taken.
 #[derive(Drop)]
 struct Hunger {
     alloc: Global,
@@ -22,7 +22,7 @@ struct Hunger {
 }
 
 impl Hunger {
-    /// Counts a call, and takes all memory before the one that is meant.
+    /// Counts a call, and takes all memory before the selected one.
     fn count(&mut self) {
         match self.before {
             Some(0) => {
@@ -38,7 +38,7 @@ impl Hunger {
 }
 
 impl<S> Starving<S> {
-    /// A reader or a writer, before whose call of this number, counted from 0 on, all memory is taken.
+    /// A reader or a writer before whose call with this number, counted from 0, all memory is taken.
     pub fn new(alloc: Global, inner: S, before: Option<u32>) -> Starving<S>
         ensures { result.inner ≡ inner }
     {

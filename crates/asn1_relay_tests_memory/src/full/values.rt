@@ -8,7 +8,7 @@ use asn1_values::{BitReader, BitStr, Integer, IntegerType};
 use std::alloc::Global;
 use std::ops::DerefSlice;
 
-/// Whether bits are read one by one, as numbers and as octets, which are lent.
+/// Whether bits are read one by one, as numbers and as octets, which are borrowed.
 fn is_read(alloc: Global, reader: &mut BitReader<'_>) -> bool {
     reader.len() == 24
         && reader.octets(alloc).is_ok()
@@ -19,7 +19,7 @@ fn is_read(alloc: Global, reader: &mut BitReader<'_>) -> bool {
         && reader.len() == 13
 }
 
-/// Whether views of bits are counted, looked at and split.
+/// Whether views of bits are counted, inspected and split.
 fn are_bits(alloc: Global) -> bool {
     let octets = [0xBF, 0xEF, 0xF0];
     let bits = BitStr::from_slice(&octets);
@@ -36,7 +36,7 @@ fn are_bits(alloc: Global) -> bool {
         && BitStr::from_bitslice(bits) == bits
 }
 
-/// Whether numbers are lent as octets.
+/// Whether numbers are borrowed as octets.
 fn are_octets() -> bool {
     Integer::from(300).to_signed_bytes_be().deref() == [0x01, 0x2C].as_slice()
         && 200u8.to_signed_bytes_be().deref() == [0x00, 0xC8].as_slice()
@@ -49,7 +49,7 @@ const THIRD: Tag = tagged!(Context, 3);
 
 const TREES: [TagTree<'static>; 2] = [TagTree::Leaf(THIRD), TagTree::Leaf(FIRST)];
 
-/// Whether tags are made, ordered and looked for in a tree.
+/// Whether tags are made, ordered and found in a tree.
 fn are_tags() -> bool {
     let tree = TagTree::Choice(&TREES);
     Tag::new_context(1) == FIRST
@@ -63,7 +63,7 @@ fn are_tags() -> bool {
         && TagTree::empty() != tree
 }
 
-/// Whether places are listed, and a tag is looked up among them.
+/// Whether enumeration and choice indexes are listed, and a tag is looked up among them.
 fn are_places() -> bool {
     let places = Nest::places();
     if !is_place_table(places, Nest::variants(), &[]) {
@@ -74,7 +74,7 @@ fn are_places() -> bool {
     found == Some(1) && probe.count() <= 2 && probe.len() == 2
 }
 
-/// Whether bounds, sizes and values are made, told and met.
+/// Whether bounds, sizes and values are made, read and satisfied.
 fn are_bounds() -> bool {
     let value = Value::new(Bounded::const_new(0, 10));
     let size = Size::fixed(5);
@@ -101,7 +101,7 @@ fn are_constraints() -> bool {
         && Constraints::from(value).intersect(both).extensible()
 }
 
-/// Whether a table of two fields is counted and put to the test.
+/// Whether a table of two fields is counted and checked.
 fn are_fields() -> bool {
     let fields = [
         Field::new_required(0, FIRST, TagTree::Leaf(FIRST), "first"),

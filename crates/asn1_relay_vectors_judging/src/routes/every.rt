@@ -8,20 +8,20 @@ use std::alloc::{AllocError, Global};
 /// How many samples of a pair are sent.
 const SAMPLES: usize = 4;
 
-/// How many hops a list has, and how many such lists there are.
+/// The length of a list of hops, and the number of such lists.
 const LISTS: [(usize, usize); 3] = [(1, 12), (2, 144), (3, 1728)];
 
-/// The versions that a hop may know.
+/// The versions of a hop.
 const VERSIONS: [Version; 2] = [Version::Old, Version::New];
 
-/// How many hops there are: one for each version and each set of rules.
+/// The number of different hops: one for each version and each set of rules.
 const KINDS: usize = 12;
 
-/// The samples of a pair, from each set of rules, arrive by every list of hops as their values foretell.
+/// The samples of a pair, in each set of rules, must arrive by every list of hops as their values predict.
 ///
 /// # Errors
 ///
-/// `Otherwise` where they do not, `NoSample` where the pair has none, and `Memory` for want of memory.
+/// `Otherwise` if they do not, `NoSample` if the pair has none, and `Memory` if memory runs out.
 pub fn judge_every(alloc: Global, of: &dyn Versions) -> Verdict {
     for place in 0..SAMPLES {
         for from in CODECS {
@@ -47,7 +47,7 @@ pub fn judge_every(alloc: Global, of: &dyn Versions) -> Verdict {
     Ok(())
 }
 
-/// So many hops, of which the digits of a number tell the kinds.
+/// A list of `count` hops; the digits of `number` select them.
 fn hops_of(alloc: Global, count: usize, number: usize) -> Result<Vec<Hop>, LineError> {
     let mut hops = Vec::new(alloc);
     let mut rest = number;

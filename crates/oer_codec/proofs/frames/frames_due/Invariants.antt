@@ -3,7 +3,7 @@ use Rattle.oer_codec.specs.declared.frames.Frame.{Frame}
 use Rattle.oer_codec.specs.Scopes.{owing}
 use Rattle.oer_codec.proofs.frames.frames_due.Given as goal
 
--- what is due of the frames that were passed, and of the others, is what is due of all
+-- what is due in the visited frames and in the others is what is due in all
 abbrev pub invariant-loop-frame : goal.invariant-loop-frame
 invariant-loop-frame l =
     ((fs : List Frame) → min (l.due + owing (drop l.frame-index l.frames ++ fs)) (2 ^ 64 - 1) ≡ min (owing (l.frames ++ fs)) (2 ^ 64 - 1))
