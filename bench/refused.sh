@@ -4,14 +4,14 @@
 #
 #   bench/refused.sh [PACKAGE..]
 #
-# With N from 1 on, all tests of a package are run with the Nth request of each refused. The tests named refused_* and
-# want_of_memory* have to pass each time. A package without such a test is an error, because nothing would be checked. A
-# test ample_X makes the same requests as refused_X, and fails if one was refused. A package is done with the first N
-# from which on, twice in a row, all of its ample_* tests pass, or all of its tests if it has none. So refused_X has
-# then met each request of ample_X. The requests of a test before its call count as its requests too. Tests of other
-# names are run too, but are not checked if there are ample_* tests: those of asn1_relay_tests_memory that take all
-# memory fail here, because a sanitizer's heap has no limit. Each run builds the tests anew, which takes a minute and a
-# half of a processor in a package of the relay. Nothing is proved.
+# With N from 1 on, all tests of a package are run with the Nth request of each refused. The tests named refused_* have
+# to pass each time. A package without such a test is an error, because nothing would be checked. A test ample_X makes
+# the same requests as refused_X, and fails if one was refused. A package is done with the first N from which on, twice
+# in a row, all of its ample_* tests pass, or all of its tests if it has none. So refused_X has then met each request of
+# ample_X. The requests of a test before its call count as its requests too. Tests of other names are run too, but are
+# not checked if there are ample_* tests: those of asn1_relay_tests_memory that take all memory fail here, because a
+# sanitizer's heap has no limit. Each run builds the tests anew, which takes a minute and a half of a processor in a
+# package of the relay. Nothing is proved.
 #
 #   RT     the command that runs them, if it is not rt
 #   JOBS   the number of parallel runs, if it is not one
@@ -31,11 +31,11 @@ is_right() {
         tail -5 "$logs/$1"
         return 1
     fi
-    if ! grep -Eq '^test ([a-z0-9_]+::)*(refused_|want_of_memory)[a-z0-9_]* \.\.\. ' "$logs/$1"; then
-        echo "$package: no test refused_* or want_of_memory*, so nothing is judged"
+    if ! grep -Eq '^test ([a-z0-9_]+::)*refused_[a-z0-9_]* \.\.\. ' "$logs/$1"; then
+        echo "$package: no test refused_*, so nothing is judged"
         return 1
     fi
-    if grep -E '^test ([a-z0-9_]+::)*(refused_|want_of_memory)[a-z0-9_]* \.\.\. ' "$logs/$1" | grep -v ' \.\.\. ok$'; then
+    if grep -E '^test ([a-z0-9_]+::)*refused_[a-z0-9_]* \.\.\. ' "$logs/$1" | grep -v ' \.\.\. ok$'; then
         echo "$package: wrong where request $1 is refused"
         return 1
     fi

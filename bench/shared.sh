@@ -55,11 +55,11 @@ make_package() {
 
 # The packages below the types of «Types» and «Kinds», those of «Scalars», constraints of these, and the codecs.
 schema='asn1_model asn1_schema_authored asn1_schema_constraints asn1_schema_constructed asn1_schema_decode asn1_schema_encode'
-schema="$schema asn1_schema_faults asn1_schema_presented asn1_schema_tags asn1_schema_types asn1_schema_variants asn1_schema_wrapped asn1_values_octets"
+schema="$schema asn1_schema_errors asn1_schema_laws asn1_schema_tags asn1_schema_types asn1_schema_tags asn1_schema_wrapped asn1_values_octets"
 scalars='asn1_schema_example asn1_values_bit_strings asn1_values_identifiers asn1_values_integers asn1_values_octets'
 scalars="$scalars asn1_values_strings"
-constraints='asn1_model asn1_schema_constraints asn1_schema_presented asn1_schema_types asn1_schema_wrapped'
-codecs='asn1_schema_decode asn1_schema_encode asn1_schema_faults oer_codec per_codec'
+constraints='asn1_model asn1_schema_constraints asn1_schema_laws asn1_schema_types asn1_schema_wrapped'
+codecs='asn1_schema_decode asn1_schema_encode asn1_schema_errors oer_codec per_codec'
 
 # make_bench_common, make_bench_rules, make_types_bench, make_scalars_bench, make_kinds_types, make_kinds_bench,
 # make_kinds_recode: the packages with these names.
@@ -80,7 +80,7 @@ make_kinds_types() {
     make_package kinds_types "$schema bench_common" lib=kinds/types.in added=kinds/added.in grown=kinds/grown.in made=kinds/made.in pick=kinds/pick.in
 }
 make_kinds_bench() {
-    make_package kinds_bench "kinds_types bench_common bench_rules asn1_schema_decode asn1_schema_encode asn1_schema_faults anyhow" main=kinds/main.in
+    make_package kinds_bench "kinds_types bench_common bench_rules asn1_schema_decode asn1_schema_encode asn1_schema_errors anyhow" main=kinds/main.in
 }
 make_kinds_recode() {
     make_package kinds_recode "kinds_types bench_common asn1_relay_core asn1_schema_decode asn1_schema_encode anyhow" main=kinds/recode.in

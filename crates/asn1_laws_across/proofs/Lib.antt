@@ -6,11 +6,14 @@ pub mod Rigid
 pub mod PerRigid
 pub mod OerRigid
 pub mod OfRigid
+pub mod OwnWidth
 pub mod InOrder
+pub mod Narrowed
 pub mod Orders
 pub mod Sorted
 pub mod Gives
 pub mod Bags
+pub mod OneText
 pub mod PerGives
 pub mod OerGives
 pub mod Canonical

@@ -1,5 +1,6 @@
 pub mod Rigid
 pub mod InOrder
+pub mod OwnWidth
 pub mod Laws
 pub mod OrderLaws
 pub mod Streams

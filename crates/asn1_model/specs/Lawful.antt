@@ -16,7 +16,7 @@ use Rattle.asn1_model.specs.Schema.{sequence_of, set_of, sequence, set, group, c
 use Rattle.asn1_model.specs.Schema.{component, Alternatives, no_alternative, alternative}
 use Rattle.asn1_model.specs.Numbers.{is_at_most, is_within, is_count_within, admits}
 use Rattle.asn1_model.specs.Strings.{is_octet, may_hold, is_of_octets, is_identifier}
-use Rattle.asn1_model.specs.Normal.{item_place, is_required}
+use Rattle.asn1_model.specs.Normal.{item_index, is_required}
 
 abbrev pub member_count : Values → ℕ
 member_count no_more = 0
@@ -28,7 +28,7 @@ unfoldable mutual
   is_of boolean (truth b) = true
   is_of null nothing = true
   is_of (integer b held) (number v) = is_within held v && (b.extensible || is_within b.range v)
-  is_of (enumerated roots e adds) (item v) = is_some (item_place v roots) || (e && is_some (item_place v adds))
+  is_of (enumerated roots e adds) (item v) = is_some (item_index v roots) || (e && is_some (item_index v adds))
   is_of (bit_string z held) (bit_list bs) = admits z held (length bs)
   is_of (octet_string z held) (octet_list os) = list_all is_octet os && admits z held (length os)
   is_of (character_string k z a held) (text cs) =

@@ -54,9 +54,9 @@ abbrev pub is_group_left_out : Schema → Value → Bool
 is_group_left_out s v = is_empty_group s (normal s v)
 
 -- The index of an item among the numbers of a table, from 0 (X.691 14).
-abbrev pub item_place : ℤ → List ℤ → Option ℕ
-item_place v [] = None
-item_place v (d ∷ ds) = cond (same_number v d) (Some zero) (option_map suc (item_place v ds))
+abbrev pub item_index : ℤ → List ℤ → Option ℕ
+item_index v [] = None
+item_index v (d ∷ ds) = cond (same_number v d) (Some zero) (option_map suc (item_index v ds))
 
 -- Whether there is a value constraint.
 abbrev pub is_bounded : Bounds → Bool

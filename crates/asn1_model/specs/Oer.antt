@@ -19,7 +19,7 @@ pub use Rattle.asn1_model.specs.Form.{empty_bit_string, any_unused_bits, long_ta
 pub use Rattle.asn1_model.specs.Form.{other_bitmap, empty_bitmap, octets_behind, other_order}
 use Rattle.asn1_model.specs.Strings.{may_hold, identifier_octets, is_identifier, is_octet, groups_of_seven}
 use Rattle.std.specs.List.{list_all}
-use Rattle.asn1_model.specs.Normal.{is_bounded, item_place, is_required, presence_bits}
+use Rattle.asn1_model.specs.Normal.{is_bounded, item_index, is_required, presence_bits}
 unfoldable pub use Rattle.asn1_model.specs.Normal.{spelled}
 
 abbrev pub OctetForm : Type 0
@@ -188,7 +188,7 @@ unfoldable mutual
   form null nothing = exactly []
   form (integer b held) (number v) = integer_form b held v
   form (enumerated roots e adds) (item v) =
-      only_if (is_some (item_place v roots) || (e && is_some (item_place v adds))) (item_form v)
+      only_if (is_some (item_index v roots) || (e && is_some (item_index v adds))) (item_form v)
   form (bit_string z held) (bit_list bs) = only_if (admits z held (length bs)) (bit_string_form (is_fixed z) bs)
   form (octet_string z held) (octet_list os) = only_if (admits z held (length os)) (octets_form (is_fixed z) os)
   form (character_string k z a held) (text cs) =

@@ -22,7 +22,7 @@ pub use Rattle.asn1_model.specs.Form.{root_told_outside, long_small_number, defa
 pub use Rattle.asn1_model.specs.Form.{other_bitmap, empty_bitmap, octets_behind, other_order}
 use Rattle.asn1_model.specs.Strings.{Run, permitted, how_many, largest, place_of, may_hold, is_of_octets}
 use Rattle.asn1_model.specs.Strings.{identifier_octets, is_identifier, is_octet}
-use Rattle.asn1_model.specs.Normal.{is_bounded, item_place, is_required, presence_bits, alternative_count}
+use Rattle.asn1_model.specs.Normal.{is_bounded, item_index, is_required, presence_bits, alternative_count}
 unfoldable pub use Rattle.asn1_model.specs.Normal.{spelled}
 
 abbrev pub BitForm : Type 0
@@ -265,7 +265,7 @@ unfoldable mutual
   form al boolean (truth b) = exactly (b ∷ [])
   form al null nothing = exactly []
   form al (integer b held) (number v) = integer_form al b held v
-  form al (enumerated roots e adds) (item v) = item_form al (length roots) e (item_place v roots) (item_place v adds)
+  form al (enumerated roots e adds) (item v) = item_form al (length roots) e (item_index v roots) (item_index v adds)
   form al (bit_string z held) (bit_list bs) = sized al z held (string_has_padding 1 (length bs)) (bit_units bs)
   form al (octet_string z held) (octet_list os) =
       only_if (list_all is_octet os) (sized al z held (string_has_padding 8 (length os)) (octet_units os))

@@ -8,7 +8,7 @@ use Rattle.asn1_model.specs.Schema.{Presence, required, optional, by_default, Sc
 use Rattle.asn1_model.specs.Schema.{enumerated, bit_string, octet_string, character_string, object_identifier}
 use Rattle.asn1_model.specs.Schema.{sequence_of, set_of, sequence, set, group, choice, Components, no_component}
 use Rattle.asn1_model.specs.Schema.{component, Alternatives, no_alternative, alternative}
-use Rattle.asn1_model.specs.Normal.{normal, item_place}
+use Rattle.asn1_model.specs.Normal.{normal, item_index}
 
 abbrev pub map_each : (Value → Option Value) → Values → Option Values
 map_each f no_more = Some no_more
@@ -31,7 +31,7 @@ unfoldable mutual
   -- None if it lacks an alternative or an item that is not inside a part that is left out.
   pub carried : Bool → Schema → Schema → Value → Option Value
   carried false (enumerated roots e adds) (enumerated roots' e' adds') (item v) =
-      cond (is_some (item_place v roots) || is_some (item_place v adds)) (Some (item v)) None
+      cond (is_some (item_index v roots) || is_some (item_index v adds)) (Some (item v)) None
   carried newer (sequence_of z h s) (sequence_of z' h' s') (members vs) =
       option_map members (map_each (λ v. carried newer s s' v) vs)
   carried newer (set_of z h s) (set_of z' h' s') (bag vs) = option_map bag (map_each (λ v. carried newer s s' v) vs)

@@ -231,7 +231,7 @@ fn limit_option<'a>(alloc: Global) -> Arg<'a>
     option(
         alloc,
         "limit",
-        "how many octets a message may have, from 1 to 4294967295",
+        "the maximum length of a message in octets, from 1 to 4294967295",
     )
     .value_parser(value_parser!(u32).range(1..))
 }
@@ -244,8 +244,8 @@ fn hop_option<'a>(alloc: Global) -> Arg<'a>
     option(
         alloc,
         "hop",
-        "a version and the rules in which the hop writes: old or new, a colon, and uper, aper, \
-         uper-strict, aper-strict, oer or coer; once or more",
+        "VERSION:RULES of a hop: VERSION is old or new, RULES are those in which it writes, uper, aper, \
+         uper-strict, aper-strict, oer or coer; may be repeated",
     )
     .action(ArgAction::Append)
 }
@@ -256,8 +256,8 @@ fn routing<'a>(alloc: Global) -> Result<Command<'a>, AllocError>
 {
     Command::new(alloc, "route")
         .about(
-            "Sends the message that is all of standard input from hop to hop, each of which knows a \
-             version of its type",
+            "Sends one message, all of standard input, from hop to hop; each hop knows one version of its \
+             type",
         )
         .arg(option(
             alloc,
@@ -279,12 +279,12 @@ fn grammar<'a>(alloc: Global) -> Result<Command<'a>, AllocError>
     let once = translating(
         alloc,
         "once",
-        "Translates the message that is all of standard input",
+        "Translates one message, all of standard input",
     )?;
     let stream = translating(
         alloc,
         "stream",
-        "Translates the messages that are strung together in standard input",
+        "Translates a stream of messages from standard input",
     )?
     .arg(limit_option(alloc))?;
     let route = routing(alloc)?;

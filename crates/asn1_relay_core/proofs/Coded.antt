@@ -7,11 +7,11 @@ use Rattle.asn1_model.specs.Value.{Value, depth}
 use Rattle.asn1_model.specs.Lawful.{IsLawful}
 use Rattle.asn1_model.specs.Rules.{Rules, canonical, encoding, of_moderate_length, IsEncoding}
 use Rattle.asn1_laws_values.proofs.Normal.{normal_depth}
-use Rattle.asn1_schema_faults.specs.declared.DecodeError.{DecodeError}
-use Rattle.asn1_schema_faults.specs.declared.DecodeError.TheVariants as Decoding
-use Rattle.asn1_schema_faults.specs.declared.EncodeError.{EncodeError}
-use Rattle.asn1_schema_faults.specs.declared.EncodeError.TheVariants as Encoding
-use Rattle.asn1_schema_presented.specs.Tables.{IsValue}
+use Rattle.asn1_schema_errors.specs.declared.DecodeError.{DecodeError}
+use Rattle.asn1_schema_errors.specs.declared.DecodeError.TheVariants as Decoding
+use Rattle.asn1_schema_errors.specs.declared.EncodeError.{EncodeError}
+use Rattle.asn1_schema_errors.specs.declared.EncodeError.TheVariants as Encoding
+use Rattle.asn1_schema_laws.specs.Tables.{IsValue}
 use Rattle.asn1_schema_decode.specs.Messages.{HasMessage, Tells, NoMessage}
 use Rattle.asn1_relay_core.specs.declared.codec.Codec.{Codec}
 use Rattle.asn1_relay_core.specs.declared.translation.RecodeFault.{RecodeFault}

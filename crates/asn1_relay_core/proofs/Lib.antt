@@ -8,3 +8,4 @@ pub mod Known
 pub mod Outcomes
 pub mod Canonical
 pub mod OlderRelays
+mod Strictly

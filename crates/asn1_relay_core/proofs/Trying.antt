@@ -6,9 +6,9 @@ use Rattle.std.proofs.lemmas.List.{length-append, length-take-le, take-append-dr
 use Rattle.asn1_model.specs.Schema.{Schema}
 use Rattle.asn1_model.specs.Value.{Value}
 use Rattle.asn1_model.specs.Rules.{Rules, IsEncoding}
-use Rattle.asn1_schema_presented.specs.Tables.{IsValue}
-use Rattle.asn1_schema_faults.specs.declared.DecodeError.{DecodeError}
-use Rattle.asn1_schema_faults.specs.declared.DecodeError.TheVariants as Decoding
+use Rattle.asn1_schema_laws.specs.Tables.{IsValue}
+use Rattle.asn1_schema_errors.specs.declared.DecodeError.{DecodeError}
+use Rattle.asn1_schema_errors.specs.declared.DecodeError.TheVariants as Decoding
 use Rattle.asn1_schema_decode.specs.Messages.{NeedsMore, HasMessage, Tells, NoMessage}
 use Rattle.asn1_laws_across.specs.Streams.{Message, IsMessageWithin, HasNoMessage}
 use Rattle.asn1_laws_across.specs.Relayed.{Stop, no_target, empty_message, none_within_limit, HasEmptyMessage, BeginsWith, StopsAt}

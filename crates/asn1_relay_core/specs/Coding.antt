@@ -3,9 +3,9 @@ use Rattle.std.specs.Prelude.{ℕ, List, [], ◌∷◌, Option}
 use Rattle.asn1_model.specs.Schema.{Schema}
 use Rattle.asn1_model.specs.Value.{Value}
 use Rattle.asn1_model.specs.Rules.{Rules, uper, aper, uper_strict, aper_strict, oer, coer}
-use Rattle.asn1_schema_faults.specs.declared.CodecKind.{CodecKind}
-use Rattle.asn1_schema_faults.specs.declared.CodecKind.TheVariants as Kind
-use Rattle.asn1_schema_faults.specs.declared.EncodeError.{EncodeError}
+use Rattle.asn1_schema_errors.specs.declared.CodecKind.{CodecKind}
+use Rattle.asn1_schema_errors.specs.declared.CodecKind.TheVariants as Kind
+use Rattle.asn1_schema_errors.specs.declared.EncodeError.{EncodeError}
 use Rattle.asn1_schema_encode.specs.Written.{IsWrittenIn, NotWrittenIn}
 use Rattle.asn1_relay_core.specs.declared.codec.Codec.{Codec}
 use Rattle.asn1_relay_core.specs.declared.codec.Codec.TheVariants.{Uper, Aper, UperStrict, AperStrict, Oer, Coer}

@@ -4,8 +4,8 @@ use Rattle.asn1_model.specs.Schema.{Schema}
 use Rattle.asn1_model.specs.Value.{Value}
 use Rattle.asn1_model.specs.Rules.{Rules, canonical}
 use Rattle.asn1_laws_across.specs.Streams.{Message, IsMessageWithin, HasNoMessage}
-use Rattle.asn1_schema_faults.specs.declared.DecodeError.{DecodeError}
-use Rattle.asn1_schema_faults.specs.declared.DecodeError.TheVariants as Decoding
+use Rattle.asn1_schema_errors.specs.declared.DecodeError.{DecodeError}
+use Rattle.asn1_schema_errors.specs.declared.DecodeError.TheVariants as Decoding
 use Rattle.asn1_laws_across.specs.Relayed.{Stop, HasEmptyMessage, StopsAt}
 use Rattle.asn1_relay_core.specs.declared.fault.RelayFaultKind.{RelayFaultKind}
 use Rattle.asn1_relay_core.specs.declared.fault.RelayFaultKind.TheVariants as kind

@@ -7,3 +7,4 @@ pub mod Memory
 pub mod Running
 pub mod Routing
 pub mod OlderRelays
+pub mod Strictly

@@ -4,8 +4,8 @@ use Rattle.std.specs.Prelude.{Option, Some, None, option_map, Result, Ok, Err, V
 use Rattle.asn1_model.specs.Schema.{Schema}
 use Rattle.asn1_model.specs.Rules.{Rules, canonical}
 use Rattle.asn1_model.specs.Value.{Value}
-use Rattle.asn1_schema_faults.specs.declared.DecodeError.TheVariants as Decoding
-use Rattle.asn1_schema_faults.specs.declared.EncodeError.TheVariants as Encoding
+use Rattle.asn1_schema_errors.specs.declared.DecodeError.TheVariants as Decoding
+use Rattle.asn1_schema_errors.specs.declared.EncodeError.TheVariants as Encoding
 use Rattle.asn1_laws_versions.specs.Answers.{Answer, answered, not_an_encoding, surplus, no_target}
 use Rattle.asn1_laws_versions.specs.Routes as Model
 use Rattle.asn1_laws_versions.specs.Routes.{HopAnswers, Arrives, RefusesAt}

@@ -2,10 +2,11 @@
 ghost use Rattle.std.specs.Prelude.{◌≡◌, List, ℕ, Some, IfOk, IfErr};
 ghost use Rattle.asn1_schema_decode.specs.Messages.{NeedsMore, NoMessage, Tells};
 ghost use Rattle.asn1_relay_core.specs.Coding.{rules_of, kind_of, IsWritten, NotWritten};
+ghost use Rattle.asn1_schema_encode.specs.Written.{IsOfValue};
 
 use asn1_schema_decode::{Decode, Refusal};
 use asn1_schema_encode::Encode;
-use asn1_schema_faults::{CodecKind, DecodeError, EncodeError};
+use asn1_schema_errors::{CodecKind, DecodeError, EncodeError};
 use oer_codec::{coer, oer};
 use per_codec::{aper, aper_strict, uper, uper_strict};
 use std::alloc::Global;
@@ -53,9 +54,7 @@ impl Codec {
         ensures ok { IfOk result
             (λ octets. IsWritten (rules_of self) T.schema (T.meaning value.now) (Some octets.items)) }
         ensures only { IfErr result (NotWritten (rules_of self) T.schema (T.meaning value.now)) }
-        ensures fresh { IfErr result (λ e. e ≡ EncodeError.AlreadyFailed → ⊥) }
-        ensures in_place { IfErr result (λ e. e ≡ EncodeError.CallOutOfPlace → ⊥) }
-        ensures fits { IfErr result (λ e. e ≡ EncodeError.LengthExceedsPlatformSize → ⊥) }
+        ensures kinds { IfErr result IsOfValue }
     {
         let octets = match self {
             Codec::Uper | Codec::UperStrict => uper::encode(alloc, value)?,

@@ -17,7 +17,7 @@ mod running;
 mod standard;
 mod translation;
 
-pub use asn1_schema_faults::{CodecKind, DecodeError, EncodeError};
+pub use asn1_schema_errors::{CodecKind, DecodeError, EncodeError};
 pub use asn1_schema_types::Extends;
 pub use codec::Codec;
 pub use ends::{ReadFailed, Sink, Source, WriteFailed};

@@ -3,11 +3,12 @@ ghost use Rattle.std.specs.Prelude.{◌≡◌, ◌⊎◌, None, Some, IfErr, IfS
 ghost use Rattle.asn1_relay_core.specs.Coding.{rules_of};
 ghost use Rattle.asn1_relay_core.specs.Recoding.{answer_of, Answer, IsAnswer, NamesMemoryAlone, NamesNoEarlierRefusal};
 ghost use Rattle.asn1_relay_core.specs.Recoding.{DetoursChangeNoAnswer, NamesNoMisplacedCall, NamesNoPlatformSize};
+ghost use Rattle.asn1_relay_core.specs.Strictly.{StrictIsReadCanonically};
 
 use crate::codec::Codec;
 use asn1_schema_decode::Decode;
 use asn1_schema_encode::Encode;
-use asn1_schema_faults::{DecodeError, EncodeError};
+use asn1_schema_errors::{DecodeError, EncodeError};
 use std::alloc::Global;
 use thiserror::Error;
 
@@ -61,6 +62,12 @@ impl From<EncodeError> for RecodeFault {
 /// rules, stays the same.
 pub fn detours_change_no_answer()
     ensures { DetoursChangeNoAnswer }
+{}
+
+/// A message that strict UPER, strict APER or COER reads is the canonical encoding of its value, if each bitmap of
+/// additions has the width of its type, the elements of each SET OF ascend, and, in COER, each bitmap has a bit set.
+pub fn strict_is_read_canonically()
+    ensures { StrictIsReadCanonically }
 {}
 
 /// Translates one message of the type `T`: the input must be exactly one encoding, by the rules `from`, of a value with

@@ -2,9 +2,9 @@
 use crate::assertions::assert_same;
 use asn1_schema_decode::{Decode, Decoder};
 use asn1_schema_encode::{Encode, Encoder};
+use asn1_schema_errors::{CodecKind, DecodeError, EncodeError};
 use asn1_schema_example::measure::Measure;
 use asn1_schema_example::setting::Setting;
-use asn1_schema_faults::{CodecKind, DecodeError, EncodeError};
 use asn1_schema_records::{Item, RecordDecoder, RecordEncoder};
 use asn1_values_integers::Integer;
 use std::alloc::Global;

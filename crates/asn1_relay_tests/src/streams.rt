@@ -343,6 +343,36 @@ fn reads_on<R: FrontReader<Integer> + Drop>(alloc: Global, reader: R) -> bool {
     }
 }
 
+/// Whether the octets in front are refused as not canonical, and left unread.
+fn is_refused<R: FrontReader<Integer> + Drop>(values: &mut Iter<Integer, R>) -> bool {
+    match values.next() {
+        Some(Err(error)) => {
+            error == DecodeError::NotValidCanonicalEncoding && values.unread_len() == 3
+        }
+        _ => false,
+    }
+}
+
+/// Whether a front reader takes 7 in two octets, where one is enough (X.691 11.8), or refuses them if it is strict.
+fn takes_spare<R: FrontReader<Integer> + Drop>(alloc: Global, reader: R, is_strict: bool) -> bool {
+    let Ok(mut values) = iter::<Integer, R>(alloc, reader, &[0x02, 0x00, 0x07]) else {
+        return false;
+    };
+    if is_strict {
+        return is_refused(&mut values);
+    }
+    is_next(&mut values, Some(7))
+}
+
+#[test]
+fn spare_octets(rt: HostRuntime) {
+    let alloc = rt.alloc();
+    assert!(rt; takes_spare(alloc, UperFront, false) && takes_spare(alloc, AperFront, false));
+    assert!(rt;
+        takes_spare(alloc, UperStrictFront, true) && takes_spare(alloc, AperStrictFront, true)
+    );
+}
+
 #[test]
 fn values_one_behind_the_other(rt: HostRuntime) {
     let alloc = rt.alloc();

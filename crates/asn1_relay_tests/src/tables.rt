@@ -10,9 +10,8 @@ use asn1_schema_example::gauge::Gauge;
 use asn1_schema_example::grown::Grown;
 use asn1_schema_example::measure::{Measure, Zero};
 use asn1_schema_example::power::Power;
-use asn1_schema_tags::Tag;
+use asn1_schema_tags::{Chosen, Enumerated, Tag};
 use asn1_schema_types::{AsnType, DefaultOf};
-use asn1_schema_variants::{Chosen, Enumerated};
 use asn1_values_integers::Integer;
 use std::test::Fail;
 
@@ -83,9 +82,9 @@ fn alternatives(rt: HostRuntime) {
 #[test]
 fn items(rt: HostRuntime) {
     let places = [
-        Answer::Yes.item_place(),
-        Answer::No.item_place(),
-        Colour::Blue.item_place(),
+        Answer::Yes.item_index(),
+        Answer::No.item_index(),
+        Colour::Blue.item_index(),
     ];
     let wanted = [Chosen::root(1), Chosen::root(0), Chosen::addition(0)];
     assert_same(&rt, &places, &wanted);

@@ -7,3 +7,4 @@ mod memory;
 mod runs;
 mod starving;
 mod values;
+mod waiting;

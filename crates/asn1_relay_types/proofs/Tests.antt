@@ -2,8 +2,8 @@
 use Rattle.std.proofs.Common.{◌≡◌, ℕ, Bool, true, false, Option, Some, None, refl}
 use Rattle.std.specs.Prelude.{not, is_some}
 use Rattle.asn1_model.specs.Value.{Value, truth, fields, end, absent, present, same, same_parts}
-use Rattle.asn1_schema_presented.specs.Presents.{with_part}
-use Rattle.asn1_schema_presented.specs.Parts.{part_of}
+use Rattle.asn1_schema_laws.specs.Presents.{with_part}
+use Rattle.asn1_schema_laws.specs.Parts.{part_of}
 use Rattle.asn1_relay_types.specs.Defaults.{true_and}
 
 -- of the older version

@@ -2,16 +2,16 @@
 use Rattle.std.specs.Prelude.{ℕ, true, List, [], ◌∷◌, refl}
 use Rattle.asn1_model.specs.Schema.{Tag, required, optional, Schema, boolean}
 use Rattle.asn1_model.specs.Value.{Value, truth, fields, Parts, end, absent, present}
-use Rattle.asn1_schema_presented.specs.Presents.{left_out, there}
-use Rattle.asn1_schema_presented.specs.Tables.{Fields, no_field, field, Table, sequence_type}
-use Rattle.asn1_schema_presented.specs.Typed.{IsDefault, IsPart, AreValues}
-use Rattle.asn1_schema_presented.proofs.TypesByKind.{boolean_type, boolean_value}
-use Rattle.asn1_schema_presented.proofs.Values.{more_values, part_required}
-use Rattle.asn1_schema_presented.proofs.Defaults.{boolean_default}
+use Rattle.asn1_schema_laws.specs.Presents.{left_out, there}
+use Rattle.asn1_schema_laws.specs.Tables.{Fields, no_field, field, Table, sequence_type}
+use Rattle.asn1_schema_laws.specs.Typed.{IsDefault, IsPart, AreValues}
+use Rattle.asn1_schema_laws.proofs.TypesByKind.{boolean_type, boolean_value}
+use Rattle.asn1_schema_laws.proofs.Values.{more_values, part_required}
+use Rattle.asn1_schema_laws.proofs.Defaults.{boolean_default}
 use Rattle.asn1_schema_types.proofs.SequenceDefaults.{AreDefaultParts, no_default_parts, more_default_parts}
 use Rattle.asn1_schema_types.proofs.SequenceDefaults.{sequence_default}
-use Rattle.asn1_schema_presented.specs.Additions.{AreAdditionValues}
-use Rattle.asn1_schema_presented.proofs.Additions.{no_addition_values, more_addition_values, extensible_values}
+use Rattle.asn1_schema_laws.specs.Additions.{AreAdditionValues}
+use Rattle.asn1_schema_laws.proofs.Additions.{no_addition_values, more_addition_values, extensible_values}
 use Rattle.asn1_relay_types.specs.Schemas.{universal}
 
 -- The tag of the BOOLEAN, and that of an addition.

@@ -281,7 +281,7 @@ impl<'a> Reading<'a> {
     fn goes_on(&self, of: &dyn Judged, least: usize, tries: &mut Tries) -> Verdict {
         for to in CODECS {
             let Ok(told) = self.front(of, to, part(self.octets, 0, least), tries) else {
-                return self.wrong(least, "refused, and then read");
+                return self.wrong(least, "rejected, and then decoded");
             };
             self.is_taken(&told, least, least)?;
             let wanted = match &told.encoded {
@@ -310,11 +310,11 @@ impl<'a> Reading<'a> {
             }
             tries.cuts = tries.cuts.saturating_add(1);
             let Ok(told) = self.front(of, to, part(self.octets, 0, *length), tries) else {
-                return self.wrong(*length, "refused, though a beginning is read");
+                return self.wrong(*length, "rejected, but a prefix is decoded");
             };
             self.is_taken(&told, least, *length)?;
             if !is_same(&told.encoded, encoded) {
-                return self.wrong(*length, "another value than that of a beginning");
+                return self.wrong(*length, "not the same value as for a shorter prefix");
             }
             self.is_recoded(of, to, *length, Err(RecodeFault::Surplus), tries)?;
         }
@@ -406,7 +406,7 @@ impl<'a> Reading<'a> {
     fn wrong(&self, length: usize, found: &str) -> Verdict {
         let from = self.from;
         let alloc = self.subject.alloc;
-        let found = format!(in alloc; "cut behind {length} octets, by {from:?}: {found}")?;
+        let found = format!(in alloc; "truncated after {length} octets, by {from:?}: {found}")?;
         Err(LineError::Otherwise(found))
     }
 }

@@ -12,13 +12,13 @@ use thiserror::Error;
 #[derive(Debug, Drop, Error)]
 pub enum LineError {
     /// It does not begin with the name of a type and a claim.
-    #[error("a line is a type, what is said of it, and a remark behind #")]
+    #[error("a line is a type, a claim about it, and an optional remark after #")]
     Form,
     /// A word is neither an octet nor a repeated octet.
-    #[error("octets are two hexadecimal digits each, and NN*COUNT for many of one")]
+    #[error("octets have two hexadecimal digits each; NN*COUNT repeats one")]
     Octets,
     /// A word is not the name of a set of rules.
-    #[error("rules are uper, aper, uper-strict, aper-strict, oer and coer, with a comma between two of them")]
+    #[error("rules are uper, aper, uper-strict, aper-strict, oer and coer, separated by commas")]
     Rules,
     /// The text after the name of a type is not a constraint.
     #[error("constraints are (0..255), (SIZE(1..3)) and (FROM(\"01\")), with ,... at the end for an extension marker")]

@@ -7,8 +7,8 @@ use Rattle.asn1_schema_constructed.specs.Bags.{bag_type}
 use Rattle.asn1_schema_constructed.specs.Recursive.{recursive_choice}
 use Rattle.asn1_schema_constructed.specs.Tables.{alternatives_at, choice_type}
 use Rattle.asn1_relay_types.specs.Nest.{nest_schema}
-use Rattle.asn1_schema_presented.specs.Additions.{group_type}
-use Rattle.asn1_schema_presented.specs.Tables.{Table, scope, list_type}
+use Rattle.asn1_schema_laws.specs.Additions.{group_type}
+use Rattle.asn1_schema_laws.specs.Tables.{Table, scope, list_type}
 use Rattle.asn1_schema_types.specs.Versions.{Unfolds}
 use Rattle.asn1_schema_authored.proofs.Unfolding.{FieldsUnfold, constant_unfolds}
 

@@ -1,7 +1,7 @@
 //! Sequences with an extension marker.
 ghost use Rattle.std.specs.Prelude.{refl, [], ◌∷◌};
 ghost use Rattle.asn1_model.specs.Value.{fields};
-ghost use Rattle.asn1_schema_presented.proofs.Values.{type_sequence, value_sequence};
+ghost use Rattle.asn1_schema_laws.proofs.Values.{type_sequence, value_sequence};
 
 use crate::listed::{Listed, Sequence};
 use crate::sequences::Tagged;

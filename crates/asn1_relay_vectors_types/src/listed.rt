@@ -4,12 +4,13 @@ ghost use Rattle.asn1_model.specs.Value.{Value};
 ghost use Rattle.asn1_schema_constraints.specs.Terms.{no_constraint};
 ghost use Rattle.asn1_schema_decode.specs.Reads.{Reads, Unread};
 ghost use Rattle.asn1_schema_encode.specs.Writes.{CannotWrite, Writes};
-ghost use Rattle.asn1_schema_presented.specs.Tables.{IsType, IsValue, Table, sequence_type};
+ghost use Rattle.asn1_schema_laws.specs.Tables.{IsType, IsValue, Table, sequence_type};
+ghost use Rattle.asn1_schema_errors.specs.Calls.{DecoderCall, EncoderCall};
 
 use asn1_schema_constraints::Constraints;
 use asn1_schema_decode::{Decode, Decoder};
 use asn1_schema_encode::{Encode, Encoder};
-use asn1_schema_faults::{DecodeError, EncodeError};
+use asn1_schema_errors::{DecodeError, EncodeError};
 use asn1_schema_tags::{Tag, TagTree};
 use asn1_schema_types::{AsnType, Described};
 use std::alloc::Global;
@@ -32,10 +33,7 @@ pub trait Listed: Drop {
     fn write<E: Encoder>(&self, encoder: &mut E, tag: Tag) -> Result<(), EncodeError>
         ensures ok { OnOk result (Writes E.step (sequence_type form) (value self.now) encoder.old encoder.new) }
         ensures only { IfErr result (CannotWrite E.step (sequence_type form) (value self.now) encoder.old) }
-        ensures failed { OnErr result (E.has_failed encoder.new) }
-        ensures front { E.front encoder.new ≡ E.front encoder.old }
-        ensures already { E.has_failed encoder.old → result ≡ Err EncodeError.AlreadyFailed }
-        ensures after { result ≡ Err EncodeError.AlreadyFailed → E.has_failed encoder.old };
+        ensures call { EncoderCall E.has_failed E.front encoder.old encoder.new result };
 
     /// Decodes the sequence.
     fn read<D: Decoder>(alloc: Global, decoder: &mut D, tag: Tag) -> Result<Self, DecodeError>
@@ -44,9 +42,7 @@ pub trait Listed: Drop {
         ensures level { OnOk result (D.levels decoder.new ≡ D.levels decoder.old) }
         ensures only { IfErr result
             (Unread D.step D.too_few (sequence_type form) (D.levels decoder.old) decoder.old decoder.new) }
-        ensures failed { OnErr result (D.has_failed decoder.new) }
-        ensures already { D.has_failed decoder.old → result ≡ Err DecodeError.AlreadyFailed }
-        ensures after { result ≡ Err DecodeError.AlreadyFailed → D.has_failed decoder.old };
+        ensures call { DecoderCall D.has_failed decoder.old decoder.new result };
 }
 
 /// A sequence of these components (X.680 25).

@@ -1,8 +1,8 @@
 //! Sequences without an extension marker.
 ghost use Rattle.std.specs.Prelude.{refl, pos, [], ◌∷◌};
 ghost use Rattle.asn1_model.specs.Value.{fields, number};
-ghost use Rattle.asn1_schema_presented.proofs.Defaults.{integer_default};
-ghost use Rattle.asn1_schema_presented.proofs.Values.{type_sequence, value_sequence};
+ghost use Rattle.asn1_schema_laws.proofs.Defaults.{integer_default};
+ghost use Rattle.asn1_schema_laws.proofs.Values.{type_sequence, value_sequence};
 
 use crate::listed::{Listed, Sequence};
 use crate::sizes::{ListOfOneOrTwo, ThreeOctets};

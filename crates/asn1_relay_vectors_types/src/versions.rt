@@ -5,7 +5,7 @@ ghost use Rattle.asn1_schema.proofs.Author.{constant_unfolds, default_gains, fie
 ghost use Rattle.asn1_schema.proofs.Author.{grown_field, no_fields, no_fields_unfold, same_tags, sequence_extends};
 ghost use Rattle.asn1_schema.proofs.Author.{sequence_unfolds, set_gains_additions, set_of, set_tag, set_unfolds};
 ghost use Rattle.asn1_schema.proofs.Author.{type_sequence, value_sequence};
-ghost use Rattle.asn1_schema_presented.specs.Tables.{no_field};
+ghost use Rattle.asn1_schema_laws.specs.Tables.{no_field};
 ghost use Rattle.asn1_relay_types.specs.Defaults.{flag_table, new_true_stands, old_true_stands, one_optional};
 ghost use Rattle.asn1_relay_vectors_types.specs.Growing.{bag_extends, boolean_stays, group_extends, optional_stays};
 ghost use Rattle.asn1_relay_vectors_types.specs.Growing.{required_stays};

@@ -32,20 +32,20 @@ pub use Rattle.asn1_schema_encode.proofs.Going.{failed_before_part, failed_befor
 pub use Rattle.asn1_schema_encode.proofs.Writing.{cannot_as, cannot_end, cannot_field, cannot_field_here}
 pub use Rattle.asn1_schema_encode.proofs.Writing.{cannot_required, cannot_this, cannot_this_here, writes_as}
 pub use Rattle.asn1_schema_encode.proofs.Writing.{writes_end, writes_field, writes_required, writes_this}
-pub use Rattle.asn1_schema_presented.proofs.Chains.{failed_before}
-pub use Rattle.asn1_schema_presented.proofs.Defaults.{bit_string_default, boolean_default, character_string_default}
-pub use Rattle.asn1_schema_presented.proofs.Defaults.{identifier_default, integer_default, null_default}
-pub use Rattle.asn1_schema_presented.proofs.Defaults.{octet_string_default}
-pub use Rattle.asn1_schema_presented.proofs.Joined.{raised}
-pub use Rattle.asn1_schema_presented.proofs.Recursive.{part_absent, part_there, recursive_type, value_as}
-pub use Rattle.asn1_schema_presented.proofs.TypesByKind.{bit_string_type, bit_string_value, boolean_type, boolean_value}
-pub use Rattle.asn1_schema_presented.proofs.TypesByKind.{character_string_type, character_string_value}
-pub use Rattle.asn1_schema_presented.proofs.TypesByKind.{identifier_type, identifier_value, integer_type, integer_value}
-pub use Rattle.asn1_schema_presented.proofs.TypesByKind.{null_type, null_value, octet_string_type, octet_string_value}
-pub use Rattle.asn1_schema_presented.proofs.TypesByKind.{type_list, value_list}
-pub use Rattle.asn1_schema_presented.proofs.Values.{more_types, more_values, no_types, no_values, part_optional}
-pub use Rattle.asn1_schema_presented.proofs.Values.{part_required, type_sequence, value_sequence}
-pub use Rattle.asn1_schema_variants.proofs.Distinct.{one_number_of}
+pub use Rattle.asn1_schema_laws.proofs.Chains.{failed_before}
+pub use Rattle.asn1_schema_laws.proofs.Defaults.{bit_string_default, boolean_default, character_string_default}
+pub use Rattle.asn1_schema_laws.proofs.Defaults.{identifier_default, integer_default, null_default}
+pub use Rattle.asn1_schema_laws.proofs.Defaults.{octet_string_default}
+pub use Rattle.asn1_schema_laws.proofs.Joined.{raised}
+pub use Rattle.asn1_schema_laws.proofs.Recursive.{part_absent, part_there, recursive_type, value_as}
+pub use Rattle.asn1_schema_laws.proofs.TypesByKind.{bit_string_type, bit_string_value, boolean_type, boolean_value}
+pub use Rattle.asn1_schema_laws.proofs.TypesByKind.{character_string_type, character_string_value}
+pub use Rattle.asn1_schema_laws.proofs.TypesByKind.{identifier_type, identifier_value, integer_type, integer_value}
+pub use Rattle.asn1_schema_laws.proofs.TypesByKind.{null_type, null_value, octet_string_type, octet_string_value}
+pub use Rattle.asn1_schema_laws.proofs.TypesByKind.{type_list, value_list}
+pub use Rattle.asn1_schema_laws.proofs.Values.{more_types, more_values, no_types, no_values, part_optional}
+pub use Rattle.asn1_schema_laws.proofs.Values.{part_required, type_sequence, value_sequence}
+pub use Rattle.asn1_schema_tags.proofs.Distinct.{one_number_of}
 pub use Rattle.asn1_schema_tags.proofs.TreeLaws.{leaves_choice, leaves_leaf, own_tag_choice, own_tag_leaf}
 pub use Rattle.asn1_schema_constructed.proofs.Types.{recursive_choice_type}
 pub use Rattle.asn1_schema_constructed.proofs.ChoiceReading.{reads_begun, unread_begun, unread_begun_end, unread_begun_here}

@@ -18,17 +18,17 @@ pub use Rattle.asn1_schema_authored.specs.Shapes.{IsHeading, Shape, shape_throug
 pub use Rattle.asn1_schema_constructed.specs.Tables.{no_variant, variant}
 unfoldable pub use Rattle.asn1_schema_constructed.specs.Tables.{choice_type}
 pub use Rattle.asn1_schema_decode.specs.Reads.{Reads, Unread}
-pub use Rattle.asn1_schema_presented.specs.Parts.{part_of, values_of}
-pub use Rattle.asn1_schema_presented.specs.Presents.{Part, left_out, there, with_part}
-unfoldable pub use Rattle.asn1_schema_presented.specs.Recursive.{recursive_sequence}
-pub use Rattle.asn1_schema_presented.specs.Tables.{IsType, IsValue, Table, no_field, no_table, with_field}
-unfoldable pub use Rattle.asn1_schema_presented.specs.Tables.{components_at, list_type, scope, sequence_type}
-pub use Rattle.asn1_schema_presented.specs.Typed.{IsPart}
+pub use Rattle.asn1_schema_laws.specs.Parts.{part_of, values_of}
+pub use Rattle.asn1_schema_laws.specs.Presents.{Part, left_out, there, with_part}
+unfoldable pub use Rattle.asn1_schema_laws.specs.Recursive.{recursive_sequence}
+pub use Rattle.asn1_schema_laws.specs.Tables.{IsType, IsValue, Table, no_field, no_table, with_field}
+unfoldable pub use Rattle.asn1_schema_laws.specs.Tables.{components_at, list_type, scope, sequence_type}
+pub use Rattle.asn1_schema_laws.specs.Typed.{IsPart}
 pub use Rattle.asn1_schema_types.specs.Counts.{any_number_held, fixed_to}
 unfoldable pub use Rattle.asn1_model.specs.Tidy.{is_tidy}
 pub use Rattle.asn1_model.specs.Value.{chosen}
 pub use Rattle.asn1_model.specs.Schema.{null}
-pub use Rattle.asn1_schema_variants.specs.declared.chosen.Chosen.{Chosen}
+pub use Rattle.asn1_schema_tags.specs.declared.chosen.Chosen.{Chosen}
 unfoldable pub use Rattle.asn1_schema_constructed.specs.Tables.{alternatives_at}
 pub use Rattle.asn1_schema_constructed.specs.Tables.{Choices}
 pub use Rattle.asn1_schema_constructed.specs.Chosen.{IsAmong}

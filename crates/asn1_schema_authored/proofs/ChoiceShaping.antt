@@ -5,10 +5,10 @@ use Rattle.asn1_model.specs.Schema.{Tag, Schema}
 use Rattle.asn1_model.specs.Types.{context}
 use Rattle.asn1_model.specs.Value.{Value}
 use Rattle.asn1_model.specs.Lawful.{are_tags}
-use Rattle.asn1_schema_presented.specs.Tables.{IsValue}
-use Rattle.asn1_schema_presented.proofs.Beginnings.{all_tags_begin}
+use Rattle.asn1_schema_laws.specs.Tables.{IsValue}
+use Rattle.asn1_schema_laws.proofs.Beginnings.{all_tags_begin}
 use Rattle.asn1_schema_types.specs.declared.described.Described.{Ghosts}
-use Rattle.asn1_schema_variants.specs.declared.chosen.Chosen.{Chosen}
+use Rattle.asn1_schema_tags.specs.declared.chosen.Chosen.{Chosen}
 use Rattle.asn1_schema_authored.specs.ChoiceShapes.{ChoiceShape}
 use Rattle.asn1_schema_constructed.specs.Tables.{Variants, no_variant, variant, Choices, side, type_at, all_tags, are_choices, AreVariants}
 use Rattle.asn1_schema_constructed.proofs.Types.{no_variants, more_variants, type_choice, value_choice}

@@ -1,15 +1,15 @@
 -- How the records of a SEQUENCE or SET are put together, for both at once.
 use Rattle.std.proofs.Common.{◌≡◌, ℕ, ◌+◌, Bool, true, false, sym, refl, subst, arith}
 use Rattle.asn1_model.specs.Value.{fields, Parts}
-use Rattle.asn1_schema_faults.specs.declared.DecodeError.{DecodeError}
-use Rattle.asn1_schema_faults.specs.declared.EncodeError.{EncodeError}
-use Rattle.asn1_schema_presented.specs.Records.{Record}
-use Rattle.asn1_schema_presented.specs.Tables.{Table}
-use Rattle.asn1_schema_presented.specs.Chains.{OneAfter, OneRecord}
+use Rattle.asn1_schema_errors.specs.declared.DecodeError.{DecodeError}
+use Rattle.asn1_schema_errors.specs.declared.EncodeError.{EncodeError}
+use Rattle.asn1_schema_laws.specs.Records.{Record}
+use Rattle.asn1_schema_laws.specs.Tables.{Table}
+use Rattle.asn1_schema_laws.specs.Chains.{OneAfter, OneRecord}
 use Rattle.asn1_schema_encode.specs.Writes.{Refused, Writes, CannotWrite, WritesTail, CannotWriteTail}
 use Rattle.asn1_schema_encode.proofs.Writing.{writes_this, cannot_this, cannot_this_here}
 use Rattle.asn1_schema_decode.specs.Reads.{NoLevel, Reads, Unread, ReadsTail, UnreadTail}
-use Rattle.asn1_schema_lacking.specs.Carried.{CarriesRecords}
+use Rattle.asn1_schema_lacking_laws.specs.Carried.{CarriesRecords}
 use Rattle.asn1_schema_decode.proofs.Reading.{reads_sequence, unread_sequence, unread_sequence_here}
 use Rattle.asn1_schema_constructed.specs.Constructed.{Form, sequence_form, set_form, constructed_type}
 use Rattle.asn1_schema_authored.specs.Shapes.{IsHeading, is_set, form_of, form_tags, begins, asks}

@@ -7,8 +7,8 @@ use Rattle.asn1_model.specs.Lawful.{is_of, are_of}
 use Rattle.asn1_model.specs.Versions.{carried, KeepsPresence, grow, carried_parts, all_absent}
 use Rattle.asn1_laws_values.proofs.Same.{same_self}
 use Rattle.asn1_laws_values.proofs.Itself.{grows, parts_grow}
-use Rattle.asn1_schema_presented.specs.Tables.{Fields, no_field, field, Table, components_at, scope, sequence_type}
-use Rattle.asn1_schema_presented.specs.Typed.{IsDefault}
+use Rattle.asn1_schema_laws.specs.Tables.{Fields, no_field, field, Table, components_at, scope, sequence_type}
+use Rattle.asn1_schema_laws.specs.Typed.{IsDefault}
 use Rattle.asn1_schema_authored.proofs.Fields.{joined, with_additions, KeepsPresenceFrom}
 
 -- One part for each component, all absent.
@@ -41,7 +41,7 @@ additions_grow n (field t o s fs) gs (present v qs) e f =
     let b = additions_grow n fs gs qs (and_parts _ _ e).1 (and_parts _ _ f).1 in
     rw (a, b) refl
 
--- A default of a SEQUENCE with further additions: that of the older version, with these absent.
+-- A default of a sequence with further additions: that of the older version, with these absent.
 pub default_gains : {k : ℕ} (t : Table) (gs : Fields) {ps qs : Parts} → IsDefault (sequence_type t) (fields ps qs) → IsDefault (sequence_type (with_additions gs t)) (fields ps (with_absents gs qs)) → KeepsPresenceFrom (suc k) (sequence_type t) (sequence_type (with_additions gs t)) (by_default (fields ps qs)) (by_default (fields ps (with_absents gs qs)))
 unfolding sequence_type scope is_of carried
 default_gains {k} t gs {ps} {qs} a b = record { unfolded = at }

@@ -2,11 +2,11 @@
 use Rattle.std.proofs.Common.{◌≡◌, ℕ, suc, true, List, [], ◌∷◌, ◌++◌, refl, ap}
 use Rattle.asn1_model.specs.Value.{Value, Parts, end}
 use Rattle.asn1_model.specs.Schema.{Tag, Presence, Schema}
-use Rattle.asn1_schema_presented.specs.Records.{addition, addition_ends, ends}
-use Rattle.asn1_schema_presented.specs.Presents.{Part, left_out, there, with_part, presents, noted, component_count, root_records, addition_records, added_records, Fits, PartFits, PartsFit}
-use Rattle.asn1_schema_presented.specs.Tables.{Fields, no_field, field, Table, components_at}
-use Rattle.asn1_schema_presented.specs.Parts.{tail_records, TailFits}
-use Rattle.asn1_schema_presented.specs.Additions.{addition_count, IsGroup}
+use Rattle.asn1_schema_laws.specs.Records.{addition, addition_ends, ends}
+use Rattle.asn1_schema_laws.specs.Presents.{Part, left_out, there, with_part, presents, noted, component_count, root_records, addition_records, added_records, Fits, PartFits, PartsFit}
+use Rattle.asn1_schema_laws.specs.Tables.{Fields, no_field, field, Table, components_at}
+use Rattle.asn1_schema_laws.specs.Parts.{tail_records, TailFits}
+use Rattle.asn1_schema_laws.specs.Additions.{addition_count, IsGroup}
 
 pub count_at : (n : ℕ) (fs : Fields) → component_count (components_at n fs) ≡ addition_count fs
 unfolding components_at
@@ -18,12 +18,14 @@ pub enclosed_records : (o : Presence) (s : Schema) (v : Value) → noted o s v �
 enclosed_records o s v e = rw e refl
 
 -- an addition before the others
-pub more_records : (n : ℕ) (ts : List Tag) (o : Presence) (s : ℕ → Schema) (fs : Fields) (x : Part) (qs : Parts) → added_records (components_at n (field ts o s fs)) (with_part x qs) ≡ addition_records (λ v. presents (s n) v) o (s n) x ++ added_records (components_at n fs) qs
+pub more_records : (n : ℕ) (ts : List Tag) (o : Presence) (s : ℕ → Schema) (fs : Fields) (x : Part) (qs : Parts) →
+    added_records (components_at n (field ts o s fs)) (with_part x qs) ≡ addition_records (λ v. presents (s n) v) o (s n) x ++ added_records (components_at n fs) qs
 unfolding components_at added_records
 more_records n ts o s fs left_out qs = refl
 more_records n ts o s fs (there v) qs = refl
 
-pub more_fit : (n : ℕ) (ts : List Tag) (o : Presence) (s : ℕ → Schema) (fs : Fields) (x : Part) (qs : Parts) → PartsFit (components_at n (field ts o s fs)) (with_part x qs) → PartFits (λ v. Fits (s n) v) o x × PartsFit (components_at n fs) qs
+pub more_fit : (n : ℕ) (ts : List Tag) (o : Presence) (s : ℕ → Schema) (fs : Fields) (x : Part) (qs : Parts) →
+    PartsFit (components_at n (field ts o s fs)) (with_part x qs) → PartFits (λ v. Fits (s n) v) o x × PartsFit (components_at n fs) qs
 unfolding components_at PartsFit
 more_fit n ts o s fs left_out qs f = (f.0, f.1)
 more_fit n ts o s fs (there v) qs f = (f.0, f.1)

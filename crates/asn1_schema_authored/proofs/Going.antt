@@ -2,13 +2,13 @@
 use Rattle.std.proofs.Common.{ℕ, ◌≤◌, suc, refl, arith}
 use Rattle.asn1_model.specs.Value.{fields, Parts, end, depth}
 use Rattle.asn1_model.specs.Schema.{Presence, Schema}
-use Rattle.asn1_schema_presented.specs.Additions.{group_type}
-use Rattle.asn1_schema_presented.specs.Records.{Record}
-use Rattle.asn1_schema_presented.specs.Presents.{Part, Fits, PartsFit}
-use Rattle.asn1_schema_presented.specs.Tables.{Table, components_at, scope, sequence_type, IsValue}
-use Rattle.asn1_schema_presented.specs.Typed.{IsPart, part_depth}
-use Rattle.asn1_schema_presented.specs.Chains.{GoesOn}
-use Rattle.asn1_schema_presented.proofs.Chains.{failed_before}
+use Rattle.asn1_schema_laws.specs.Additions.{group_type}
+use Rattle.asn1_schema_laws.specs.Records.{Record}
+use Rattle.asn1_schema_laws.specs.Presents.{Part, Fits, PartsFit}
+use Rattle.asn1_schema_laws.specs.Tables.{Table, components_at, scope, sequence_type, IsValue}
+use Rattle.asn1_schema_laws.specs.Typed.{IsPart, part_depth}
+use Rattle.asn1_schema_laws.specs.Chains.{GoesOn}
+use Rattle.asn1_schema_laws.proofs.Chains.{failed_before}
 use Rattle.asn1_schema_encode.specs.Writes.{Writes}
 use Rattle.asn1_schema_authored.specs.Writes.{WritesAddition}
 

@@ -3,22 +3,22 @@ use Rattle.std.proofs.Common.{◌≡◌, ℕ, ◌+◌, ◌<◌, zero, suc, true,
 use Rattle.asn1_model.specs.Value.{Value, fields, Parts, end, absent, present, are_absent}
 use Rattle.asn1_model.specs.Schema.{optional, group, Components}
 use Rattle.asn1_model.specs.Normal.{normal, is_group_left_out, is_empty_group}
-use Rattle.asn1_schema_faults.specs.declared.DecodeError.{DecodeError}
-use Rattle.asn1_schema_presented.specs.Records.{Record, group_begins, is_empty, addition, addition_ends, ends, asks_group, asks_empty}
-use Rattle.asn1_schema_presented.specs.Presents.{left_out, presents, optional_count, root_records, Fits, PartsFit}
-use Rattle.asn1_schema_presented.specs.Tables.{Fields, Table, components_at, presence_bits, scope}
-use Rattle.asn1_schema_presented.specs.Parts.{part_unless}
-use Rattle.asn1_schema_presented.specs.Chains.{Chain, OneRecord}
-use Rattle.asn1_schema_presented.proofs.Joined.{presence_bits_at}
+use Rattle.asn1_schema_errors.specs.declared.DecodeError.{DecodeError}
+use Rattle.asn1_schema_laws.specs.Records.{Record, group_begins, is_empty, addition, addition_ends, ends, asks_group, asks_empty}
+use Rattle.asn1_schema_laws.specs.Presents.{left_out, presents, optional_count, root_records, Fits, PartsFit}
+use Rattle.asn1_schema_laws.specs.Tables.{Fields, Table, components_at, presence_bits, scope}
+use Rattle.asn1_schema_laws.specs.Parts.{part_unless}
+use Rattle.asn1_schema_laws.specs.Chains.{Chain, OneRecord}
+use Rattle.asn1_schema_laws.proofs.Joined.{presence_bits_at}
 use Rattle.asn1_schema_decode.specs.Reads.{NoRecord, NoLevel, Reads, Unread, ReadsTail, UnreadTail}
-use Rattle.asn1_schema_lacking.specs.Carried.{CarriesRecords, CarriesValues}
-use Rattle.asn1_schema_presented.specs.Additions.{group_type, IsGroup}
-use Rattle.asn1_schema_presented.proofs.Groups.{no_part}
+use Rattle.asn1_schema_lacking_laws.specs.Carried.{CarriesRecords, CarriesValues}
+use Rattle.asn1_schema_laws.specs.Additions.{group_type, IsGroup}
+use Rattle.asn1_schema_laws.proofs.Groups.{no_part}
 use Rattle.asn1_schema_authored.specs.Reads.{ReadsEnclosed, ReadsAddition, UnreadAddition}
 use Rattle.asn1_schema_authored.proofs.Extending.{group_tail, group_fits}
 use Rattle.asn1_schema_authored.proofs.Reading.{reads_addition, reads_empty, unread_empty}
 
--- the records of a group, and what they consist of
+-- the records of a group, and what they are made of
 of_group : {S : Type 0} (step : S → Record → S → Type 0) (cs : Components) (v : Value) (a c : S) → Fits (group cs) v → Chain step (presents (group cs) v) a c → (ps : Parts) × (b : S) × PartsFit cs ps × step a (group_begins (optional_count cs)) b × Chain step (root_records cs ps (ends ∷ [])) b c
 unfolding presents Fits
 of_group step cs (fields ps end) a c f p = (ps, p.0, f.0, p.1, p.2)

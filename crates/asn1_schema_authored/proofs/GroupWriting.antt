@@ -3,16 +3,16 @@ use Rattle.std.proofs.Common.{◌≡◌, ℕ, zero, suc, Bool, true, false, [], 
 use Rattle.asn1_model.specs.Value.{Value, fields, Parts, end}
 use Rattle.asn1_model.specs.Schema.{optional, Schema, group}
 use Rattle.asn1_model.specs.Normal.{is_group_left_out}
-use Rattle.asn1_schema_faults.specs.declared.EncodeError.{EncodeError}
-use Rattle.asn1_schema_presented.specs.Records.{Record, group_begins, ends}
-use Rattle.asn1_schema_presented.specs.Presents.{left_out, there, presents, noted, root_records, Fits}
-use Rattle.asn1_schema_presented.specs.Tables.{Table, components_at, presence_bits, scope}
-use Rattle.asn1_schema_presented.specs.Parts.{normal_part, part_unless}
-use Rattle.asn1_schema_presented.specs.Typed.{IsPart}
-use Rattle.asn1_schema_presented.specs.Chains.{Chain, OneAfter}
-use Rattle.asn1_schema_presented.proofs.Joined.{presence_bits_at}
+use Rattle.asn1_schema_errors.specs.declared.EncodeError.{EncodeError}
+use Rattle.asn1_schema_laws.specs.Records.{Record, group_begins, ends}
+use Rattle.asn1_schema_laws.specs.Presents.{left_out, there, presents, noted, root_records, Fits}
+use Rattle.asn1_schema_laws.specs.Tables.{Table, components_at, presence_bits, scope}
+use Rattle.asn1_schema_laws.specs.Parts.{normal_part, part_unless}
+use Rattle.asn1_schema_laws.specs.Typed.{IsPart}
+use Rattle.asn1_schema_laws.specs.Chains.{Chain, OneAfter}
+use Rattle.asn1_schema_laws.proofs.Joined.{presence_bits_at}
 use Rattle.asn1_schema_encode.specs.Writes.{Refused, Writes, CannotWrite, WritesTail, CannotWriteTail}
-use Rattle.asn1_schema_presented.specs.Additions.{group_type, IsGroup}
+use Rattle.asn1_schema_laws.specs.Additions.{group_type, IsGroup}
 use Rattle.asn1_schema_authored.specs.Writes.{WritesEnclosed, CannotWriteEnclosed, WritesAddition, CannotWriteAddition}
 use Rattle.asn1_schema_authored.proofs.Extending.{group_tail, group_fits}
 use Rattle.asn1_schema_authored.proofs.Writing.{writes_addition, cannot_addition}

@@ -1,9 +1,9 @@
 -- Shapes by the ghost data of their components.
 use Rattle.std.proofs.Common.{◌≡◌, true, ◌++◌, refl}
 use Rattle.asn1_model.specs.Lawful.{are_distinct, are_ascending, tag_same, tag_less}
-use Rattle.asn1_schema_presented.specs.Tables.{field_tags}
-use Rattle.asn1_schema_presented.specs.Typed.{AreDefaults}
-use Rattle.asn1_schema_presented.proofs.Values.{type_sequence, value_sequence}
+use Rattle.asn1_schema_laws.specs.Tables.{field_tags}
+use Rattle.asn1_schema_laws.specs.Typed.{AreDefaults}
+use Rattle.asn1_schema_laws.proofs.Values.{type_sequence, value_sequence}
 use Rattle.asn1_schema_types.specs.declared.components.ComponentsOf.{Ghosts}
 use Rattle.asn1_schema_constructed.specs.Constructed.{sequence_form, set_form}
 use Rattle.asn1_schema_constructed.specs.Sets.{field_places}
@@ -22,7 +22,7 @@ sequence_of c d e f = record {
   valued = λ x. value_sequence c.table (c.valued d (f x));
 }
 
--- SET: as `sequence_of`, and the components ascend by their tags.
+-- SET: the same, and that the components ascend by their tags.
 abbrev pub set_of : {A F : Type 0} (c : Ghosts F) → AreDefaults c.table → are_distinct tag_same (field_tags c.table.root ++ field_tags c.table.additions) ≡ true → are_ascending tag_less (field_places c.table.root) ≡ true → (A → F) → Shape A
 set_of c d e g f = record {
   form = set_form;

@@ -3,7 +3,7 @@ use Rattle.std.proofs.Common.{◌≤◌, ℕ, zero, suc, List, refl, inl, inr, a
 use Rattle.asn1_model.specs.Schema.{Tag, Presence, Schema}
 use Rattle.asn1_laws_values.specs.Unfolding.{AgreesTo, AgreesEach, AgreesAlternatives}
 use Rattle.asn1_laws_values.proofs.Recursive.{agrees_with_itself}
-use Rattle.asn1_schema_presented.specs.Tables.{Fields, no_field, field, Table, components_at, scope, sequence_type}
+use Rattle.asn1_schema_laws.specs.Tables.{Fields, no_field, field, Table, components_at, scope, sequence_type}
 use Rattle.asn1_schema_constructed.specs.Sets.{set_type}
 use Rattle.asn1_schema_constructed.specs.Tables.{Variants, no_variant, variant, alternatives_at, Choices, choice_type}
 use Rattle.asn1_schema_types.specs.Versions.{Unfolds}

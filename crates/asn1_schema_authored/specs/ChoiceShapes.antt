@@ -1,7 +1,7 @@
 -- The alternatives of an enum, and which of them each value is.
 use Rattle.asn1_model.specs.Value.{Value}
-use Rattle.asn1_schema_presented.specs.Tables.{IsType, IsValue}
-use Rattle.asn1_schema_variants.specs.declared.chosen.Chosen.{Chosen}
+use Rattle.asn1_schema_laws.specs.Tables.{IsType, IsValue}
+use Rattle.asn1_schema_tags.specs.declared.chosen.Chosen.{Chosen}
 use Rattle.asn1_schema_constructed.specs.Chosen.{chosen_value}
 use Rattle.asn1_schema_constructed.specs.Tables.{Choices, all_tags, choice_type}
 

@@ -3,8 +3,8 @@ use Rattle.std.specs.Prelude.{◌≡◌, ℕ, true}
 use Rattle.asn1_model.specs.Lawful.{is_lawful}
 use Rattle.asn1_model.specs.Tidy.{is_tidy}
 use Rattle.asn1_model.specs.Value.{end, fields}
-use Rattle.asn1_schema_presented.specs.Additions.{IsGroup}
-use Rattle.asn1_schema_presented.specs.Tables.{Table, IsValue, sequence_type}
+use Rattle.asn1_schema_laws.specs.Additions.{IsGroup}
+use Rattle.asn1_schema_laws.specs.Tables.{Table, IsValue, sequence_type}
 use Rattle.asn1_schema_authored.specs.Shapes.{Shape}
 
 -- There is no extension marker, and at least one component. The group is well-formed as a SEQUENCE, and each value is

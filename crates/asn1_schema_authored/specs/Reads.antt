@@ -3,14 +3,14 @@ use Rattle.std.specs.Prelude.{◌≡◌, ℕ, true, false}
 use Rattle.asn1_model.specs.Value.{Value, Parts, same}
 use Rattle.asn1_model.specs.Schema.{Presence, Schema}
 use Rattle.asn1_model.specs.Normal.{normal_parts}
-use Rattle.asn1_schema_faults.specs.declared.DecodeError.{DecodeError}
-use Rattle.asn1_schema_faults.specs.declared.DecodeError.TheVariants.{OutOfMemory}
-use Rattle.asn1_schema_presented.specs.Records.{Record, is_default, addition, addition_ends}
-use Rattle.asn1_schema_presented.specs.Presents.{Part, left_out, there, presents, addition_records, added_records}
-use Rattle.asn1_schema_presented.specs.Presents.{Fits, PartFits, PartsFit}
-use Rattle.asn1_schema_presented.specs.Parts.{normal_part}
-use Rattle.asn1_schema_presented.specs.Tables.{Fields, components_at}
-use Rattle.asn1_schema_presented.specs.Chains.{Chain}
+use Rattle.asn1_schema_errors.specs.declared.DecodeError.{DecodeError}
+use Rattle.asn1_schema_errors.specs.declared.DecodeError.TheVariants.{OutOfMemory}
+use Rattle.asn1_schema_laws.specs.Records.{Record, is_default, addition, addition_ends}
+use Rattle.asn1_schema_laws.specs.Presents.{Part, left_out, there, presents, addition_records, added_records}
+use Rattle.asn1_schema_laws.specs.Presents.{Fits, PartFits, PartsFit}
+use Rattle.asn1_schema_laws.specs.Parts.{normal_part}
+use Rattle.asn1_schema_laws.specs.Tables.{Fields, components_at}
+use Rattle.asn1_schema_laws.specs.Chains.{Chain}
 use Rattle.asn1_schema_decode.specs.Reads.{Reads}
 
 -- An addition is announced as present, followed by the records of its value, and its end.

@@ -2,8 +2,8 @@
 use Rattle.std.specs.Prelude.{◌≡◌, ℕ, Bool, true, false, cond, List, [], ◌∷◌}
 use Rattle.asn1_model.specs.Schema.{Tag, Schema}
 use Rattle.asn1_model.specs.Value.{Value, Parts, fields}
-use Rattle.asn1_schema_presented.specs.Records.{Record, Question, sequence_begins, set_begins, asks_sequence, asks_set}
-use Rattle.asn1_schema_presented.specs.Tables.{Table, IsType, IsValue, presence_bits}
+use Rattle.asn1_schema_laws.specs.Records.{Record, Question, sequence_begins, set_begins, asks_sequence, asks_set}
+use Rattle.asn1_schema_laws.specs.Tables.{Table, IsType, IsValue, presence_bits}
 use Rattle.asn1_schema_constructed.specs.Constructed.{Form, sequence_form, set_form, constructed_type, sequence_tags}
 use Rattle.asn1_schema_tags.specs.declared.tags.Class.TheVariants.{Universal}
 use Rattle.asn1_schema_tags.specs.declared.tags.Tag.{Tag as OwnTag}

@@ -2,13 +2,13 @@
 use Rattle.std.specs.Prelude.{◌≡◌, ℕ, true}
 use Rattle.asn1_model.specs.Value.{Value, Parts}
 use Rattle.asn1_model.specs.Schema.{Presence, Schema}
-use Rattle.asn1_schema_faults.specs.declared.EncodeError.{EncodeError}
-use Rattle.asn1_schema_faults.specs.declared.EncodeError.TheVariants.{OutOfMemory}
-use Rattle.asn1_schema_presented.specs.Records.{Record, addition, addition_ends}
-use Rattle.asn1_schema_presented.specs.Presents.{Part, presents, addition_records, added_records, Fits, PartFits}
-use Rattle.asn1_schema_presented.specs.Presents.{PartsFit}
-use Rattle.asn1_schema_presented.specs.Tables.{Fields, components_at}
-use Rattle.asn1_schema_presented.specs.Chains.{Chain}
+use Rattle.asn1_schema_errors.specs.declared.EncodeError.{EncodeError}
+use Rattle.asn1_schema_errors.specs.declared.EncodeError.TheVariants.{OutOfMemory}
+use Rattle.asn1_schema_laws.specs.Records.{Record, addition, addition_ends}
+use Rattle.asn1_schema_laws.specs.Presents.{Part, presents, addition_records, added_records, Fits, PartFits}
+use Rattle.asn1_schema_laws.specs.Presents.{PartsFit}
+use Rattle.asn1_schema_laws.specs.Tables.{Fields, components_at}
+use Rattle.asn1_schema_laws.specs.Chains.{Chain}
 use Rattle.asn1_schema_encode.specs.Writes.{Writes}
 
 -- An addition is announced as present, followed by the records of its value, and its end.

@@ -2,17 +2,17 @@
 ghost use Rattle.std.specs.Prelude.{◌≡◌, ◌≤◌, refl, min};
 ghost use Rattle.asn1_model.specs.Value.{Parts, end, same};
 ghost use Rattle.asn1_model.specs.Schema.{required, optional, by_default};
-ghost use Rattle.asn1_schema_presented.specs.Presents.{there, with_part};
-ghost use Rattle.asn1_schema_presented.specs.Tables.{Fields, no_field, field, field_tags};
-ghost use Rattle.asn1_schema_presented.specs.Parts.{part_of, part_unless};
-ghost use Rattle.asn1_schema_presented.proofs.Values.{part_required, part_optional, part_default};
-ghost use Rattle.asn1_schema_presented.proofs.Defaults.{has_default};
-ghost use Rattle.asn1_schema_presented.specs.Additions.{HaveDefaults, AreAdditionTypes, AreAdditionValues};
-ghost use Rattle.asn1_schema_presented.specs.Additions.{addition_count, extensible_table, group_type, group_part};
-ghost use Rattle.asn1_schema_presented.proofs.Additions.{as_addition, no_addition_types, more_addition_types};
-ghost use Rattle.asn1_schema_presented.proofs.Additions.{extensible_types, no_addition_values, more_addition_values};
-ghost use Rattle.asn1_schema_presented.proofs.Additions.{extensible_values};
-ghost use Rattle.asn1_schema_presented.proofs.Groups.{group_addition, group_valued};
+ghost use Rattle.asn1_schema_laws.specs.Presents.{there, with_part};
+ghost use Rattle.asn1_schema_laws.specs.Tables.{Fields, no_field, field, field_tags};
+ghost use Rattle.asn1_schema_laws.specs.Parts.{part_of, part_unless};
+ghost use Rattle.asn1_schema_laws.proofs.Values.{part_required, part_optional, part_default};
+ghost use Rattle.asn1_schema_laws.proofs.Defaults.{has_default};
+ghost use Rattle.asn1_schema_laws.specs.Additions.{HaveDefaults, AreAdditionTypes, AreAdditionValues};
+ghost use Rattle.asn1_schema_laws.specs.Additions.{addition_count, extensible_table, group_type, group_part};
+ghost use Rattle.asn1_schema_laws.proofs.Additions.{as_addition, no_addition_types, more_addition_types};
+ghost use Rattle.asn1_schema_laws.proofs.Additions.{extensible_types, no_addition_values, more_addition_values};
+ghost use Rattle.asn1_schema_laws.proofs.Additions.{extensible_values};
+ghost use Rattle.asn1_schema_laws.proofs.Groups.{group_addition, group_valued};
 
 use crate::group::Group;
 use asn1_schema_types::{ComponentsOf, DefaultOf, Described};

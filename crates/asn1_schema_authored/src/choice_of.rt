@@ -9,6 +9,7 @@ ghost use Rattle.asn1_schema_decode.specs.Reads.{Reads, Unread};
 ghost use Rattle.asn1_schema_authored.specs.ChoiceShapes.{ChoiceShape};
 ghost use Rattle.asn1_schema_constructed.specs.Chosen.{IsAmong, IsTag, chosen_type, chosen_value};
 ghost use Rattle.asn1_schema_constructed.specs.Tables.{all_tags, choice_type, tags_of};
+ghost use Rattle.asn1_schema_errors.specs.Calls.{DecoderCall, EncoderCall};
 
 use asn1_schema_constraints::Constraints;
 use asn1_schema_constructed::{
@@ -16,10 +17,9 @@ use asn1_schema_constructed::{
 };
 use asn1_schema_decode::{Decode, Decoder};
 use asn1_schema_encode::{Encode, Encoder};
-use asn1_schema_faults::{DecodeError, EncodeError};
-use asn1_schema_tags::{Identifier, Tag, TagPlace, TagTree};
+use asn1_schema_errors::{DecodeError, EncodeError};
+use asn1_schema_tags::{Chosen, Identifier, Tag, TagPlace, TagTree};
 use asn1_schema_types::{AsnType, Described};
-use asn1_schema_variants::Chosen;
 use std::alloc::Global;
 use std::ops::Deref;
 
@@ -60,10 +60,7 @@ pub trait ChoiceAlternatives: Drop {
         ensures tag { IfOk result (λ tag. IsTag shape.table (shape.place self.now) (tag_of tag)) }
         ensures only { IfErr result (CannotWrite E.step (chosen_type shape.table (shape.place self.now))
             (shape.inner self.now) encoder.old) }
-        ensures failed { OnErr result (E.has_failed encoder.new) }
-        ensures front { E.front encoder.new ≡ E.front encoder.old }
-        ensures already { E.has_failed encoder.old → result ≡ Err EncodeError.AlreadyFailed }
-        ensures after { result ≡ Err EncodeError.AlreadyFailed → E.has_failed encoder.old };
+        ensures call { EncoderCall E.has_failed E.front encoder.old encoder.new result };
 
     /// Decodes the value of an alternative.
     fn from_chosen<D: Decoder>(
@@ -78,9 +75,7 @@ pub trait ChoiceAlternatives: Drop {
         ensures level { OnOk result (D.levels decoder.new ≡ D.levels decoder.old) }
         ensures only { IfErr result
             (Unread D.step D.too_few (chosen_type shape.table chosen) (D.levels decoder.old) decoder.old decoder.new) }
-        ensures failed { OnErr result (D.has_failed decoder.new) }
-        ensures already { D.has_failed decoder.old → result ≡ Err DecodeError.AlreadyFailed }
-        ensures after { result ≡ Err DecodeError.AlreadyFailed → D.has_failed decoder.old };
+        ensures call { DecoderCall D.has_failed decoder.old decoder.new result };
 }
 
 /// CHOICE (X.680 29) of the variants of an enum.

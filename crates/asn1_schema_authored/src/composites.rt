@@ -7,12 +7,13 @@ ghost use Rattle.asn1_schema_tags.specs.Tags.{tag_of};
 ghost use Rattle.asn1_schema_authored.specs.Shapes.{IsHeading, Shape, asks, begins, form_of, form_tag, form_tags};
 ghost use Rattle.asn1_schema_authored.specs.Shapes.{shape_type, shape_value};
 ghost use Rattle.asn1_schema_constructed.specs.Constructed.{AreAdditions, AreFields};
+ghost use Rattle.asn1_schema_errors.specs.Calls.{DecoderCall, EncoderCall};
 
 use asn1_schema_constraints::Constraints;
 use asn1_schema_constructed::{Constructed, Fields};
 use asn1_schema_decode::{Decode, Decoder};
 use asn1_schema_encode::{Encode, Encoder};
-use asn1_schema_faults::{DecodeError, EncodeError};
+use asn1_schema_errors::{DecodeError, EncodeError};
 use asn1_schema_tags::{Identifier, Tag, TagTree};
 use asn1_schema_types::{AsnType, Described};
 use std::alloc::Global;
@@ -97,10 +98,7 @@ pub trait Components: Drop {
             (WritesTail E.step shape.table (shape.root self.now) (shape.added self.now) encoder.old encoder.new) }
         ensures only { IfErr result
             (CannotWriteTail E.step shape.table (shape.root self.now) (shape.added self.now) encoder.old) }
-        ensures failed { OnErr result (E.has_failed encoder.new) }
-        ensures front { E.front encoder.new ≡ E.front encoder.old }
-        ensures already { E.has_failed encoder.old → result ≡ Err EncodeError.AlreadyFailed }
-        ensures after { result ≡ Err EncodeError.AlreadyFailed → E.has_failed encoder.old };
+        ensures call { EncoderCall E.has_failed E.front encoder.old encoder.new result };
 
     /// Decodes the components in their order, and the end.
     fn read_components<D: Decoder>(alloc: Global, decoder: &mut D) -> Result<Self, DecodeError>
@@ -109,9 +107,7 @@ pub trait Components: Drop {
         ensures level { OnOk result (D.levels decoder.new ≡ D.levels decoder.old + 1) }
         ensures only { IfErr result
             (UnreadTail D.step D.too_few shape.table (D.levels decoder.old) decoder.old decoder.new) }
-        ensures failed { OnErr result (D.has_failed decoder.new) }
-        ensures already { D.has_failed decoder.old → result ≡ Err DecodeError.AlreadyFailed }
-        ensures after { result ≡ Err DecodeError.AlreadyFailed → D.has_failed decoder.old };
+        ensures call { DecoderCall D.has_failed decoder.old decoder.new result };
 }
 
 /// The SEQUENCE or SET of the fields of a struct.
@@ -208,10 +204,7 @@ fn begin_written<E: Encoder>(encoder: &mut E, tag: Tag, heading: Heading) -> Res
         (E.step encoder.old (begins (form_of heading.set) heading.extensible heading.optional) encoder.new) }
     ensures only { IfErr result
         (Refused E.step (begins (form_of heading.set) heading.extensible heading.optional) encoder.old) }
-    ensures failed { OnErr result (E.has_failed encoder.new) }
-    ensures front { E.front encoder.new ≡ E.front encoder.old }
-    ensures already { E.has_failed encoder.old → result ≡ Err EncodeError.AlreadyFailed }
-    ensures after { result ≡ Err EncodeError.AlreadyFailed → E.has_failed encoder.old }
+    ensures call { EncoderCall E.has_failed E.front encoder.old encoder.new result }
 {
     if heading.set {
         encoder.begin_set(tag, heading.extensible, heading.optional)
@@ -241,9 +234,7 @@ fn begin_read<D: Decoder>(decoder: &mut D, tag: Tag, heading: Heading) -> Result
     ensures only { IfErr result
         (NoLevel D.step D.too_few (asks (form_of heading.set) heading.extensible heading.optional)
         (D.levels decoder.old) decoder.old decoder.new) }
-    ensures failed { OnErr result (D.has_failed decoder.new) }
-    ensures already { D.has_failed decoder.old → result ≡ Err DecodeError.AlreadyFailed }
-    ensures after { result ≡ Err DecodeError.AlreadyFailed → D.has_failed decoder.old }
+    ensures call { DecoderCall D.has_failed decoder.old decoder.new result }
 {
     if heading.set {
         decoder.begin_set(tag, heading.extensible, heading.optional)

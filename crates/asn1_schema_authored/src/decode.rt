@@ -3,14 +3,15 @@ ghost use Rattle.std.specs.Prelude.{◌≡◌, ◌+◌, true, OnOk, OnErr, IfErr
 ghost use Rattle.asn1_model.specs.Value.{fields, end, same};
 ghost use Rattle.asn1_model.specs.Schema.{required, optional, by_default};
 ghost use Rattle.asn1_schema_constraints.specs.Terms.{meant};
-ghost use Rattle.asn1_schema_presented.specs.Presents.{there};
-ghost use Rattle.asn1_schema_presented.specs.Tables.{presence_bits, sequence_type};
-ghost use Rattle.asn1_schema_presented.specs.Parts.{part_of, part_unless};
+ghost use Rattle.asn1_schema_laws.specs.Presents.{there};
+ghost use Rattle.asn1_schema_laws.specs.Tables.{presence_bits, sequence_type};
+ghost use Rattle.asn1_schema_laws.specs.Parts.{part_of, part_unless};
 ghost use Rattle.asn1_schema_decode.specs.Reads.{Reads, Unread};
-ghost use Rattle.asn1_schema_presented.specs.Additions.{group_type, group_part};
+ghost use Rattle.asn1_schema_laws.specs.Additions.{group_type, group_part};
 ghost use Rattle.asn1_schema_authored.specs.Reads.{ReadsExtension, UnreadExtension, ReadsExtensionDefault};
 ghost use Rattle.asn1_schema_authored.specs.Reads.{UnreadExtensionDefault, ReadsAddition, UnreadAddition};
 ghost use Rattle.asn1_schema_authored.specs.Reads.{ReadsAdded, UnreadAdded};
+ghost use Rattle.asn1_schema_errors.specs.Calls.{DecoderCall};
 
 use crate::additions::{
     AddedDefaultedComponent, AddedGroupComponent, AddedOptionalComponent, AddedRequiredComponent,
@@ -19,7 +20,7 @@ use crate::additions::{
 use crate::group::Group;
 use asn1_schema_constraints::Constraints;
 use asn1_schema_decode::{Decode, DecodeComponents, Decoder};
-use asn1_schema_faults::DecodeError;
+use asn1_schema_errors::DecodeError;
 use asn1_schema_tags::Tag;
 use asn1_schema_types::DefaultOf;
 use std::alloc::Global;
@@ -34,9 +35,7 @@ pub trait DecodeAdditions: AdditionsOf + Drop {
         ensures level { OnOk result (D.levels decoder.new ≡ D.levels decoder.old + 1) }
         ensures only { IfErr result
             (UnreadAdded D.step D.too_few Self.additions (D.levels decoder.old) decoder.old decoder.new) }
-        ensures failed { OnErr result (D.has_failed decoder.new) }
-        ensures already { D.has_failed decoder.old → result ≡ Err DecodeError.AlreadyFailed }
-        ensures after { result ≡ Err DecodeError.AlreadyFailed → D.has_failed decoder.old };
+        ensures call { DecoderCall D.has_failed decoder.old decoder.new result };
 }
 
 impl DecodeAdditions for NoMore {
@@ -104,9 +103,7 @@ pub trait DecodeExtension: Decoder {
         ensures level { OnOk result (Self.levels self.new ≡ Self.levels self.old) }
         ensures only { IfErr result
             (UnreadAddition Self.step Self.too_few required T.schema (Self.levels self.old) self.old self.new) }
-        ensures failed { OnErr result (Self.has_failed self.new) }
-        ensures already { Self.has_failed self.old → result ≡ Err DecodeError.AlreadyFailed }
-        ensures after { result ≡ Err DecodeError.AlreadyFailed → Self.has_failed self.old }
+        ensures call { DecoderCall Self.has_failed self.old self.new result }
     {
         let present = self.get_addition()?;
         if !present {
@@ -130,9 +127,7 @@ pub trait DecodeExtension: Decoder {
         ensures level { OnOk result (Self.levels self.new ≡ Self.levels self.old) }
         ensures only { IfErr result
             (UnreadAddition Self.step Self.too_few optional T.schema (Self.levels self.old) self.old self.new) }
-        ensures failed { OnErr result (Self.has_failed self.new) }
-        ensures already { Self.has_failed self.old → result ≡ Err DecodeError.AlreadyFailed }
-        ensures after { result ≡ Err DecodeError.AlreadyFailed → Self.has_failed self.old }
+        ensures call { DecoderCall Self.has_failed self.old self.new result }
     {
         self.decode_extension_addition_with_tag(alloc, T::TAG)
     }
@@ -151,9 +146,7 @@ pub trait DecodeExtension: Decoder {
         ensures level { OnOk result (Self.levels self.new ≡ Self.levels self.old) }
         ensures only { IfErr result
             (UnreadAddition Self.step Self.too_few optional T.schema (Self.levels self.old) self.old self.new) }
-        ensures failed { OnErr result (Self.has_failed self.new) }
-        ensures already { Self.has_failed self.old → result ≡ Err DecodeError.AlreadyFailed }
-        ensures after { result ≡ Err DecodeError.AlreadyFailed → Self.has_failed self.old }
+        ensures call { DecoderCall Self.has_failed self.old self.new result }
     {
         let value = self.decode_extension_addition_with_tag_and_constraints(
             alloc,
@@ -178,9 +171,7 @@ pub trait DecodeExtension: Decoder {
         ensures only { IfErr result
             (UnreadExtension Self.step Self.too_few (T.under (meant constraints.now))
             (Self.levels self.old) self.old self.new) }
-        ensures failed { OnErr result (Self.has_failed self.new) }
-        ensures already { Self.has_failed self.old → result ≡ Err DecodeError.AlreadyFailed }
-        ensures after { result ≡ Err DecodeError.AlreadyFailed → Self.has_failed self.old }
+        ensures call { DecoderCall Self.has_failed self.old self.new result }
     {
         self.decode_extension_addition_with_tag_and_constraints(alloc, T::TAG, constraints)
     }
@@ -202,9 +193,7 @@ pub trait DecodeExtension: Decoder {
         ensures only { IfErr result
             (UnreadExtension Self.step Self.too_few (T.under (meant constraints.now))
             (Self.levels self.old) self.old self.new) }
-        ensures failed { OnErr result (Self.has_failed self.new) }
-        ensures already { Self.has_failed self.old → result ≡ Err DecodeError.AlreadyFailed }
-        ensures after { result ≡ Err DecodeError.AlreadyFailed → Self.has_failed self.old }
+        ensures call { DecoderCall Self.has_failed self.old self.new result }
     {
         self.decode_extension_addition_with_constraints(alloc, constraints)
     }
@@ -225,9 +214,7 @@ pub trait DecodeExtension: Decoder {
         ensures only { IfErr result
             (UnreadExtension Self.step Self.too_few (T.under (meant constraints.now))
             (Self.levels self.old) self.old self.new) }
-        ensures failed { OnErr result (Self.has_failed self.new) }
-        ensures already { Self.has_failed self.old → result ≡ Err DecodeError.AlreadyFailed }
-        ensures after { result ≡ Err DecodeError.AlreadyFailed → Self.has_failed self.old }
+        ensures call { DecoderCall Self.has_failed self.old self.new result }
     {
         let present = self.get_addition()?;
         if !present {
@@ -254,9 +241,7 @@ pub trait DecodeExtension: Decoder {
         ensures only { IfErr result
             (UnreadAddition Self.step Self.too_few (by_default V.value) T.schema
             (Self.levels self.old) self.old self.new) }
-        ensures failed { OnErr result (Self.has_failed self.new) }
-        ensures already { Self.has_failed self.old → result ≡ Err DecodeError.AlreadyFailed }
-        ensures after { result ≡ Err DecodeError.AlreadyFailed → Self.has_failed self.old }
+        ensures call { DecoderCall Self.has_failed self.old self.new result }
     {
         self.decode_extension_addition_with_default_and_tag::<V, T>(alloc, T::TAG)
     }
@@ -276,9 +261,7 @@ pub trait DecodeExtension: Decoder {
         ensures only { IfErr result
             (UnreadAddition Self.step Self.too_few (by_default V.value) T.schema
             (Self.levels self.old) self.old self.new) }
-        ensures failed { OnErr result (Self.has_failed self.new) }
-        ensures already { Self.has_failed self.old → result ≡ Err DecodeError.AlreadyFailed }
-        ensures after { result ≡ Err DecodeError.AlreadyFailed → Self.has_failed self.old }
+        ensures call { DecoderCall Self.has_failed self.old self.new result }
     {
         let value = self.decode_extension_addition_with_default_and_tag_and_constraints::<V, T>(
             alloc,
@@ -303,9 +286,7 @@ pub trait DecodeExtension: Decoder {
         ensures only { IfErr result
             (UnreadExtensionDefault Self.step Self.too_few (T.under (meant constraints.now))
             (Self.levels self.old) V.value self.old self.new) }
-        ensures failed { OnErr result (Self.has_failed self.new) }
-        ensures already { Self.has_failed self.old → result ≡ Err DecodeError.AlreadyFailed }
-        ensures after { result ≡ Err DecodeError.AlreadyFailed → Self.has_failed self.old }
+        ensures call { DecoderCall Self.has_failed self.old self.new result }
     {
         self.decode_extension_addition_with_default_and_tag_and_constraints::<V, T>(
             alloc,
@@ -328,9 +309,7 @@ pub trait DecodeExtension: Decoder {
         ensures only { IfErr result
             (UnreadExtensionDefault Self.step Self.too_few (T.under (meant constraints.now))
             (Self.levels self.old) V.value self.old self.new) }
-        ensures failed { OnErr result (Self.has_failed self.new) }
-        ensures already { Self.has_failed self.old → result ≡ Err DecodeError.AlreadyFailed }
-        ensures after { result ≡ Err DecodeError.AlreadyFailed → Self.has_failed self.old }
+        ensures call { DecoderCall Self.has_failed self.old self.new result }
     {
         let present = self.get_addition()?;
         if !present {
@@ -358,9 +337,7 @@ pub trait DecodeExtension: Decoder {
         ensures level { OnOk result (Self.levels self.new ≡ Self.levels self.old) }
         ensures only { IfErr result
             (Unread Self.step Self.too_few (group_type G.components) (Self.levels self.old) self.old self.new) }
-        ensures failed { OnErr result (Self.has_failed self.new) }
-        ensures already { Self.has_failed self.old → result ≡ Err DecodeError.AlreadyFailed }
-        ensures after { result ≡ Err DecodeError.AlreadyFailed → Self.has_failed self.old }
+        ensures call { DecoderCall Self.has_failed self.old self.new result }
     {
         let optional = G::fields().number_of_optional_and_default_fields();
         self.begin_group(optional)?;
@@ -383,9 +360,7 @@ pub trait DecodeExtension: Decoder {
         ensures only { IfErr result
             (UnreadAddition Self.step Self.too_few optional (group_type G.components)
             (Self.levels self.old) self.old self.new) }
-        ensures failed { OnErr result (Self.has_failed self.new) }
-        ensures already { Self.has_failed self.old → result ≡ Err DecodeError.AlreadyFailed }
-        ensures after { result ≡ Err DecodeError.AlreadyFailed → Self.has_failed self.old }
+        ensures call { DecoderCall Self.has_failed self.old self.new result }
     {
         let present = self.get_addition()?;
         if !present {
@@ -418,9 +393,7 @@ pub trait DecodeExtension: Decoder {
         ensures level { OnOk result (Self.levels self.new ≡ Self.levels self.old) }
         ensures only { IfErr result
             (Unread Self.step Self.too_few (sequence_type C.table) (Self.levels self.old) self.old self.new) }
-        ensures failed { OnErr result (Self.has_failed self.new) }
-        ensures already { Self.has_failed self.old → result ≡ Err DecodeError.AlreadyFailed }
-        ensures after { result ≡ Err DecodeError.AlreadyFailed → Self.has_failed self.old }
+        ensures call { DecoderCall Self.has_failed self.old self.new result }
     {
         self.begin_sequence(tag, true, optional)?;
         let components = C::decode_components(alloc, self)?;

@@ -2,21 +2,22 @@
 ghost use Rattle.std.specs.Prelude.{◌≡◌, true, OnOk, OnErr, IfErr};
 ghost use Rattle.asn1_model.specs.Value.{fields, end, same};
 ghost use Rattle.asn1_model.specs.Schema.{required, optional, by_default};
-ghost use Rattle.asn1_schema_presented.specs.Presents.{there};
-ghost use Rattle.asn1_schema_presented.specs.Tables.{presence_bits, sequence_type};
-ghost use Rattle.asn1_schema_presented.specs.Parts.{part_of, part_unless};
+ghost use Rattle.asn1_schema_laws.specs.Presents.{there};
+ghost use Rattle.asn1_schema_laws.specs.Tables.{presence_bits, sequence_type};
+ghost use Rattle.asn1_schema_laws.specs.Parts.{part_of, part_unless};
 ghost use Rattle.asn1_schema_constraints.specs.Terms.{meant};
 ghost use Rattle.asn1_schema_encode.specs.Writes.{Writes, CannotWrite};
-ghost use Rattle.asn1_schema_presented.specs.Additions.{group_type, group_part};
+ghost use Rattle.asn1_schema_laws.specs.Additions.{group_type, group_part};
 ghost use Rattle.asn1_schema_authored.specs.Writes.{WritesEnclosed, CannotWriteEnclosed, WritesAddition};
 ghost use Rattle.asn1_schema_authored.specs.Writes.{CannotWriteAddition, WritesAdded, CannotWriteAdded};
+ghost use Rattle.asn1_schema_errors.specs.Calls.{EncoderCall};
 
 use crate::additions::{AdditionsOf, NoMore};
 use crate::group::Group;
 use crate::written::{AddedDefaulted, AddedGroup, AddedOptional, AddedRequired, ExtensionMarker};
 use asn1_schema_constraints::Constraints;
 use asn1_schema_encode::{Encode, EncodeComponents, Encoder};
-use asn1_schema_faults::EncodeError;
+use asn1_schema_errors::EncodeError;
 use asn1_schema_tags::Tag;
 use asn1_schema_types::DefaultOf;
 
@@ -26,10 +27,7 @@ pub trait EncodeAdditions: AdditionsOf {
     fn encode_additions<E: Encoder>(&self, encoder: &mut E) -> Result<(), EncodeError>
         ensures ok { OnOk result (WritesAdded E.step Self.additions (Self.parts self.now) encoder.old encoder.new) }
         ensures only { IfErr result (CannotWriteAdded E.step Self.additions (Self.parts self.now) encoder.old) }
-        ensures failed { OnErr result (E.has_failed encoder.new) }
-        ensures front { E.front encoder.new ≡ E.front encoder.old }
-        ensures already { E.has_failed encoder.old → result ≡ Err EncodeError.AlreadyFailed }
-        ensures after { result ≡ Err EncodeError.AlreadyFailed → E.has_failed encoder.old };
+        ensures call { EncoderCall E.has_failed E.front encoder.old encoder.new result };
 }
 
 impl EncodeAdditions for NoMore {
@@ -94,10 +92,7 @@ pub trait EncodeExtension: Encoder {
             (WritesAddition Self.step required T.schema (there (T.meaning value.now)) self.old self.new) }
         ensures only { IfErr result
             (CannotWriteAddition Self.step required T.schema (there (T.meaning value.now)) self.old) }
-        ensures failed { OnErr result (Self.has_failed self.new) }
-        ensures front { Self.front self.new ≡ Self.front self.old }
-        ensures already { Self.has_failed self.old → result ≡ Err EncodeError.AlreadyFailed }
-        ensures after { result ≡ Err EncodeError.AlreadyFailed → Self.has_failed self.old }
+        ensures call { EncoderCall Self.has_failed Self.front self.old self.new result }
     {
         self.encode_present_addition(T::TAG, value, &T::constraints())?;
         Ok(())
@@ -116,10 +111,7 @@ pub trait EncodeExtension: Encoder {
             (WritesEnclosed Self.step (T.under (meant constraints.now)) (T.meaning value.now) self.old self.new) }
         ensures only { IfErr result
             (CannotWriteEnclosed Self.step (T.under (meant constraints.now)) (T.meaning value.now) self.old) }
-        ensures failed { OnErr result (Self.has_failed self.new) }
-        ensures front { Self.front self.new ≡ Self.front self.old }
-        ensures already { Self.has_failed self.old → result ≡ Err EncodeError.AlreadyFailed }
-        ensures after { result ≡ Err EncodeError.AlreadyFailed → Self.has_failed self.old }
+        ensures call { EncoderCall Self.has_failed Self.front self.old self.new result }
     {
         self.encode_addition(true)?;
         value.encode_with_tag_and_constraints(self, tag, constraints)?;
@@ -138,10 +130,7 @@ pub trait EncodeExtension: Encoder {
             (WritesAddition Self.step optional T.schema (part_of T.meaning value.now) self.old self.new) }
         ensures only { IfErr result
             (CannotWriteAddition Self.step optional T.schema (part_of T.meaning value.now) self.old) }
-        ensures failed { OnErr result (Self.has_failed self.new) }
-        ensures front { Self.front self.new ≡ Self.front self.old }
-        ensures already { Self.has_failed self.old → result ≡ Err EncodeError.AlreadyFailed }
-        ensures after { result ≡ Err EncodeError.AlreadyFailed → Self.has_failed self.old }
+        ensures call { EncoderCall Self.has_failed Self.front self.old self.new result }
     {
         let Some(inner) = value else {
             self.encode_addition(false)?;
@@ -165,10 +154,7 @@ pub trait EncodeExtension: Encoder {
         ensures only { IfErr result
             (CannotWriteAddition Self.step (by_default V.value) T.schema
             (part_unless (same (T.meaning value.now) V.value) (T.meaning value.now)) self.old) }
-        ensures failed { OnErr result (Self.has_failed self.new) }
-        ensures front { Self.front self.new ≡ Self.front self.old }
-        ensures already { Self.has_failed self.old → result ≡ Err EncodeError.AlreadyFailed }
-        ensures after { result ≡ Err EncodeError.AlreadyFailed → Self.has_failed self.old }
+        ensures call { EncoderCall Self.has_failed Self.front self.old self.new result }
     {
         if V::is_default(value) {
             self.encode_addition(false)?;
@@ -186,10 +172,7 @@ pub trait EncodeExtension: Encoder {
             (Writes Self.step (group_type G.components) (fields (G.parts group.now) end) self.old self.new) }
         ensures only { IfErr result
             (CannotWrite Self.step (group_type G.components) (fields (G.parts group.now) end) self.old) }
-        ensures failed { OnErr result (Self.has_failed self.new) }
-        ensures front { Self.front self.new ≡ Self.front self.old }
-        ensures already { Self.has_failed self.old → result ≡ Err EncodeError.AlreadyFailed }
-        ensures after { result ≡ Err EncodeError.AlreadyFailed → Self.has_failed self.old }
+        ensures call { EncoderCall Self.has_failed Self.front self.old self.new result }
     {
         let optional = G::fields().number_of_optional_and_default_fields();
         self.begin_group(optional)?;
@@ -205,10 +188,7 @@ pub trait EncodeExtension: Encoder {
             (WritesEnclosed Self.step (group_type G.components) (fields (G.parts group.now) end) self.old self.new) }
         ensures only { IfErr result
             (CannotWriteEnclosed Self.step (group_type G.components) (fields (G.parts group.now) end) self.old) }
-        ensures failed { OnErr result (Self.has_failed self.new) }
-        ensures front { Self.front self.new ≡ Self.front self.old }
-        ensures already { Self.has_failed self.old → result ≡ Err EncodeError.AlreadyFailed }
-        ensures after { result ≡ Err EncodeError.AlreadyFailed → Self.has_failed self.old }
+        ensures call { EncoderCall Self.has_failed Self.front self.old self.new result }
     {
         self.encode_addition(true)?;
         self.encode_group(group)?;
@@ -228,10 +208,7 @@ pub trait EncodeExtension: Encoder {
             self.new) }
         ensures only { IfErr result
             (CannotWriteAddition Self.step optional (group_type G.components) (group_part G.parts value.now) self.old) }
-        ensures failed { OnErr result (Self.has_failed self.new) }
-        ensures front { Self.front self.new ≡ Self.front self.old }
-        ensures already { Self.has_failed self.old → result ≡ Err EncodeError.AlreadyFailed }
-        ensures after { result ≡ Err EncodeError.AlreadyFailed → Self.has_failed self.old }
+        ensures call { EncoderCall Self.has_failed Self.front self.old self.new result }
     {
         let Some(group) = value else {
             self.encode_addition(false)?;
@@ -263,10 +240,7 @@ pub trait EncodeExtension: Encoder {
         ensures only { IfErr result
             (CannotWrite Self.step (sequence_type C.table) (fields (C.root components.now) (C.added components.now))
             self.old) }
-        ensures failed { OnErr result (Self.has_failed self.new) }
-        ensures front { Self.front self.new ≡ Self.front self.old }
-        ensures already { Self.has_failed self.old → result ≡ Err EncodeError.AlreadyFailed }
-        ensures after { result ≡ Err EncodeError.AlreadyFailed → Self.has_failed self.old }
+        ensures call { EncoderCall Self.has_failed Self.front self.old self.new result }
     {
         self.begin_sequence(tag, true, optional)?;
         components.encode_components(self)?;

@@ -3,8 +3,8 @@ ghost use Rattle.std.specs.Prelude.{◌≡◌, ℕ, true};
 ghost use Rattle.asn1_model.specs.Lawful.{is_lawful};
 ghost use Rattle.asn1_model.specs.Tidy.{is_tidy};
 ghost use Rattle.asn1_model.specs.Value.{Parts, are_absent, end, fields};
-ghost use Rattle.asn1_schema_presented.specs.Tables.{Table, sequence_type, IsValue};
-ghost use Rattle.asn1_schema_presented.specs.Additions.{IsGroup};
+ghost use Rattle.asn1_schema_laws.specs.Tables.{Table, sequence_type, IsValue};
+ghost use Rattle.asn1_schema_laws.specs.Additions.{IsGroup};
 
 use asn1_schema_constructed::Constructed;
 

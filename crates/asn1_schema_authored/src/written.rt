@@ -2,15 +2,15 @@
 ghost use Rattle.std.specs.Prelude.{refl, min, ◌≤◌};
 ghost use Rattle.asn1_model.specs.Value.{end, same};
 ghost use Rattle.asn1_model.specs.Schema.{required, optional, by_default};
-ghost use Rattle.asn1_schema_presented.specs.Presents.{there, with_part};
-ghost use Rattle.asn1_schema_presented.specs.Tables.{field, field_tags};
-ghost use Rattle.asn1_schema_presented.specs.Parts.{part_of, part_unless};
-ghost use Rattle.asn1_schema_presented.proofs.Values.{part_required, part_optional, part_default};
-ghost use Rattle.asn1_schema_presented.proofs.Defaults.{has_default};
-ghost use Rattle.asn1_schema_presented.specs.Additions.{addition_count, extensible_table, group_type, group_part};
-ghost use Rattle.asn1_schema_presented.proofs.Additions.{as_addition, more_addition_types, extensible_types};
-ghost use Rattle.asn1_schema_presented.proofs.Additions.{more_addition_values, extensible_values};
-ghost use Rattle.asn1_schema_presented.proofs.Groups.{group_addition, group_valued};
+ghost use Rattle.asn1_schema_laws.specs.Presents.{there, with_part};
+ghost use Rattle.asn1_schema_laws.specs.Tables.{field, field_tags};
+ghost use Rattle.asn1_schema_laws.specs.Parts.{part_of, part_unless};
+ghost use Rattle.asn1_schema_laws.proofs.Values.{part_required, part_optional, part_default};
+ghost use Rattle.asn1_schema_laws.proofs.Defaults.{has_default};
+ghost use Rattle.asn1_schema_laws.specs.Additions.{addition_count, extensible_table, group_type, group_part};
+ghost use Rattle.asn1_schema_laws.proofs.Additions.{as_addition, more_addition_types, extensible_types};
+ghost use Rattle.asn1_schema_laws.proofs.Additions.{more_addition_values, extensible_values};
+ghost use Rattle.asn1_schema_laws.proofs.Groups.{group_addition, group_valued};
 
 use crate::additions::AdditionsOf;
 use crate::group::Group;

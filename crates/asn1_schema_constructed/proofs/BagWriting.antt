@@ -2,12 +2,12 @@
 use Rattle.std.proofs.Common.{ℕ, zero, suc, subst}
 use Rattle.asn1_model.specs.Value.{Values, bag}
 use Rattle.asn1_model.specs.Schema.{Schema, Size, Counts, set_of}
-use Rattle.asn1_schema_faults.specs.declared.EncodeError.{EncodeError}
-use Rattle.asn1_schema_presented.specs.Records.{Record, bag_begins}
+use Rattle.asn1_schema_errors.specs.declared.EncodeError.{EncodeError}
+use Rattle.asn1_schema_laws.specs.Records.{Record, bag_begins}
 use Rattle.asn1_model.specs.Lawful.{member_count}
-use Rattle.asn1_schema_presented.specs.Presents.{presents, member_records, Fits}
-use Rattle.asn1_schema_presented.specs.Tables.{scope}
-use Rattle.asn1_schema_presented.specs.Chains.{Chain, OneAfter}
+use Rattle.asn1_schema_laws.specs.Presents.{presents, member_records, Fits}
+use Rattle.asn1_schema_laws.specs.Tables.{scope}
+use Rattle.asn1_schema_laws.specs.Chains.{Chain, OneAfter}
 use Rattle.asn1_schema_encode.specs.Writes.{Refused, Writes, CannotWrite, WritesMembers, CannotWriteMembers}
 use Rattle.asn1_schema_constructed.specs.Bags.{bag_type}
 

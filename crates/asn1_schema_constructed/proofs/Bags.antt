@@ -7,10 +7,10 @@ use Rattle.asn1_model.specs.Schema.{Tag, Counts, Size, Schema, set_of}
 use Rattle.asn1_model.specs.Normal.{normal}
 use Rattle.asn1_model.specs.Tidy.{is_tidy}
 use Rattle.asn1_model.specs.Lawful.{is_lawful, is_group, are_counts}
-use Rattle.asn1_schema_presented.specs.Presents.{Fits, AllFit}
-use Rattle.asn1_schema_presented.specs.Parts.{values_of}
-use Rattle.asn1_schema_presented.specs.Tables.{scope, is_one_tag, IsType, IsValue}
-use Rattle.asn1_schema_presented.proofs.Beginnings.{tags_of_one}
+use Rattle.asn1_schema_laws.specs.Presents.{Fits, AllFit}
+use Rattle.asn1_schema_laws.specs.Parts.{values_of}
+use Rattle.asn1_schema_laws.specs.Tables.{scope, is_one_tag, IsType, IsValue}
+use Rattle.asn1_schema_laws.proofs.Beginnings.{tags_of_one}
 use Rattle.asn1_schema_constructed.specs.Bags.{bag_type}
 
 bag_is_no_group : (z : Size) (h : Counts) (s : ℕ → Schema) (n : ℕ) → is_group (bag_type z h s n) ≡ false

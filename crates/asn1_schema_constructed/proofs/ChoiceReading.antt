@@ -2,18 +2,18 @@
 use Rattle.std.proofs.Common.{◌≡◌, ℕ, ◌+◌, ◌<◌, zero, suc, Bool, [], ◌∷◌, ◌++◌, refl, subst, sym, ◌∙◌, ap, arith}
 use Rattle.asn1_model.specs.Value.{Value, chosen}
 use Rattle.asn1_model.specs.Schema.{Schema, choice}
-use Rattle.asn1_schema_faults.specs.declared.DecodeError.{DecodeError}
-use Rattle.asn1_schema_presented.specs.Records.{Record, asks_end, ends}
-use Rattle.asn1_schema_presented.specs.Presents.{presents, Fits}
-use Rattle.asn1_schema_presented.specs.Tables.{scope}
-use Rattle.asn1_schema_presented.specs.Chains.{Chain, OneRecord}
-use Rattle.asn1_schema_presented.proofs.Chains.{chain_append, chain_split}
-use Rattle.asn1_schema_presented.proofs.OneValue.{one_value}
+use Rattle.asn1_schema_errors.specs.declared.DecodeError.{DecodeError}
+use Rattle.asn1_schema_laws.specs.Records.{Record, asks_end, ends}
+use Rattle.asn1_schema_laws.specs.Presents.{presents, Fits}
+use Rattle.asn1_schema_laws.specs.Tables.{scope}
+use Rattle.asn1_schema_laws.specs.Chains.{Chain, OneRecord}
+use Rattle.asn1_schema_laws.proofs.Chains.{chain_append, chain_split}
+use Rattle.asn1_schema_laws.proofs.OneValue.{one_value}
 use Rattle.asn1_schema_decode.proofs.Carrying.{reads_near}
 use Rattle.asn1_schema_decode.specs.Reads.{NoRecord, NoLevel, Reads, Unread}
-use Rattle.asn1_schema_lacking.specs.Carried.{CarriesRecords, CarriesValues}
+use Rattle.asn1_schema_lacking_laws.specs.Carried.{CarriesRecords, CarriesValues}
 use Rattle.asn1_schema_decode.proofs.Reading.{reads_as, unread_as}
-use Rattle.asn1_schema_variants.specs.declared.chosen.Chosen.{Chosen}
+use Rattle.asn1_schema_tags.specs.declared.chosen.Chosen.{Chosen}
 use Rattle.asn1_schema_constructed.specs.Tables.{Choices, alternatives_at, side, type_at, choice_type}
 use Rattle.asn1_schema_constructed.specs.Chosen.{begins, asks, chosen_type, chosen_value}
 use Rattle.asn1_schema_constructed.proofs.Types.{one_fits, one_normal}
@@ -31,7 +31,7 @@ module _ {S : Type 0} (step : S → Record → S → Type 0) (t : Choices) where
       } in
       subst (λ (k : ℕ). Reads step (choice_type t) k (chosen b i v) a d) (let e : suc n ≡ m = omega arith in e) y
 
-  -- no value is read if no records are next
+  -- no value is read where no records are next
   module _ (n : ℕ) (a : S) (k : (b : Bool) (i : ℕ) (v : Value) (c p : S) → Fits (type_at (side t b) i n) v → step a (begins t b i) p → Chain step (presents (type_at (side t b) i n) v ++ (ends ∷ [])) p c → ⊥) where
     none_next : (v : Value) (c : S) → Fits (choice_type t (suc n)) v → Chain step (presents (choice_type t (suc n)) v) a c → ⊥
     unfolding choice_type scope Fits

@@ -4,7 +4,7 @@ use Rattle.asn1_model.specs.Schema.{Presence, required, optional, by_default}
 use Rattle.asn1_model.specs.Normal.{is_required}
 use Rattle.asn1_schema_constructed.specs.declared.tables.Field.{Field}
 use Rattle.asn1_schema_constructed.specs.Fields.{may_be_absent, is_optional}
-use Rattle.asn1_schema_presented.specs.Tables.{Fields, no_field, field, presence_bits}
+use Rattle.asn1_schema_laws.specs.Tables.{Fields, no_field, field, presence_bits}
 use Rattle.asn1_schema_constructed.specs.Constructed.{presence_of, AreFieldsFrom, AreFields}
 
 may_be : (o : Presence) → may_be_absent (presence_of o) ≡ not (is_required o)

@@ -3,11 +3,11 @@ use Rattle.std.proofs.Common.{◌≡◌, ℕ, ℤ, Bool, List, refl, subst, sym}
 use Rattle.asn1_model.specs.Value.{Value, item}
 use Rattle.asn1_model.specs.Schema.{Schema, enumerated}
 use Rattle.asn1_model.specs.Normal.{normal}
-use Rattle.asn1_schema_faults.specs.declared.EncodeError.{EncodeError}
-use Rattle.asn1_schema_faults.specs.declared.DecodeError.{DecodeError}
-use Rattle.asn1_schema_presented.specs.Records.{Record, one_of, asks_one_of}
-use Rattle.asn1_schema_presented.specs.Presents.{presents, Fits}
-use Rattle.asn1_schema_presented.specs.Chains.{Chain}
+use Rattle.asn1_schema_errors.specs.declared.EncodeError.{EncodeError}
+use Rattle.asn1_schema_errors.specs.declared.DecodeError.{DecodeError}
+use Rattle.asn1_schema_laws.specs.Records.{Record, one_of, asks_one_of}
+use Rattle.asn1_schema_laws.specs.Presents.{presents, Fits}
+use Rattle.asn1_schema_laws.specs.Chains.{Chain}
 use Rattle.asn1_schema_encode.specs.Writes.{Refused, Writes, CannotWrite}
 use Rattle.asn1_schema_encode.proofs.Writing.{writes_as, cannot_as}
 use Rattle.asn1_schema_decode.specs.Reads.{NoRecord, Reads, Unread}

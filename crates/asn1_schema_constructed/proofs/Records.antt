@@ -2,8 +2,8 @@
 use Rattle.std.proofs.Common.{◌≡◌, ℕ, zero, suc, Bool, true, false, [], ◌∷◌, ◌++◌, refl, ap}
 use Rattle.asn1_model.specs.Value.{Value, chosen}
 use Rattle.asn1_model.specs.Schema.{choice}
-use Rattle.asn1_schema_presented.specs.Records.{ends}
-use Rattle.asn1_schema_presented.specs.Presents.{presents, chosen_records, Fits}
+use Rattle.asn1_schema_laws.specs.Records.{ends}
+use Rattle.asn1_schema_laws.specs.Presents.{presents, chosen_records, Fits}
 use Rattle.asn1_schema_constructed.specs.Tables.{Variants, no_variant, variant, alternatives_at, Choices, side, type_at}
 use Rattle.asn1_schema_constructed.specs.Chosen.{begins}
 use Rattle.asn1_schema_constructed.proofs.Types.{tags_at, fits_at}

@@ -3,15 +3,15 @@ use Rattle.std.proofs.Common.{◌≡◌, ℕ, ◌+◌, ◌<◌, zero, suc, Bool,
 use Rattle.asn1_model.specs.Value.{fields, Parts}
 use Rattle.asn1_model.specs.Schema.{set}
 use Rattle.asn1_model.specs.Normal.{normal, normal_parts}
-use Rattle.asn1_schema_faults.specs.declared.DecodeError.{DecodeError}
-use Rattle.asn1_schema_presented.specs.Records.{Record, set_begins, asks_set}
-use Rattle.asn1_schema_presented.specs.Presents.{presents, optional_count, Fits}
-use Rattle.asn1_schema_presented.specs.Parts.{tail_records}
-use Rattle.asn1_schema_presented.specs.Tables.{Table, components_at, presence_bits, scope}
-use Rattle.asn1_schema_presented.specs.Chains.{Chain, OneRecord}
-use Rattle.asn1_schema_presented.proofs.Joined.{presence_bits_at}
+use Rattle.asn1_schema_errors.specs.declared.DecodeError.{DecodeError}
+use Rattle.asn1_schema_laws.specs.Records.{Record, set_begins, asks_set}
+use Rattle.asn1_schema_laws.specs.Presents.{presents, optional_count, Fits}
+use Rattle.asn1_schema_laws.specs.Parts.{tail_records}
+use Rattle.asn1_schema_laws.specs.Tables.{Table, components_at, presence_bits, scope}
+use Rattle.asn1_schema_laws.specs.Chains.{Chain, OneRecord}
+use Rattle.asn1_schema_laws.proofs.Joined.{presence_bits_at}
 use Rattle.asn1_schema_decode.specs.Reads.{NoLevel, Reads, Unread, ReadsTail, UnreadTail}
-use Rattle.asn1_schema_lacking.specs.Carried.{CarriesRecords}
+use Rattle.asn1_schema_lacking_laws.specs.Carried.{CarriesRecords}
 use Rattle.asn1_schema_constructed.specs.Sets.{set_type}
 
 module _ {S : Type 0} {step : S → Record → S → Type 0} where

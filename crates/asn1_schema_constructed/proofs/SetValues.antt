@@ -7,11 +7,11 @@ use Rattle.asn1_model.specs.Schema.{Tag, set}
 use Rattle.asn1_model.specs.Normal.{normal, normal_parts}
 use Rattle.asn1_model.specs.Tidy.{is_tidy}
 use Rattle.asn1_model.specs.Lawful.{is_lawful, is_group, are_distinct, are_ascending, tag_same, tag_less, smallest, component_places}
-use Rattle.asn1_schema_presented.specs.Presents.{Fits}
-use Rattle.asn1_schema_presented.specs.Tables.{Fields, no_field, field, Table, components_at, field_tags, scope, is_one_tag, IsType, IsValue}
-use Rattle.asn1_schema_presented.proofs.Beginnings.{tags_of_one}
-use Rattle.asn1_schema_presented.specs.Typed.{AreTypes, AreValues}
-use Rattle.asn1_schema_presented.proofs.Values.{tags_at}
+use Rattle.asn1_schema_laws.specs.Presents.{Fits}
+use Rattle.asn1_schema_laws.specs.Tables.{Fields, no_field, field, Table, components_at, field_tags, scope, is_one_tag, IsType, IsValue}
+use Rattle.asn1_schema_laws.proofs.Beginnings.{tags_of_one}
+use Rattle.asn1_schema_laws.specs.Typed.{AreTypes, AreValues}
+use Rattle.asn1_schema_laws.proofs.Values.{tags_at}
 use Rattle.asn1_schema_constructed.specs.Sets.{set_type, field_places}
 
 places_at : (n : ℕ) (fs : Fields) → component_places (components_at n fs) ≡ field_places fs

@@ -2,13 +2,13 @@
 use Rattle.std.proofs.Common.{◌≡◌, ℕ, zero, suc, Bool, subst, sym, ◌∙◌}
 use Rattle.asn1_model.specs.Value.{fields, Parts}
 use Rattle.asn1_model.specs.Schema.{set}
-use Rattle.asn1_schema_faults.specs.declared.EncodeError.{EncodeError}
-use Rattle.asn1_schema_presented.specs.Records.{Record, set_begins}
-use Rattle.asn1_schema_presented.specs.Presents.{presents, optional_count, Fits}
-use Rattle.asn1_schema_presented.specs.Parts.{tail_records}
-use Rattle.asn1_schema_presented.specs.Tables.{Table, components_at, presence_bits, scope}
-use Rattle.asn1_schema_presented.specs.Chains.{Chain, OneAfter}
-use Rattle.asn1_schema_presented.proofs.Joined.{presence_bits_at}
+use Rattle.asn1_schema_errors.specs.declared.EncodeError.{EncodeError}
+use Rattle.asn1_schema_laws.specs.Records.{Record, set_begins}
+use Rattle.asn1_schema_laws.specs.Presents.{presents, optional_count, Fits}
+use Rattle.asn1_schema_laws.specs.Parts.{tail_records}
+use Rattle.asn1_schema_laws.specs.Tables.{Table, components_at, presence_bits, scope}
+use Rattle.asn1_schema_laws.specs.Chains.{Chain, OneAfter}
+use Rattle.asn1_schema_laws.proofs.Joined.{presence_bits_at}
 use Rattle.asn1_schema_encode.specs.Writes.{Refused, Writes, CannotWrite, WritesTail, CannotWriteTail}
 use Rattle.asn1_schema_constructed.specs.Sets.{set_type}
 

@@ -4,7 +4,7 @@ use Rattle.asn1_model.specs.Schema.{Tag}
 use Rattle.asn1_schema_tags.specs.Chosen.{ChoiceTags, alternative_at, alternative_of}
 use Rattle.asn1_schema_tags.specs.Trees.{place_of}
 use Rattle.asn1_schema_tags.proofs.PlaceLaws.{place_within}
-use Rattle.asn1_schema_variants.specs.declared.chosen.Chosen.{Chosen}
+use Rattle.asn1_schema_tags.specs.declared.chosen.Chosen.{Chosen}
 use Rattle.asn1_schema_constructed.specs.Tables.{Choices, tags_of}
 use Rattle.asn1_schema_constructed.specs.Chosen.{IsAmong, AreTold, either, of_tag}
 

@@ -5,9 +5,9 @@ use Rattle.asn1_model.specs.Schema.{Tag, Schema, cut, enumerated, choice}
 use Rattle.asn1_model.specs.Normal.{normal, normal_alternative}
 use Rattle.asn1_model.specs.Tidy.{is_tidy, are_tidy_alternatives}
 use Rattle.asn1_model.specs.Lawful.{is_lawful, are_lawful_alternatives, is_group, is_tag, is_empty, alternative_tags, are_tags, are_tags_of}
-use Rattle.asn1_schema_presented.specs.Presents.{Fits, ChosenFits}
-use Rattle.asn1_schema_presented.specs.Tables.{scope, is_one_tag, are_choice_tags, IsType, IsValue}
-use Rattle.asn1_schema_presented.proofs.Beginnings.{tags_of_one, tags_of_cut, tags_of_choice, choice_tags}
+use Rattle.asn1_schema_laws.specs.Presents.{Fits, ChosenFits}
+use Rattle.asn1_schema_laws.specs.Tables.{scope, is_one_tag, are_choice_tags, IsType, IsValue}
+use Rattle.asn1_schema_laws.proofs.Beginnings.{tags_of_one, tags_of_cut, tags_of_choice, choice_tags}
 use Rattle.asn1_schema_constructed.specs.Tables.{Variants, no_variant, variant, alternatives_at, Choices, side, tags_of, all_tags, type_at, choice_type, are_choices, AreVariants, are_items}
 use Rattle.asn1_schema_constructed.specs.Recursive.{recursive_choice}
 

@@ -5,7 +5,7 @@ use Rattle.asn1_schema_constraints.specs.Bounds.{members_of}
 use Rattle.asn1_schema_constraints.specs.Terms.{sizes_of}
 use Rattle.asn1_schema_constraints.specs.declared.bounds.Bounded.{Bounded}
 use Rattle.asn1_schema_constraints.specs.declared.lists.Constraints.{Constraints}
-use Rattle.asn1_schema_presented.specs.Tables.{scope}
+use Rattle.asn1_schema_laws.specs.Tables.{scope}
 
 -- A SET OF elements of this type, under a size constraint; the Counts bound the number of elements that the
 -- user-defined type can hold.

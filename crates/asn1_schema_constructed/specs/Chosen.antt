@@ -2,9 +2,9 @@
 use Rattle.std.specs.Prelude.{◌≡◌, ◌<◌, ℕ, Bool, true, false, List, length, Option, Some, None, option_map, slice_get}
 use Rattle.asn1_model.specs.Schema.{Tag, Schema}
 use Rattle.asn1_model.specs.Value.{Value, chosen}
-use Rattle.asn1_schema_presented.specs.Records.{Record, Question, choice_begins, asks_choice}
+use Rattle.asn1_schema_laws.specs.Records.{Record, Question, choice_begins, asks_choice}
 use Rattle.asn1_schema_tags.specs.Trees.{place_of}
-use Rattle.asn1_schema_variants.specs.declared.chosen.Chosen.{Chosen}
+use Rattle.asn1_schema_tags.specs.declared.chosen.Chosen.{Chosen}
 use Rattle.asn1_schema_constructed.specs.Tables.{Choices, side, tags_of, type_at}
 
 -- The type of the chosen alternative.

@@ -7,8 +7,8 @@ use Rattle.asn1_schema_constructed.specs.declared.tables.FieldPresence.{FieldPre
 use Rattle.asn1_schema_constructed.specs.declared.tables.FieldPresence.TheVariants.{Required, Optional, Default}
 use Rattle.asn1_schema_constructed.specs.declared.tables.Field.{Field}
 use Rattle.asn1_schema_constructed.specs.declared.tables.Fields.{Fields}
-use Rattle.asn1_schema_presented.specs.Tables.{Fields as Components, no_field, field, Table, scope, components_at}
-use Rattle.asn1_schema_presented.specs.Tables.{sequence_type}
+use Rattle.asn1_schema_laws.specs.Tables.{Fields as Components, no_field, field, Table, scope, components_at}
+use Rattle.asn1_schema_laws.specs.Tables.{sequence_type}
 
 -- Whether a component is mandatory, OPTIONAL or has a DEFAULT (X.680 25).
 abbrev pub presence_of : Presence → FieldPresence

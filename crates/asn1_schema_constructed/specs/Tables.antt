@@ -5,7 +5,7 @@ use Rattle.asn1_model.specs.Tidy.{are_tidy_alternatives}
 use Rattle.asn1_model.specs.Lawful.{are_lawful_alternatives, are_distinct, are_ascending, tag_less}
 use Rattle.asn1_model.specs.Lawful.{tag_same, is_empty}
 use Rattle.asn1_model.specs.Value.{same_number}
-use Rattle.asn1_schema_presented.specs.Tables.{scope}
+use Rattle.asn1_schema_laws.specs.Tables.{scope}
 
 -- Alternatives, each with its tag and its type for each number of levels.
 pub data Variants : Type 0 where

@@ -2,9 +2,9 @@
 use Rattle.std.specs.Prelude.{◌≡◌, ℕ, Some}
 use Rattle.asn1_model.specs.Schema.{Tag}
 use Rattle.asn1_model.specs.Value.{Value}
-use Rattle.asn1_schema_faults.specs.declared.DecodeError.{DecodeError}
-use Rattle.asn1_schema_presented.specs.Records.{Record}
-use Rattle.asn1_schema_variants.specs.declared.chosen.Chosen.{Chosen}
+use Rattle.asn1_schema_errors.specs.declared.DecodeError.{DecodeError}
+use Rattle.asn1_schema_laws.specs.Records.{Record}
+use Rattle.asn1_schema_tags.specs.declared.chosen.Chosen.{Chosen}
 use Rattle.asn1_schema_decode.specs.Reads.{Reads, Unread}
 use Rattle.asn1_schema_constructed.specs.Tables.{Choices}
 use Rattle.asn1_schema_constructed.specs.Chosen.{chosen_type, of_tag}

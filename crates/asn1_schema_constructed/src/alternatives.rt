@@ -4,16 +4,16 @@ ghost use Rattle.asn1_model.specs.Value.{Value};
 ghost use Rattle.asn1_schema_constraints.specs.Terms.{Meant};
 ghost use Rattle.asn1_schema_tags.specs.Places.{is_table_of};
 ghost use Rattle.asn1_schema_tags.specs.Tags.{tag_of};
-ghost use Rattle.asn1_schema_variants.specs.declared.chosen.Chosen.{Chosen};
+ghost use Rattle.asn1_schema_tags.specs.declared.chosen.Chosen.{Chosen};
 ghost use Rattle.asn1_schema_encode.specs.Writes.{Writes, CannotWrite};
 ghost use Rattle.asn1_schema_constructed.specs.Tables.{Choices, tags_of, all_tags, choice_type};
 ghost use Rattle.asn1_schema_constructed.specs.Chosen.{chosen_type, chosen_value, IsTag, AreTold, of_tag};
+ghost use Rattle.asn1_schema_errors.specs.Calls.{EncoderCall};
 
 use asn1_schema_encode::Encoder;
-use asn1_schema_faults::EncodeError;
-use asn1_schema_tags::{Tag, TagPlace, TagTables};
+use asn1_schema_errors::EncodeError;
+use asn1_schema_tags::{Chosen, Tag, TagPlace, TagTables};
 use asn1_schema_types::AsnType;
-use asn1_schema_variants::Chosen;
 
 /// CHOICE (X.680 29), by the tables of its alternatives.
 pub trait Alternatives: AsnType {
@@ -60,10 +60,7 @@ pub trait Choice: Alternatives {
         ensures tag { IfOk result (λ tag. IsTag Self.table (place self.now) (tag_of tag)) }
         ensures only { IfErr result
             (CannotWrite E.step (chosen_type Self.table (place self.now)) (inner self.now) encoder.old) }
-        ensures failed { OnErr result (E.has_failed encoder.new) }
-        ensures front { E.front encoder.new ≡ E.front encoder.old }
-        ensures already { E.has_failed encoder.old → result ≡ Err EncodeError.AlreadyFailed }
-        ensures after { result ≡ Err EncodeError.AlreadyFailed → E.has_failed encoder.old };
+        ensures call { EncoderCall E.has_failed E.front encoder.old encoder.new result };
 
     /// A value means the value of its alternative.
     ghost means: { (x : Self) → Self.meaning x ≡ chosen_value (place x) (inner x) };

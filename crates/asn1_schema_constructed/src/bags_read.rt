@@ -3,13 +3,14 @@ ghost use Rattle.std.specs.Prelude.{◌≡◌, length, true, OnOk, IfOk, OnErr, 
 ghost use Rattle.asn1_model.specs.Numbers.{is_count_within};
 ghost use Rattle.asn1_model.specs.Value.{bag};
 ghost use Rattle.asn1_schema_constraints.specs.Bounds.{members_of};
-ghost use Rattle.asn1_schema_presented.specs.Parts.{values_of};
+ghost use Rattle.asn1_schema_laws.specs.Parts.{values_of};
 ghost use Rattle.asn1_schema_constructed.specs.Bags.{bag_under};
 ghost use Rattle.asn1_schema_decode.specs.Reads.{Reads, Unread};
+ghost use Rattle.asn1_schema_errors.specs.Calls.{DecoderCall};
 
 use asn1_schema_constraints::{Bounded, Constraints};
 use asn1_schema_decode::{Decode, Decoder, members_within};
-use asn1_schema_faults::DecodeError;
+use asn1_schema_errors::DecodeError;
 use asn1_schema_tags::Tag;
 use std::alloc::Global;
 
@@ -34,9 +35,7 @@ pub trait DecodeBag: Decoder {
         ensures only { IfErr result
             (Unread Self.step Self.too_few (bag_under constraints.now held T.schema)
             (Self.levels self.old) self.old self.new) }
-        ensures failed { OnErr result (Self.has_failed self.new) }
-        ensures already { Self.has_failed self.old → result ≡ Err DecodeError.AlreadyFailed }
-        ensures after { result ≡ Err DecodeError.AlreadyFailed → Self.has_failed self.old }
+        ensures call { DecoderCall Self.has_failed self.old self.new result }
     {
         self.begin_bag(tag, constraints, held)?;
         let items = members_within(alloc, self, held)?;

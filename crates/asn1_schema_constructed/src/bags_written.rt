@@ -1,13 +1,14 @@
 //! How SET OF types are encoded.
 ghost use Rattle.std.specs.Prelude.{◌≡◌, OnOk, OnErr, IfErr};
 ghost use Rattle.asn1_model.specs.Value.{bag};
-ghost use Rattle.asn1_schema_presented.specs.Parts.{values_of};
+ghost use Rattle.asn1_schema_laws.specs.Parts.{values_of};
 ghost use Rattle.asn1_schema_constructed.specs.Bags.{bag_under};
 ghost use Rattle.asn1_schema_encode.specs.Writes.{Writes, CannotWrite};
+ghost use Rattle.asn1_schema_errors.specs.Calls.{EncoderCall};
 
 use asn1_schema_constraints::{Bounded, Constraints};
 use asn1_schema_encode::{Encode, Encoder};
-use asn1_schema_faults::EncodeError;
+use asn1_schema_errors::EncodeError;
 use asn1_schema_tags::Tag;
 
 /// Encodes SET OF types.
@@ -29,10 +30,7 @@ pub trait EncodeBag: Encoder {
         ensures only { IfErr result
             (CannotWrite Self.step (bag_under constraints.now held T.schema) (bag (values_of T.meaning items.now))
             self.old) }
-        ensures failed { OnErr result (Self.has_failed self.new) }
-        ensures front { Self.front self.new ≡ Self.front self.old }
-        ensures already { Self.has_failed self.old → result ≡ Err EncodeError.AlreadyFailed }
-        ensures after { result ≡ Err EncodeError.AlreadyFailed → Self.has_failed self.old }
+        ensures call { EncoderCall Self.has_failed Self.front self.old self.new result }
     {
         self.begin_bag(tag, constraints, held, items.len())?;
         for item in items {

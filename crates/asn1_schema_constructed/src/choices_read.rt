@@ -5,14 +5,14 @@ ghost use Rattle.asn1_schema_constraints.specs.Terms.{meant};
 ghost use Rattle.asn1_schema_tags.specs.Tags.{tag_of};
 ghost use Rattle.asn1_schema_constructed.specs.Tagged.{ReadsTagged, UnreadTagged};
 ghost use Rattle.asn1_schema_constructed.specs.Chosen.{chosen_type, begins, asks, IsAmong, of_tag};
-ghost use Rattle.asn1_schema_variants.specs.declared.chosen.Chosen.{Chosen};
+ghost use Rattle.asn1_schema_tags.specs.declared.chosen.Chosen.{Chosen};
+ghost use Rattle.asn1_schema_errors.specs.Calls.{DecoderCall};
 
 use crate::alternatives::{Alternatives, Choice, alternative_of, tag_tables_of};
 use asn1_schema_constraints::Constraints;
 use asn1_schema_decode::Decoder;
-use asn1_schema_faults::DecodeError;
-use asn1_schema_tags::Tag;
-use asn1_schema_variants::Chosen;
+use asn1_schema_errors::DecodeError;
+use asn1_schema_tags::{Chosen, Tag};
 use std::alloc::Global;
 
 /// A CHOICE that is decoded by its alternatives (X.680 29).
@@ -31,9 +31,7 @@ pub trait DecodeChoice: Choice + Drop {
         ensures level { OnOk result (D.levels decoder.new ≡ D.levels decoder.old) }
         ensures only { IfErr result
             (Unread D.step D.too_few (chosen_type Self.table chosen) (D.levels decoder.old) decoder.old decoder.new) }
-        ensures failed { OnErr result (D.has_failed decoder.new) }
-        ensures already { D.has_failed decoder.old → result ≡ Err DecodeError.AlreadyFailed }
-        ensures after { result ≡ Err DecodeError.AlreadyFailed → D.has_failed decoder.old };
+        ensures call { DecoderCall D.has_failed decoder.old decoder.new result };
 
     /// Reads the value of the alternative with a tag.
     ///
@@ -86,9 +84,7 @@ pub trait DecodeAlternatives: Decoder {
         ensures only { IfErr result
             (Unread Self.step Self.too_few (T.under (meant constraints.now))
             (Self.levels self.old) self.old self.new) }
-        ensures failed { OnErr result (Self.has_failed self.new) }
-        ensures already { Self.has_failed self.old → result ≡ Err DecodeError.AlreadyFailed }
-        ensures after { result ≡ Err DecodeError.AlreadyFailed → Self.has_failed self.old }
+        ensures call { DecoderCall Self.has_failed self.old self.new result }
     {
         let chosen = self.begin_alternatives::<T>(tag)?;
         let value = T::from_chosen(alloc, self, chosen)?;
@@ -105,9 +101,7 @@ pub trait DecodeAlternatives: Decoder {
         ensures level { OnOk result (Self.levels self.old ≡ Self.levels self.new + 1) }
         ensures only { IfErr result
             (NoLevel Self.step Self.too_few (asks C.table) (Self.levels self.old) self.old self.new) }
-        ensures failed { OnErr result (Self.has_failed self.new) }
-        ensures already { Self.has_failed self.old → result ≡ Err DecodeError.AlreadyFailed }
-        ensures after { result ≡ Err DecodeError.AlreadyFailed → Self.has_failed self.old }
+        ensures call { DecoderCall Self.has_failed self.old self.new result }
     {
         let chosen = self.begin_choice(tag, &tag_tables_of::<C>())?;
         Ok(chosen)

@@ -3,13 +3,13 @@ ghost use Rattle.std.specs.Prelude.{◌≡◌, OnOk, OnErr, IfErr};
 ghost use Rattle.asn1_schema_constraints.specs.Terms.{meant};
 ghost use Rattle.asn1_schema_encode.specs.Writes.{Refused, Writes, CannotWrite};
 ghost use Rattle.asn1_schema_constructed.specs.Chosen.{begins};
+ghost use Rattle.asn1_schema_errors.specs.Calls.{EncoderCall};
 
 use crate::alternatives::{Alternatives, Choice, tag_tables_of};
 use asn1_schema_constraints::Constraints;
 use asn1_schema_encode::Encoder;
-use asn1_schema_faults::EncodeError;
-use asn1_schema_tags::Tag;
-use asn1_schema_variants::Chosen;
+use asn1_schema_errors::EncodeError;
+use asn1_schema_tags::{Chosen, Tag};
 
 /// Encodes CHOICE types.
 pub trait EncodeChoice: Encoder {
@@ -26,10 +26,7 @@ pub trait EncodeChoice: Encoder {
             (Writes Self.step (T.under (meant constraints.now)) (T.meaning value.now) self.old self.new) }
         ensures only { IfErr result
             (CannotWrite Self.step (T.under (meant constraints.now)) (T.meaning value.now) self.old) }
-        ensures failed { OnErr result (Self.has_failed self.new) }
-        ensures front { Self.front self.new ≡ Self.front self.old }
-        ensures already { Self.has_failed self.old → result ≡ Err EncodeError.AlreadyFailed }
-        ensures after { result ≡ Err EncodeError.AlreadyFailed → Self.has_failed self.old }
+        ensures call { EncoderCall Self.has_failed Self.front self.old self.new result }
     {
         self.begin_alternative::<T>(tag, value.chosen())?;
         value.write_chosen(self)?;
@@ -47,10 +44,7 @@ pub trait EncodeChoice: Encoder {
         Self: Sized,
         ensures ok { OnOk result (Self.step self.old (begins C.table chosen.added chosen.place) self.new) }
         ensures only { IfErr result (Refused Self.step (begins C.table chosen.added chosen.place) self.old) }
-        ensures failed { OnErr result (Self.has_failed self.new) }
-        ensures front { Self.front self.new ≡ Self.front self.old }
-        ensures already { Self.has_failed self.old → result ≡ Err EncodeError.AlreadyFailed }
-        ensures after { result ≡ Err EncodeError.AlreadyFailed → Self.has_failed self.old }
+        ensures call { EncoderCall Self.has_failed Self.front self.old self.new result }
     {
         let tables = tag_tables_of::<C>();
         self.begin_choice(

@@ -2,15 +2,16 @@
 ghost use Rattle.std.specs.Prelude.{◌≡◌, ◌+◌, ℕ, OnOk, OnErr, IfOk, IfErr};
 ghost use Rattle.asn1_model.specs.Value.{Parts, fields};
 ghost use Rattle.asn1_schema_constraints.specs.Terms.{Meant};
-ghost use Rattle.asn1_schema_presented.specs.Tables.{Table, sequence_type};
+ghost use Rattle.asn1_schema_laws.specs.Tables.{Table, sequence_type};
 ghost use Rattle.asn1_schema_encode.specs.Writes.{Writes, CannotWrite, WritesTail, CannotWriteTail};
 ghost use Rattle.asn1_schema_decode.specs.Reads.{Reads, Unread, ReadsTail, UnreadTail};
 ghost use Rattle.asn1_schema_constructed.specs.Constructed.{Form, AreFields, AreAdditions, constructed_type};
+ghost use Rattle.asn1_schema_errors.specs.Calls.{DecoderCall, EncoderCall};
 
 use crate::Fields;
 use asn1_schema_decode::Decoder;
 use asn1_schema_encode::Encoder;
-use asn1_schema_faults::{DecodeError, EncodeError};
+use asn1_schema_errors::{DecodeError, EncodeError};
 use asn1_schema_tags::{Identifier, Tag};
 use asn1_schema_types::AsnType;
 use std::alloc::Global;
@@ -45,10 +46,7 @@ pub trait Constructed: AsnType + Drop {
     fn write_fields<E: Encoder>(&self, encoder: &mut E) -> Result<(), EncodeError>
         ensures ok { OnOk result (WritesTail E.step table (root self.now) (added self.now) encoder.old encoder.new) }
         ensures only { IfErr result (CannotWriteTail E.step table (root self.now) (added self.now) encoder.old) }
-        ensures failed { OnErr result (E.has_failed encoder.new) }
-        ensures front { E.front encoder.new ≡ E.front encoder.old }
-        ensures already { E.has_failed encoder.old → result ≡ Err EncodeError.AlreadyFailed }
-        ensures after { result ≡ Err EncodeError.AlreadyFailed → E.has_failed encoder.old };
+        ensures call { EncoderCall E.has_failed E.front encoder.old encoder.new result };
 
     /// Reads the components, and the end.
     fn read_fields<D: Decoder>(alloc: Global, decoder: &mut D) -> Result<Self, DecodeError>
@@ -57,9 +55,7 @@ pub trait Constructed: AsnType + Drop {
         ensures level { OnOk result (D.levels decoder.new ≡ D.levels decoder.old + 1) }
         ensures only { IfErr result
             (UnreadTail D.step D.too_few table (D.levels decoder.old) decoder.old decoder.new) }
-        ensures failed { OnErr result (D.has_failed decoder.new) }
-        ensures already { D.has_failed decoder.old → result ≡ Err DecodeError.AlreadyFailed }
-        ensures after { result ≡ Err DecodeError.AlreadyFailed → D.has_failed decoder.old };
+        ensures call { DecoderCall D.has_failed decoder.old decoder.new result };
 
     /// A value means its components.
     ghost means: { (x : Self) → Self.meaning x ≡ fields (root x) (added x) };
@@ -85,10 +81,7 @@ pub trait EncodeConstructed: Encoder {
             self.new) }
         ensures only { IfErr result
             (CannotWrite Self.step (sequence_type T.table) (fields (T.root value.now) (T.added value.now)) self.old) }
-        ensures failed { OnErr result (Self.has_failed self.new) }
-        ensures front { Self.front self.new ≡ Self.front self.old }
-        ensures already { Self.has_failed self.old → result ≡ Err EncodeError.AlreadyFailed }
-        ensures after { result ≡ Err EncodeError.AlreadyFailed → Self.has_failed self.old }
+        ensures call { EncoderCall Self.has_failed Self.front self.old self.new result }
     {
         let optional = T::fields().number_of_optional_and_default_fields();
         let extensible = T::is_extensible();
@@ -117,9 +110,7 @@ pub trait DecodeConstructed: Decoder {
         ensures level { OnOk result (Self.levels self.new ≡ Self.levels self.old) }
         ensures only { IfErr result
             (Unread Self.step Self.too_few (sequence_type T.table) (Self.levels self.old) self.old self.new) }
-        ensures failed { OnErr result (Self.has_failed self.new) }
-        ensures already { Self.has_failed self.old → result ≡ Err DecodeError.AlreadyFailed }
-        ensures after { result ≡ Err DecodeError.AlreadyFailed → Self.has_failed self.old }
+        ensures call { DecoderCall Self.has_failed self.old self.new result }
     {
         let optional = T::fields().number_of_optional_and_default_fields();
         let extensible = T::is_extensible();

@@ -4,13 +4,13 @@ ghost use Rattle.asn1_model.specs.Schema.{enumerated};
 ghost use Rattle.asn1_model.specs.Value.{item};
 ghost use Rattle.asn1_schema_encode.specs.Writes.{Writes, CannotWrite};
 ghost use Rattle.asn1_schema_decode.specs.Reads.{Reads, Unread};
+ghost use Rattle.asn1_schema_errors.specs.Calls.{DecoderCall, EncoderCall};
 
 use asn1_schema_decode::Decoder;
 use asn1_schema_encode::Encoder;
-use asn1_schema_faults::{DecodeError, EncodeError};
-use asn1_schema_tags::{Identifier, Tag};
+use asn1_schema_errors::{DecodeError, EncodeError};
+use asn1_schema_tags::{Enumerated, Identifier, Tag};
 use asn1_schema_types::AsnType;
-use asn1_schema_variants::Enumerated;
 
 /// A user-defined enumeration.
 pub trait EnumeratedType: Enumerated + AsnType {
@@ -33,10 +33,7 @@ pub trait EncodeItems: Encoder {
         Self: Sized,
         ensures ok { OnOk result (Writes Self.step T.schema (T.meaning value.now) self.old self.new) }
         ensures only { IfErr result (CannotWrite Self.step T.schema (T.meaning value.now) self.old) }
-        ensures failed { OnErr result (Self.has_failed self.new) }
-        ensures front { Self.front self.new ≡ Self.front self.old }
-        ensures already { Self.has_failed self.old → result ≡ Err EncodeError.AlreadyFailed }
-        ensures after { result ≡ Err EncodeError.AlreadyFailed → Self.has_failed self.old }
+        ensures call { EncoderCall Self.has_failed Self.front self.old self.new result }
     {
         self.encode_enumerated(tag, value, Identifier::ENUMERATED)?;
         Ok(())
@@ -55,9 +52,7 @@ pub trait DecodeItems: Decoder {
             (λ x. Reads Self.step T.schema (Self.levels self.old) (T.meaning x) self.old self.new) }
         ensures level { OnOk result (Self.levels self.new ≡ Self.levels self.old) }
         ensures only { IfErr result (Unread Self.step Self.too_few T.schema (Self.levels self.old) self.old self.new) }
-        ensures failed { OnErr result (Self.has_failed self.new) }
-        ensures already { Self.has_failed self.old → result ≡ Err DecodeError.AlreadyFailed }
-        ensures after { result ≡ Err DecodeError.AlreadyFailed → Self.has_failed self.old }
+        ensures call { DecoderCall Self.has_failed self.old self.new result }
     {
         let value = self.decode_enumerated(tag)?;
         Ok(value)

@@ -1,13 +1,14 @@
 //! How SET types are decoded.
 ghost use Rattle.std.specs.Prelude.{◌≡◌, OnOk, OnErr, IfErr, IfOk};
 ghost use Rattle.asn1_model.specs.Value.{fields};
-ghost use Rattle.asn1_schema_presented.specs.Tables.{presence_bits};
+ghost use Rattle.asn1_schema_laws.specs.Tables.{presence_bits};
 ghost use Rattle.asn1_schema_decode.specs.Reads.{Reads, Unread};
 ghost use Rattle.asn1_schema_constructed.specs.Sets.{set_type};
+ghost use Rattle.asn1_schema_errors.specs.Calls.{DecoderCall};
 
 use crate::Constructed;
 use asn1_schema_decode::{DecodeComponents, Decoder};
-use asn1_schema_faults::DecodeError;
+use asn1_schema_errors::DecodeError;
 use asn1_schema_tags::Tag;
 use std::alloc::Global;
 
@@ -32,9 +33,7 @@ pub trait DecodeSet: Decoder {
         ensures level { OnOk result (Self.levels self.new ≡ Self.levels self.old) }
         ensures only { IfErr result
             (Unread Self.step Self.too_few (set_type C.table) (Self.levels self.old) self.old self.new) }
-        ensures failed { OnErr result (Self.has_failed self.new) }
-        ensures already { Self.has_failed self.old → result ≡ Err DecodeError.AlreadyFailed }
-        ensures after { result ≡ Err DecodeError.AlreadyFailed → Self.has_failed self.old }
+        ensures call { DecoderCall Self.has_failed self.old self.new result }
     {
         self.begin_set(tag, extensible, optional)?;
         let components = C::decode_components(alloc, self)?;
@@ -56,9 +55,7 @@ pub trait DecodeSet: Decoder {
         ensures level { OnOk result (Self.levels self.new ≡ Self.levels self.old) }
         ensures only { IfErr result
             (Unread Self.step Self.too_few (set_type T.table) (Self.levels self.old) self.old self.new) }
-        ensures failed { OnErr result (Self.has_failed self.new) }
-        ensures already { Self.has_failed self.old → result ≡ Err DecodeError.AlreadyFailed }
-        ensures after { result ≡ Err DecodeError.AlreadyFailed → Self.has_failed self.old }
+        ensures call { DecoderCall Self.has_failed self.old self.new result }
     {
         let optional = T::fields().number_of_optional_and_default_fields();
         let extensible = T::is_extensible();

@@ -1,13 +1,14 @@
 //! How SET types are encoded.
 ghost use Rattle.std.specs.Prelude.{◌≡◌, OnOk, OnErr, IfErr};
 ghost use Rattle.asn1_model.specs.Value.{fields};
-ghost use Rattle.asn1_schema_presented.specs.Tables.{presence_bits};
+ghost use Rattle.asn1_schema_laws.specs.Tables.{presence_bits};
 ghost use Rattle.asn1_schema_encode.specs.Writes.{Writes, CannotWrite};
 ghost use Rattle.asn1_schema_constructed.specs.Sets.{set_type};
+ghost use Rattle.asn1_schema_errors.specs.Calls.{EncoderCall};
 
 use crate::Constructed;
 use asn1_schema_encode::{EncodeComponents, Encoder};
-use asn1_schema_faults::EncodeError;
+use asn1_schema_errors::EncodeError;
 use asn1_schema_tags::{Identifier, Tag};
 
 /// Encodes SET types.
@@ -31,10 +32,7 @@ pub trait EncodeSet: Encoder {
         ensures only { IfErr result
             (CannotWrite Self.step (set_type C.table) (fields (C.root components.now) (C.added components.now))
             self.old) }
-        ensures failed { OnErr result (Self.has_failed self.new) }
-        ensures front { Self.front self.new ≡ Self.front self.old }
-        ensures already { Self.has_failed self.old → result ≡ Err EncodeError.AlreadyFailed }
-        ensures after { result ≡ Err EncodeError.AlreadyFailed → Self.has_failed self.old }
+        ensures call { EncoderCall Self.has_failed Self.front self.old self.new result }
     {
         self.begin_set(tag, extensible, optional)?;
         components.encode_components(self)?;
@@ -55,10 +53,7 @@ pub trait EncodeSet: Encoder {
             (Writes Self.step (set_type T.table) (fields (T.root value.now) (T.added value.now)) self.old self.new) }
         ensures only { IfErr result
             (CannotWrite Self.step (set_type T.table) (fields (T.root value.now) (T.added value.now)) self.old) }
-        ensures failed { OnErr result (Self.has_failed self.new) }
-        ensures front { Self.front self.new ≡ Self.front self.old }
-        ensures already { Self.has_failed self.old → result ≡ Err EncodeError.AlreadyFailed }
-        ensures after { result ≡ Err EncodeError.AlreadyFailed → Self.has_failed self.old }
+        ensures call { EncoderCall Self.has_failed Self.front self.old self.new result }
     {
         let optional = T::fields().number_of_optional_and_default_fields();
         let extensible = T::is_extensible();

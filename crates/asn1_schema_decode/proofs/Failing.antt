@@ -2,10 +2,10 @@
 use Rattle.std.proofs.Common.{◌≡◌, ◌∙◌, sym, ℕ, Result, Ok, Err, IsErrAnd}
 use Rattle.asn1_model.specs.Value.{Value}
 use Rattle.asn1_model.specs.Schema.{Presence, Schema}
-use Rattle.asn1_schema_presented.specs.Records.{Record}
-use Rattle.asn1_schema_presented.specs.Presents.{Part}
-use Rattle.asn1_schema_presented.specs.Chains.{GoesOn}
-use Rattle.asn1_schema_presented.proofs.Chains.{failed_before}
+use Rattle.asn1_schema_laws.specs.Records.{Record}
+use Rattle.asn1_schema_laws.specs.Presents.{Part}
+use Rattle.asn1_schema_laws.specs.Chains.{GoesOn}
+use Rattle.asn1_schema_laws.proofs.Chains.{failed_before}
 use Rattle.asn1_schema_decode.specs.Reads.{Reads, ReadsPart}
 
 -- what follows from an error that a `?` passes on

@@ -8,8 +8,8 @@ use Rattle.asn1_schema_constraints.specs.Bounds.{later, earlier}
 use Rattle.asn1_schema_constraints.proofs.Common.{number_order}
 use Rattle.asn1_schema_constraints.specs.Terms.{Meant, meant, held_where, from_to}
 use Rattle.asn1_schema_constraints.specs.declared.lists.Constraints.{Constraints}
-use Rattle.asn1_schema_faults.specs.declared.DecodeError.{DecodeError}
-use Rattle.asn1_schema_presented.specs.Records.{Record, whole, asks_whole}
+use Rattle.asn1_schema_errors.specs.declared.DecodeError.{DecodeError}
+use Rattle.asn1_schema_laws.specs.Records.{Record, whole, asks_whole}
 use Rattle.asn1_schema_types.specs.Constrained.{met_range, within_range, constrained_type}
 use Rattle.asn1_schema_types.specs.Told.{whole_under, asks_whole_under}
 use Rattle.asn1_schema_decode.specs.Answers.{is_admitted}

@@ -5,7 +5,7 @@ use Rattle.asn1_schema_constraints.specs.Bounds.{members_of}
 use Rattle.asn1_schema_constraints.specs.Terms.{bounds_of}
 use Rattle.asn1_schema_constraints.specs.declared.bounds.Bounded.{Bounded}
 use Rattle.asn1_schema_constraints.specs.declared.lists.Constraints.{Constraints}
-use Rattle.asn1_schema_presented.specs.Records.{Record}
+use Rattle.asn1_schema_laws.specs.Records.{Record}
 
 -- The number satisfies the value constraint, or the constraint has an extension marker (X.680 51.4 and 52).
 abbrev pub is_admitted : Constraints → ℤ → Bool

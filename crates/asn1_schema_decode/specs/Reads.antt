@@ -4,15 +4,15 @@ use Rattle.asn1_model.specs.Value.{Value, Values, Parts, map_members, same}
 use Rattle.asn1_model.specs.Schema.{Presence, Counts, Schema}
 use Rattle.asn1_model.specs.Numbers.{is_count_within}
 use Rattle.asn1_model.specs.Normal.{normal, normal_parts}
-use Rattle.asn1_schema_faults.specs.declared.DecodeError.{DecodeError}
-use Rattle.asn1_schema_faults.specs.declared.DecodeError.TheVariants.{OutOfMemory}
-use Rattle.asn1_schema_presented.specs.Records.{Record, Question, question, presence_bit, is_default}
-use Rattle.asn1_schema_presented.specs.Presents.{Part, left_out, there, presents, part_records, member_records}
+use Rattle.asn1_schema_errors.specs.declared.DecodeError.{DecodeError}
+use Rattle.asn1_schema_errors.specs.declared.DecodeError.TheVariants.{OutOfMemory}
+use Rattle.asn1_schema_laws.specs.Records.{Record, Question, question, presence_bit, is_default}
+use Rattle.asn1_schema_laws.specs.Presents.{Part, left_out, there, presents, part_records, member_records}
 use Rattle.asn1_model.specs.Lawful.{member_count}
-use Rattle.asn1_schema_presented.specs.Presents.{Fits, PartFits, AllFit}
-use Rattle.asn1_schema_presented.specs.Tables.{Table, components_at}
-use Rattle.asn1_schema_presented.specs.Chains.{Chain}
-use Rattle.asn1_schema_presented.specs.Parts.{normal_part, tail_records, TailFits}
+use Rattle.asn1_schema_laws.specs.Presents.{Fits, PartFits, AllFit}
+use Rattle.asn1_schema_laws.specs.Tables.{Table, components_at}
+use Rattle.asn1_schema_laws.specs.Chains.{Chain}
+use Rattle.asn1_schema_laws.specs.Parts.{normal_part, tail_records, TailFits}
 
 -- Why a decoder returns the error x: memory ran out, or no record that answers this question is next, even with a
 -- little more input. `few old failed a` says that a is old with more input appended, but less than the decoder in the

@@ -1,7 +1,7 @@
 //! Checks that a call of a decoder makes first.
 ghost use Rattle.std.specs.Prelude.{◌≡◌, true, false, OnOk, IfErr};
 
-use asn1_schema_faults::DecodeError;
+use asn1_schema_errors::DecodeError;
 
 /// Continues, unless an earlier call failed.
 ///

@@ -2,7 +2,7 @@
 
 use crate::decode::{Decode, Decoder};
 use asn1_schema_constraints::Constraints;
-use asn1_schema_faults::DecodeError;
+use asn1_schema_errors::DecodeError;
 use asn1_schema_tags::Tag;
 use asn1_schema_types::TaggedKind;
 use asn1_values_strings::RestrictedString;

@@ -3,14 +3,15 @@ ghost use Rattle.std.specs.Prelude.{◌≡◌, ◌+◌, false, OnOk, OnErr, IfEr
 ghost use Rattle.asn1_model.specs.Value.{fields, same};
 ghost use Rattle.asn1_model.specs.Schema.{optional, by_default};
 ghost use Rattle.asn1_schema_constraints.specs.Terms.{meant};
-ghost use Rattle.asn1_schema_presented.specs.Tables.{presence_bits, sequence_type};
-ghost use Rattle.asn1_schema_presented.specs.Parts.{part_of, part_unless};
+ghost use Rattle.asn1_schema_laws.specs.Tables.{presence_bits, sequence_type};
+ghost use Rattle.asn1_schema_laws.specs.Parts.{part_of, part_unless};
 ghost use Rattle.asn1_schema_decode.specs.Reads.{Reads, Unread, ReadsPart, UnreadPart, ReadsOptional, UnreadOptional};
 ghost use Rattle.asn1_schema_decode.specs.Reads.{ReadsDefault, UnreadDefault, ReadsTail, UnreadTail};
+ghost use Rattle.asn1_schema_errors.specs.Calls.{DecoderCall};
 
 use crate::decode::{Decode, Decoder};
 use asn1_schema_constraints::Constraints;
-use asn1_schema_faults::DecodeError;
+use asn1_schema_errors::DecodeError;
 use asn1_schema_tags::Tag;
 use asn1_schema_types::{
     ComponentsOf, DefaultOf, DefaultedComponent, End, OptionalComponent, RequiredComponent,
@@ -28,9 +29,7 @@ pub trait DecodeComponents: ComponentsOf + Drop {
         ensures level { OnOk result (D.levels decoder.new ≡ D.levels decoder.old + 1) }
         ensures only { IfErr result
             (UnreadTail D.step D.too_few Self.table (D.levels decoder.old) decoder.old decoder.new) }
-        ensures failed { OnErr result (D.has_failed decoder.new) }
-        ensures already { D.has_failed decoder.old → result ≡ Err DecodeError.AlreadyFailed }
-        ensures after { result ≡ Err DecodeError.AlreadyFailed → D.has_failed decoder.old };
+        ensures call { DecoderCall D.has_failed decoder.old decoder.new result };
 }
 
 impl DecodeComponents for End {
@@ -77,9 +76,7 @@ pub trait DecodeSequence: Decoder {
         ensures level { OnOk result (Self.levels self.new ≡ Self.levels self.old) }
         ensures only { IfErr result
             (UnreadPart Self.step Self.too_few optional T.schema (Self.levels self.old) self.old self.new) }
-        ensures failed { OnErr result (Self.has_failed self.new) }
-        ensures already { Self.has_failed self.old → result ≡ Err DecodeError.AlreadyFailed }
-        ensures after { result ≡ Err DecodeError.AlreadyFailed → Self.has_failed self.old }
+        ensures call { DecoderCall Self.has_failed self.old self.new result }
     {
         self.decode_optional_with_tag(alloc, T::TAG)
     }
@@ -98,9 +95,7 @@ pub trait DecodeSequence: Decoder {
         ensures level { OnOk result (Self.levels self.new ≡ Self.levels self.old) }
         ensures only { IfErr result
             (UnreadPart Self.step Self.too_few optional T.schema (Self.levels self.old) self.old self.new) }
-        ensures failed { OnErr result (Self.has_failed self.new) }
-        ensures already { Self.has_failed self.old → result ≡ Err DecodeError.AlreadyFailed }
-        ensures after { result ≡ Err DecodeError.AlreadyFailed → Self.has_failed self.old }
+        ensures call { DecoderCall Self.has_failed self.old self.new result }
     {
         let value = self.decode_optional_with_tag_and_constraints(alloc, tag, &T::constraints())?;
         Ok(value)
@@ -121,9 +116,7 @@ pub trait DecodeSequence: Decoder {
         ensures only { IfErr result
             (UnreadOptional Self.step Self.too_few (T.under (meant constraints.now)) (Self.levels self.old)
             self.old self.new) }
-        ensures failed { OnErr result (Self.has_failed self.new) }
-        ensures already { Self.has_failed self.old → result ≡ Err DecodeError.AlreadyFailed }
-        ensures after { result ≡ Err DecodeError.AlreadyFailed → Self.has_failed self.old }
+        ensures call { DecoderCall Self.has_failed self.old self.new result }
     {
         self.decode_optional_with_tag_and_constraints(alloc, T::TAG, constraints)
     }
@@ -144,9 +137,7 @@ pub trait DecodeSequence: Decoder {
         ensures only { IfErr result
             (UnreadOptional Self.step Self.too_few (T.under (meant constraints.now)) (Self.levels self.old)
             self.old self.new) }
-        ensures failed { OnErr result (Self.has_failed self.new) }
-        ensures already { Self.has_failed self.old → result ≡ Err DecodeError.AlreadyFailed }
-        ensures after { result ≡ Err DecodeError.AlreadyFailed → Self.has_failed self.old }
+        ensures call { DecoderCall Self.has_failed self.old self.new result }
     {
         let present = self.get_presence_bit()?;
         if !present {
@@ -170,9 +161,7 @@ pub trait DecodeSequence: Decoder {
         ensures level { OnOk result (Self.levels self.new ≡ Self.levels self.old) }
         ensures only { IfErr result
             (UnreadPart Self.step Self.too_few optional T.schema (Self.levels self.old) self.old self.new) }
-        ensures failed { OnErr result (Self.has_failed self.new) }
-        ensures already { Self.has_failed self.old → result ≡ Err DecodeError.AlreadyFailed }
-        ensures after { result ≡ Err DecodeError.AlreadyFailed → Self.has_failed self.old }
+        ensures call { DecoderCall Self.has_failed self.old self.new result }
     {
         self.decode_optional(alloc)
     }
@@ -192,9 +181,7 @@ pub trait DecodeSequence: Decoder {
         ensures level { OnOk result (Self.levels self.new ≡ Self.levels self.old) }
         ensures only { IfErr result
             (UnreadPart Self.step Self.too_few (by_default V.value) T.schema (Self.levels self.old) self.old self.new) }
-        ensures failed { OnErr result (Self.has_failed self.new) }
-        ensures already { Self.has_failed self.old → result ≡ Err DecodeError.AlreadyFailed }
-        ensures after { result ≡ Err DecodeError.AlreadyFailed → Self.has_failed self.old }
+        ensures call { DecoderCall Self.has_failed self.old self.new result }
     {
         self.decode_default_with_tag::<V, T>(alloc, T::TAG)
     }
@@ -213,9 +200,7 @@ pub trait DecodeSequence: Decoder {
         ensures level { OnOk result (Self.levels self.new ≡ Self.levels self.old) }
         ensures only { IfErr result
             (UnreadPart Self.step Self.too_few (by_default V.value) T.schema (Self.levels self.old) self.old self.new) }
-        ensures failed { OnErr result (Self.has_failed self.new) }
-        ensures already { Self.has_failed self.old → result ≡ Err DecodeError.AlreadyFailed }
-        ensures after { result ≡ Err DecodeError.AlreadyFailed → Self.has_failed self.old }
+        ensures call { DecoderCall Self.has_failed self.old self.new result }
     {
         let value = self.decode_default_with_tag_and_constraints::<V, T>(
             alloc,
@@ -240,9 +225,7 @@ pub trait DecodeSequence: Decoder {
         ensures only { IfErr result
             (UnreadDefault Self.step Self.too_few (T.under (meant constraints.now)) (Self.levels self.old) V.value
             self.old self.new) }
-        ensures failed { OnErr result (Self.has_failed self.new) }
-        ensures already { Self.has_failed self.old → result ≡ Err DecodeError.AlreadyFailed }
-        ensures after { result ≡ Err DecodeError.AlreadyFailed → Self.has_failed self.old }
+        ensures call { DecoderCall Self.has_failed self.old self.new result }
     {
         self.decode_default_with_tag_and_constraints::<V, T>(alloc, T::TAG, constraints)
     }
@@ -263,9 +246,7 @@ pub trait DecodeSequence: Decoder {
         ensures only { IfErr result
             (UnreadDefault Self.step Self.too_few (T.under (meant constraints.now)) (Self.levels self.old) V.value
             self.old self.new) }
-        ensures failed { OnErr result (Self.has_failed self.new) }
-        ensures already { Self.has_failed self.old → result ≡ Err DecodeError.AlreadyFailed }
-        ensures after { result ≡ Err DecodeError.AlreadyFailed → Self.has_failed self.old }
+        ensures call { DecoderCall Self.has_failed self.old self.new result }
     {
         let is_there = self.get_presence_bit()?;
         if !is_there {
@@ -299,9 +280,7 @@ pub trait DecodeSequence: Decoder {
         ensures level { OnOk result (Self.levels self.new ≡ Self.levels self.old) }
         ensures only { IfErr result
             (Unread Self.step Self.too_few (sequence_type C.table) (Self.levels self.old) self.old self.new) }
-        ensures failed { OnErr result (Self.has_failed self.new) }
-        ensures already { Self.has_failed self.old → result ≡ Err DecodeError.AlreadyFailed }
-        ensures after { result ≡ Err DecodeError.AlreadyFailed → Self.has_failed self.old }
+        ensures call { DecoderCall Self.has_failed self.old self.new result }
     {
         self.begin_sequence(tag, false, optional)?;
         let components = C::decode_components(alloc, self)?;

@@ -5,7 +5,7 @@ ghost use Rattle.asn1_values_integers.specs.Constrained.{between, constrained_nu
 
 use crate::decode::{Decode, Decoder};
 use asn1_schema_constraints::Constraints;
-use asn1_schema_faults::DecodeError;
+use asn1_schema_errors::DecodeError;
 use asn1_schema_tags::Tag;
 use asn1_schema_types::constrained::{no_number, within_range};
 use asn1_values_integers::{Ends, RangedInteger};

@@ -4,15 +4,15 @@ ghost use Rattle.std.specs.Prelude.{IfOk, OnOk, OnErr, IfErr, cond, string_bytes
 ghost use Rattle.std.specs.Cow.{IsBorrowedSlice, cow_slice_items};
 ghost use Rattle.asn1_model.specs.Schema.{Size, Counts, utf8};
 ghost use Rattle.asn1_model.specs.Numbers.{is_count_within};
-ghost use Rattle.asn1_schema_faults.specs.declared.CodecKind.{CodecKind};
-ghost use Rattle.asn1_schema_presented.specs.Records.{Record, question, told, flag, nil, one_of, identifier};
-ghost use Rattle.asn1_schema_presented.specs.Records.{list_begins, bag_begins, further, sequence_begins, set_begins};
-ghost use Rattle.asn1_schema_presented.specs.Records.{group_begins, presence_bit, is_default, is_empty};
-ghost use Rattle.asn1_schema_presented.specs.Records.{additions_begin, addition, addition_ends, choice_begins, ends};
-ghost use Rattle.asn1_schema_presented.specs.Records.{asks_flag, asks_nil, asks_one_of, asks_identifier, asks_further};
-ghost use Rattle.asn1_schema_presented.specs.Records.{asks_sequence, asks_set, asks_group, asks_presence_bit};
-ghost use Rattle.asn1_schema_presented.specs.Records.{asks_default, asks_empty, asks_additions, asks_addition};
-ghost use Rattle.asn1_schema_presented.specs.Records.{asks_addition_end, asks_choice, asks_end};
+ghost use Rattle.asn1_schema_errors.specs.declared.CodecKind.{CodecKind};
+ghost use Rattle.asn1_schema_laws.specs.Records.{Record, question, told, flag, nil, one_of, identifier};
+ghost use Rattle.asn1_schema_laws.specs.Records.{list_begins, bag_begins, further, sequence_begins, set_begins};
+ghost use Rattle.asn1_schema_laws.specs.Records.{group_begins, presence_bit, is_default, is_empty};
+ghost use Rattle.asn1_schema_laws.specs.Records.{additions_begin, addition, addition_ends, choice_begins, ends};
+ghost use Rattle.asn1_schema_laws.specs.Records.{asks_flag, asks_nil, asks_one_of, asks_identifier, asks_further};
+ghost use Rattle.asn1_schema_laws.specs.Records.{asks_sequence, asks_set, asks_group, asks_presence_bit};
+ghost use Rattle.asn1_schema_laws.specs.Records.{asks_default, asks_empty, asks_additions, asks_addition};
+ghost use Rattle.asn1_schema_laws.specs.Records.{asks_addition_end, asks_choice, asks_end};
 ghost use Rattle.asn1_schema_constraints.specs.Bounds.{counts_of};
 ghost use Rattle.asn1_schema_constraints.specs.Terms.{meant};
 ghost use Rattle.asn1_schema_types.specs.Told.{whole_under, bits_under, octets_under, characters_under};
@@ -20,14 +20,14 @@ ghost use Rattle.asn1_schema_types.specs.Told.{asks_whole_under, asks_bits_under
 ghost use Rattle.asn1_schema_types.specs.Told.{asks_characters_under, list_begins_under, bag_begins_under};
 ghost use Rattle.asn1_schema_types.specs.Told.{asks_list_under, asks_bag_under};
 ghost use Rattle.asn1_schema_decode.specs.Reads.{NoRecord, NoLevel, Reads, Unread};
-ghost use Rattle.asn1_schema_lacking.specs.Carried.{CarriesMembers, CarriesRecords, CarriesValues};
+ghost use Rattle.asn1_schema_lacking_laws.specs.Carried.{CarriesMembers, CarriesRecords, CarriesValues};
 ghost use Rattle.asn1_schema_decode.specs.Answers.{Begins, is_admitted};
+ghost use Rattle.asn1_schema_errors.specs.Calls.{DecoderCall};
 
 use asn1_schema_constraints::{Bounded, Constraints};
-use asn1_schema_faults::{CodecKind, DecodeError};
-use asn1_schema_tags::{Tag, TagTables};
+use asn1_schema_errors::{CodecKind, DecodeError};
+use asn1_schema_tags::{Chosen, Enumerated, Tag, TagTables};
 use asn1_schema_types::AsnType;
-use asn1_schema_variants::{Chosen, Enumerated};
 use asn1_values_alphabets::StaticPermittedAlphabet;
 use asn1_values_bit_strings::BitString;
 use asn1_values_identifiers::ObjectIdentifier;
@@ -146,9 +146,7 @@ pub trait Decoder {
         ensures level { OnOk result (levels self.new ≡ levels self.old) }
         ensures only { IfErr result (NoRecord step too_few asks_flag self.old self.new) }
         ensures no_memory { IfErr result (λ e. e ≡ DecodeError.OutOfMemory → ⊥) }
-        ensures failed { OnErr result (has_failed self.new) }
-        ensures already { has_failed self.old → result ≡ Err DecodeError.AlreadyFailed }
-        ensures after { result ≡ Err DecodeError.AlreadyFailed → has_failed self.old };
+        ensures call { DecoderCall has_failed self.old self.new result };
 
     /// NULL (X.680 24). Allocates nothing.
     fn decode_null(&mut self, tag: Tag) -> Result<(), DecodeError>
@@ -156,9 +154,7 @@ pub trait Decoder {
         ensures level { OnOk result (levels self.new ≡ levels self.old) }
         ensures only { IfErr result (NoRecord step too_few asks_nil self.old self.new) }
         ensures no_memory { IfErr result (λ e. e ≡ DecodeError.OutOfMemory → ⊥) }
-        ensures failed { OnErr result (has_failed self.new) }
-        ensures already { has_failed self.old → result ≡ Err DecodeError.AlreadyFailed }
-        ensures after { result ≡ Err DecodeError.AlreadyFailed → has_failed self.old };
+        ensures call { DecoderCall has_failed self.old self.new result };
 
     /// INTEGER (X.680 19) under a value constraint. The number satisfies the constraint, unless that has an extension
     /// marker.
@@ -173,9 +169,7 @@ pub trait Decoder {
         ensures level { OnOk result (levels self.new ≡ levels self.old) }
         ensures only { IfErr result
             (NoRecord step too_few (asks_whole_under constraints.now I.held) self.old self.new) }
-        ensures failed { OnErr result (has_failed self.new) }
-        ensures already { has_failed self.old → result ≡ Err DecodeError.AlreadyFailed }
-        ensures after { result ≡ Err DecodeError.AlreadyFailed → has_failed self.old };
+        ensures call { DecoderCall has_failed self.old self.new result };
 
     /// ENUMERATED (X.680 20): an item of the type.
     fn decode_enumerated<T: Enumerated>(&mut self, tag: Tag) -> Result<T, DecodeError>
@@ -183,9 +177,7 @@ pub trait Decoder {
         ensures level { OnOk result (levels self.new ≡ levels self.old) }
         ensures only { IfErr result
             (NoRecord step too_few (asks_one_of T.roots T.extensible T.additions) self.old self.new) }
-        ensures failed { OnErr result (has_failed self.new) }
-        ensures already { has_failed self.old → result ≡ Err DecodeError.AlreadyFailed }
-        ensures after { result ≡ Err DecodeError.AlreadyFailed → has_failed self.old };
+        ensures call { DecoderCall has_failed self.old self.new result };
 
     /// BIT STRING (X.680 22) under a size constraint; `held` bounds the number of bits that the user-defined type can
     /// hold.
@@ -200,9 +192,7 @@ pub trait Decoder {
         ensures held { IfOk result (λ x. is_count_within (counts_of held) (length x) ≡ true) }
         ensures level { OnOk result (levels self.new ≡ levels self.old) }
         ensures only { IfErr result (NoRecord step too_few (asks_bits_under constraints.now held) self.old self.new) }
-        ensures failed { OnErr result (has_failed self.new) }
-        ensures already { has_failed self.old → result ≡ Err DecodeError.AlreadyFailed }
-        ensures after { result ≡ Err DecodeError.AlreadyFailed → has_failed self.old };
+        ensures call { DecoderCall has_failed self.old self.new result };
 
     /// OCTET STRING (X.680 23) under a size constraint; `held` bounds the number of octets that the user-defined type
     /// can hold. The octets are borrowed if they are contiguous in the input.
@@ -221,9 +211,7 @@ pub trait Decoder {
             → Self.Octets.is_lent x) }
         ensures level { OnOk result (levels self.new ≡ levels self.old) }
         ensures only { IfErr result (NoRecord step too_few (asks_octets_under constraints.now held) self.old self.new) }
-        ensures failed { OnErr result (has_failed self.new) }
-        ensures already { has_failed self.old → result ≡ Err DecodeError.AlreadyFailed }
-        ensures after { result ≡ Err DecodeError.AlreadyFailed → has_failed self.old };
+        ensures call { DecoderCall has_failed self.old self.new result };
 
     /// UTF8String (X.680 41) under a size constraint.
     fn decode_utf8_string(
@@ -237,9 +225,7 @@ pub trait Decoder {
         ensures level { OnOk result (levels self.new ≡ levels self.old) }
         ensures only { IfErr result
             (NoRecord step too_few (asks_characters_under utf8 constraints.now) self.old self.new) }
-        ensures failed { OnErr result (has_failed self.new) }
-        ensures already { has_failed self.old → result ≡ Err DecodeError.AlreadyFailed }
-        ensures after { result ≡ Err DecodeError.AlreadyFailed → has_failed self.old };
+        ensures call { DecoderCall has_failed self.old self.new result };
 
     /// A restricted character string (X.680 41) of a kind with a permitted alphabet, under size and alphabet
     /// constraints.
@@ -254,9 +240,7 @@ pub trait Decoder {
         ensures level { OnOk result (levels self.new ≡ levels self.old) }
         ensures only { IfErr result
             (NoRecord step too_few (asks_characters_under S.kind constraints.now) self.old self.new) }
-        ensures failed { OnErr result (has_failed self.new) }
-        ensures already { has_failed self.old → result ≡ Err DecodeError.AlreadyFailed }
-        ensures after { result ≡ Err DecodeError.AlreadyFailed → has_failed self.old };
+        ensures call { DecoderCall has_failed self.old self.new result };
 
     /// OBJECT IDENTIFIER (X.680 32).
     fn decode_object_identifier(
@@ -267,9 +251,7 @@ pub trait Decoder {
         ensures ok { IfOk result (λ x. step self.old (identifier x) self.new) }
         ensures level { OnOk result (levels self.new ≡ levels self.old) }
         ensures only { IfErr result (NoRecord step too_few (asks_identifier) self.old self.new) }
-        ensures failed { OnErr result (has_failed self.new) }
-        ensures already { has_failed self.old → result ≡ Err DecodeError.AlreadyFailed }
-        ensures after { result ≡ Err DecodeError.AlreadyFailed → has_failed self.old };
+        ensures call { DecoderCall has_failed self.old self.new result };
 
     /// Begins a SEQUENCE OF (X.680 26) under a size constraint; `held` bounds the number of elements that the
     /// user-defined type can hold. The number of elements may not be known before its end.
@@ -284,9 +266,7 @@ pub trait Decoder {
         ensures level { OnOk result (levels self.old ≡ levels self.new + 1) }
         ensures only { IfErr result
             (NoLevel step too_few (asks_list_under constraints.now held) (levels self.old) self.old self.new) }
-        ensures failed { OnErr result (has_failed self.new) }
-        ensures already { has_failed self.old → result ≡ Err DecodeError.AlreadyFailed }
-        ensures after { result ≡ Err DecodeError.AlreadyFailed → has_failed self.old };
+        ensures call { DecoderCall has_failed self.old self.new result };
 
     /// Begins a SET OF (X.680 28) under a size constraint; `held` bounds the number of elements that the user-defined
     /// type can hold. Its elements come in any order. Their number may not be known before its end.
@@ -301,18 +281,14 @@ pub trait Decoder {
         ensures level { OnOk result (levels self.old ≡ levels self.new + 1) }
         ensures only { IfErr result
             (NoLevel step too_few (asks_bag_under constraints.now held) (levels self.old) self.old self.new) }
-        ensures failed { OnErr result (has_failed self.new) }
-        ensures already { has_failed self.old → result ≡ Err DecodeError.AlreadyFailed }
-        ensures after { result ≡ Err DecodeError.AlreadyFailed → has_failed self.old };
+        ensures call { DecoderCall has_failed self.old self.new result };
 
     /// Whether another element follows.
     fn get_further(&mut self) -> Result<bool, DecodeError>
         ensures ok { IfOk result (λ x. step self.old (further x) self.new) }
         ensures level { OnOk result (levels self.new ≡ levels self.old) }
         ensures only { IfErr result (NoRecord step too_few asks_further self.old self.new) }
-        ensures failed { OnErr result (has_failed self.new) }
-        ensures already { has_failed self.old → result ≡ Err DecodeError.AlreadyFailed }
-        ensures after { result ≡ Err DecodeError.AlreadyFailed → has_failed self.old };
+        ensures call { DecoderCall has_failed self.old self.new result };
 
     /// Begins a SEQUENCE (X.680 25), with or without an extension marker; `optional` of its root components may be
     /// absent.
@@ -326,9 +302,7 @@ pub trait Decoder {
         ensures level { OnOk result (levels self.old ≡ levels self.new + 1) }
         ensures only { IfErr result
             (NoLevel step too_few (asks_sequence extensible optional) (levels self.old) self.old self.new) }
-        ensures failed { OnErr result (has_failed self.new) }
-        ensures already { has_failed self.old → result ≡ Err DecodeError.AlreadyFailed }
-        ensures after { result ≡ Err DecodeError.AlreadyFailed → has_failed self.old };
+        ensures call { DecoderCall has_failed self.old self.new result };
 
     /// Begins a SET (X.680 27), with or without an extension marker; `optional` of its root components may be absent.
     /// They come in ascending order of their tags.
@@ -337,27 +311,21 @@ pub trait Decoder {
         ensures level { OnOk result (levels self.old ≡ levels self.new + 1) }
         ensures only { IfErr result
             (NoLevel step too_few (asks_set extensible optional) (levels self.old) self.old self.new) }
-        ensures failed { OnErr result (has_failed self.new) }
-        ensures already { has_failed self.old → result ≡ Err DecodeError.AlreadyFailed }
-        ensures after { result ≡ Err DecodeError.AlreadyFailed → has_failed self.old };
+        ensures call { DecoderCall has_failed self.old self.new result };
 
     /// Begins an extension addition group (X.680 25.1); `optional` of its components may be absent.
     fn begin_group(&mut self, optional: usize) -> Result<(), DecodeError>
         ensures ok { OnOk result (step self.old (group_begins optional) self.new) }
         ensures level { OnOk result (levels self.old ≡ levels self.new + 1) }
         ensures only { IfErr result (NoLevel step too_few (asks_group optional) (levels self.old) self.old self.new) }
-        ensures failed { OnErr result (has_failed self.new) }
-        ensures already { has_failed self.old → result ≡ Err DecodeError.AlreadyFailed }
-        ensures after { result ≡ Err DecodeError.AlreadyFailed → has_failed self.old };
+        ensures call { DecoderCall has_failed self.old self.new result };
 
     /// Whether the next component that may be absent is present. Allocates nothing.
     fn get_presence_bit(&mut self) -> Result<bool, DecodeError>
         ensures ok { IfOk result (λ x. step self.old (presence_bit x) self.new) }
         ensures level { OnOk result (levels self.new ≡ levels self.old) }
         ensures only { IfErr result (NoRecord step too_few asks_presence_bit self.old self.new) }
-        ensures failed { OnErr result (has_failed self.new) }
-        ensures already { has_failed self.old → result ≡ Err DecodeError.AlreadyFailed }
-        ensures after { result ≡ Err DecodeError.AlreadyFailed → has_failed self.old }
+        ensures call { DecoderCall has_failed self.old self.new result }
         ensures no_memory { IfErr result (λ e. e ≡ DecodeError.OutOfMemory → ⊥) };
 
     /// Says that the component that was read last is equal to its default. A decoder of canonical rules, or a strict
@@ -366,9 +334,7 @@ pub trait Decoder {
         ensures ok { OnOk result (step self.old is_default self.new) }
         ensures level { OnOk result (levels self.new ≡ levels self.old) }
         ensures only { IfErr result (NoRecord step too_few asks_default self.old self.new) }
-        ensures failed { OnErr result (has_failed self.new) }
-        ensures already { has_failed self.old → result ≡ Err DecodeError.AlreadyFailed }
-        ensures after { result ≡ Err DecodeError.AlreadyFailed → has_failed self.old }
+        ensures call { DecoderCall has_failed self.old self.new result }
         ensures no_memory { IfErr result (λ e. e ≡ DecodeError.OutOfMemory → ⊥) };
 
     /// Says that no component of the extension addition group that was read last is present. A decoder of canonical
@@ -377,9 +343,7 @@ pub trait Decoder {
         ensures ok { OnOk result (step self.old is_empty self.new) }
         ensures level { OnOk result (levels self.new ≡ levels self.old) }
         ensures only { IfErr result (NoRecord step too_few asks_empty self.old self.new) }
-        ensures failed { OnErr result (has_failed self.new) }
-        ensures already { has_failed self.old → result ≡ Err DecodeError.AlreadyFailed }
-        ensures after { result ≡ Err DecodeError.AlreadyFailed → has_failed self.old }
+        ensures call { DecoderCall has_failed self.old self.new result }
         ensures no_memory { IfErr result (λ e. e ≡ DecodeError.OutOfMemory → ⊥) };
 
     /// Begins the `count` extension additions, after the root components of a type with an extension marker (X.680 25
@@ -388,27 +352,21 @@ pub trait Decoder {
         ensures ok { OnOk result (step self.old (additions_begin count) self.new) }
         ensures level { OnOk result (levels self.new ≡ levels self.old) }
         ensures only { IfErr result (NoRecord step too_few (asks_additions count) self.old self.new) }
-        ensures failed { OnErr result (has_failed self.new) }
-        ensures already { has_failed self.old → result ≡ Err DecodeError.AlreadyFailed }
-        ensures after { result ≡ Err DecodeError.AlreadyFailed → has_failed self.old };
+        ensures call { DecoderCall has_failed self.old self.new result };
 
     /// Whether the next addition is present.
     fn get_addition(&mut self) -> Result<bool, DecodeError>
         ensures ok { IfOk result (λ x. step self.old (addition x) self.new) }
         ensures level { OnOk result (levels self.new ≡ levels self.old) }
         ensures only { IfErr result (NoRecord step too_few asks_addition self.old self.new) }
-        ensures failed { OnErr result (has_failed self.new) }
-        ensures already { has_failed self.old → result ≡ Err DecodeError.AlreadyFailed }
-        ensures after { result ≡ Err DecodeError.AlreadyFailed → has_failed self.old };
+        ensures call { DecoderCall has_failed self.old self.new result };
 
     /// Ends an addition that is present.
     fn end_addition(&mut self) -> Result<(), DecodeError>
         ensures ok { OnOk result (step self.old addition_ends self.new) }
         ensures level { OnOk result (levels self.new ≡ levels self.old) }
         ensures only { IfErr result (NoRecord step too_few asks_addition_end self.old self.new) }
-        ensures failed { OnErr result (has_failed self.new) }
-        ensures already { has_failed self.old → result ≡ Err DecodeError.AlreadyFailed }
-        ensures after { result ≡ Err DecodeError.AlreadyFailed → has_failed self.old };
+        ensures call { DecoderCall has_failed self.old self.new result };
 
     /// Begins a CHOICE (X.680 29), given the tags of its alternatives and whether it has an extension marker, and
     /// returns the chosen alternative. `end` is called after the value of the alternative.
@@ -420,18 +378,14 @@ pub trait Decoder {
         ensures only { IfErr result
             (NoLevel step too_few (asks_choice tables.now.roots tables.now.extensible tables.now.additions)
             (levels self.old) self.old self.new) }
-        ensures failed { OnErr result (has_failed self.new) }
-        ensures already { has_failed self.old → result ≡ Err DecodeError.AlreadyFailed }
-        ensures after { result ≡ Err DecodeError.AlreadyFailed → has_failed self.old };
+        ensures call { DecoderCall has_failed self.old self.new result };
 
     /// Ends what was begun last and has not ended.
     fn end(&mut self) -> Result<(), DecodeError>
         ensures ok { OnOk result (step self.old ends self.new) }
         ensures level { OnOk result (levels self.new ≡ levels self.old + 1) }
         ensures only { IfErr result (NoRecord step too_few asks_end self.old self.new) }
-        ensures failed { OnErr result (has_failed self.new) }
-        ensures already { has_failed self.old → result ≡ Err DecodeError.AlreadyFailed }
-        ensures after { result ≡ Err DecodeError.AlreadyFailed → has_failed self.old };
+        ensures call { DecoderCall has_failed self.old self.new result };
 
     /// The decoder fails for this reason: the user-defined type cannot hold what was decoded.
     fn refuse(&mut self, error: DecodeError) -> DecodeError
@@ -489,9 +443,7 @@ pub trait Decode: AsnType + Drop {
         ensures only { IfErr result
             (Unread D.step D.too_few (Self.under (meant constraints.now)) (D.levels decoder.old)
             decoder.old decoder.new) }
-        ensures failed { OnErr result (D.has_failed decoder.new) }
-        ensures already { D.has_failed decoder.old → result ≡ Err DecodeError.AlreadyFailed }
-        ensures after { result ≡ Err DecodeError.AlreadyFailed → D.has_failed decoder.old };
+        ensures call { DecoderCall D.has_failed decoder.old decoder.new result };
 
     /// Reads a value of the type, whose records are next, and returns the Rust value of its normal form.
     #[inline(always)]
@@ -503,9 +455,7 @@ pub trait Decode: AsnType + Drop {
         ensures level { OnOk result (D.levels decoder.new ≡ D.levels decoder.old) }
         ensures only { IfErr result
             (Unread D.step D.too_few Self.schema (D.levels decoder.old) decoder.old decoder.new) }
-        ensures failed { OnErr result (D.has_failed decoder.new) }
-        ensures already { D.has_failed decoder.old → result ≡ Err DecodeError.AlreadyFailed }
-        ensures after { result ≡ Err DecodeError.AlreadyFailed → D.has_failed decoder.old }
+        ensures call { DecoderCall D.has_failed decoder.old decoder.new result }
     {
         Self::decode_with_tag(alloc, decoder, Self::TAG)
     }
@@ -524,9 +474,7 @@ pub trait Decode: AsnType + Drop {
         ensures level { OnOk result (D.levels decoder.new ≡ D.levels decoder.old) }
         ensures only { IfErr result
             (Unread D.step D.too_few Self.schema (D.levels decoder.old) decoder.old decoder.new) }
-        ensures failed { OnErr result (D.has_failed decoder.new) }
-        ensures already { D.has_failed decoder.old → result ≡ Err DecodeError.AlreadyFailed }
-        ensures after { result ≡ Err DecodeError.AlreadyFailed → D.has_failed decoder.old }
+        ensures call { DecoderCall D.has_failed decoder.old decoder.new result }
     {
         let value = Self::decode_with_tag_and_constraints(
             alloc,
@@ -553,9 +501,7 @@ pub trait Decode: AsnType + Drop {
         ensures only { IfErr result
             (Unread D.step D.too_few (Self.under (meant constraints.now)) (D.levels decoder.old)
             decoder.old decoder.new) }
-        ensures failed { OnErr result (D.has_failed decoder.new) }
-        ensures already { D.has_failed decoder.old → result ≡ Err DecodeError.AlreadyFailed }
-        ensures after { result ≡ Err DecodeError.AlreadyFailed → D.has_failed decoder.old }
+        ensures call { DecoderCall D.has_failed decoder.old decoder.new result }
     {
         Self::decode_with_tag_and_constraints(alloc, decoder, Self::TAG, constraints)
     }

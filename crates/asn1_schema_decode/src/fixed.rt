@@ -4,7 +4,7 @@ ghost use Rattle.asn1_model.specs.Numbers.{is_count_within};
 
 use crate::decode::{Decode, Decoder, ReadOctets};
 use asn1_schema_constraints::{Bounded, Constraints};
-use asn1_schema_faults::DecodeError;
+use asn1_schema_errors::DecodeError;
 use asn1_schema_tags::Tag;
 use asn1_values_bit_strings::{BitString, FixedBitString};
 use asn1_values_octets::FixedOctetString;

@@ -2,10 +2,10 @@
 ghost use Rattle.std.specs.Prelude.{◌≡◌, ◌≤◌, ℕ, List, IfErr, IfOk, drop, length};
 ghost use Rattle.asn1_model.specs.Rules.{Rules};
 ghost use Rattle.asn1_schema_decode.specs.Messages.{NoMessage, Tells};
-ghost use Rattle.asn1_schema_faults.specs.declared.DecodeError.{DecodeError};
+ghost use Rattle.asn1_schema_errors.specs.declared.DecodeError.{DecodeError};
 
 use crate::Decode;
-use asn1_schema_faults::DecodeError;
+use asn1_schema_errors::DecodeError;
 use std::alloc::Global;
 
 /// Why octets do not begin with an encoding, and how many more octets are needed at least.
@@ -13,7 +13,8 @@ use std::alloc::Global;
 pub struct Refusal {
     /// Why the octets do not begin with an encoding.
     pub error: DecodeError,
-    /// If fewer octets than this are appended, the octets still do not begin with an encoding. Never zero.
+    /// If fewer octets than this are appended, the octets still do not begin with an encoding, unless the error was
+    /// `OutOfMemory`. Never zero.
     pub needed: usize,
 }
 

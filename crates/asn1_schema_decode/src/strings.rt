@@ -3,7 +3,7 @@ ghost use Rattle.std.specs.Prelude.{◌≡◌, IfOk, IfErr};
 
 use crate::decode::{Decode, Decoder, ReadOctets};
 use asn1_schema_constraints::{Bounded, Constraints};
-use asn1_schema_faults::DecodeError;
+use asn1_schema_errors::DecodeError;
 use asn1_schema_tags::Tag;
 use asn1_values_bit_strings::BitString;
 use asn1_values_identifiers::ObjectIdentifier;

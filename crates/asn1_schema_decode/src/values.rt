@@ -3,7 +3,7 @@ ghost use Rattle.std.specs.Prelude.{◌≡◌, ◌++◌, IfOk, OnErr, OnOk, leng
 
 use crate::Decode;
 use crate::front::FrontReader;
-use asn1_schema_faults::DecodeError;
+use asn1_schema_errors::DecodeError;
 use bytes::BytesMut;
 use std::alloc::{AllocError, Global};
 use std::marker::{Model, PhantomData};

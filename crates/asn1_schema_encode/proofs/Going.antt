@@ -2,12 +2,12 @@
 use Rattle.std.proofs.Common.{◌≡◌, ℕ, ◌≤◌, Result, Err, IsErrAnd, sym, ap, arith}
 use Rattle.asn1_model.specs.Value.{Value, depth}
 use Rattle.asn1_model.specs.Schema.{Presence, Schema}
-use Rattle.asn1_schema_presented.specs.Records.{Record}
-use Rattle.asn1_schema_presented.specs.Presents.{Part}
-use Rattle.asn1_schema_presented.specs.Tables.{IsValue}
-use Rattle.asn1_schema_presented.specs.Typed.{IsPart, part_depth}
-use Rattle.asn1_schema_presented.specs.Chains.{GoesOn}
-use Rattle.asn1_schema_presented.proofs.Chains.{failed_before}
+use Rattle.asn1_schema_laws.specs.Records.{Record}
+use Rattle.asn1_schema_laws.specs.Presents.{Part}
+use Rattle.asn1_schema_laws.specs.Tables.{IsValue}
+use Rattle.asn1_schema_laws.specs.Typed.{IsPart, part_depth}
+use Rattle.asn1_schema_laws.specs.Chains.{GoesOn}
+use Rattle.asn1_schema_laws.proofs.Chains.{failed_before}
 use Rattle.asn1_schema_encode.specs.Writes.{Writes, WritesPart}
 
 -- what follows from the error that a `?` passes on

@@ -4,8 +4,8 @@ use Rattle.asn1_model.specs.Numbers.{is_at_most}
 use Rattle.asn1_model.specs.Value.{number}
 use Rattle.asn1_schema_constraints.specs.Terms.{Meant, meant, held_where}
 use Rattle.asn1_schema_constraints.specs.declared.lists.Constraints.{Constraints}
-use Rattle.asn1_schema_faults.specs.declared.EncodeError.{EncodeError}
-use Rattle.asn1_schema_presented.specs.Records.{Record, whole}
+use Rattle.asn1_schema_errors.specs.declared.EncodeError.{EncodeError}
+use Rattle.asn1_schema_laws.specs.Records.{Record, whole}
 use Rattle.asn1_model.specs.Schema.{any_number}
 use Rattle.asn1_schema_types.specs.Constrained.{within_range, constrained_type}
 use Rattle.asn1_schema_types.specs.Told.{whole_under}

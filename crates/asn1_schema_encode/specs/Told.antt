@@ -1,9 +1,9 @@
 -- What an encoder is given of a CHOICE.
 use Rattle.std.specs.Prelude.{Bool, List, map}
-use Rattle.asn1_schema_presented.specs.Records.{Record, choice_begins}
+use Rattle.asn1_schema_laws.specs.Records.{Record, choice_begins}
 use Rattle.asn1_schema_tags.specs.Tags.{tag_of}
 use Rattle.asn1_schema_tags.specs.declared.tags.Tag.{Tag}
-use Rattle.asn1_schema_variants.specs.declared.chosen.Chosen.{Chosen}
+use Rattle.asn1_schema_tags.specs.declared.chosen.Chosen.{Chosen}
 
 -- The tags of the root alternatives, whether there is an extension marker, the tags of the added alternatives, and the
 -- chosen one (X.680 29).

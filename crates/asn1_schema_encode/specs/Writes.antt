@@ -2,13 +2,13 @@
 use Rattle.std.specs.Prelude.{◌≡◌, ℕ, Bool, true, false}
 use Rattle.asn1_model.specs.Value.{Value, Values, Parts}
 use Rattle.asn1_model.specs.Schema.{Presence, Schema}
-use Rattle.asn1_schema_faults.specs.declared.EncodeError.{EncodeError}
-use Rattle.asn1_schema_faults.specs.declared.EncodeError.TheVariants.{OutOfMemory}
-use Rattle.asn1_schema_presented.specs.Records.{Record, presence_bit}
-use Rattle.asn1_schema_presented.specs.Presents.{Part, presents, part_records, member_records, Fits, PartFits, AllFit}
-use Rattle.asn1_schema_presented.specs.Tables.{Table}
-use Rattle.asn1_schema_presented.specs.Chains.{Chain}
-use Rattle.asn1_schema_presented.specs.Parts.{tail_records, TailFits}
+use Rattle.asn1_schema_errors.specs.declared.EncodeError.{EncodeError}
+use Rattle.asn1_schema_errors.specs.declared.EncodeError.TheVariants.{OutOfMemory}
+use Rattle.asn1_schema_laws.specs.Records.{Record, presence_bit}
+use Rattle.asn1_schema_laws.specs.Presents.{Part, presents, part_records, member_records, Fits, PartFits, AllFit}
+use Rattle.asn1_schema_laws.specs.Tables.{Table}
+use Rattle.asn1_schema_laws.specs.Chains.{Chain}
+use Rattle.asn1_schema_laws.specs.Parts.{tail_records, TailFits}
 
 -- Why an encoder returns the error x: memory ran out, or no state follows the record.
 pub record Refused {S : Type 0} (step : S → Record → S → Type 0) (r : Record) (old : S) (x : EncodeError) : Type 0 where

@@ -4,9 +4,10 @@ use Rattle.asn1_model.specs.Schema.{Schema}
 use Rattle.asn1_model.specs.Value.{Value}
 use Rattle.asn1_model.specs.Normal.{normal}
 use Rattle.asn1_model.specs.Rules.{Rules, encoding, canonical}
-use Rattle.asn1_schema_faults.specs.declared.EncodeError.{EncodeError}
-use Rattle.asn1_schema_faults.specs.declared.EncodeError.TheVariants.{TooLongValue, OutOfMemory}
-use Rattle.asn1_schema_presented.specs.Presents.{Fits}
+use Rattle.asn1_schema_errors.specs.declared.EncodeError.{EncodeError}
+use Rattle.asn1_schema_errors.specs.declared.EncodeError.TheVariants.{TooLongValue, OutOfMemory, AlreadyFailed}
+use Rattle.asn1_schema_errors.specs.declared.EncodeError.TheVariants.{CallOutOfPlace, LengthExceedsPlatformSize}
+use Rattle.asn1_schema_laws.specs.Presents.{Fits}
 
 -- A property holds in each of these sets of rules.
 abbrev pub InEach : List Rules → (Rules → Type 0) → Type 0
@@ -37,3 +38,10 @@ pub record NotWrittenIn (rules : List Rules) (schema : ℕ → Schema) (v : Valu
   pub none : ¬ (e ≡ OutOfMemory) → IsWrittenIn rules schema v None
   pub long : e ≡ TooLongValue → IsTooLongIn rules schema v
   pub bare : ¬ (e ≡ OutOfMemory) → ¬ (e ≡ TooLongValue) → HasTextIn rules schema v None
+
+-- An error that speaks of the value or of memory: not of an earlier error, of a misplaced call, or of a length that
+-- the platform cannot hold.
+pub record IsOfValue (e : EncodeError) : Type 0 where
+  pub fresh : ¬ (e ≡ AlreadyFailed)
+  pub in_place : ¬ (e ≡ CallOutOfPlace)
+  pub fits : ¬ (e ≡ LengthExceedsPlatformSize)

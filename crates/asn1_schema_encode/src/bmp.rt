@@ -1,7 +1,7 @@
 //! How a BMPString is encoded (X.680 41).
 use crate::encode::{Encode, Encoder};
 use asn1_schema_constraints::Constraints;
-use asn1_schema_faults::EncodeError;
+use asn1_schema_errors::EncodeError;
 use asn1_schema_tags::{Identifier, Tag};
 use asn1_values_strings::BmpString;
 

@@ -1,7 +1,7 @@
 //! Checks that a call of an encoder makes first.
 ghost use Rattle.std.specs.Prelude.{◌≡◌, true, false, OnOk, IfErr};
 
-use asn1_schema_faults::EncodeError;
+use asn1_schema_errors::EncodeError;
 
 /// Continues, unless an earlier call failed.
 ///

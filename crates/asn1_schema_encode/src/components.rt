@@ -2,17 +2,18 @@
 ghost use Rattle.std.specs.Prelude.{◌≡◌, false, OnOk, OnErr, IfErr};
 ghost use Rattle.asn1_model.specs.Value.{fields, same};
 ghost use Rattle.asn1_model.specs.Schema.{optional, by_default};
-ghost use Rattle.asn1_schema_presented.specs.Presents.{there, left_out};
-ghost use Rattle.asn1_schema_presented.specs.Tables.{presence_bits, sequence_type};
-ghost use Rattle.asn1_schema_presented.specs.Parts.{part_of, part_unless};
+ghost use Rattle.asn1_schema_laws.specs.Presents.{there, left_out};
+ghost use Rattle.asn1_schema_laws.specs.Tables.{presence_bits, sequence_type};
+ghost use Rattle.asn1_schema_laws.specs.Parts.{part_of, part_unless};
 ghost use Rattle.asn1_schema_constraints.specs.Terms.{meant};
 ghost use Rattle.asn1_schema_encode.specs.Writes.{Writes, CannotWrite, WritesPart, CannotWritePart, WritesPresent};
 ghost use Rattle.asn1_schema_encode.specs.Writes.{CannotWritePresent, WritesUnless, CannotWriteUnless, WritesTail};
 ghost use Rattle.asn1_schema_encode.specs.Writes.{CannotWriteTail};
+ghost use Rattle.asn1_schema_errors.specs.Calls.{EncoderCall};
 
 use crate::encode::{Encode, Encoder};
 use asn1_schema_constraints::Constraints;
-use asn1_schema_faults::EncodeError;
+use asn1_schema_errors::EncodeError;
 use asn1_schema_tags::Tag;
 use asn1_schema_types::{ComponentsOf, DefaultOf, Defaulted, End, Optional, Required};
 
@@ -24,10 +25,7 @@ pub trait EncodeComponents: ComponentsOf {
             (WritesTail E.step Self.table (Self.root self.now) (Self.added self.now) encoder.old encoder.new) }
         ensures only { IfErr result
             (CannotWriteTail E.step Self.table (Self.root self.now) (Self.added self.now) encoder.old) }
-        ensures failed { OnErr result (E.has_failed encoder.new) }
-        ensures front { E.front encoder.new ≡ E.front encoder.old }
-        ensures already { E.has_failed encoder.old → result ≡ Err EncodeError.AlreadyFailed }
-        ensures after { result ≡ Err EncodeError.AlreadyFailed → E.has_failed encoder.old };
+        ensures call { EncoderCall E.has_failed E.front encoder.old encoder.new result };
 }
 
 impl EncodeComponents for End {
@@ -72,10 +70,7 @@ pub trait EncodeSequence: Encoder {
             (WritesPart Self.step optional T.schema (there (T.meaning value.now)) self.old self.new) }
         ensures only { IfErr result
             (CannotWritePart Self.step optional T.schema (there (T.meaning value.now)) self.old) }
-        ensures failed { OnErr result (Self.has_failed self.new) }
-        ensures front { Self.front self.new ≡ Self.front self.old }
-        ensures already { Self.has_failed self.old → result ≡ Err EncodeError.AlreadyFailed }
-        ensures after { result ≡ Err EncodeError.AlreadyFailed → Self.has_failed self.old }
+        ensures call { EncoderCall Self.has_failed Self.front self.old self.new result }
     {
         self.encode_some_with_tag(T::TAG, value)
     }
@@ -92,10 +87,7 @@ pub trait EncodeSequence: Encoder {
             (WritesPart Self.step optional T.schema (there (T.meaning value.now)) self.old self.new) }
         ensures only { IfErr result
             (CannotWritePart Self.step optional T.schema (there (T.meaning value.now)) self.old) }
-        ensures failed { OnErr result (Self.has_failed self.new) }
-        ensures front { Self.front self.new ≡ Self.front self.old }
-        ensures already { Self.has_failed self.old → result ≡ Err EncodeError.AlreadyFailed }
-        ensures after { result ≡ Err EncodeError.AlreadyFailed → Self.has_failed self.old }
+        ensures call { EncoderCall Self.has_failed Self.front self.old self.new result }
     {
         self.encode_some_with_tag_and_constraints(tag, value, &T::constraints())?;
         Ok(())
@@ -114,10 +106,7 @@ pub trait EncodeSequence: Encoder {
             (WritesPresent Self.step (T.under (meant constraints.now)) (T.meaning value.now) self.old self.new) }
         ensures only { IfErr result
             (CannotWritePresent Self.step (T.under (meant constraints.now)) (T.meaning value.now) self.old) }
-        ensures failed { OnErr result (Self.has_failed self.new) }
-        ensures front { Self.front self.new ≡ Self.front self.old }
-        ensures already { Self.has_failed self.old → result ≡ Err EncodeError.AlreadyFailed }
-        ensures after { result ≡ Err EncodeError.AlreadyFailed → Self.has_failed self.old }
+        ensures call { EncoderCall Self.has_failed Self.front self.old self.new result }
     {
         self.encode_presence_bit(true)?;
         value.encode_with_tag_and_constraints(self, tag, constraints)?;
@@ -130,10 +119,7 @@ pub trait EncodeSequence: Encoder {
         Self: Sized,
         ensures ok { OnOk result (WritesPart Self.step optional T.schema left_out self.old self.new) }
         ensures only { IfErr result (CannotWritePart Self.step optional T.schema left_out self.old) }
-        ensures failed { OnErr result (Self.has_failed self.new) }
-        ensures front { Self.front self.new ≡ Self.front self.old }
-        ensures already { Self.has_failed self.old → result ≡ Err EncodeError.AlreadyFailed }
-        ensures after { result ≡ Err EncodeError.AlreadyFailed → Self.has_failed self.old }
+        ensures call { EncoderCall Self.has_failed Self.front self.old self.new result }
     {
         self.encode_none_with_tag::<T>(T::TAG)
     }
@@ -144,10 +130,7 @@ pub trait EncodeSequence: Encoder {
         Self: Sized,
         ensures ok { OnOk result (WritesPart Self.step optional T.schema left_out self.old self.new) }
         ensures only { IfErr result (CannotWritePart Self.step optional T.schema left_out self.old) }
-        ensures failed { OnErr result (Self.has_failed self.new) }
-        ensures front { Self.front self.new ≡ Self.front self.old }
-        ensures already { Self.has_failed self.old → result ≡ Err EncodeError.AlreadyFailed }
-        ensures after { result ≡ Err EncodeError.AlreadyFailed → Self.has_failed self.old }
+        ensures call { EncoderCall Self.has_failed Self.front self.old self.new result }
     {
         self.encode_presence_bit(false)?;
         Ok(())
@@ -161,10 +144,7 @@ pub trait EncodeSequence: Encoder {
             (WritesPart Self.step optional T.schema (part_of T.meaning value.now) self.old self.new) }
         ensures only { IfErr result
             (CannotWritePart Self.step optional T.schema (part_of T.meaning value.now) self.old) }
-        ensures failed { OnErr result (Self.has_failed self.new) }
-        ensures front { Self.front self.new ≡ Self.front self.old }
-        ensures already { Self.has_failed self.old → result ≡ Err EncodeError.AlreadyFailed }
-        ensures after { result ≡ Err EncodeError.AlreadyFailed → Self.has_failed self.old }
+        ensures call { EncoderCall Self.has_failed Self.front self.old self.new result }
     {
         match value {
             None => self.encode_none::<T>(),
@@ -186,10 +166,7 @@ pub trait EncodeSequence: Encoder {
         ensures only { IfErr result
             (CannotWritePart Self.step (by_default V.value) T.schema
             (part_unless (same (T.meaning value.now) V.value) (T.meaning value.now)) self.old) }
-        ensures failed { OnErr result (Self.has_failed self.new) }
-        ensures front { Self.front self.new ≡ Self.front self.old }
-        ensures already { Self.has_failed self.old → result ≡ Err EncodeError.AlreadyFailed }
-        ensures after { result ≡ Err EncodeError.AlreadyFailed → Self.has_failed self.old }
+        ensures call { EncoderCall Self.has_failed Self.front self.old self.new result }
     {
         self.encode_default_with_tag::<V, T>(T::TAG, value)
     }
@@ -208,10 +185,7 @@ pub trait EncodeSequence: Encoder {
         ensures only { IfErr result
             (CannotWritePart Self.step (by_default V.value) T.schema
             (part_unless (same (T.meaning value.now) V.value) (T.meaning value.now)) self.old) }
-        ensures failed { OnErr result (Self.has_failed self.new) }
-        ensures front { Self.front self.new ≡ Self.front self.old }
-        ensures already { Self.has_failed self.old → result ≡ Err EncodeError.AlreadyFailed }
-        ensures after { result ≡ Err EncodeError.AlreadyFailed → Self.has_failed self.old }
+        ensures call { EncoderCall Self.has_failed Self.front self.old self.new result }
     {
         self.encode_default_with_tag_and_constraints::<V, T>(tag, value, &T::constraints())?;
         Ok(())
@@ -231,10 +205,7 @@ pub trait EncodeSequence: Encoder {
         ensures only { IfErr result
             (CannotWriteUnless (same (T.meaning value.now) V.value) Self.step (T.under (meant constraints.now))
             (T.meaning value.now) self.old) }
-        ensures failed { OnErr result (Self.has_failed self.new) }
-        ensures front { Self.front self.new ≡ Self.front self.old }
-        ensures already { Self.has_failed self.old → result ≡ Err EncodeError.AlreadyFailed }
-        ensures after { result ≡ Err EncodeError.AlreadyFailed → Self.has_failed self.old }
+        ensures call { EncoderCall Self.has_failed Self.front self.old self.new result }
     {
         self.encode_default_with_tag_and_constraints::<V, T>(T::TAG, value, constraints)
     }
@@ -254,10 +225,7 @@ pub trait EncodeSequence: Encoder {
         ensures only { IfErr result
             (CannotWriteUnless (same (T.meaning value.now) V.value) Self.step (T.under (meant constraints.now))
             (T.meaning value.now) self.old) }
-        ensures failed { OnErr result (Self.has_failed self.new) }
-        ensures front { Self.front self.new ≡ Self.front self.old }
-        ensures already { Self.has_failed self.old → result ≡ Err EncodeError.AlreadyFailed }
-        ensures after { result ≡ Err EncodeError.AlreadyFailed → Self.has_failed self.old }
+        ensures call { EncoderCall Self.has_failed Self.front self.old self.new result }
     {
         if V::is_default(value) {
             self.encode_presence_bit(false)?;
@@ -285,10 +253,7 @@ pub trait EncodeSequence: Encoder {
         ensures only { IfErr result
             (CannotWrite Self.step (sequence_type C.table) (fields (C.root components.now) (C.added components.now))
             self.old) }
-        ensures failed { OnErr result (Self.has_failed self.new) }
-        ensures front { Self.front self.new ≡ Self.front self.old }
-        ensures already { Self.has_failed self.old → result ≡ Err EncodeError.AlreadyFailed }
-        ensures after { result ≡ Err EncodeError.AlreadyFailed → Self.has_failed self.old }
+        ensures call { EncoderCall Self.has_failed Self.front self.old self.new result }
     {
         self.begin_sequence(tag, false, optional)?;
         components.encode_components(self)?;

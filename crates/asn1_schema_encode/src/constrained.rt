@@ -2,7 +2,7 @@
 
 use crate::encode::{Encode, Encoder};
 use asn1_schema_constraints::Constraints;
-use asn1_schema_faults::EncodeError;
+use asn1_schema_errors::EncodeError;
 use asn1_schema_tags::{Identifier, Tag};
 use asn1_schema_types::constrained::within_range;
 use asn1_values_integers::{Ends, Integer, RangedInteger};

@@ -1,23 +1,23 @@
 //! The traits `Encoder` and `Encode`.
 ghost use Rattle.std.specs.Prelude.{◌≡◌, ℕ, List, OnOk, OnErr, IfErr};
 ghost use Rattle.asn1_model.specs.Schema.{utf8};
-ghost use Rattle.asn1_schema_faults.specs.declared.CodecKind.{CodecKind};
-ghost use Rattle.asn1_schema_presented.specs.Records.{Record, flag, nil, one_of, identifier as object_identifier};
-ghost use Rattle.asn1_schema_presented.specs.Records.{further};
-ghost use Rattle.asn1_schema_presented.specs.Records.{sequence_begins, set_begins, group_begins, presence_bit};
-ghost use Rattle.asn1_schema_presented.specs.Records.{additions_begin, addition, addition_ends, ends};
+ghost use Rattle.asn1_schema_errors.specs.declared.CodecKind.{CodecKind};
+ghost use Rattle.asn1_schema_laws.specs.Records.{Record, flag, nil, one_of, identifier as object_identifier};
+ghost use Rattle.asn1_schema_laws.specs.Records.{further};
+ghost use Rattle.asn1_schema_laws.specs.Records.{sequence_begins, set_begins, group_begins, presence_bit};
+ghost use Rattle.asn1_schema_laws.specs.Records.{additions_begin, addition, addition_ends, ends};
 ghost use Rattle.asn1_schema_constraints.specs.Terms.{meant};
 ghost use Rattle.asn1_schema_types.specs.Told.{whole_under, bits_under, octets_under, characters_under};
 ghost use Rattle.asn1_schema_types.specs.Told.{list_begins_under, bag_begins_under};
 ghost use Rattle.asn1_schema_encode.specs.Writes.{Refused, Writes, CannotWrite};
 ghost use Rattle.asn1_schema_encode.specs.Told.{chosen_of};
 ghost use Rattle.asn1_values_bits.specs.BitStr.{bits_of};
+ghost use Rattle.asn1_schema_errors.specs.Calls.{EncoderCall};
 
 use asn1_schema_constraints::{Bounded, Constraints};
-use asn1_schema_faults::{CodecKind, EncodeError};
-use asn1_schema_tags::{Identifier, Tag};
+use asn1_schema_errors::{CodecKind, EncodeError};
+use asn1_schema_tags::{Chosen, Enumerated, Identifier, Tag};
 use asn1_schema_types::AsnType;
-use asn1_schema_variants::{Chosen, Enumerated};
 use asn1_values_alphabets::StaticPermittedAlphabet;
 use asn1_values_bits::BitStr;
 use asn1_values_identifiers::Oid;
@@ -56,19 +56,13 @@ pub trait Encoder {
     ) -> Result<(), EncodeError>
         ensures ok { OnOk result (step self.old (flag value) self.new) }
         ensures only { IfErr result (Refused step (flag value) self.old) }
-        ensures failed { OnErr result (has_failed self.new) }
-        ensures front { front self.new ≡ front self.old }
-        ensures already { has_failed self.old → result ≡ Err EncodeError.AlreadyFailed }
-        ensures after { result ≡ Err EncodeError.AlreadyFailed → has_failed self.old };
+        ensures call { EncoderCall has_failed front self.old self.new result };
 
     /// NULL (X.680 24).
     fn encode_null(&mut self, tag: Tag, identifier: Identifier) -> Result<(), EncodeError>
         ensures ok { OnOk result (step self.old nil self.new) }
         ensures only { IfErr result (Refused step nil self.old) }
-        ensures failed { OnErr result (has_failed self.new) }
-        ensures front { front self.new ≡ front self.old }
-        ensures already { has_failed self.old → result ≡ Err EncodeError.AlreadyFailed }
-        ensures after { result ≡ Err EncodeError.AlreadyFailed → has_failed self.old };
+        ensures call { EncoderCall has_failed front self.old self.new result };
 
     /// INTEGER (X.680 19) under a value constraint.
     fn encode_integer<I: IntegerType>(
@@ -80,10 +74,7 @@ pub trait Encoder {
     ) -> Result<(), EncodeError>
         ensures ok { OnOk result (step self.old (whole_under constraints.now I.held (I.value value.now)) self.new) }
         ensures only { IfErr result (Refused step (whole_under constraints.now I.held (I.value value.now)) self.old) }
-        ensures failed { OnErr result (has_failed self.new) }
-        ensures front { front self.new ≡ front self.old }
-        ensures already { has_failed self.old → result ≡ Err EncodeError.AlreadyFailed }
-        ensures after { result ≡ Err EncodeError.AlreadyFailed → has_failed self.old };
+        ensures call { EncoderCall has_failed front self.old self.new result };
 
     /// ENUMERATED (X.680 20): an item, given by its number and its enumeration index.
     fn encode_enumerated<T: Enumerated>(
@@ -96,10 +87,7 @@ pub trait Encoder {
             (step self.old (one_of T.roots T.extensible T.additions (T.number value.now)) self.new) }
         ensures only { IfErr result
             (Refused step (one_of T.roots T.extensible T.additions (T.number value.now)) self.old) }
-        ensures failed { OnErr result (has_failed self.new) }
-        ensures front { front self.new ≡ front self.old }
-        ensures already { has_failed self.old → result ≡ Err EncodeError.AlreadyFailed }
-        ensures after { result ≡ Err EncodeError.AlreadyFailed → has_failed self.old };
+        ensures call { EncoderCall has_failed front self.old self.new result };
 
     /// BIT STRING (X.680 22) under a size constraint; `held` bounds the number of bits that the user-defined type can
     /// hold.
@@ -113,10 +101,7 @@ pub trait Encoder {
     ) -> Result<(), EncodeError>
         ensures ok { OnOk result (step self.old (bits_under constraints.now held (bits_of value.entry)) self.new) }
         ensures only { IfErr result (Refused step (bits_under constraints.now held (bits_of value.entry)) self.old) }
-        ensures failed { OnErr result (has_failed self.new) }
-        ensures front { front self.new ≡ front self.old }
-        ensures already { has_failed self.old → result ≡ Err EncodeError.AlreadyFailed }
-        ensures after { result ≡ Err EncodeError.AlreadyFailed → has_failed self.old };
+        ensures call { EncoderCall has_failed front self.old self.new result };
 
     /// OCTET STRING (X.680 23) under a size constraint; `held` bounds the number of octets that the user-defined type
     /// can hold.
@@ -130,10 +115,7 @@ pub trait Encoder {
     ) -> Result<(), EncodeError>
         ensures ok { OnOk result (step self.old (octets_under constraints.now held value.now) self.new) }
         ensures only { IfErr result (Refused step (octets_under constraints.now held value.now) self.old) }
-        ensures failed { OnErr result (has_failed self.new) }
-        ensures front { front self.new ≡ front self.old }
-        ensures already { has_failed self.old → result ≡ Err EncodeError.AlreadyFailed }
-        ensures after { result ≡ Err EncodeError.AlreadyFailed → has_failed self.old };
+        ensures call { EncoderCall has_failed front self.old self.new result };
 
     /// UTF8String (X.680 41) under a size constraint.
     fn encode_utf8_string(
@@ -145,10 +127,7 @@ pub trait Encoder {
     ) -> Result<(), EncodeError>
         ensures ok { OnOk result (step self.old (characters_under utf8 constraints.now value.now) self.new) }
         ensures only { IfErr result (Refused step (characters_under utf8 constraints.now value.now) self.old) }
-        ensures failed { OnErr result (has_failed self.new) }
-        ensures front { front self.new ≡ front self.old }
-        ensures already { has_failed self.old → result ≡ Err EncodeError.AlreadyFailed }
-        ensures after { result ≡ Err EncodeError.AlreadyFailed → has_failed self.old };
+        ensures call { EncoderCall has_failed front self.old self.new result };
 
     /// A restricted character string (X.680 41) of a kind with a permitted alphabet, under size and alphabet
     /// constraints.
@@ -163,10 +142,7 @@ pub trait Encoder {
             (step self.old (characters_under S.kind constraints.now (S.characters value.now)) self.new) }
         ensures only { IfErr result
             (Refused step (characters_under S.kind constraints.now (S.characters value.now)) self.old) }
-        ensures failed { OnErr result (has_failed self.new) }
-        ensures front { front self.new ≡ front self.old }
-        ensures already { has_failed self.old → result ≡ Err EncodeError.AlreadyFailed }
-        ensures after { result ≡ Err EncodeError.AlreadyFailed → has_failed self.old };
+        ensures call { EncoderCall has_failed front self.old self.new result };
 
     /// OBJECT IDENTIFIER (X.680 32).
     fn encode_object_identifier(
@@ -177,10 +153,7 @@ pub trait Encoder {
     ) -> Result<(), EncodeError>
         ensures ok { OnOk result (step self.old (object_identifier value.entry) self.new) }
         ensures only { IfErr result (Refused step (object_identifier value.entry) self.old) }
-        ensures failed { OnErr result (has_failed self.new) }
-        ensures front { front self.new ≡ front self.old }
-        ensures already { has_failed self.old → result ≡ Err EncodeError.AlreadyFailed }
-        ensures after { result ≡ Err EncodeError.AlreadyFailed → has_failed self.old };
+        ensures call { EncoderCall has_failed front self.old self.new result };
 
     /// Begins a SEQUENCE OF (X.680 26) of `count` elements under a size constraint; `held` bounds the number of
     /// elements that the user-defined type can hold.
@@ -193,10 +166,7 @@ pub trait Encoder {
     ) -> Result<(), EncodeError>
         ensures ok { OnOk result (step self.old (list_begins_under constraints.now held count) self.new) }
         ensures only { IfErr result (Refused step (list_begins_under constraints.now held count) self.old) }
-        ensures failed { OnErr result (has_failed self.new) }
-        ensures front { front self.new ≡ front self.old }
-        ensures already { has_failed self.old → result ≡ Err EncodeError.AlreadyFailed }
-        ensures after { result ≡ Err EncodeError.AlreadyFailed → has_failed self.old };
+        ensures call { EncoderCall has_failed front self.old self.new result };
 
     /// Begins a SET OF (X.680 28) of `count` elements under a size constraint; `held` bounds the number of elements
     /// that the user-defined type can hold. The elements are given in any order; the encoder writes them in the order
@@ -210,19 +180,13 @@ pub trait Encoder {
     ) -> Result<(), EncodeError>
         ensures ok { OnOk result (step self.old (bag_begins_under constraints.now held count) self.new) }
         ensures only { IfErr result (Refused step (bag_begins_under constraints.now held count) self.old) }
-        ensures failed { OnErr result (has_failed self.new) }
-        ensures front { front self.new ≡ front self.old }
-        ensures already { has_failed self.old → result ≡ Err EncodeError.AlreadyFailed }
-        ensures after { result ≡ Err EncodeError.AlreadyFailed → has_failed self.old };
+        ensures call { EncoderCall has_failed front self.old self.new result };
 
     /// Says whether another element follows.
     fn encode_further(&mut self, more: bool) -> Result<(), EncodeError>
         ensures ok { OnOk result (step self.old (further more) self.new) }
         ensures only { IfErr result (Refused step (further more) self.old) }
-        ensures failed { OnErr result (has_failed self.new) }
-        ensures front { front self.new ≡ front self.old }
-        ensures already { has_failed self.old → result ≡ Err EncodeError.AlreadyFailed }
-        ensures after { result ≡ Err EncodeError.AlreadyFailed → has_failed self.old };
+        ensures call { EncoderCall has_failed front self.old self.new result };
 
     /// Begins a SEQUENCE (X.680 25), with or without an extension marker; `optional` of its root components may be
     /// absent.
@@ -234,66 +198,45 @@ pub trait Encoder {
     ) -> Result<(), EncodeError>
         ensures ok { OnOk result (step self.old (sequence_begins extensible optional) self.new) }
         ensures only { IfErr result (Refused step (sequence_begins extensible optional) self.old) }
-        ensures failed { OnErr result (has_failed self.new) }
-        ensures front { front self.new ≡ front self.old }
-        ensures already { has_failed self.old → result ≡ Err EncodeError.AlreadyFailed }
-        ensures after { result ≡ Err EncodeError.AlreadyFailed → has_failed self.old };
+        ensures call { EncoderCall has_failed front self.old self.new result };
 
     /// Begins a SET (X.680 27), with or without an extension marker; `optional` of its root components may be absent.
     /// Its components are given in ascending order of their tags.
     fn begin_set(&mut self, tag: Tag, extensible: bool, optional: usize) -> Result<(), EncodeError>
         ensures ok { OnOk result (step self.old (set_begins extensible optional) self.new) }
         ensures only { IfErr result (Refused step (set_begins extensible optional) self.old) }
-        ensures failed { OnErr result (has_failed self.new) }
-        ensures front { front self.new ≡ front self.old }
-        ensures already { has_failed self.old → result ≡ Err EncodeError.AlreadyFailed }
-        ensures after { result ≡ Err EncodeError.AlreadyFailed → has_failed self.old };
+        ensures call { EncoderCall has_failed front self.old self.new result };
 
     /// Begins an extension addition group (X.680 25.1); `optional` of its components may be absent.
     fn begin_group(&mut self, optional: usize) -> Result<(), EncodeError>
         ensures ok { OnOk result (step self.old (group_begins optional) self.new) }
         ensures only { IfErr result (Refused step (group_begins optional) self.old) }
-        ensures failed { OnErr result (has_failed self.new) }
-        ensures front { front self.new ≡ front self.old }
-        ensures already { has_failed self.old → result ≡ Err EncodeError.AlreadyFailed }
-        ensures after { result ≡ Err EncodeError.AlreadyFailed → has_failed self.old };
+        ensures call { EncoderCall has_failed front self.old self.new result };
 
     /// Says whether the next component that may be absent is present.
     fn encode_presence_bit(&mut self, present: bool) -> Result<(), EncodeError>
         ensures ok { OnOk result (step self.old (presence_bit present) self.new) }
         ensures only { IfErr result (Refused step (presence_bit present) self.old) }
-        ensures failed { OnErr result (has_failed self.new) }
-        ensures front { front self.new ≡ front self.old }
-        ensures already { has_failed self.old → result ≡ Err EncodeError.AlreadyFailed }
-        ensures after { result ≡ Err EncodeError.AlreadyFailed → has_failed self.old };
+        ensures call { EncoderCall has_failed front self.old self.new result };
 
     /// Begins the `count` extension additions, after the root components of a type with an extension marker (X.680 25
     /// and 27).
     fn begin_additions(&mut self, count: usize) -> Result<(), EncodeError>
         ensures ok { OnOk result (step self.old (additions_begin count) self.new) }
         ensures only { IfErr result (Refused step (additions_begin count) self.old) }
-        ensures failed { OnErr result (has_failed self.new) }
-        ensures front { front self.new ≡ front self.old }
-        ensures already { has_failed self.old → result ≡ Err EncodeError.AlreadyFailed }
-        ensures after { result ≡ Err EncodeError.AlreadyFailed → has_failed self.old };
+        ensures call { EncoderCall has_failed front self.old self.new result };
 
     /// Says whether the next addition is present.
     fn encode_addition(&mut self, present: bool) -> Result<(), EncodeError>
         ensures ok { OnOk result (step self.old (addition present) self.new) }
         ensures only { IfErr result (Refused step (addition present) self.old) }
-        ensures failed { OnErr result (has_failed self.new) }
-        ensures front { front self.new ≡ front self.old }
-        ensures already { has_failed self.old → result ≡ Err EncodeError.AlreadyFailed }
-        ensures after { result ≡ Err EncodeError.AlreadyFailed → has_failed self.old };
+        ensures call { EncoderCall has_failed front self.old self.new result };
 
     /// Ends an addition that is present.
     fn end_addition(&mut self) -> Result<(), EncodeError>
         ensures ok { OnOk result (step self.old addition_ends self.new) }
         ensures only { IfErr result (Refused step addition_ends self.old) }
-        ensures failed { OnErr result (has_failed self.new) }
-        ensures front { front self.new ≡ front self.old }
-        ensures already { has_failed self.old → result ≡ Err EncodeError.AlreadyFailed }
-        ensures after { result ≡ Err EncodeError.AlreadyFailed → has_failed self.old };
+        ensures call { EncoderCall has_failed front self.old self.new result };
 
     /// Begins a CHOICE (X.680 29), given the tags of its root alternatives, whether it has an extension marker, the
     /// tags of its added alternatives, and the chosen one. `end` is called after the value of the alternative.
@@ -307,19 +250,13 @@ pub trait Encoder {
     ) -> Result<(), EncodeError>
         ensures ok { OnOk result (step self.old (chosen_of roots.now extensible additions.now chosen) self.new) }
         ensures only { IfErr result (Refused step (chosen_of roots.now extensible additions.now chosen) self.old) }
-        ensures failed { OnErr result (has_failed self.new) }
-        ensures front { front self.new ≡ front self.old }
-        ensures already { has_failed self.old → result ≡ Err EncodeError.AlreadyFailed }
-        ensures after { result ≡ Err EncodeError.AlreadyFailed → has_failed self.old };
+        ensures call { EncoderCall has_failed front self.old self.new result };
 
     /// Ends what was begun last and has not ended.
     fn end(&mut self) -> Result<(), EncodeError>
         ensures ok { OnOk result (step self.old ends self.new) }
         ensures only { IfErr result (Refused step ends self.old) }
-        ensures failed { OnErr result (has_failed self.new) }
-        ensures front { front self.new ≡ front self.old }
-        ensures already { has_failed self.old → result ≡ Err EncodeError.AlreadyFailed }
-        ensures after { result ≡ Err EncodeError.AlreadyFailed → has_failed self.old };
+        ensures call { EncoderCall has_failed front self.old self.new result };
 
     /// At most one state follows a record.
     ghost one_after: { (a : Self) (r : Record) (b c : Self) → step a r b → step a r c → b ≡ c };
@@ -347,10 +284,7 @@ pub trait Encode: AsnType {
             (Writes E.step (Self.under (meant constraints.now)) (Self.meaning self.now) encoder.old encoder.new) }
         ensures only { IfErr result
             (CannotWrite E.step (Self.under (meant constraints.now)) (Self.meaning self.now) encoder.old) }
-        ensures failed { OnErr result (E.has_failed encoder.new) }
-        ensures front { E.front encoder.new ≡ E.front encoder.old }
-        ensures already { E.has_failed encoder.old → result ≡ Err EncodeError.AlreadyFailed }
-        ensures after { result ≡ Err EncodeError.AlreadyFailed → E.has_failed encoder.old };
+        ensures call { EncoderCall E.has_failed E.front encoder.old encoder.new result };
 
     /// Writes each record of the value once, by its type.
     #[inline(always)]
@@ -359,10 +293,7 @@ pub trait Encode: AsnType {
         Self: Sized,
         ensures ok { OnOk result (Writes E.step Self.schema (Self.meaning self.now) encoder.old encoder.new) }
         ensures only { IfErr result (CannotWrite E.step Self.schema (Self.meaning self.now) encoder.old) }
-        ensures failed { OnErr result (E.has_failed encoder.new) }
-        ensures front { E.front encoder.new ≡ E.front encoder.old }
-        ensures already { E.has_failed encoder.old → result ≡ Err EncodeError.AlreadyFailed }
-        ensures after { result ≡ Err EncodeError.AlreadyFailed → E.has_failed encoder.old }
+        ensures call { EncoderCall E.has_failed E.front encoder.old encoder.new result }
     {
         self.encode_with_tag(encoder, Self::TAG)
     }
@@ -378,10 +309,7 @@ pub trait Encode: AsnType {
         Self: Sized,
         ensures ok { OnOk result (Writes E.step Self.schema (Self.meaning self.now) encoder.old encoder.new) }
         ensures only { IfErr result (CannotWrite E.step Self.schema (Self.meaning self.now) encoder.old) }
-        ensures failed { OnErr result (E.has_failed encoder.new) }
-        ensures front { E.front encoder.new ≡ E.front encoder.old }
-        ensures already { E.has_failed encoder.old → result ≡ Err EncodeError.AlreadyFailed }
-        ensures after { result ≡ Err EncodeError.AlreadyFailed → E.has_failed encoder.old }
+        ensures call { EncoderCall E.has_failed E.front encoder.old encoder.new result }
     {
         self.encode_with_tag_and_constraints(encoder, tag, &Self::constraints())?;
         Ok(())
@@ -400,10 +328,7 @@ pub trait Encode: AsnType {
             (Writes E.step (Self.under (meant constraints.now)) (Self.meaning self.now) encoder.old encoder.new) }
         ensures only { IfErr result
             (CannotWrite E.step (Self.under (meant constraints.now)) (Self.meaning self.now) encoder.old) }
-        ensures failed { OnErr result (E.has_failed encoder.new) }
-        ensures front { E.front encoder.new ≡ E.front encoder.old }
-        ensures already { E.has_failed encoder.old → result ≡ Err EncodeError.AlreadyFailed }
-        ensures after { result ≡ Err EncodeError.AlreadyFailed → E.has_failed encoder.old }
+        ensures call { EncoderCall E.has_failed E.front encoder.old encoder.new result }
     {
         self.encode_with_tag_and_constraints(encoder, Self::TAG, constraints)
     }

@@ -1,7 +1,7 @@
 //! How BIT STRING and OCTET STRING of a fixed size are encoded (X.680 22 and 23).
 use crate::encode::{Encode, Encoder};
 use asn1_schema_constraints::{Bounded, Constraints};
-use asn1_schema_faults::EncodeError;
+use asn1_schema_errors::EncodeError;
 use asn1_schema_tags::{Identifier, Tag};
 use asn1_values_bit_strings::FixedBitString;
 use asn1_values_octets::FixedOctetString;

@@ -2,13 +2,14 @@
 
 ghost use Rattle.std.specs.Prelude.{◌≡◌, OnOk, OnErr, IfErr};
 ghost use Rattle.asn1_model.specs.Value.{members};
-ghost use Rattle.asn1_schema_presented.specs.Parts.{values_of};
+ghost use Rattle.asn1_schema_laws.specs.Parts.{values_of};
 ghost use Rattle.asn1_schema_types.specs.Told.{list_under};
 ghost use Rattle.asn1_schema_encode.specs.Writes.{Writes, CannotWrite};
+ghost use Rattle.asn1_schema_errors.specs.Calls.{EncoderCall};
 
 use crate::encode::{Encode, Encoder};
 use asn1_schema_constraints::{Bounded, Constraints};
-use asn1_schema_faults::EncodeError;
+use asn1_schema_errors::EncodeError;
 use asn1_schema_tags::Tag;
 
 /// Encodes SEQUENCE OF types.
@@ -28,10 +29,7 @@ pub trait EncodeList: Encoder {
             (members (values_of T.meaning items.now)) self.old self.new) }
         ensures only { IfErr result (CannotWrite Self.step (list_under constraints.now held T.schema)
             (members (values_of T.meaning items.now)) self.old) }
-        ensures failed { OnErr result (Self.has_failed self.new) }
-        ensures front { Self.front self.new ≡ Self.front self.old }
-        ensures already { Self.has_failed self.old → result ≡ Err EncodeError.AlreadyFailed }
-        ensures after { result ≡ Err EncodeError.AlreadyFailed → Self.has_failed self.old }
+        ensures call { EncoderCall Self.has_failed Self.front self.old self.new result }
     {
         self.begin_list(tag, constraints, held, items.len())?;
         for item in items {

@@ -1,7 +1,7 @@
 //! How values held by pointers are encoded.
 use crate::encode::{Encode, Encoder};
 use asn1_schema_constraints::Constraints;
-use asn1_schema_faults::EncodeError;
+use asn1_schema_errors::EncodeError;
 use asn1_schema_tags::Tag;
 
 impl<T: Encode> Encode for Box<T> {

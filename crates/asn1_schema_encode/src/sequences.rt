@@ -2,7 +2,7 @@
 use crate::encode::{Encode, Encoder};
 use crate::lists::EncodeList;
 use asn1_schema_constraints::{Bounded, Constraints};
-use asn1_schema_faults::EncodeError;
+use asn1_schema_errors::EncodeError;
 use asn1_schema_tags::Tag;
 
 impl<T: Encode> Encode for Vec<T> {

@@ -1,7 +1,7 @@
 //! How BIT STRING, OCTET STRING, UTF8String and OBJECT IDENTIFIER are encoded (X.680 22, 23, 41 and 32).
 use crate::encode::{Encode, Encoder};
 use asn1_schema_constraints::{Bounded, Constraints};
-use asn1_schema_faults::EncodeError;
+use asn1_schema_errors::EncodeError;
 use asn1_schema_tags::{Identifier, Tag};
 use asn1_values_bit_strings::BitString;
 use asn1_values_identifiers::ObjectIdentifier;

@@ -1,7 +1,7 @@
 //! How INTEGER in the native types of 128 bits and of the pointer width is encoded (X.680 19).
 use crate::encode::{Encode, Encoder};
 use asn1_schema_constraints::Constraints;
-use asn1_schema_faults::EncodeError;
+use asn1_schema_errors::EncodeError;
 use asn1_schema_tags::{Identifier, Tag};
 
 impl Encode for i128 {

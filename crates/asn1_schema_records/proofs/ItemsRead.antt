@@ -1,12 +1,12 @@
 -- How an enumeration item is taken, and why none is.
 use Rattle.std.proofs.Common.{◌≡◌, ℤ, Bool, true, false, List, [], Some, None, sym, ◌∙◌, subst, ap}
 use Rattle.asn1_schema_decode.specs.Reads.{NoRecord}
-use Rattle.asn1_schema_lacking.specs.Carried.{AtOnce}
-use Rattle.asn1_schema_faults.specs.declared.DecodeError.{DecodeError}
-use Rattle.asn1_schema_presented.specs.Records.{Record, question, one_of, asks_one_of}
+use Rattle.asn1_schema_lacking_laws.specs.Carried.{AtOnce}
+use Rattle.asn1_schema_errors.specs.declared.DecodeError.{DecodeError}
+use Rattle.asn1_schema_laws.specs.Records.{Record, question, one_of, asks_one_of}
 use Rattle.asn1_schema_records.proofs.Taking.{leaves, other}
 use Rattle.asn1_schema_records.specs.Taken.{Left, Takes, Leaves, IsKept, IsListed}
-use Rattle.asn1_schema_variants.specs.Items.{IsNone}
+use Rattle.asn1_schema_tags.specs.Items.{IsNone}
 
 -- a number cannot be that of an item and of none
 not_both : (roots : List ℤ) (e : Bool) (adds : List ℤ) (v : ℤ) → IsListed roots e adds v → IsNone roots e adds v → ⊥
@@ -27,7 +27,7 @@ module _ {a b : Left} {k : Record} where
         apart w (i.0 ∙ ap (λ (t : Bool). one_of [] t [] w) (x ∙ sym g))
     go r q i = cc q
 
-  -- the number is that of no item
+  -- the number of no item
   pub no_item : {roots adds : List ℤ} {e m : Bool} {v : ℤ} {y : DecodeError} {failed : Left} → Leaves a k b → k ≡ one_of [] m [] v → IsNone roots e adds v → NoRecord Takes AtOnce (asks_one_of roots e adds) a failed y
   no_item {roots} {adds} {e} {m} {v} l f n = other l go where
     go : (r : Record) → question r ≡ asks_one_of roots e adds → IsKept k r → ⊥

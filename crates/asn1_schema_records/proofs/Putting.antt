@@ -5,7 +5,7 @@ use Rattle.asn1_model.specs.Schema.{any_alphabet}
 use Rattle.std.proofs.Common.{◌≡◌, ℕ, true, false, List, [], ◌∷◌, ◌++◌, refl, sym, ◌∙◌, ap}
 use Rattle.asn1_model.specs.Schema.{Counts, Size, Alphabet, StringKind, utf8, visible, any_count}
 use Rattle.asn1_model.specs.Strings.{may_hold}
-use Rattle.asn1_schema_presented.specs.Records.{Record, characters}
+use Rattle.asn1_schema_laws.specs.Records.{Record, characters}
 use Rattle.asn1_schema_records.specs.Kept.{Written, Puts, kept, kept_kind}
 use Rattle.asn1_values_alphabets.specs.Permitted.{permits_all}
 

@@ -1,4 +1,4 @@
--- How a record that is asked for is taken, and why none is.
+-- How a requested record is taken, and why none is.
 use Rattle.std.specs.Str.{is_utf8, chars}
 use Rattle.std.specs.Char.{encode_utf8}
 use Rattle.asn1_model.specs.Schema.{any_number}
@@ -11,11 +11,11 @@ use Rattle.asn1_schema_constraints.specs.Terms.{bounds_of, held_of}
 use Rattle.asn1_schema_constraints.specs.declared.extensions.Extensible.{Extensible}
 use Rattle.asn1_schema_constraints.specs.declared.parts.Value.{Value}
 use Rattle.asn1_schema_decode.specs.Reads.{NoRecord}
-use Rattle.asn1_schema_lacking.specs.Carried.{AtOnce}
+use Rattle.asn1_schema_lacking_laws.specs.Carried.{AtOnce}
 use Rattle.asn1_schema_decode.proofs.AtOnce.{none_at_once}
-use Rattle.asn1_schema_faults.specs.declared.DecodeError.{DecodeError}
-use Rattle.asn1_schema_faults.specs.declared.DecodeError.TheVariants.{IntegerOverflow, ValueConstraintNotSatisfied, PermittedAlphabet, OutOfMemory}
-use Rattle.asn1_schema_presented.specs.Records.{Record, Question, question, whole, characters, asks_whole, asks_characters}
+use Rattle.asn1_schema_errors.specs.declared.DecodeError.{DecodeError}
+use Rattle.asn1_schema_errors.specs.declared.DecodeError.TheVariants.{IntegerOverflow, ValueConstraintNotSatisfied, PermittedAlphabet, OutOfMemory}
+use Rattle.asn1_schema_laws.specs.Records.{Record, Question, question, whole, characters, asks_whole, asks_characters}
 use Rattle.asn1_schema_records.proofs.Putting.{kind_kept}
 use Rattle.asn1_schema_records.specs.Kept.{kept_kind}
 use Rattle.asn1_schema_constraints.proofs.Held.{not_held, not_admitted}
@@ -29,7 +29,7 @@ other {q} {a} {b} {failed} {k} h apart = none_at_once Takes (λ w r c e t.
     let g : k ≡ t.front = cc f in
     apart r e (subst (λ (y : Record). IsKept y r) (sym g) t.is_kept))
 
--- the one that is asked for is taken
+-- the requested one is taken
 pub leaves : {a b : Left} {k : Record} (r : Record) → Leaves a k b → IsKept k r → Levels (question r) a b → Takes a r b
 leaves {a} {b} {k} r h e l = record { ready = h.ready; front = k; taken = h.taken; is_kept = e; levels = l; most = h.most; ready_still = h.ready_still; rules = h.rules }
 
@@ -44,7 +44,7 @@ held_permits utf8 law cs w = let e : false ≡ true = law (195 ∷ []) in cc
 held_permits t law cs w = sym (law cs) ∙ w
 
 module _ {a b : Left} {k : Record} where
-  -- ---- records that are kept in part
+  -- ---- records of which not all is kept
   pub takes_whole : {z z' : Bounds} {h : Range} {v v' : ℤ} → Leaves a k b → k ≡ whole z any_number v → z ≡ z' → v' ≡ v → is_within h v ≡ true → (z'.extensible || is_within z'.range v) ≡ true → Takes a (whole z' h v') b
   takes_whole {z} {z'} {h} {v} {v'} l e f g w i =
       let t : Takes a (whole z' h v) b = leaves (whole z' h v) l (e ∙ ap (λ (y : Bounds). whole y any_number v) f, w, i) l.levels in
@@ -85,7 +85,7 @@ module _ {a b : Left} {k : Record} where
         apart (sym n ∙ x) (subst (λ (d : List ℕ). permits_all t d ≡ true) o (held_permits t law ds (subst (λ (d : StringKind). MayHold d ds) v e.1)))
     go r q e = cc q
 
-  -- ---- why no value of the user-defined type is made
+  -- ---- why no value of the program's type is made
   pub no_number : (c : Option (Extensible Value)) (h : Range) {z : Bounds} {v : ℤ} {x y : DecodeError} {failed : Left} → Leaves a k b → k ≡ whole z any_number v → y ≡ x → IsUntaken c h v x → NoRecord Takes AtOnce (asks_whole (bounds_of c) (held_of c h)) a failed y
   no_number c h {z} {v} {x} {y} {failed} l f e u = go x e u where
     go : (x : DecodeError) → y ≡ x → IsUntaken c h v x → NoRecord Takes AtOnce (asks_whole (bounds_of c) (held_of c h)) a failed y

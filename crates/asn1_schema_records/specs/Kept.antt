@@ -3,14 +3,14 @@
 -- their items and alternatives.
 use Rattle.std.specs.Prelude.{◌≡◌, ◌++◌, Bool, true, false, List, [], ◌∷◌, None, string_bytes}
 use Rattle.asn1_model.specs.Schema.{Bounds, Size, StringKind, any_count, any_number, any_alphabet, utf8, visible}
-use Rattle.asn1_schema_faults.specs.declared.CodecKind.{CodecKind}
-use Rattle.asn1_schema_faults.specs.declared.EncodeError.{EncodeError}
-use Rattle.asn1_schema_faults.specs.declared.EncodeError.TheVariants.{OutOfMemory}
-use Rattle.asn1_schema_presented.specs.Records.{Record, flag, nil, whole, one_of, bits, octets, characters}
-use Rattle.asn1_schema_presented.specs.Records.{identifier, list_begins, bag_begins, further, sequence_begins}
-use Rattle.asn1_schema_presented.specs.Records.{set_begins}
-use Rattle.asn1_schema_presented.specs.Records.{group_begins, presence_bit, is_default, is_empty}
-use Rattle.asn1_schema_presented.specs.Records.{additions_begin, addition, addition_ends, choice_begins, ends}
+use Rattle.asn1_schema_errors.specs.declared.CodecKind.{CodecKind}
+use Rattle.asn1_schema_errors.specs.declared.EncodeError.{EncodeError}
+use Rattle.asn1_schema_errors.specs.declared.EncodeError.TheVariants.{OutOfMemory}
+use Rattle.asn1_schema_laws.specs.Records.{Record, flag, nil, whole, one_of, bits, octets, characters}
+use Rattle.asn1_schema_laws.specs.Records.{identifier, list_begins, bag_begins, further, sequence_begins}
+use Rattle.asn1_schema_laws.specs.Records.{set_begins}
+use Rattle.asn1_schema_laws.specs.Records.{group_begins, presence_bit, is_default, is_empty}
+use Rattle.asn1_schema_laws.specs.Records.{additions_begin, addition, addition_ends, choice_begins, ends}
 use Rattle.asn1_schema_records.specs.declared.items.Limits.{Limits}
 use Rattle.asn1_schema_records.specs.declared.items.Sizes.{Sizes}
 use Rattle.asn1_schema_records.specs.declared.items.Item.{Item}

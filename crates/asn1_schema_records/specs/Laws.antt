@@ -1,6 +1,6 @@
 -- The laws of the encoder that keeps records.
 use Rattle.std.proofs.Common.{◌≡◌, true, false, sym, ◌∙◌, ap}
-use Rattle.asn1_schema_presented.specs.Records.{Record}
+use Rattle.asn1_schema_laws.specs.Records.{Record}
 use Rattle.asn1_schema_records.specs.Kept.{Written, Puts}
 
 pub puts_one : (a : Written) (r : Record) (b c : Written) → Puts a r b → Puts a r c → b ≡ c

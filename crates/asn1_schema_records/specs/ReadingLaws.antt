@@ -2,11 +2,11 @@
 use Rattle.std.proofs.Common.{◌≡◌, ℕ, Bool, true, false, List, ◌∷◌, refl, sym, ◌∙◌, subst, ap, arith}
 use Rattle.asn1_model.specs.Schema.{Size, Counts}
 use Rattle.asn1_model.specs.Numbers.{is_count_within}
-use Rattle.asn1_schema_faults.specs.declared.CodecKind.{CodecKind}
-use Rattle.asn1_schema_presented.specs.Records.{Record, Question, question, told, whole, one_of, bits, octets}
-use Rattle.asn1_schema_presented.specs.Records.{characters, list_begins, bag_begins, choice_begins, asks_list}
-use Rattle.asn1_schema_presented.specs.Records.{asks_bag, asks_sequence, asks_set, asks_group, asks_choice, asks_end}
-use Rattle.asn1_schema_presented.specs.Records.{asks_whole, asks_one_of, asks_bits, asks_octets, asks_characters}
+use Rattle.asn1_schema_errors.specs.declared.CodecKind.{CodecKind}
+use Rattle.asn1_schema_laws.specs.Records.{Record, Question, question, told, whole, one_of, bits, octets}
+use Rattle.asn1_schema_laws.specs.Records.{characters, list_begins, bag_begins, choice_begins, asks_list}
+use Rattle.asn1_schema_laws.specs.Records.{asks_bag, asks_sequence, asks_set, asks_group, asks_choice, asks_end}
+use Rattle.asn1_schema_laws.specs.Records.{asks_whole, asks_one_of, asks_bits, asks_octets, asks_characters}
 use Rattle.asn1_schema_records.specs.Taken.{Left, Takes, Levels, IsKept}
 
 -- the record that a decoder finds, from the question and the kept record

@@ -7,26 +7,26 @@ use Rattle.std.specs.Prelude.{cond, List, [], ◌∷◌, Option, length}
 use Rattle.asn1_model.specs.Schema.{Tag, Range, Bounds, Counts, Size, StringKind, utf8, visible, any_count}
 use Rattle.asn1_model.specs.Numbers.{is_within, is_count_within}
 use Rattle.asn1_model.specs.Strings.{may_hold}
-use Rattle.asn1_schema_faults.specs.declared.CodecKind.{CodecKind}
-use Rattle.asn1_schema_faults.specs.declared.DecodeError.{DecodeError}
-use Rattle.asn1_schema_faults.specs.declared.DecodeError.TheVariants.{Incomplete, NotValidCanonicalEncoding}
-use Rattle.asn1_schema_faults.specs.declared.DecodeError.TheVariants.{SizeConstraintNotSatisfied}
-use Rattle.asn1_schema_faults.specs.declared.DecodeError.TheVariants.{ExceedsMaxParseDepth, IntegerOverflow}
-use Rattle.asn1_schema_faults.specs.declared.DecodeError.TheVariants.{PermittedAlphabet, ValueConstraintNotSatisfied}
-use Rattle.asn1_schema_faults.specs.declared.DecodeError.TheVariants.{DiscriminantValueNotFound}
-use Rattle.asn1_schema_faults.specs.declared.DecodeError.TheVariants.{InvalidTagVariantOnChoice}
-use Rattle.asn1_schema_faults.specs.declared.DecodeError.TheVariants.{OutOfMemory as NoRoom}
-use Rattle.asn1_schema_faults.specs.declared.DecodeError.TheVariants.{AlreadyFailed as HadFailed}
+use Rattle.asn1_schema_errors.specs.declared.CodecKind.{CodecKind}
+use Rattle.asn1_schema_errors.specs.declared.DecodeError.{DecodeError}
+use Rattle.asn1_schema_errors.specs.declared.DecodeError.TheVariants.{Incomplete, NotValidCanonicalEncoding}
+use Rattle.asn1_schema_errors.specs.declared.DecodeError.TheVariants.{SizeConstraintNotSatisfied}
+use Rattle.asn1_schema_errors.specs.declared.DecodeError.TheVariants.{ExceedsMaxParseDepth, IntegerOverflow}
+use Rattle.asn1_schema_errors.specs.declared.DecodeError.TheVariants.{PermittedAlphabet, ValueConstraintNotSatisfied}
+use Rattle.asn1_schema_errors.specs.declared.DecodeError.TheVariants.{DiscriminantValueNotFound}
+use Rattle.asn1_schema_errors.specs.declared.DecodeError.TheVariants.{InvalidTagVariantOnChoice}
+use Rattle.asn1_schema_errors.specs.declared.DecodeError.TheVariants.{OutOfMemory as NoRoom}
+use Rattle.asn1_schema_errors.specs.declared.DecodeError.TheVariants.{AlreadyFailed as HadFailed}
 use Rattle.asn1_schema_constraints.specs.Terms.{bounds_of, admits_whole}
 use Rattle.asn1_schema_constraints.specs.declared.extensions.Extensible.{Extensible}
 use Rattle.asn1_schema_constraints.specs.declared.parts.Value.{Value}
 use Rattle.asn1_values_alphabets.specs.Permitted.{permits_all}
 use Rattle.asn1_values_natives.specs.Octets.{plain}
-use Rattle.asn1_schema_presented.specs.Records.{Record, Question, question, whole, one_of, bits, octets, characters}
-use Rattle.asn1_schema_presented.specs.Records.{list_begins, bag_begins, choice_begins, asks_list, asks_bag}
-use Rattle.asn1_schema_presented.specs.Records.{asks_sequence, asks_set, asks_group, asks_choice, asks_end, ends}
+use Rattle.asn1_schema_laws.specs.Records.{Record, Question, question, whole, one_of, bits, octets, characters}
+use Rattle.asn1_schema_laws.specs.Records.{list_begins, bag_begins, choice_begins, asks_list, asks_bag}
+use Rattle.asn1_schema_laws.specs.Records.{asks_sequence, asks_set, asks_group, asks_choice, asks_end, ends}
 use Rattle.asn1_schema_records.specs.Kept.{kept_kind}
-use Rattle.asn1_schema_variants.specs.Items.{IsPlaced, IsNone}
+use Rattle.asn1_schema_tags.specs.Items.{IsPlaced, IsNone}
 
 -- The state of a decoder: the records that are left, how many more levels may be nested, how many could be at the
 -- start, whether it has failed, and its encoding rules.

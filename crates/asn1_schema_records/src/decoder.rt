@@ -1,45 +1,44 @@
 //! The decoder that reads kept records.
-ghost use Rattle.std.specs.Prelude.{◌≡◌, ◌+◌, ◌≤◌, ◌<◌, ◌||◌, ◌↔◌, ℕ, ◌∷◌, true, false, cond, length, map};
-ghost use Rattle.std.specs.Prelude.{string_bytes, IsTrue, MatchBool, OnOk, OnErr, IfErr, IfOk};
+ghost use Rattle.std.specs.Prelude.{◌≡◌, ◌+◌, ◌≤◌, ◌<◌, ◌||◌, ℕ, ◌∷◌, true, false, cond, length, map};
+ghost use Rattle.std.specs.Prelude.{string_bytes, MatchBool, OnOk, OnErr, IfErr, IfOk};
 ghost use Rattle.asn1_model.specs.Schema.{utf8};
 ghost use Rattle.asn1_model.specs.Schema.{any_count};
 ghost use Rattle.asn1_model.specs.Numbers.{is_within, is_count_within};
 ghost use Rattle.asn1_schema_constraints.specs.Bounds.{counts_of, members_of};
-ghost use Rattle.asn1_schema_constraints.specs.Terms.{admits_whole, bounds_of, sizes_of};
+ghost use Rattle.asn1_schema_constraints.specs.Terms.{bounds_of, sizes_of};
 ghost use Rattle.asn1_schema_decode.specs.Reads.{NoRecord, NoLevel};
-ghost use Rattle.asn1_schema_lacking.specs.Carried.{AtOnce};
+ghost use Rattle.asn1_schema_lacking_laws.specs.Carried.{AtOnce};
 ghost use Rattle.asn1_schema_types.specs.Told.{whole_under, bits_under, octets_under, characters_under};
 ghost use Rattle.asn1_schema_types.specs.Told.{list_begins_under, bag_begins_under};
 ghost use Rattle.asn1_schema_types.specs.Told.{asks_whole_under, asks_bits_under, asks_octets_under};
 ghost use Rattle.asn1_schema_types.specs.Told.{asks_characters_under, asks_list_under, asks_bag_under};
-ghost use Rattle.asn1_schema_presented.specs.Records.{flag, nil, one_of, bits, octets, characters};
-ghost use Rattle.asn1_schema_presented.specs.Records.{identifier as object_identifier, further, sequence_begins};
-ghost use Rattle.asn1_schema_presented.specs.Records.{set_begins};
-ghost use Rattle.asn1_schema_presented.specs.Records.{group_begins, presence_bit, is_default, is_empty};
-ghost use Rattle.asn1_schema_presented.specs.Records.{additions_begin, addition, addition_ends, choice_begins, ends};
-ghost use Rattle.asn1_schema_presented.specs.Records.{asks_flag, asks_nil, asks_one_of, asks_identifier};
-ghost use Rattle.asn1_schema_presented.specs.Records.{asks_further, asks_sequence, asks_set, asks_group};
-ghost use Rattle.asn1_schema_presented.specs.Records.{asks_presence_bit, asks_default, asks_empty};
-ghost use Rattle.asn1_schema_presented.specs.Records.{asks_additions, asks_addition, asks_addition_end};
-ghost use Rattle.asn1_schema_presented.specs.Records.{asks_choice, asks_end};
-ghost use Rattle.asn1_schema_records.specs.Kept.{record_of, sizes_in};
+ghost use Rattle.asn1_schema_laws.specs.Records.{flag, nil, one_of, bits, octets, characters};
+ghost use Rattle.asn1_schema_laws.specs.Records.{identifier as object_identifier, further, sequence_begins};
+ghost use Rattle.asn1_schema_laws.specs.Records.{set_begins};
+ghost use Rattle.asn1_schema_laws.specs.Records.{group_begins, presence_bit, is_default, is_empty};
+ghost use Rattle.asn1_schema_laws.specs.Records.{additions_begin, addition, addition_ends, choice_begins, ends};
+ghost use Rattle.asn1_schema_laws.specs.Records.{asks_flag, asks_nil, asks_one_of, asks_identifier};
+ghost use Rattle.asn1_schema_laws.specs.Records.{asks_further, asks_sequence, asks_set, asks_group};
+ghost use Rattle.asn1_schema_laws.specs.Records.{asks_presence_bit, asks_default, asks_empty};
+ghost use Rattle.asn1_schema_laws.specs.Records.{asks_additions, asks_addition, asks_addition_end};
+ghost use Rattle.asn1_schema_laws.specs.Records.{asks_choice, asks_end};
+ghost use Rattle.asn1_schema_records.specs.Kept.{record_of};
 ghost use Rattle.asn1_schema_records.specs.Taken.{Takes, Leaves, Begins, Fails, IsSpent, IsDeep, IsRefused};
 ghost use Rattle.asn1_schema_records.specs.Taken.{IsRefusedFirst, IsOtherThan, IsOtherKind, IsOtherEnd, IsMisfit};
 ghost use Rattle.asn1_schema_records.specs.Taken.{IsMisfitItem, IsMisfitChoice, IsMisfitText, IsMisfitNumber};
-ghost use Rattle.asn1_schema_records.specs.Taken.{IsUntaken, IsUnspelled};
 ghost use Rattle.asn1_schema_records.specs.Taken.{kept_bits, kept_octets, kept_text, kept_list, kept_bag};
-ghost use Rattle.asn1_values_alphabets.specs.Permitted.{permits_all};
+ghost use Rattle.asn1_schema_errors.specs.Calls.{DecoderCall};
 
-use crate::{Item, Sizes, is_extensible};
+use crate::fitting::{are_sizes, is_alternative, number_within, string_of};
+use crate::{Item, is_extensible};
 use asn1_schema_constraints::{Bounded, Constraints};
 use asn1_schema_decode::{Decoder, go_on};
-use asn1_schema_faults::{CodecKind, DecodeError};
-use asn1_schema_tags::{Tag, TagTables};
-use asn1_schema_variants::{Chosen, Enumerated};
+use asn1_schema_errors::{CodecKind, DecodeError};
+use asn1_schema_tags::{Chosen, Enumerated, Tag, TagTables};
 use asn1_values_alphabets::StaticPermittedAlphabet;
 use asn1_values_bit_strings::BitString;
 use asn1_values_identifiers::ObjectIdentifier;
-use asn1_values_integers::{Integer, IntegerError, IntegerType};
+use asn1_values_integers::IntegerType;
 use std::alloc::Global;
 use std::marker::Model;
 use std::vec::IntoIter;
@@ -117,9 +116,7 @@ impl RecordDecoder {
         ensures ok { IfOk result (λ item. Leaves self.old (record_of item) self.new) }
         ensures only { IfErr result (IsSpent self.old) }
         ensures fails { OnErr result (Fails self.old self.new) }
-        ensures failed { OnErr result (self.new.failed ≡ true) }
-        ensures already { self.old.failed ≡ true → result ≡ Err DecodeError.AlreadyFailed }
-        ensures after { result ≡ Err DecodeError.AlreadyFailed → self.old.failed ≡ true }
+        ensures call { DecoderCall (λ s. s.failed ≡ true) self.old self.new result }
     {
         go_on(self.failed)?;
         match self.items.next() {
@@ -133,9 +130,7 @@ impl RecordDecoder {
         ensures ok { IfOk result (λ item. Begins self.old (record_of item) self.new) }
         ensures only { IfErr result (IsDeep self.old) }
         ensures fails { OnErr result (Fails self.old self.new) }
-        ensures failed { OnErr result (self.new.failed ≡ true) }
-        ensures already { self.old.failed ≡ true → result ≡ Err DecodeError.AlreadyFailed }
-        ensures after { result ≡ Err DecodeError.AlreadyFailed → self.old.failed ≡ true }
+        ensures call { DecoderCall (λ s. s.failed ≡ true) self.old self.new result }
     {
         go_on(self.failed)?;
         if self.levels == 0 {
@@ -167,7 +162,7 @@ impl RecordDecoder {
 impl Decoder for RecordDecoder {
     ghost use Rattle.asn1_schema_records.specs.ReadingLaws.{takes_one, takes_held, takes_bag_held, takes_none};
     ghost use Rattle.asn1_schema_records.specs.ReadingLaws.{takes_on, takes_same};
-    ghost use Rattle.asn1_schema_lacking.proofs.AtOnce.{at_once, records_at_once, values_at_once, members_at_once};
+    ghost use Rattle.asn1_schema_lacking_laws.proofs.AtOnce.{at_once, records_at_once, values_at_once, members_at_once};
 
     type Octets = Vec<u8>;
 
@@ -198,9 +193,7 @@ impl Decoder for RecordDecoder {
         ensures level { OnOk result (self.new.levels ≡ self.old.levels) }
         ensures only { IfErr result (NoRecord Takes AtOnce asks_flag self.old self.new) }
         ensures no_memory { IfErr result (λ e. e ≡ DecodeError.OutOfMemory → ⊥) }
-        ensures failed { OnErr result (self.new.failed ≡ true) }
-        ensures already { self.old.failed ≡ true → result ≡ Err DecodeError.AlreadyFailed }
-        ensures after { result ≡ Err DecodeError.AlreadyFailed → self.old.failed ≡ true }
+        ensures call { DecoderCall (λ s. s.failed ≡ true) self.old self.new result }
         ensures kind { IfErr result (IsRefused self.old (IsOtherKind flag)) }
     {
         let item = self.take_next()?;
@@ -215,9 +208,7 @@ impl Decoder for RecordDecoder {
         ensures level { OnOk result (self.new.levels ≡ self.old.levels) }
         ensures only { IfErr result (NoRecord Takes AtOnce asks_nil self.old self.new) }
         ensures no_memory { IfErr result (λ e. e ≡ DecodeError.OutOfMemory → ⊥) }
-        ensures failed { OnErr result (self.new.failed ≡ true) }
-        ensures already { self.old.failed ≡ true → result ≡ Err DecodeError.AlreadyFailed }
-        ensures after { result ≡ Err DecodeError.AlreadyFailed → self.old.failed ≡ true }
+        ensures call { DecoderCall (λ s. s.failed ≡ true) self.old self.new result }
         ensures kind { IfErr result (IsRefused self.old (IsOtherThan nil)) }
     {
         let item = self.take_next()?;
@@ -241,9 +232,7 @@ impl Decoder for RecordDecoder {
         ensures level { OnOk result (self.new.levels ≡ self.old.levels) }
         ensures only { IfErr result
             (NoRecord Takes AtOnce (asks_whole_under constraints.now I.held) self.old self.new) }
-        ensures failed { OnErr result (self.new.failed ≡ true) }
-        ensures already { self.old.failed ≡ true → result ≡ Err DecodeError.AlreadyFailed }
-        ensures after { result ≡ Err DecodeError.AlreadyFailed → self.old.failed ≡ true }
+        ensures call { DecoderCall (λ s. s.failed ≡ true) self.old self.new result }
         ensures kind { IfErr result (IsRefused self.old (IsMisfitNumber constraints.now.value I.held)) }
     {
         let item = self.take_next()?;
@@ -264,9 +253,7 @@ impl Decoder for RecordDecoder {
         ensures level { OnOk result (self.new.levels ≡ self.old.levels) }
         ensures only { IfErr result
             (NoRecord Takes AtOnce (asks_one_of T.roots T.extensible T.additions) self.old self.new) }
-        ensures failed { OnErr result (self.new.failed ≡ true) }
-        ensures already { self.old.failed ≡ true → result ≡ Err DecodeError.AlreadyFailed }
-        ensures after { result ≡ Err DecodeError.AlreadyFailed → self.old.failed ≡ true }
+        ensures call { DecoderCall (λ s. s.failed ≡ true) self.old self.new result }
         ensures kind { IfErr result (IsRefused self.old (IsMisfitItem T.roots T.extensible T.additions)) }
     {
         let item = self.take_next()?;
@@ -290,9 +277,7 @@ impl Decoder for RecordDecoder {
         ensures held { IfOk result (λ x. is_count_within (counts_of held) (length x) ≡ true) }
         ensures level { OnOk result (self.new.levels ≡ self.old.levels) }
         ensures only { IfErr result (NoRecord Takes AtOnce (asks_bits_under constraints.now held) self.old self.new) }
-        ensures failed { OnErr result (self.new.failed ≡ true) }
-        ensures already { self.old.failed ≡ true → result ≡ Err DecodeError.AlreadyFailed }
-        ensures after { result ≡ Err DecodeError.AlreadyFailed → self.old.failed ≡ true }
+        ensures call { DecoderCall (λ s. s.failed ≡ true) self.old self.new result }
         ensures kind { IfErr result
             (IsRefused self.old (IsMisfit kept_bits length (sizes_of constraints.now.size) (counts_of held))) }
     {
@@ -319,9 +304,7 @@ impl Decoder for RecordDecoder {
         ensures level { OnOk result (self.new.levels ≡ self.old.levels) }
         ensures only { IfErr result
             (NoRecord Takes AtOnce (asks_octets_under constraints.now held) self.old self.new) }
-        ensures failed { OnErr result (self.new.failed ≡ true) }
-        ensures already { self.old.failed ≡ true → result ≡ Err DecodeError.AlreadyFailed }
-        ensures after { result ≡ Err DecodeError.AlreadyFailed → self.old.failed ≡ true }
+        ensures call { DecoderCall (λ s. s.failed ≡ true) self.old self.new result }
         ensures kind { IfErr result
             (IsRefused self.old (IsMisfit kept_octets length (sizes_of constraints.now.size) (counts_of held))) }
     {
@@ -346,9 +329,7 @@ impl Decoder for RecordDecoder {
         ensures level { OnOk result (self.new.levels ≡ self.old.levels) }
         ensures only { IfErr result
             (NoRecord Takes AtOnce (asks_characters_under utf8 constraints.now) self.old self.new) }
-        ensures failed { OnErr result (self.new.failed ≡ true) }
-        ensures already { self.old.failed ≡ true → result ≡ Err DecodeError.AlreadyFailed }
-        ensures after { result ≡ Err DecodeError.AlreadyFailed → self.old.failed ≡ true }
+        ensures call { DecoderCall (λ s. s.failed ≡ true) self.old self.new result }
         ensures kind { IfErr result
             (IsRefused self.old (IsMisfit kept_text length (sizes_of constraints.now.size) any_count)) }
     {
@@ -373,9 +354,7 @@ impl Decoder for RecordDecoder {
         ensures level { OnOk result (self.new.levels ≡ self.old.levels) }
         ensures only { IfErr result
             (NoRecord Takes AtOnce (asks_characters_under S.kind constraints.now) self.old self.new) }
-        ensures failed { OnErr result (self.new.failed ≡ true) }
-        ensures already { self.old.failed ≡ true → result ≡ Err DecodeError.AlreadyFailed }
-        ensures after { result ≡ Err DecodeError.AlreadyFailed → self.old.failed ≡ true }
+        ensures call { DecoderCall (λ s. s.failed ≡ true) self.old self.new result }
         ensures kind { IfErr result (IsRefused self.old (IsMisfitText S.kind (sizes_of constraints.now.size))) }
     {
         let item = self.take_next()?;
@@ -399,9 +378,7 @@ impl Decoder for RecordDecoder {
         ensures ok { IfOk result (λ x. Takes self.old (object_identifier x) self.new) }
         ensures level { OnOk result (self.new.levels ≡ self.old.levels) }
         ensures only { IfErr result (NoRecord Takes AtOnce (asks_identifier) self.old self.new) }
-        ensures failed { OnErr result (self.new.failed ≡ true) }
-        ensures already { self.old.failed ≡ true → result ≡ Err DecodeError.AlreadyFailed }
-        ensures after { result ≡ Err DecodeError.AlreadyFailed → self.old.failed ≡ true }
+        ensures call { DecoderCall (λ s. s.failed ≡ true) self.old self.new result }
         ensures kind { IfErr result (IsRefused self.old (IsOtherKind object_identifier)) }
     {
         let item = self.take_next()?;
@@ -423,9 +400,7 @@ impl Decoder for RecordDecoder {
         ensures level { OnOk result (self.old.levels ≡ self.new.levels + 1) }
         ensures only { IfErr result
             (NoLevel Takes AtOnce (asks_list_under constraints.now held) self.old.levels self.old self.new) }
-        ensures failed { OnErr result (self.new.failed ≡ true) }
-        ensures already { self.old.failed ≡ true → result ≡ Err DecodeError.AlreadyFailed }
-        ensures after { result ≡ Err DecodeError.AlreadyFailed → self.old.failed ≡ true }
+        ensures call { DecoderCall (λ s. s.failed ≡ true) self.old self.new result }
         ensures kind { IfErr result (IsRefusedFirst self.old
             (IsMisfit kept_list (λ n. n) (sizes_of constraints.now.size) (members_of held))) }
     {
@@ -451,9 +426,7 @@ impl Decoder for RecordDecoder {
         ensures level { OnOk result (self.old.levels ≡ self.new.levels + 1) }
         ensures only { IfErr result
             (NoLevel Takes AtOnce (asks_bag_under constraints.now held) self.old.levels self.old self.new) }
-        ensures failed { OnErr result (self.new.failed ≡ true) }
-        ensures already { self.old.failed ≡ true → result ≡ Err DecodeError.AlreadyFailed }
-        ensures after { result ≡ Err DecodeError.AlreadyFailed → self.old.failed ≡ true }
+        ensures call { DecoderCall (λ s. s.failed ≡ true) self.old self.new result }
         ensures kind { IfErr result (IsRefusedFirst self.old
             (IsMisfit kept_bag (λ n. n) (sizes_of constraints.now.size) (members_of held))) }
     {
@@ -471,9 +444,7 @@ impl Decoder for RecordDecoder {
         ensures ok { IfOk result (λ x. Takes self.old (further x) self.new) }
         ensures level { OnOk result (self.new.levels ≡ self.old.levels) }
         ensures only { IfErr result (NoRecord Takes AtOnce asks_further self.old self.new) }
-        ensures failed { OnErr result (self.new.failed ≡ true) }
-        ensures already { self.old.failed ≡ true → result ≡ Err DecodeError.AlreadyFailed }
-        ensures after { result ≡ Err DecodeError.AlreadyFailed → self.old.failed ≡ true }
+        ensures call { DecoderCall (λ s. s.failed ≡ true) self.old self.new result }
         ensures kind { IfErr result (IsRefused self.old (IsOtherKind further)) }
     {
         let item = self.take_next()?;
@@ -493,9 +464,7 @@ impl Decoder for RecordDecoder {
         ensures level { OnOk result (self.old.levels ≡ self.new.levels + 1) }
         ensures only { IfErr result
             (NoLevel Takes AtOnce (asks_sequence extensible optional) self.old.levels self.old self.new) }
-        ensures failed { OnErr result (self.new.failed ≡ true) }
-        ensures already { self.old.failed ≡ true → result ≡ Err DecodeError.AlreadyFailed }
-        ensures after { result ≡ Err DecodeError.AlreadyFailed → self.old.failed ≡ true }
+        ensures call { DecoderCall (λ s. s.failed ≡ true) self.old self.new result }
         ensures kind { IfErr result (IsRefusedFirst self.old (IsOtherThan (sequence_begins extensible optional))) }
     {
         let item = self.take_first()?;
@@ -512,9 +481,7 @@ impl Decoder for RecordDecoder {
         ensures level { OnOk result (self.old.levels ≡ self.new.levels + 1) }
         ensures only { IfErr result
             (NoLevel Takes AtOnce (asks_set extensible optional) self.old.levels self.old self.new) }
-        ensures failed { OnErr result (self.new.failed ≡ true) }
-        ensures already { self.old.failed ≡ true → result ≡ Err DecodeError.AlreadyFailed }
-        ensures after { result ≡ Err DecodeError.AlreadyFailed → self.old.failed ≡ true }
+        ensures call { DecoderCall (λ s. s.failed ≡ true) self.old self.new result }
         ensures kind { IfErr result (IsRefusedFirst self.old (IsOtherThan (set_begins extensible optional))) }
     {
         let item = self.take_first()?;
@@ -530,9 +497,7 @@ impl Decoder for RecordDecoder {
         ensures ok { OnOk result (Takes self.old (group_begins optional) self.new) }
         ensures level { OnOk result (self.old.levels ≡ self.new.levels + 1) }
         ensures only { IfErr result (NoLevel Takes AtOnce (asks_group optional) self.old.levels self.old self.new) }
-        ensures failed { OnErr result (self.new.failed ≡ true) }
-        ensures already { self.old.failed ≡ true → result ≡ Err DecodeError.AlreadyFailed }
-        ensures after { result ≡ Err DecodeError.AlreadyFailed → self.old.failed ≡ true }
+        ensures call { DecoderCall (λ s. s.failed ≡ true) self.old self.new result }
         ensures kind { IfErr result (IsRefusedFirst self.old (IsOtherThan (group_begins optional))) }
     {
         let item = self.take_first()?;
@@ -548,9 +513,7 @@ impl Decoder for RecordDecoder {
         ensures ok { IfOk result (λ x. Takes self.old (presence_bit x) self.new) }
         ensures level { OnOk result (self.new.levels ≡ self.old.levels) }
         ensures only { IfErr result (NoRecord Takes AtOnce asks_presence_bit self.old self.new) }
-        ensures failed { OnErr result (self.new.failed ≡ true) }
-        ensures already { self.old.failed ≡ true → result ≡ Err DecodeError.AlreadyFailed }
-        ensures after { result ≡ Err DecodeError.AlreadyFailed → self.old.failed ≡ true }
+        ensures call { DecoderCall (λ s. s.failed ≡ true) self.old self.new result }
         ensures no_memory { IfErr result (λ e. e ≡ DecodeError.OutOfMemory → ⊥) }
         ensures kind { IfErr result (IsRefused self.old (IsOtherKind presence_bit)) }
     {
@@ -565,9 +528,7 @@ impl Decoder for RecordDecoder {
         ensures ok { OnOk result (Takes self.old is_default self.new) }
         ensures level { OnOk result (self.new.levels ≡ self.old.levels) }
         ensures only { IfErr result (NoRecord Takes AtOnce asks_default self.old self.new) }
-        ensures failed { OnErr result (self.new.failed ≡ true) }
-        ensures already { self.old.failed ≡ true → result ≡ Err DecodeError.AlreadyFailed }
-        ensures after { result ≡ Err DecodeError.AlreadyFailed → self.old.failed ≡ true }
+        ensures call { DecoderCall (λ s. s.failed ≡ true) self.old self.new result }
         ensures no_memory { IfErr result (λ e. e ≡ DecodeError.OutOfMemory → ⊥) }
         ensures kind { IfErr result (IsRefused self.old (IsOtherThan is_default)) }
     {
@@ -584,9 +545,7 @@ impl Decoder for RecordDecoder {
         ensures ok { OnOk result (Takes self.old is_empty self.new) }
         ensures level { OnOk result (self.new.levels ≡ self.old.levels) }
         ensures only { IfErr result (NoRecord Takes AtOnce asks_empty self.old self.new) }
-        ensures failed { OnErr result (self.new.failed ≡ true) }
-        ensures already { self.old.failed ≡ true → result ≡ Err DecodeError.AlreadyFailed }
-        ensures after { result ≡ Err DecodeError.AlreadyFailed → self.old.failed ≡ true }
+        ensures call { DecoderCall (λ s. s.failed ≡ true) self.old self.new result }
         ensures no_memory { IfErr result (λ e. e ≡ DecodeError.OutOfMemory → ⊥) }
         ensures kind { IfErr result (IsRefused self.old (IsOtherThan is_empty)) }
     {
@@ -603,9 +562,7 @@ impl Decoder for RecordDecoder {
         ensures ok { OnOk result (Takes self.old (additions_begin count) self.new) }
         ensures level { OnOk result (self.new.levels ≡ self.old.levels) }
         ensures only { IfErr result (NoRecord Takes AtOnce (asks_additions count) self.old self.new) }
-        ensures failed { OnErr result (self.new.failed ≡ true) }
-        ensures already { self.old.failed ≡ true → result ≡ Err DecodeError.AlreadyFailed }
-        ensures after { result ≡ Err DecodeError.AlreadyFailed → self.old.failed ≡ true }
+        ensures call { DecoderCall (λ s. s.failed ≡ true) self.old self.new result }
         ensures kind { IfErr result (IsRefused self.old (IsOtherThan (additions_begin count))) }
     {
         let item = self.take_next()?;
@@ -621,9 +578,7 @@ impl Decoder for RecordDecoder {
         ensures ok { IfOk result (λ x. Takes self.old (addition x) self.new) }
         ensures level { OnOk result (self.new.levels ≡ self.old.levels) }
         ensures only { IfErr result (NoRecord Takes AtOnce asks_addition self.old self.new) }
-        ensures failed { OnErr result (self.new.failed ≡ true) }
-        ensures already { self.old.failed ≡ true → result ≡ Err DecodeError.AlreadyFailed }
-        ensures after { result ≡ Err DecodeError.AlreadyFailed → self.old.failed ≡ true }
+        ensures call { DecoderCall (λ s. s.failed ≡ true) self.old self.new result }
         ensures kind { IfErr result (IsRefused self.old (IsOtherKind addition)) }
     {
         let item = self.take_next()?;
@@ -637,9 +592,7 @@ impl Decoder for RecordDecoder {
         ensures ok { OnOk result (Takes self.old addition_ends self.new) }
         ensures level { OnOk result (self.new.levels ≡ self.old.levels) }
         ensures only { IfErr result (NoRecord Takes AtOnce asks_addition_end self.old self.new) }
-        ensures failed { OnErr result (self.new.failed ≡ true) }
-        ensures already { self.old.failed ≡ true → result ≡ Err DecodeError.AlreadyFailed }
-        ensures after { result ≡ Err DecodeError.AlreadyFailed → self.old.failed ≡ true }
+        ensures call { DecoderCall (λ s. s.failed ≡ true) self.old self.new result }
         ensures kind { IfErr result (IsRefused self.old (IsOtherThan addition_ends)) }
     {
         let item = self.take_next()?;
@@ -659,9 +612,7 @@ impl Decoder for RecordDecoder {
         ensures only { IfErr result
             (NoLevel Takes AtOnce (asks_choice tables.now.roots tables.now.extensible tables.now.additions)
             self.old.levels self.old self.new) }
-        ensures failed { OnErr result (self.new.failed ≡ true) }
-        ensures already { self.old.failed ≡ true → result ≡ Err DecodeError.AlreadyFailed }
-        ensures after { result ≡ Err DecodeError.AlreadyFailed → self.old.failed ≡ true }
+        ensures call { DecoderCall (λ s. s.failed ≡ true) self.old self.new result }
         ensures kind { IfErr result (IsRefusedFirst self.old
             (IsMisfitChoice tables.now.roots tables.now.extensible tables.now.additions)) }
     {
@@ -679,9 +630,7 @@ impl Decoder for RecordDecoder {
         ensures ok { OnOk result (Takes self.old ends self.new) }
         ensures level { OnOk result (self.new.levels ≡ self.old.levels + 1) }
         ensures only { IfErr result (NoRecord Takes AtOnce asks_end self.old self.new) }
-        ensures failed { OnErr result (self.new.failed ≡ true) }
-        ensures already { self.old.failed ≡ true → result ≡ Err DecodeError.AlreadyFailed }
-        ensures after { result ≡ Err DecodeError.AlreadyFailed → self.old.failed ≡ true }
+        ensures call { DecoderCall (λ s. s.failed ≡ true) self.old self.new result }
         ensures kind { IfErr result (IsRefused self.old (IsOtherEnd self.old)) }
     {
         let item = self.take_next()?;
@@ -724,95 +673,4 @@ impl Decoder for RecordDecoder {
     ghost none_after = { takes_none };
 
     ghost same_rules = { takes_same };
-}
-
-// Whether the constraints have exactly these sizes, and the user-defined type can hold the count.
-fn are_sizes(sizes: Sizes, constraints: &Constraints, held: Bounded<usize>, count: usize) -> bool
-    ensures { IsTrue result ↔ ((sizes_in sizes ≡ sizes_of constraints.now.size)
-        × (is_count_within (counts_of held) count ≡ true)) }
-{
-    sizes.are_among(constraints) && held.contains(&count)
-}
-
-// Whether a choice of these alternatives has this one.
-fn is_alternative(tables: &TagTables<'_>, chosen: Chosen) -> bool
-    ensures { IsTrue result ↔ (chosen.place < length (cond chosen.added tables.now.additions tables.now.roots)) }
-{
-    let tags = if chosen.added {
-        tables.additions()
-    } else {
-        tables.roots()
-    };
-    chosen.place < tags.len()
-}
-
-// Whether the value constraint, if there is one, allows the number: it has at most 128 bits, and satisfies the
-// constraint unless that has an extension marker.
-fn is_admitted(constraints: &Constraints, number: &Integer) -> bool
-    ensures { result ≡ admits_whole constraints.now.value number.now }
-{
-    match constraints.value {
-        None => true,
-        Some(constraint) => {
-            Bounded::const_new(i128::MIN, i128::MAX).in_bound(number)
-                && (constraint.extensible.is_some() || constraint.constraint.value.in_bound(number))
-        }
-    }
-}
-
-// The number as a value of the user-defined type, if the type can hold it and the constraints allow it.
-fn number_within<I: IntegerType>(
-    alloc: Global,
-    number: &Integer,
-    constraints: &Constraints,
-) -> Result<I, DecodeError>
-    ensures value { IfOk result (λ x. I.value x ≡ number.now) }
-    ensures held { OnOk result (is_within I.held number.now ≡ true) }
-    ensures admitted { OnOk result (admits_whole constraints.now.value number.now ≡ true) }
-    ensures refused { IfErr result (IsUntaken constraints.now.value I.held number.now) }
-{
-    if !is_admitted(constraints, number) {
-        return Err(DecodeError::ValueConstraintNotSatisfied);
-    }
-    match I::try_from_signed_bytes(alloc, number.to_signed_bytes_be().as_slice()) {
-        Ok(value) => Ok(value),
-        Err(IntegerError::Memory) => Err(DecodeError::OutOfMemory),
-        Err(IntegerError::Overflow) => Err(DecodeError::IntegerOverflow),
-        Err(IntegerError::Empty) => Err(DecodeError::IntegerOverflow),
-    }
-}
-
-// Whether a string of the type may hold these characters.
-fn are_permitted<S: StaticPermittedAlphabet>(characters: &[u32]) -> bool
-    ensures { result ≡ permits_all S.kind characters.now }
-{
-    for character in characters {
-        if !S::contains_char(*character) {
-            return false;
-        }
-    }
-    true
-}
-
-// The string of these characters.
-fn string_of<S: StaticPermittedAlphabet>(
-    alloc: Global,
-    characters: &[u32],
-) -> Result<S, DecodeError>
-    ensures value { IfOk result (λ s. S.characters s ≡ characters.now) }
-    ensures permitted { OnOk result (permits_all S.kind characters.now ≡ true) }
-    ensures refused { IfErr result (IsUnspelled S.kind characters.now) }
-{
-    if !are_permitted::<S>(characters) {
-        return Err(DecodeError::PermittedAlphabet);
-    }
-    let Ok(mut string) = S::with_capacity(alloc, characters.len()) else {
-        return Err(DecodeError::OutOfMemory);
-    };
-    for character in characters {
-        let Ok(()) = string.push_char(*character) else {
-            return Err(DecodeError::OutOfMemory);
-        };
-    }
-    Ok(string)
 }

@@ -2,16 +2,16 @@
 ghost use Rattle.std.specs.Prelude.{◌≡◌, ◌≤◌, ◌^◌, ◌++◌, [], ◌∷◌, true, false, map, OnOk, OnErr, IfErr, IfOk};
 ghost use Rattle.asn1_schema_encode.specs.Fronts.{no_front};
 ghost use Rattle.asn1_schema_encode.specs.Writes.{Refused};
-ghost use Rattle.asn1_schema_presented.specs.Records.{Record, one_of};
+ghost use Rattle.asn1_schema_laws.specs.Records.{Record, one_of};
 ghost use Rattle.asn1_schema_records.specs.Kept.{record_of, Puts, Refusal};
 ghost use Rattle.asn1_values_natives.specs.Octets.{plain};
+ghost use Rattle.asn1_schema_errors.specs.Calls.{EncoderCall};
 
 use crate::items::{Item, Limits, Sizes, is_extensible};
 use asn1_schema_constraints::{Bounded, Constraints};
 use asn1_schema_encode::{Encoder, begin_record, go_on};
-use asn1_schema_faults::{CodecKind, EncodeError};
-use asn1_schema_tags::{Identifier, Tag};
-use asn1_schema_variants::{Chosen, Enumerated};
+use asn1_schema_errors::{CodecKind, EncodeError};
+use asn1_schema_tags::{Chosen, Enumerated, Identifier, Tag};
 use asn1_values_alphabets::StaticPermittedAlphabet;
 use asn1_values_bit_strings::BitString;
 use asn1_values_bits::BitStr;
@@ -146,10 +146,7 @@ impl Encoder for RecordEncoder {
             self.new) }
         ensures only { IfErr result (Refused Puts (one_of T.roots T.extensible T.additions (T.number value.now))
             self.old) }
-        ensures failed { OnErr result (self.new.failed ≡ true) }
-        ensures front { no_front self.new ≡ no_front self.old }
-        ensures already { self.old.failed ≡ true → result ≡ Err EncodeError.AlreadyFailed }
-        ensures after { result ≡ Err EncodeError.AlreadyFailed → self.old.failed ≡ true }
+        ensures call { EncoderCall (λ s. s.failed ≡ true) no_front self.old self.new result }
     {
         self.put(Item::OneOf(is_extensible::<T>(), value.discriminant()))
     }

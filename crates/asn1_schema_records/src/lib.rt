@@ -3,6 +3,7 @@
 
 pub mod decoder;
 pub mod encoder;
+mod fitting;
 pub mod items;
 
 pub use decoder::RecordDecoder;

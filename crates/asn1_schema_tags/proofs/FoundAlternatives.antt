@@ -1,7 +1,7 @@
 -- The alternative of a tag, by its index in the concatenation of root and added tags.
 use Rattle.std.proofs.Common.{◌≡◌, ◌∙◌, refl, sym, ap, ℕ, ◌+◌, ◌-◌, ◌≤◌, ◌<◌, ◌++◌, Bool, true, false, Option, Some, None, option_map, length, arith}
 use Rattle.asn1_model.specs.Schema.{Tag as ModelTag}
-use Rattle.asn1_schema_variants.specs.declared.chosen.Chosen.{Chosen}
+use Rattle.asn1_schema_tags.specs.declared.chosen.Chosen.{Chosen}
 use Rattle.asn1_schema_tags.specs.Chosen.{ChoiceTags, alternative_at, alternative_of}
 use Rattle.asn1_schema_tags.specs.Trees.{place_of}
 use Rattle.asn1_schema_tags.proofs.PlaceLaws.{either, place_of_joined, place_within}

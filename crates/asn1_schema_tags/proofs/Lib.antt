@@ -5,3 +5,6 @@ pub mod Halves
 pub mod TableSteps
 pub mod PlainLookUp
 pub mod FoundAlternatives
+pub mod ItemIndexes
+pub mod Distinct
+pub mod Naming

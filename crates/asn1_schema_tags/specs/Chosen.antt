@@ -1,7 +1,7 @@
 -- The tags of a CHOICE, and the alternative of a tag.
 use Rattle.std.specs.Prelude.{ℕ, Bool, true, false, List, Option, Some, None}
 use Rattle.asn1_model.specs.Schema.{Tag as ModelTag}
-use Rattle.asn1_schema_variants.specs.declared.chosen.Chosen.{Chosen}
+use Rattle.asn1_schema_tags.specs.declared.chosen.Chosen.{Chosen}
 use Rattle.asn1_schema_tags.specs.Trees.{place_of}
 
 -- The description of a CHOICE for a codec: the tags of its root alternatives, whether there is an extension marker,

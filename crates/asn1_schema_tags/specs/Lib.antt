@@ -5,3 +5,4 @@ pub mod Same
 pub mod Texts
 pub mod Places
 pub mod Chosen
+pub mod Items

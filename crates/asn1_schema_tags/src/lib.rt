@@ -2,6 +2,8 @@
 #![tactic(auto)]
 
 pub mod alternatives;
+pub mod chosen;
+pub mod enumerated;
 pub mod finding;
 pub mod identifiers;
 pub mod probes;
@@ -10,6 +12,8 @@ pub mod tags;
 pub mod trees;
 
 pub use alternatives::Variants;
+pub use chosen::Chosen;
+pub use enumerated::Enumerated;
 pub use finding::{find_place, is_place_table};
 pub use identifiers::Identifier;
 pub use probes::{TagPlace, TagProbe};

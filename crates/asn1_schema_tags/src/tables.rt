@@ -5,8 +5,7 @@ ghost use Rattle.asn1_schema_tags.specs.Places.{is_table_of};
 ghost use Rattle.asn1_schema_tags.specs.Tags.{tag_of};
 ghost use Rattle.asn1_schema_tags.specs.Trees.{place_of};
 
-use crate::{Tag, TagPlace, TagProbe, find_place, is_place_table};
-use asn1_schema_variants::Chosen;
+use crate::{Chosen, Tag, TagPlace, TagProbe, find_place, is_place_table};
 use std::marker::Model;
 
 /// The description of a CHOICE for a codec: the tags of its root alternatives, whether there is an extension marker,

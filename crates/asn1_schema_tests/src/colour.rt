@@ -1,6 +1,6 @@
 //! ENUMERATED {red(0), blue(2), ..., green(1)}, which belongs to no user-defined type.
 ghost use Rattle.std.specs.Prelude.{◌∷◌, [], refl, pos, true, false, codes};
-ghost use Rattle.asn1_schema_variants.proofs.Distinct.{one_number_of};
+ghost use Rattle.asn1_schema_tags.proofs.Distinct.{one_number_of};
 
 use asn1_schema::Enumerated;
 

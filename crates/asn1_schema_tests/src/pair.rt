@@ -2,13 +2,13 @@
 ghost use Rattle.std.specs.Prelude.{refl, [], ◌∷◌};
 ghost use Rattle.asn1_model.specs.Value.{fields};
 ghost use Rattle.asn1_schema_constraints.specs.Terms.{no_constraint};
-ghost use Rattle.asn1_schema_presented.specs.Tables.{sequence_type};
-ghost use Rattle.asn1_schema_presented.proofs.Values.{type_sequence, value_sequence};
+ghost use Rattle.asn1_schema_laws.specs.Tables.{sequence_type};
+ghost use Rattle.asn1_schema_laws.proofs.Values.{type_sequence, value_sequence};
 
 use asn1_schema_constraints::Constraints;
 use asn1_schema_decode::{Decode, DecodeSequence, Decoder};
 use asn1_schema_encode::{Encode, EncodeSequence, Encoder};
-use asn1_schema_faults::{DecodeError, EncodeError};
+use asn1_schema_errors::{DecodeError, EncodeError};
 use asn1_schema_tags::{Identifier, Tag, TagTree};
 use asn1_schema_types::{AsnType, ComponentsOf, Described, End, Required, RequiredComponent};
 use asn1_schema_wrapped::{Implicit, tag};

@@ -1,7 +1,7 @@
 //! INTEGER (0..10), stored in a `u8`.
 ghost use Rattle.std.specs.Prelude.{refl, pos};
 ghost use Rattle.asn1_schema_constraints.specs.Terms.{from_to};
-ghost use Rattle.asn1_schema_presented.proofs.TypesByKind.{integer_type};
+ghost use Rattle.asn1_schema_laws.proofs.TypesByKind.{integer_type};
 
 use asn1_schema_constraints::{Bounded, Constraints, Extensible, Value};
 use asn1_schema_types::Described;

@@ -11,8 +11,8 @@ use Rattle.asn1_schema_constraints.specs.declared.bounds.Bounded.TheVariants.{Ra
 use Rattle.asn1_schema_constraints.specs.declared.parts.Value.{Value}
 use Rattle.asn1_schema_constraints.specs.declared.extensions.Extensible.{Extensible}
 use Rattle.asn1_schema_constraints.specs.declared.lists.Constraints.{Constraints}
-use Rattle.asn1_schema_presented.specs.Tables.{is_one_tag, IsType, IsValue}
-use Rattle.asn1_schema_presented.proofs.TypesByKind.{integer_type, integer_value}
+use Rattle.asn1_schema_laws.specs.Tables.{is_one_tag, IsType, IsValue}
+use Rattle.asn1_schema_laws.proofs.TypesByKind.{integer_type, integer_value}
 use Rattle.asn1_values_natives.specs.Ranges.{natural_range}
 
 -- The numbers of a range that are between two bounds.

@@ -2,7 +2,7 @@
 use Rattle.std.specs.Prelude.{◌≡◌, refl, Bool, true, List, [], ◌∷◌}
 use lib.Pointwise.{pointwise}
 use Rattle.asn1_model.specs.Value.{Value, nothing, members, same, same_members}
-use Rattle.asn1_schema_presented.specs.Parts.{values_of}
+use Rattle.asn1_schema_laws.specs.Parts.{values_of}
 
 -- There is one value of NULL.
 pub nothing_agrees : true ≡ same nothing nothing

@@ -6,10 +6,10 @@ use Rattle.asn1_schema_constraints.specs.Bounds.{counts_of, members_of}
 use Rattle.asn1_schema_constraints.specs.Terms.{bounds_of, held_of, sizes_of, alphabet_of}
 use Rattle.asn1_schema_constraints.specs.declared.bounds.Bounded.{Bounded}
 use Rattle.asn1_schema_constraints.specs.declared.lists.Constraints.{Constraints}
-use Rattle.asn1_schema_presented.specs.Records.{Record, whole, bits, octets, characters, list_begins, bag_begins}
-use Rattle.asn1_schema_presented.specs.Records.{Question, asks_whole, asks_bits, asks_octets, asks_characters}
-use Rattle.asn1_schema_presented.specs.Records.{asks_list, asks_bag}
-use Rattle.asn1_schema_presented.specs.Tables.{list_type}
+use Rattle.asn1_schema_laws.specs.Records.{Record, whole, bits, octets, characters, list_begins, bag_begins}
+use Rattle.asn1_schema_laws.specs.Records.{Question, asks_whole, asks_bits, asks_octets, asks_characters}
+use Rattle.asn1_schema_laws.specs.Records.{asks_list, asks_bag}
+use Rattle.asn1_schema_laws.specs.Tables.{list_type}
 
 -- A number, in a user-defined type that holds these numbers (X.680 19).
 abbrev pub whole_under : Constraints → Range → ℤ → Record

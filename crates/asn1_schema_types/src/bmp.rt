@@ -3,7 +3,7 @@ ghost use Rattle.std.specs.Prelude.{refl, [], ◌∷◌, None};
 ghost use Rattle.asn1_model.specs.Value.{text};
 ghost use Rattle.asn1_model.specs.Schema.{bmp};
 ghost use Rattle.asn1_schema_constraints.specs.Terms.{no_constraint, character_string_under};
-ghost use Rattle.asn1_schema_presented.proofs.TypesByKind.{character_string_type, character_string_value};
+ghost use Rattle.asn1_schema_laws.proofs.TypesByKind.{character_string_type, character_string_value};
 
 use crate::described::{AsnType, Described};
 use asn1_schema_constraints::Constraints;

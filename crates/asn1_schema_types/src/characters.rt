@@ -2,7 +2,7 @@
 ghost use Rattle.std.specs.Prelude.{refl, [], ◌∷◌, None};
 ghost use Rattle.asn1_model.specs.Value.{text};
 ghost use Rattle.asn1_schema_constraints.specs.Terms.{no_constraint, character_string_under};
-ghost use Rattle.asn1_schema_presented.proofs.TypesByKind.{character_string_type, character_string_value};
+ghost use Rattle.asn1_schema_laws.proofs.TypesByKind.{character_string_type, character_string_value};
 
 use crate::TaggedKind;
 use crate::described::{AsnType, Described};

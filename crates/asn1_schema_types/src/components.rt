@@ -2,13 +2,13 @@
 ghost use Rattle.std.specs.Prelude.{refl};
 ghost use Rattle.asn1_model.specs.Value.{Parts, end, same};
 ghost use Rattle.asn1_model.specs.Schema.{required, optional, by_default};
-ghost use Rattle.asn1_schema_presented.specs.Presents.{there, with_part};
-ghost use Rattle.asn1_schema_presented.specs.Tables.{Table, no_table, with_field};
-ghost use Rattle.asn1_schema_presented.specs.Parts.{part_of, part_unless};
-ghost use Rattle.asn1_schema_presented.specs.Typed.{AreDefaults, AreTypes, AreValues};
-ghost use Rattle.asn1_schema_presented.proofs.Values.{no_types, more_types, no_values, more_values, part_required};
-ghost use Rattle.asn1_schema_presented.proofs.Values.{part_optional, part_default};
-ghost use Rattle.asn1_schema_presented.proofs.Defaults.{has_default};
+ghost use Rattle.asn1_schema_laws.specs.Presents.{there, with_part};
+ghost use Rattle.asn1_schema_laws.specs.Tables.{Table, no_table, with_field};
+ghost use Rattle.asn1_schema_laws.specs.Parts.{part_of, part_unless};
+ghost use Rattle.asn1_schema_laws.specs.Typed.{AreDefaults, AreTypes, AreValues};
+ghost use Rattle.asn1_schema_laws.proofs.Values.{no_types, more_types, no_values, more_values, part_required};
+ghost use Rattle.asn1_schema_laws.proofs.Values.{part_optional, part_default};
+ghost use Rattle.asn1_schema_laws.proofs.Defaults.{has_default};
 
 use crate::Described;
 use crate::defaults::DefaultOf;

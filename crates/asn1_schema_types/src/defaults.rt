@@ -1,7 +1,7 @@
 //! DEFAULT values of components (X.680 25).
 ghost use Rattle.std.specs.Prelude.{◌≡◌, IfOk};
 ghost use Rattle.asn1_model.specs.Value.{Value, same};
-ghost use Rattle.asn1_schema_presented.specs.Typed.{IsDefault};
+ghost use Rattle.asn1_schema_laws.specs.Typed.{IsDefault};
 
 use crate::Described;
 use std::alloc::{AllocError, Global};

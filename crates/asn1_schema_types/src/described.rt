@@ -4,7 +4,7 @@ ghost use Rattle.asn1_model.specs.Value.{Value};
 ghost use Rattle.asn1_model.specs.Schema.{Schema, Tag as ModelTag};
 ghost use Rattle.asn1_schema_constraints.specs.Terms.{Meant, meant};
 ghost use Rattle.asn1_schema_tags.specs.Trees.{leaves};
-ghost use Rattle.asn1_schema_presented.specs.Tables.{IsType, IsValue};
+ghost use Rattle.asn1_schema_laws.specs.Tables.{IsType, IsValue};
 
 use asn1_schema_constraints::Constraints;
 use asn1_schema_tags::{Identifier, Tag, TagTree};

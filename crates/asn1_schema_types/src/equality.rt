@@ -2,8 +2,8 @@
 ghost use Rattle.std.specs.Prelude.{◌≡◌, refl};
 ghost use Rattle.std.specs.Cow.{cow_value, cow_slice_items, cow_str_bytes};
 ghost use Rattle.asn1_model.specs.Value.{same};
-ghost use Rattle.asn1_schema_presented.proofs.Same.{truths_agree, naturals_agree, numbers_agree, bits_agree};
-ghost use Rattle.asn1_schema_presented.proofs.Same.{octets_agree, texts_agree, arcs_agree};
+ghost use Rattle.asn1_schema_laws.proofs.Same.{truths_agree, naturals_agree, numbers_agree, bits_agree};
+ghost use Rattle.asn1_schema_laws.proofs.Same.{octets_agree, texts_agree, arcs_agree};
 ghost use Rattle.asn1_values_integers.specs.Constrained.{constrained_number};
 ghost use Rattle.asn1_schema_types.specs.Lists.{nothing_agrees, lists_agree};
 

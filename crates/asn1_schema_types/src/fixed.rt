@@ -4,8 +4,8 @@ ghost use Rattle.std.proofs.Math.Nat.{le_refl};
 ghost use Rattle.std.proofs.lemmas.Bool.{le-leb};
 ghost use Rattle.asn1_model.specs.Value.{bit_list, octet_list};
 ghost use Rattle.asn1_schema_constraints.specs.Terms.{no_constraint, bit_string_under, octet_string_under};
-ghost use Rattle.asn1_schema_presented.proofs.TypesByKind.{bit_string_type, bit_string_value, octet_string_type};
-ghost use Rattle.asn1_schema_presented.proofs.TypesByKind.{octet_string_value};
+ghost use Rattle.asn1_schema_laws.proofs.TypesByKind.{bit_string_type, bit_string_value, octet_string_type};
+ghost use Rattle.asn1_schema_laws.proofs.TypesByKind.{octet_string_value};
 
 use crate::described::{AsnType, Described};
 use asn1_schema_constraints::Constraints;

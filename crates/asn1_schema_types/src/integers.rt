@@ -2,7 +2,7 @@
 ghost use Rattle.std.specs.Prelude.{◌≡◌, refl, [], ◌∷◌, Some, None, pos, ◌^◌, ◌-◌};
 ghost use Rattle.asn1_model.specs.Value.{number};
 ghost use Rattle.asn1_schema_constraints.specs.Terms.{no_constraint, meant, from_to, integer_under};
-ghost use Rattle.asn1_schema_presented.proofs.TypesByKind.{integer_type, integer_value};
+ghost use Rattle.asn1_schema_laws.proofs.TypesByKind.{integer_type, integer_value};
 ghost use Rattle.asn1_values_natives.specs.Ranges.{natural_range};
 
 use crate::described::{AsnType, Described};

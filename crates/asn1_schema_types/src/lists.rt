@@ -2,9 +2,9 @@
 ghost use Rattle.std.specs.Prelude.{refl, [], ◌∷◌};
 ghost use Rattle.asn1_model.specs.Value.{members};
 ghost use Rattle.asn1_schema_constraints.specs.Terms.{no_constraint};
-ghost use Rattle.asn1_schema_presented.specs.Parts.{values_of};
-ghost use Rattle.asn1_schema_presented.specs.Tables.{list_type};
-ghost use Rattle.asn1_schema_presented.proofs.TypesByKind.{type_list, value_list};
+ghost use Rattle.asn1_schema_laws.specs.Parts.{values_of};
+ghost use Rattle.asn1_schema_laws.specs.Tables.{list_type};
+ghost use Rattle.asn1_schema_laws.proofs.TypesByKind.{type_list, value_list};
 ghost use Rattle.asn1_schema_types.specs.Counts.{any_number_held, exactly, fixed_to, exactly_is_size};
 
 use crate::described::{AsnType, Described};

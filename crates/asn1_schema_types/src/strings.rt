@@ -4,9 +4,9 @@ ghost use Rattle.asn1_model.specs.Value.{bit_list, octet_list, text, arcs};
 ghost use Rattle.asn1_model.specs.Schema.{object_identifier, utf8};
 ghost use Rattle.asn1_schema_constraints.specs.Terms.{no_constraint, bit_string_under, octet_string_under};
 ghost use Rattle.asn1_schema_constraints.specs.Terms.{character_string_under};
-ghost use Rattle.asn1_schema_presented.proofs.TypesByKind.{bit_string_type, bit_string_value, octet_string_type};
-ghost use Rattle.asn1_schema_presented.proofs.TypesByKind.{octet_string_value, character_string_type};
-ghost use Rattle.asn1_schema_presented.proofs.TypesByKind.{character_string_value, identifier_type, identifier_value};
+ghost use Rattle.asn1_schema_laws.proofs.TypesByKind.{bit_string_type, bit_string_value, octet_string_type};
+ghost use Rattle.asn1_schema_laws.proofs.TypesByKind.{octet_string_value, character_string_type};
+ghost use Rattle.asn1_schema_laws.proofs.TypesByKind.{character_string_value, identifier_type, identifier_value};
 
 use crate::described::{AsnType, Described};
 use asn1_schema_constraints::Constraints;

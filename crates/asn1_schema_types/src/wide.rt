@@ -3,7 +3,7 @@
 ghost use Rattle.std.specs.Prelude.{refl, [], ◌∷◌, Some, None, false, pos, negsuc, ◌^◌, ◌-◌};
 ghost use Rattle.asn1_model.specs.Value.{number};
 ghost use Rattle.asn1_schema_constraints.specs.Terms.{from_to, bounded_by, integer_under};
-ghost use Rattle.asn1_schema_presented.proofs.TypesByKind.{integer_type, integer_value};
+ghost use Rattle.asn1_schema_laws.proofs.TypesByKind.{integer_type, integer_value};
 ghost use Rattle.asn1_values_natives.specs.Ranges.{natural_range, whole_range};
 
 use crate::described::{AsnType, Described};

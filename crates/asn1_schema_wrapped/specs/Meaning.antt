@@ -4,8 +4,8 @@ use Rattle.std.proofs.Common.{option_map, refl, sym, ap, ◌∙◌, arith}
 use Rattle.std.specs.Prelude.{not}
 use Rattle.std.specs.Cmp.{IsPartialEquivalence, per_alike}
 use Rattle.asn1_model.specs.Value.{Value, bag, member, same, same_bag, taken_out}
-use Rattle.asn1_schema_presented.specs.Parts.{values_of}
-use Rattle.asn1_schema_presented.proofs.Same.{same_self}
+use Rattle.asn1_schema_laws.specs.Parts.{values_of}
+use Rattle.asn1_schema_laws.proofs.Same.{same_self}
 use Rattle.asn1_schema_wrapped.specs.Equality.{times, same_items, same_length, all_alike, same_by_counts}
 use Rattle.std.specs.Option.{option_map_or}
 

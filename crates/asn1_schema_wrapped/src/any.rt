@@ -4,13 +4,13 @@ ghost use Rattle.std.specs.Cmp.Lexicographic.{pointwise, nat_list_eq_equiv};
 ghost use Rattle.std.specs.Cmp.{partial_equiv_from_equiv};
 ghost use Rattle.asn1_model.specs.Value.{octet_list};
 ghost use Rattle.asn1_schema_constraints.specs.Terms.{no_constraint, octet_string_under};
-ghost use Rattle.asn1_schema_presented.proofs.Same.{octets_agree};
-ghost use Rattle.asn1_schema_presented.proofs.TypesByKind.{octet_string_type, octet_string_value};
+ghost use Rattle.asn1_schema_laws.proofs.Same.{octets_agree};
+ghost use Rattle.asn1_schema_laws.proofs.TypesByKind.{octet_string_type, octet_string_value};
 
 use asn1_schema_constraints::{Bounded, Constraints};
 use asn1_schema_decode::{Decode, Decoder, ReadOctets};
 use asn1_schema_encode::{Encode, Encoder};
-use asn1_schema_faults::{DecodeError, EncodeError};
+use asn1_schema_errors::{DecodeError, EncodeError};
 use asn1_schema_tags::{Identifier, Tag, TagTree};
 use asn1_schema_types::{AsnType, Described, EqualByMeaning};
 use std::alloc::{AllocError, Global};

@@ -2,7 +2,7 @@
 ghost use Rattle.std.specs.Prelude.{refl, [], ◌∷◌};
 ghost use Rattle.asn1_model.specs.Value.{bag};
 ghost use Rattle.asn1_schema_constraints.specs.Terms.{no_constraint};
-ghost use Rattle.asn1_schema_presented.specs.Parts.{values_of};
+ghost use Rattle.asn1_schema_laws.specs.Parts.{values_of};
 ghost use Rattle.asn1_schema_constructed.specs.Bags.{bag_type};
 ghost use Rattle.asn1_schema_constructed.proofs.Bags.{type_bag, value_bag};
 ghost use Rattle.asn1_schema_types.specs.Counts.{any_number_held};
@@ -12,7 +12,7 @@ use asn1_schema_constraints::{Bounded, Constraints};
 use asn1_schema_constructed::{DecodeBag, EncodeBag};
 use asn1_schema_decode::{Decode, Decoder};
 use asn1_schema_encode::{Encode, Encoder};
-use asn1_schema_faults::{DecodeError, EncodeError};
+use asn1_schema_errors::{DecodeError, EncodeError};
 use asn1_schema_tags::{Identifier, Tag, TagTree};
 use asn1_schema_types::{AsnType, Described};
 use std::alloc::Global;

@@ -6,12 +6,12 @@ ghost use Rattle.std.proofs.Math.Bool.{and-true};
 ghost use Rattle.asn1_schema_constraints.specs.Terms.{Meant, meant};
 ghost use Rattle.asn1_model.specs.Schema.{Schema, Tag as ModelTag};
 ghost use Rattle.asn1_model.specs.Value.{Value, same};
-ghost use Rattle.asn1_schema_presented.specs.Tables.{IsType, IsValue};
+ghost use Rattle.asn1_schema_laws.specs.Tables.{IsType, IsValue};
 
 use asn1_schema_constraints::Constraints;
 use asn1_schema_decode::{Decode, Decoder};
 use asn1_schema_encode::{Encode, Encoder};
-use asn1_schema_faults::{DecodeError, EncodeError};
+use asn1_schema_errors::{DecodeError, EncodeError};
 use asn1_schema_tags::{Identifier, Tag, TagTree};
 use asn1_schema_types::{AsnType, Described, EqualByMeaning};
 use std::alloc::Global;

@@ -1,9 +1,9 @@
 //! Constraints on the components of a value (X.680 51.8).
 ghost use Rattle.std.specs.Prelude.{Option, None, Result};
-ghost use Rattle.asn1_schema_faults.specs.declared.CodecKind.{CodecKind};
+ghost use Rattle.asn1_schema_errors.specs.declared.CodecKind.{CodecKind};
 ghost use Rattle.asn1_schema_wrapped.specs.declared.inner.InnerSubtypeConstraintError.{InnerSubtypeConstraintError};
 
-use asn1_schema_faults::CodecKind;
+use asn1_schema_errors::CodecKind;
 use thiserror::Error;
 
 /// The component that does not satisfy its constraint.

@@ -4,12 +4,13 @@ ghost use Rattle.asn1_model.specs.Schema.{visible, ia5, printable, numeric, gene
 ghost use Rattle.asn1_model.specs.Schema.{any_count, any_size};
 ghost use Rattle.asn1_schema_types.specs.Told.{characters_under, asks_characters_under};
 ghost use Rattle.asn1_schema_decode.specs.Reads.{NoRecord, Reads, Unread};
-ghost use Rattle.asn1_schema_presented.specs.Records.{octets, asks_octets};
+ghost use Rattle.asn1_schema_laws.specs.Records.{octets, asks_octets};
+ghost use Rattle.asn1_schema_errors.specs.Calls.{DecoderCall};
 
 use crate::Any;
 use asn1_schema_constraints::{Bounded, Constraints};
 use asn1_schema_decode::{Decode, Decoder, ReadOctets};
-use asn1_schema_faults::DecodeError;
+use asn1_schema_errors::DecodeError;
 use asn1_schema_tags::Tag;
 use asn1_values_strings::{
     BmpString, GeneralString, GraphicString, Ia5String, NumericString, PrintableString,
@@ -28,9 +29,7 @@ pub trait DecodeNamed: Decoder {
         ensures level { OnOk result (Self.levels self.new ≡ Self.levels self.old) }
         ensures only { IfErr result
             (NoRecord Self.step Self.too_few (asks_octets any_size any_count) self.old self.new) }
-        ensures failed { OnErr result (Self.has_failed self.new) }
-        ensures already { Self.has_failed self.old → result ≡ Err DecodeError.AlreadyFailed }
-        ensures after { result ≡ Err DecodeError.AlreadyFailed → Self.has_failed self.old }
+        ensures call { DecoderCall Self.has_failed self.old self.new result }
     {
         let octets = self.decode_octet_string(alloc, tag, &Constraints::NONE, Bounded::None)?;
         let Ok(owned) = octets.into_vec(alloc) else {
@@ -52,9 +51,7 @@ pub trait DecodeNamed: Decoder {
             (λ x. Reads Self.step T.schema (Self.levels self.old) (T.meaning x) self.old self.new) }
         ensures level { OnOk result (Self.levels self.new ≡ Self.levels self.old) }
         ensures only { IfErr result (Unread Self.step Self.too_few T.schema (Self.levels self.old) self.old self.new) }
-        ensures failed { OnErr result (Self.has_failed self.new) }
-        ensures already { Self.has_failed self.old → result ≡ Err DecodeError.AlreadyFailed }
-        ensures after { result ≡ Err DecodeError.AlreadyFailed → Self.has_failed self.old }
+        ensures call { DecoderCall Self.has_failed self.old self.new result }
     {
         T::decode(alloc, self)
     }
@@ -72,9 +69,7 @@ pub trait DecodeNamed: Decoder {
         ensures level { OnOk result (Self.levels self.new ≡ Self.levels self.old) }
         ensures only { IfErr result
             (NoRecord Self.step Self.too_few (asks_characters_under visible constraints.now) self.old self.new) }
-        ensures failed { OnErr result (Self.has_failed self.new) }
-        ensures already { Self.has_failed self.old → result ≡ Err DecodeError.AlreadyFailed }
-        ensures after { result ≡ Err DecodeError.AlreadyFailed → Self.has_failed self.old }
+        ensures call { DecoderCall Self.has_failed self.old self.new result }
     {
         self.decode_characters(alloc, tag, constraints)
     }
@@ -92,9 +87,7 @@ pub trait DecodeNamed: Decoder {
         ensures level { OnOk result (Self.levels self.new ≡ Self.levels self.old) }
         ensures only { IfErr result
             (NoRecord Self.step Self.too_few (asks_characters_under ia5 constraints.now) self.old self.new) }
-        ensures failed { OnErr result (Self.has_failed self.new) }
-        ensures already { Self.has_failed self.old → result ≡ Err DecodeError.AlreadyFailed }
-        ensures after { result ≡ Err DecodeError.AlreadyFailed → Self.has_failed self.old }
+        ensures call { DecoderCall Self.has_failed self.old self.new result }
     {
         self.decode_characters(alloc, tag, constraints)
     }
@@ -112,9 +105,7 @@ pub trait DecodeNamed: Decoder {
         ensures level { OnOk result (Self.levels self.new ≡ Self.levels self.old) }
         ensures only { IfErr result
             (NoRecord Self.step Self.too_few (asks_characters_under printable constraints.now) self.old self.new) }
-        ensures failed { OnErr result (Self.has_failed self.new) }
-        ensures already { Self.has_failed self.old → result ≡ Err DecodeError.AlreadyFailed }
-        ensures after { result ≡ Err DecodeError.AlreadyFailed → Self.has_failed self.old }
+        ensures call { DecoderCall Self.has_failed self.old self.new result }
     {
         self.decode_characters(alloc, tag, constraints)
     }
@@ -132,9 +123,7 @@ pub trait DecodeNamed: Decoder {
         ensures level { OnOk result (Self.levels self.new ≡ Self.levels self.old) }
         ensures only { IfErr result
             (NoRecord Self.step Self.too_few (asks_characters_under numeric constraints.now) self.old self.new) }
-        ensures failed { OnErr result (Self.has_failed self.new) }
-        ensures already { Self.has_failed self.old → result ≡ Err DecodeError.AlreadyFailed }
-        ensures after { result ≡ Err DecodeError.AlreadyFailed → Self.has_failed self.old }
+        ensures call { DecoderCall Self.has_failed self.old self.new result }
     {
         self.decode_characters(alloc, tag, constraints)
     }
@@ -152,9 +141,7 @@ pub trait DecodeNamed: Decoder {
         ensures level { OnOk result (Self.levels self.new ≡ Self.levels self.old) }
         ensures only { IfErr result
             (NoRecord Self.step Self.too_few (asks_characters_under general constraints.now) self.old self.new) }
-        ensures failed { OnErr result (Self.has_failed self.new) }
-        ensures already { Self.has_failed self.old → result ≡ Err DecodeError.AlreadyFailed }
-        ensures after { result ≡ Err DecodeError.AlreadyFailed → Self.has_failed self.old }
+        ensures call { DecoderCall Self.has_failed self.old self.new result }
     {
         self.decode_characters(alloc, tag, constraints)
     }
@@ -172,9 +159,7 @@ pub trait DecodeNamed: Decoder {
         ensures level { OnOk result (Self.levels self.new ≡ Self.levels self.old) }
         ensures only { IfErr result
             (NoRecord Self.step Self.too_few (asks_characters_under graphic constraints.now) self.old self.new) }
-        ensures failed { OnErr result (Self.has_failed self.new) }
-        ensures already { Self.has_failed self.old → result ≡ Err DecodeError.AlreadyFailed }
-        ensures after { result ≡ Err DecodeError.AlreadyFailed → Self.has_failed self.old }
+        ensures call { DecoderCall Self.has_failed self.old self.new result }
     {
         self.decode_characters(alloc, tag, constraints)
     }
@@ -192,9 +177,7 @@ pub trait DecodeNamed: Decoder {
         ensures level { OnOk result (Self.levels self.new ≡ Self.levels self.old) }
         ensures only { IfErr result
             (NoRecord Self.step Self.too_few (asks_characters_under teletex constraints.now) self.old self.new) }
-        ensures failed { OnErr result (Self.has_failed self.new) }
-        ensures already { Self.has_failed self.old → result ≡ Err DecodeError.AlreadyFailed }
-        ensures after { result ≡ Err DecodeError.AlreadyFailed → Self.has_failed self.old }
+        ensures call { DecoderCall Self.has_failed self.old self.new result }
     {
         self.decode_characters(alloc, tag, constraints)
     }
@@ -212,9 +195,7 @@ pub trait DecodeNamed: Decoder {
         ensures level { OnOk result (Self.levels self.new ≡ Self.levels self.old) }
         ensures only { IfErr result
             (NoRecord Self.step Self.too_few (asks_characters_under bmp constraints.now) self.old self.new) }
-        ensures failed { OnErr result (Self.has_failed self.new) }
-        ensures already { Self.has_failed self.old → result ≡ Err DecodeError.AlreadyFailed }
-        ensures after { result ≡ Err DecodeError.AlreadyFailed → Self.has_failed self.old }
+        ensures call { DecoderCall Self.has_failed self.old self.new result }
     {
         self.decode_characters(alloc, tag, constraints)
     }

@@ -3,13 +3,14 @@ ghost use Rattle.std.specs.Prelude.{◌≡◌, OnOk, OnErr, IfErr};
 ghost use Rattle.asn1_model.specs.Schema.{visible, ia5, printable, numeric, general, graphic, teletex, bmp};
 ghost use Rattle.asn1_model.specs.Schema.{any_count, any_size};
 ghost use Rattle.asn1_schema_encode.specs.Writes.{Refused, Writes, CannotWrite};
-ghost use Rattle.asn1_schema_presented.specs.Records.{octets};
+ghost use Rattle.asn1_schema_laws.specs.Records.{octets};
 ghost use Rattle.asn1_schema_types.specs.Told.{characters_under};
+ghost use Rattle.asn1_schema_errors.specs.Calls.{EncoderCall};
 
 use crate::Any;
 use asn1_schema_constraints::{Bounded, Constraints};
 use asn1_schema_encode::{Encode, Encoder};
-use asn1_schema_faults::EncodeError;
+use asn1_schema_errors::EncodeError;
 use asn1_schema_tags::{Identifier, Tag};
 use asn1_values_strings::{
     BmpString, GeneralString, GraphicString, Ia5String, NumericString, PrintableString,
@@ -29,10 +30,7 @@ pub trait EncodeNamed: Encoder {
         Self: Sized,
         ensures ok { OnOk result (Self.step self.old (octets any_size any_count value.now) self.new) }
         ensures only { IfErr result (Refused Self.step (octets any_size any_count value.now) self.old) }
-        ensures failed { OnErr result (Self.has_failed self.new) }
-        ensures front { Self.front self.new ≡ Self.front self.old }
-        ensures already { Self.has_failed self.old → result ≡ Err EncodeError.AlreadyFailed }
-        ensures after { result ≡ Err EncodeError.AlreadyFailed → Self.has_failed self.old }
+        ensures call { EncoderCall Self.has_failed Self.front self.old self.new result }
     {
         self.encode_octet_string(
             tag,
@@ -54,10 +52,7 @@ pub trait EncodeNamed: Encoder {
         Self: Sized,
         ensures ok { OnOk result (Writes Self.step T.schema (T.meaning value.now) self.old self.new) }
         ensures only { IfErr result (CannotWrite Self.step T.schema (T.meaning value.now) self.old) }
-        ensures failed { OnErr result (Self.has_failed self.new) }
-        ensures front { Self.front self.new ≡ Self.front self.old }
-        ensures already { Self.has_failed self.old → result ≡ Err EncodeError.AlreadyFailed }
-        ensures after { result ≡ Err EncodeError.AlreadyFailed → Self.has_failed self.old }
+        ensures call { EncoderCall Self.has_failed Self.front self.old self.new result }
     {
         value.encode(self)
     }
@@ -75,10 +70,7 @@ pub trait EncodeNamed: Encoder {
         ensures ok { OnOk result (Self.step self.old (characters_under visible constraints.now value.now) self.new) }
         ensures only { IfErr result
             (Refused Self.step (characters_under visible constraints.now value.now) self.old) }
-        ensures failed { OnErr result (Self.has_failed self.new) }
-        ensures front { Self.front self.new ≡ Self.front self.old }
-        ensures already { Self.has_failed self.old → result ≡ Err EncodeError.AlreadyFailed }
-        ensures after { result ≡ Err EncodeError.AlreadyFailed → Self.has_failed self.old }
+        ensures call { EncoderCall Self.has_failed Self.front self.old self.new result }
     {
         self.encode_characters(tag, constraints, value, identifier)
     }
@@ -95,10 +87,7 @@ pub trait EncodeNamed: Encoder {
         Self: Sized,
         ensures ok { OnOk result (Self.step self.old (characters_under ia5 constraints.now value.now) self.new) }
         ensures only { IfErr result (Refused Self.step (characters_under ia5 constraints.now value.now) self.old) }
-        ensures failed { OnErr result (Self.has_failed self.new) }
-        ensures front { Self.front self.new ≡ Self.front self.old }
-        ensures already { Self.has_failed self.old → result ≡ Err EncodeError.AlreadyFailed }
-        ensures after { result ≡ Err EncodeError.AlreadyFailed → Self.has_failed self.old }
+        ensures call { EncoderCall Self.has_failed Self.front self.old self.new result }
     {
         self.encode_characters(tag, constraints, value, identifier)
     }
@@ -117,10 +106,7 @@ pub trait EncodeNamed: Encoder {
             (Self.step self.old (characters_under printable constraints.now value.now) self.new) }
         ensures only { IfErr result
             (Refused Self.step (characters_under printable constraints.now value.now) self.old) }
-        ensures failed { OnErr result (Self.has_failed self.new) }
-        ensures front { Self.front self.new ≡ Self.front self.old }
-        ensures already { Self.has_failed self.old → result ≡ Err EncodeError.AlreadyFailed }
-        ensures after { result ≡ Err EncodeError.AlreadyFailed → Self.has_failed self.old }
+        ensures call { EncoderCall Self.has_failed Self.front self.old self.new result }
     {
         self.encode_characters(tag, constraints, value, identifier)
     }
@@ -138,10 +124,7 @@ pub trait EncodeNamed: Encoder {
         ensures ok { OnOk result (Self.step self.old (characters_under numeric constraints.now value.now) self.new) }
         ensures only { IfErr result
             (Refused Self.step (characters_under numeric constraints.now value.now) self.old) }
-        ensures failed { OnErr result (Self.has_failed self.new) }
-        ensures front { Self.front self.new ≡ Self.front self.old }
-        ensures already { Self.has_failed self.old → result ≡ Err EncodeError.AlreadyFailed }
-        ensures after { result ≡ Err EncodeError.AlreadyFailed → Self.has_failed self.old }
+        ensures call { EncoderCall Self.has_failed Self.front self.old self.new result }
     {
         self.encode_characters(tag, constraints, value, identifier)
     }
@@ -159,10 +142,7 @@ pub trait EncodeNamed: Encoder {
         ensures ok { OnOk result (Self.step self.old (characters_under general constraints.now value.now) self.new) }
         ensures only { IfErr result
             (Refused Self.step (characters_under general constraints.now value.now) self.old) }
-        ensures failed { OnErr result (Self.has_failed self.new) }
-        ensures front { Self.front self.new ≡ Self.front self.old }
-        ensures already { Self.has_failed self.old → result ≡ Err EncodeError.AlreadyFailed }
-        ensures after { result ≡ Err EncodeError.AlreadyFailed → Self.has_failed self.old }
+        ensures call { EncoderCall Self.has_failed Self.front self.old self.new result }
     {
         self.encode_characters(tag, constraints, value, identifier)
     }
@@ -180,10 +160,7 @@ pub trait EncodeNamed: Encoder {
         ensures ok { OnOk result (Self.step self.old (characters_under graphic constraints.now value.now) self.new) }
         ensures only { IfErr result
             (Refused Self.step (characters_under graphic constraints.now value.now) self.old) }
-        ensures failed { OnErr result (Self.has_failed self.new) }
-        ensures front { Self.front self.new ≡ Self.front self.old }
-        ensures already { Self.has_failed self.old → result ≡ Err EncodeError.AlreadyFailed }
-        ensures after { result ≡ Err EncodeError.AlreadyFailed → Self.has_failed self.old }
+        ensures call { EncoderCall Self.has_failed Self.front self.old self.new result }
     {
         self.encode_characters(tag, constraints, value, identifier)
     }
@@ -201,10 +178,7 @@ pub trait EncodeNamed: Encoder {
         ensures ok { OnOk result (Self.step self.old (characters_under teletex constraints.now value.now) self.new) }
         ensures only { IfErr result
             (Refused Self.step (characters_under teletex constraints.now value.now) self.old) }
-        ensures failed { OnErr result (Self.has_failed self.new) }
-        ensures front { Self.front self.new ≡ Self.front self.old }
-        ensures already { Self.has_failed self.old → result ≡ Err EncodeError.AlreadyFailed }
-        ensures after { result ≡ Err EncodeError.AlreadyFailed → Self.has_failed self.old }
+        ensures call { EncoderCall Self.has_failed Self.front self.old self.new result }
     {
         self.encode_characters(tag, constraints, value, identifier)
     }
@@ -221,10 +195,7 @@ pub trait EncodeNamed: Encoder {
         Self: Sized,
         ensures ok { OnOk result (Self.step self.old (characters_under bmp constraints.now value.now) self.new) }
         ensures only { IfErr result (Refused Self.step (characters_under bmp constraints.now value.now) self.old) }
-        ensures failed { OnErr result (Self.has_failed self.new) }
-        ensures front { Self.front self.new ≡ Self.front self.old }
-        ensures already { Self.has_failed self.old → result ≡ Err EncodeError.AlreadyFailed }
-        ensures after { result ≡ Err EncodeError.AlreadyFailed → Self.has_failed self.old }
+        ensures call { EncoderCall Self.has_failed Self.front self.old self.new result }
     {
         self.encode_characters(tag, constraints, value, identifier)
     }

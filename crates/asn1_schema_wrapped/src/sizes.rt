@@ -1,7 +1,7 @@
 //! Size constraints (X.680 51.5) as types.
 ghost use Rattle.std.specs.Prelude.{◌≡◌, refl};
 ghost use Rattle.asn1_schema_constraints.specs.Terms.{meant};
-ghost use Rattle.asn1_schema_presented.proofs.TypesByKind.{bit_string_type, octet_string_type, type_list};
+ghost use Rattle.asn1_schema_laws.proofs.TypesByKind.{bit_string_type, octet_string_type, type_list};
 ghost use Rattle.asn1_schema_wrapped.specs.Sizes.{are_sizes, sizes_from_to};
 
 use crate::constrained::ConstraintsOf;

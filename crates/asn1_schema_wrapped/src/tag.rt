@@ -5,7 +5,7 @@ ghost use Rattle.std.specs.Prelude.{refl, [], ◌∷◌};
 ghost use Rattle.asn1_model.specs.Value.{nothing};
 ghost use Rattle.asn1_model.specs.Schema.{null};
 ghost use Rattle.asn1_schema_constraints.specs.Terms.{no_constraint};
-ghost use Rattle.asn1_schema_presented.proofs.TypesByKind.{null_type, null_value};
+ghost use Rattle.asn1_schema_laws.proofs.TypesByKind.{null_type, null_value};
 
 use asn1_schema_constraints::Constraints;
 use asn1_schema_tags::{Class, Identifier, Tag, TagTree};

@@ -1,6 +1,6 @@
 //! Values with another tag (X.680 31).
 ghost use Rattle.asn1_model.specs.Lawful.{smallest};
-ghost use Rattle.asn1_schema_presented.proofs.TypesByKind.{under_smallest};
+ghost use Rattle.asn1_schema_laws.proofs.TypesByKind.{under_smallest};
 ghost use Rattle.asn1_schema_tags.specs.Trees.{greatest_tag};
 ghost use Rattle.std.specs.Prelude.{◌≡◌, [], ◌∷◌, refl};
 ghost use Rattle.std.proofs.Common.{◌∙◌};
@@ -10,7 +10,7 @@ ghost use Rattle.std.specs.Borrow.{Lends, sem};
 use asn1_schema_constraints::Constraints;
 use asn1_schema_decode::{Decode, Decoder};
 use asn1_schema_encode::{Encode, Encoder};
-use asn1_schema_faults::{DecodeError, EncodeError};
+use asn1_schema_errors::{DecodeError, EncodeError};
 use asn1_schema_tags::{Identifier, Tag, TagTree};
 use asn1_schema_types::{AsnType, Described, EqualByMeaning};
 use std::alloc::Global;

@@ -1,16 +1,17 @@
-//! Tables of types that are well-formed.
-ghost use Rattle.std.specs.Prelude.{◌≡◌, ℕ, true, IfOk, IfErr, OnOk, slice_get};
+//! Tables of types that are lawful.
+ghost use Rattle.std.specs.Prelude.{◌≡◌, ℕ, true, IfOk, IfErr, OnOk, Some, slice_get};
 ghost use Rattle.std.specs.Option.{option_copied};
-ghost use Rattle.asn1_table_types.specs.Flaws.{is_sound};
-ghost use Rattle.asn1_table_types.specs.Meaning.{type_at};
-ghost use Rattle.asn1_table_types.specs.Tables.{AreLawful, IsRefused};
+ghost use Rattle.asn1_table_types.specs.Flaws.{is_sound, has_defaults, lacks};
+ghost use Rattle.asn1_table_types.specs.Meaning.{type_of, type_at};
+ghost use Rattle.asn1_table_types.specs.Tables.{AreLawful, IsRefused, IsDueAt, error_of};
 
 use crate::checks::check_node;
+use crate::defaults::check_defaults;
 use crate::faults::Refusal;
 use crate::{TableError, TypeNode};
 use std::alloc::Global;
 
-/// Types each of which is well-formed, at any depth to which it is unfolded.
+/// Types each of which is lawful, in whatever depth it is unfolded.
 #[derive(Drop)]
 pub struct Types {
     nodes: Vec<TypeNode>,
@@ -18,11 +19,7 @@ pub struct Types {
 }
 
 impl Types {
-    /// A table of these types, each of which must be well-formed, at any depth to which it is unfolded.
-    ///
-    /// # Errors
-    ///
-    /// The first type that is not well-formed, or that memory runs out.
+    /// A table of these types, where each of them is lawful in whatever depth it is unfolded.
     pub fn new(alloc: Global, nodes: Vec<TypeNode>) -> Result<Types, TableError>
         ensures types { IfOk result (λ types. types.nodes ≡ nodes) }
         ensures refused { IfErr result (λ e. IsRefused nodes.items e) }
@@ -31,14 +28,14 @@ impl Types {
         Ok(Types { nodes })
     }
 
-    /// The types, by their indices.
+    /// The types, by their places.
     pub fn nodes(&self) -> &[TypeNode]
         ensures { result.now ≡ self.now.nodes.items }
     {
         self.nodes.as_slice()
     }
 
-    /// The type with an index, if there is one.
+    /// The type at a place, if there is one.
     pub fn node(&self, place: usize) -> Option<&TypeNode>
         ensures { option_copied result ≡ slice_get self.now.nodes.items place }
     {
@@ -49,6 +46,7 @@ impl Types {
 /// Checks each type of a table.
 fn check_all(alloc: Global, nodes: &[TypeNode]) -> Result<(), TableError>
     ensures sound { OnOk result ((i : ℕ) → is_sound (type_at nodes.now 2 i) ≡ true) }
+    ensures typed { OnOk result ((n i : ℕ) → has_defaults (type_at nodes.now n i) ≡ true) }
     ensures refused { IfErr result (λ e. IsRefused nodes.now e) }
 {
     for place in 0..nodes.len() {
@@ -57,17 +55,38 @@ fn check_all(alloc: Global, nodes: &[TypeNode]) -> Result<(), TableError>
     Ok(())
 }
 
-/// Checks the type with an index.
+/// Checks the type at a place.
 fn check_place(alloc: Global, nodes: &[TypeNode], place: usize) -> Result<(), TableError>
     ensures sound { OnOk result (is_sound (type_at nodes.now 2 place) ≡ true) }
+    ensures typed { OnOk result ((n : ℕ) → has_defaults (type_at nodes.now n place) ≡ true) }
     ensures refused { IfErr result (λ e. IsRefused nodes.now e) }
 {
     match nodes.get(place) {
         None => Ok(()),
-        Some(node) => match check_node(alloc, nodes, node) {
+        Some(node) => match check_whole(alloc, nodes, node) {
             Ok(()) => Ok(()),
-            Err(Refusal::Flawed(flaw)) => Err(TableError::Unlawful { place, flaw }),
-            Err(Refusal::NoMemory) => Err(TableError::OutOfMemory),
+            Err(refusal) => Err(refused_at(place, refusal)),
         },
+    }
+}
+
+/// A node of a table meets what is asked of it, and so do its defaults.
+fn check_whole(alloc: Global, nodes: &[TypeNode], node: &TypeNode) -> Result<(), Refusal>
+    ensures sound { OnOk result (is_sound (type_of nodes.now 2 (Some node.now)) ≡ true) }
+    ensures typed { OnOk result ((n : ℕ) → has_defaults (type_of nodes.now n (Some node.now)) ≡ true) }
+    ensures lacking { IfErr result (λ r. IsDueAt (λ n. lacks (type_of nodes.now n (Some node.now))) r) }
+{
+    check_node(alloc, nodes, node)?;
+    check_defaults(nodes, node)?;
+    Ok(())
+}
+
+/// The refusal of the type at a place.
+fn refused_at(place: usize, refusal: Refusal) -> TableError
+    ensures { result ≡ error_of place refusal }
+{
+    match refusal {
+        Refusal::Flawed(flaw) => TableError::Unlawful { place, flaw },
+        Refusal::NoMemory => TableError::OutOfMemory,
     }
 }

@@ -11,10 +11,10 @@ pub enum FieldFaultKind {
     #[error("too few bits are left")]
     Short,
     /// Octets are not the shortest encoding of an integer.
-    #[error("the octets are not the fewest of a number")]
+    #[error("the encoding of the integer is not the shortest")]
     NotShortest,
     /// No character has the code.
-    #[error("a code is that of no character")]
+    #[error("no character has the code")]
     NoCharacter,
     /// An allocation failed.
     #[error("out of memory")]

@@ -1,7 +1,7 @@
 //! The calls that encode and decode.
 use asn1_schema_constraints::{Bounded, Constraint, Constraints, Extensible, Size, Value};
 use asn1_schema_encode::Encode;
-use asn1_schema_faults::{DecodeError, EncodeError};
+use asn1_schema_errors::{DecodeError, EncodeError};
 use asn1_schema_wrapped::{Constrained, SetOf, SizeRange};
 use asn1_values_bit_strings::BitString;
 use asn1_values_bits::BitStr;

@@ -6,9 +6,8 @@ use crate::messages::{NOTHING, are_in_octets};
 use crate::steps::{Choice, Step};
 use asn1_schema_constraints::{Bounded, Constraints};
 use asn1_schema_decode::Decoder as Reading;
-use asn1_schema_faults::DecodeError;
-use asn1_schema_tags::Tag;
-use asn1_schema_variants::Chosen;
+use asn1_schema_errors::DecodeError;
+use asn1_schema_tags::{Chosen, Tag};
 use oer_codec::coer::{Decoder, DecoderOptions};
 use std::alloc::Global;
 

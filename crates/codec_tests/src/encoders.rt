@@ -2,9 +2,8 @@
 use crate::messages::{ADDED, NOTHING, add};
 use crate::steps::{Lent, Step};
 use asn1_schema_encode::{Encode, Encoder as Writing};
-use asn1_schema_faults::EncodeError;
-use asn1_schema_tags::{Identifier, Tag};
-use asn1_schema_variants::Chosen;
+use asn1_schema_errors::EncodeError;
+use asn1_schema_tags::{Chosen, Identifier, Tag};
 use oer_codec::coer::{Encoder, EncoderOptions};
 use per_codec::uper;
 use std::alloc::{AllocError, Global};

@@ -1,7 +1,7 @@
 //! The calls that decode a value at the start and ignore what follows, and the readers that also return the number of
 //! octets of the value: each by itself.
 use asn1_schema_decode::FrontReader;
-use asn1_schema_faults::DecodeError;
+use asn1_schema_errors::DecodeError;
 use oer_codec::{CoerFront, OerFront, coer, oer};
 use per_codec::{AperFront, UperFront, aper, uper};
 use std::alloc::Global;

@@ -3,9 +3,8 @@
 use crate::common::assert_none;
 use crate::spelled::octets;
 use crate::steps::{Choice, Lent, Step, are_found, places_of, put_all, tags};
-use asn1_schema_faults::{DecodeError, EncodeError};
-use asn1_schema_tags::{Tag, TagPlace};
-use asn1_schema_variants::Chosen;
+use asn1_schema_errors::{DecodeError, EncodeError};
+use asn1_schema_tags::{Chosen, Tag, TagPlace};
 use oer_codec::coer;
 use per_codec::uper;
 use std::alloc::{AllocError, Global};
@@ -349,8 +348,16 @@ fn are_read(
     octets: &[u8],
 ) -> Result<bool, DecodeError> {
     match rules {
-        Rules::Uper => are_packed(alloc, uper::DecoderOptions::unaligned(), calls, octets),
-        Rules::Aper => are_packed(alloc, uper::DecoderOptions::aligned(), calls, octets),
+        Rules::Uper => {
+            let is_lenient = are_packed(alloc, uper::DecoderOptions::unaligned(), calls, octets)?;
+            let strict = uper::DecoderOptions::unaligned_strict();
+            Ok(is_lenient && are_packed(alloc, strict, calls, octets)?)
+        }
+        Rules::Aper => {
+            let is_lenient = are_packed(alloc, uper::DecoderOptions::aligned(), calls, octets)?;
+            let strict = uper::DecoderOptions::aligned_strict();
+            Ok(is_lenient && are_packed(alloc, strict, calls, octets)?)
+        }
         Rules::Oer => are_in_octets(alloc, coer::DecoderOptions::oer(), calls, octets),
         Rules::Coer => {
             let is_basic = are_in_octets(alloc, coer::DecoderOptions::oer(), calls, octets)?;

@@ -2,9 +2,8 @@
 use asn1_schema_constraints::{Bounded, Constraints, Extensible, Size};
 use asn1_schema_decode::{Decode, Decoder, ReadOctets};
 use asn1_schema_encode::{Encode, Encoder};
-use asn1_schema_faults::{DecodeError, EncodeError};
-use asn1_schema_tags::{Class, Identifier, Tag, TagPlace, TagTables};
-use asn1_schema_variants::Chosen;
+use asn1_schema_errors::{DecodeError, EncodeError};
+use asn1_schema_tags::{Chosen, Class, Identifier, Tag, TagPlace, TagTables};
 use std::alloc::{AllocError, Global};
 
 /// A call, with what it writes and finds.

@@ -1,9 +1,9 @@
 //! Readers and writers of tags and length determinants, and of NULL.
 use crate::common::assert_none;
-use asn1_schema_faults::{DecodeError, EncodeError};
+use asn1_schema_errors::{DecodeError, EncodeError};
 use asn1_schema_tags::{Class, Tag};
-use oer_codec_reading::lengths::{read_counted, read_length};
-use oer_codec_reading::units::read_null;
+use oer_codec_reading::boolean::read_null;
+use oer_codec_reading::length::{read_counted, read_length};
 use oer_codec_reading::{Cursor, EncodingRules, read_tag};
 use oer_codec_writing::push_tag;
 use std::alloc::Global;

@@ -10,24 +10,24 @@ use Rattle.asn1_model.specs.Form.{Reads}
 use Rattle.asn1_model.specs.Oer
 use Rattle.asn1_model.specs.Rules.{IsEncoding}
 use Rattle.asn1_schema_decode.specs.Reads.{Reads as ReadsValue, Unread}
-use Rattle.asn1_schema_faults.specs.declared.DecodeError.{DecodeError}
-use Rattle.asn1_schema_presented.proofs.Levels.{nests}
-use Rattle.asn1_schema_presented.specs.Chains.{Chain}
-use Rattle.asn1_schema_presented.specs.Presents.{presents, Fits}
-use Rattle.oer_codec_held.specs.Held.{Held, HasFailed, Finds}
-use Rattle.oer_codec_fronts.specs.Takes.{State, Front}
-use Rattle.oer_codec_fronts.proofs.Whole.{records_read, forms_show}
-use Rattle.asn1_schema_finding.proofs.Fitting.{records_fit}
+use Rattle.asn1_schema_errors.specs.declared.DecodeError.{DecodeError}
+use Rattle.asn1_schema_laws.proofs.Levels.{nests}
+use Rattle.asn1_schema_laws.specs.Chains.{Chain}
+use Rattle.asn1_schema_laws.specs.Presents.{presents, Fits}
+use Rattle.oer_codec_held_laws.specs.Held.{Held, HasFailed, Finds}
+use Rattle.oer_codec_laws.specs.Takes.{State, Front}
+use Rattle.oer_codec_laws.proofs.Whole.{records_read, forms_show}
+use Rattle.asn1_schema_reading_laws.proofs.Fitting.{records_fit}
 use Rattle.oer_codec_reading.specs.Fronts.{freedoms}
-use Rattle.oer_codec_reading_lengths.specs.declared.rules.EncodingRules.{EncodingRules}
-use Rattle.oer_codec_reading_lengths.specs.declared.rules.EncodingRules.TheVariants.{Oer as OerRules, Coer as CoerRules}
+use Rattle.oer_codec_reading.specs.declared.rules.EncodingRules.{EncodingRules}
+use Rattle.oer_codec_reading.specs.declared.rules.EncodingRules.TheVariants.{Oer as OerRules, Coer as CoerRules}
 use Rattle.asn1_schema_decode.specs.Messages.{HasMessage, Tells, NoMessage, NeedsMore}
-use Rattle.asn1_schema_lacking.proofs.Nesting.{no_deeper}
+use Rattle.asn1_schema_lacking_laws.proofs.Nesting.{no_deeper}
 use Rattle.oer_codec.specs.Messages.{rules_of}
-use Rattle.oer_codec_held.specs.Few.{TooFewHeld, held_with, lacks}
-use Rattle.oer_codec.proofs.Finding.{take_whole}
-use Rattle.oer_codec_held.proofs.Carried.{few_at_once}
-use Rattle.oer_codec_held.proofs.Lifting.{held_at, octets_taken, levels_taken, both_found}
+use Rattle.oer_codec_held_laws.specs.Few.{TooFewHeld, held_with, lacks}
+use Rattle.oer_codec_decoder.proofs.Finding.{take_whole}
+use Rattle.oer_codec_held_laws.proofs.Carried.{few_at_once}
+use Rattle.oer_codec_held_laws.proofs.Lifting.{held_at, octets_taken, levels_taken, both_found}
 
 -- ---- the rules
 any_bitmap : (r : EncodingRules) → IsTrue (freedoms r Oer.other_bitmap)

@@ -2,7 +2,7 @@
 use Rattle.std.specs.Prelude.{ℕ, List, Some}
 use Rattle.asn1_model.specs.Schema.{Schema}
 use Rattle.asn1_model.specs.Value.{Value}
-use Rattle.asn1_schema_faults.specs.declared.EncodeError.{EncodeError}
+use Rattle.asn1_schema_errors.specs.declared.EncodeError.{EncodeError}
 use Rattle.asn1_schema_encode.specs.Written.{IsWrittenIn, NotWrittenIn}
 use Rattle.oer_codec_encoder.specs.Written.{octet_rules}
 

@@ -1,7 +1,2 @@
-pub mod Scopes
-pub mod Refusals
-pub mod Preamble
-pub mod Members
 pub mod Encoded
 pub mod Messages
-pub mod Missing

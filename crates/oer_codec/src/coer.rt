@@ -5,12 +5,13 @@ ghost use Rattle.asn1_model.specs.Rules.{coer};
 ghost use Rattle.asn1_schema_constraints.specs.Terms.{meant};
 ghost use Rattle.asn1_schema_decode.specs.Messages.{NeedsMore, NoMessage, Tells};
 ghost use Rattle.oer_codec.specs.Encoded.{IsEncoded, NotEncoded};
+ghost use Rattle.asn1_schema_encode.specs.Written.{IsOfValue};
 
 pub use crate::oer::{Decoder, DecoderOptions, Encoder, EncoderOptions, EncodingRules};
 use asn1_schema_constraints::Constraints;
 use asn1_schema_decode::{Decode, Refusal};
 use asn1_schema_encode::Encode;
-use asn1_schema_faults::{DecodeError, EncodeError};
+use asn1_schema_errors::{DecodeError, EncodeError};
 use std::alloc::Global;
 
 /// The canonical encoding of a value (X.696), which OER and COER have in common.
@@ -22,9 +23,7 @@ use std::alloc::Global;
 pub fn encode<T: Encode>(alloc: Global, value: &T) -> Result<Vec<u8>, EncodeError>
     ensures ok { IfOk result (λ octets. IsEncoded T.schema (T.meaning value.now) octets.items) }
     ensures only { IfErr result (NotEncoded T.schema (T.meaning value.now)) }
-    ensures fresh { IfErr result (λ e. e ≡ EncodeError.AlreadyFailed → ⊥) }
-    ensures fits { IfErr result (λ e. e ≡ EncodeError.LengthExceedsPlatformSize → ⊥) }
-    ensures in_place { IfErr result (λ e. e ≡ EncodeError.CallOutOfPlace → ⊥) }
+    ensures kinds { IfErr result IsOfValue }
 {
     crate::writing::encode(alloc, value)
 }
@@ -43,9 +42,7 @@ pub fn encode_buf<T: Encode>(
         ((octets : List ℕ)
         × IsEncoded T.schema (T.meaning value.now) octets × (buffer.new.items ≡ buffer.old.items ++ octets)) }
     ensures only { IfErr result (NotEncoded T.schema (T.meaning value.now)) }
-    ensures fresh { IfErr result (λ e. e ≡ EncodeError.AlreadyFailed → ⊥) }
-    ensures fits { IfErr result (λ e. e ≡ EncodeError.LengthExceedsPlatformSize → ⊥) }
-    ensures in_place { IfErr result (λ e. e ≡ EncodeError.CallOutOfPlace → ⊥) }
+    ensures kinds { IfErr result IsOfValue }
     ensures same { OnErr result (buffer.new.items ≡ buffer.old.items) }
 {
     crate::writing::encode_buf(alloc, value, buffer)
@@ -64,9 +61,7 @@ pub fn encode_with_constraints<T: Encode>(
     ensures ok { IfOk result
         (λ octets. IsEncoded (T.under (meant constraints.now)) (T.meaning value.now) octets.items) }
     ensures only { IfErr result (NotEncoded (T.under (meant constraints.now)) (T.meaning value.now)) }
-    ensures fresh { IfErr result (λ e. e ≡ EncodeError.AlreadyFailed → ⊥) }
-    ensures fits { IfErr result (λ e. e ≡ EncodeError.LengthExceedsPlatformSize → ⊥) }
-    ensures in_place { IfErr result (λ e. e ≡ EncodeError.CallOutOfPlace → ⊥) }
+    ensures kinds { IfErr result IsOfValue }
 {
     crate::writing::encode_with_constraints(alloc, constraints, value)
 }

@@ -5,11 +5,10 @@ ghost use Rattle.asn1_schema_constraints.specs.Terms.{meant};
 ghost use Rattle.asn1_schema_decode.specs.Messages.{Tells, NoMessage, NeedsMore};
 ghost use Rattle.oer_codec.specs.Messages.{rules_of};
 
-use crate::decoder::Decoder;
-use crate::options::DecoderOptions;
 use asn1_schema_constraints::Constraints;
 use asn1_schema_decode::{Decode, Refusal};
-use asn1_schema_faults::DecodeError;
+use asn1_schema_errors::DecodeError;
+use oer_codec_decoder::{Decoder, DecoderOptions};
 use oer_codec_reading::EncodingRules;
 use std::alloc::Global;
 
@@ -48,10 +47,12 @@ pub fn decode_with_remainder<'input, T: Decode>(
     ensures only { IfErr result (NoMessage (rules_of rules) T.schema input.now) }
     ensures fresh { IfErr result (λ e. e ≡ DecodeError.AlreadyFailed → ⊥) }
 {
-    match decode_or_need(alloc, input, rules) {
-        Ok(found) => Ok(found),
-        Err(refusal) => Err(refusal.error),
-    }
+    let mut decoder = Decoder::new(alloc, input, DecoderOptions { rules });
+    let looked_at = decoder.remaining().len();
+    let value = T::decode(alloc, &mut decoder)?;
+    let taken = looked_at - decoder.remaining().len();
+    let (_, rest) = input.split_at(taken);
+    Ok((value, rest))
 }
 
 /// As `decode_with_remainder`; an error also says how many more octets are needed at least. With fewer octets appended,

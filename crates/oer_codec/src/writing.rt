@@ -3,10 +3,11 @@ ghost use Rattle.std.specs.Prelude.{◌≡◌, ◌++◌, [], List, ℕ, length, 
 ghost use Rattle.std.specs.Prelude.{◌^◌, take, drop};
 ghost use Rattle.asn1_schema_constraints.specs.Terms.{meant};
 ghost use Rattle.oer_codec.specs.Encoded.{IsEncoded, NotEncoded};
+ghost use Rattle.asn1_schema_encode.specs.Written.{IsOfValue};
 
 use asn1_schema_constraints::Constraints;
 use asn1_schema_encode::Encode;
-use asn1_schema_faults::{EncodeError, MOST_OCTETS, refusal, within_limit};
+use asn1_schema_errors::{EncodeError, MOST_OCTETS, refusal, within_limit};
 use oer_codec_encoder::{Encoder, EncoderOptions};
 use std::alloc::{AllocError, Global};
 
@@ -23,9 +24,7 @@ const FIRST_CAPACITY: usize = 128;
 pub fn encode<T: Encode>(alloc: Global, value: &T) -> Result<Vec<u8>, EncodeError>
     ensures ok { IfOk result (λ octets. IsEncoded T.schema (T.meaning value.now) octets.items) }
     ensures only { IfErr result (NotEncoded T.schema (T.meaning value.now)) }
-    ensures fresh { IfErr result (λ e. e ≡ EncodeError.AlreadyFailed → ⊥) }
-    ensures fits { IfErr result (λ e. e ≡ EncodeError.LengthExceedsPlatformSize → ⊥) }
-    ensures in_place { IfErr result (λ e. e ≡ EncodeError.CallOutOfPlace → ⊥) }
+    ensures kinds { IfErr result IsOfValue }
 {
     let mut octets = Vec::new(alloc);
     encode_buf(alloc, value, &mut octets)?;
@@ -45,9 +44,7 @@ pub fn encode_with_constraints<T: Encode>(
     ensures ok { IfOk result
         (λ octets. IsEncoded (T.under (meant constraints.now)) (T.meaning value.now) octets.items) }
     ensures only { IfErr result (NotEncoded (T.under (meant constraints.now)) (T.meaning value.now)) }
-    ensures fresh { IfErr result (λ e. e ≡ EncodeError.AlreadyFailed → ⊥) }
-    ensures fits { IfErr result (λ e. e ≡ EncodeError.LengthExceedsPlatformSize → ⊥) }
-    ensures in_place { IfErr result (λ e. e ≡ EncodeError.CallOutOfPlace → ⊥) }
+    ensures kinds { IfErr result IsOfValue }
 {
     let mut output = Vec::with_capacity(alloc, FIRST_CAPACITY)?;
     let mut worker = Vec::new(alloc);
@@ -103,9 +100,7 @@ pub fn encode_buf<T: Encode>(
         ((octets : List ℕ)
         × IsEncoded T.schema (T.meaning value.now) octets × (buffer.new.items ≡ buffer.old.items ++ octets)) }
     ensures only { IfErr result (NotEncoded T.schema (T.meaning value.now)) }
-    ensures fresh { IfErr result (λ e. e ≡ EncodeError.AlreadyFailed → ⊥) }
-    ensures fits { IfErr result (λ e. e ≡ EncodeError.LengthExceedsPlatformSize → ⊥) }
-    ensures in_place { IfErr result (λ e. e ≡ EncodeError.CallOutOfPlace → ⊥) }
+    ensures kinds { IfErr result IsOfValue }
     ensures same { OnErr result (buffer.new.items ≡ buffer.old.items) }
 {
     let front = buffer.len();

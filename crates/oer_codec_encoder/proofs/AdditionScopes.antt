@@ -4,8 +4,8 @@ use Rattle.std.proofs.lemmas.List.{get_or_append_left}
 use Rattle.asn1_model.specs.Form.{written}
 use Rattle.asn1_model.specs.Numbers.{binary, missing}
 use Rattle.asn1_model.specs.Oer
-use Rattle.asn1_schema_presented.specs.Records.{additions_begin, addition, addition_ends}
-use Rattle.asn1_schema_finding.specs.PresenceBits.{is_any_set}
+use Rattle.asn1_schema_laws.specs.Records.{additions_begin, addition, addition_ends}
+use Rattle.asn1_schema_reading_laws.specs.PresenceBits.{is_any_set}
 use Rattle.oer_codec_encoder.specs.Steps.{Scope, added, open_type, State, run, adds_text}
 use Rattle.oer_codec_encoder.specs.declared.frame.Additions.{Additions}
 use Rattle.oer_codec_encoder.specs.declared.frame.Frame.{Frame}

@@ -5,7 +5,7 @@ use Rattle.asn1_model.specs.Oer
 use Rattle.asn1_model.specs.Schema.{Tag}
 use Rattle.asn1_schema_tags.specs.declared.tags.Tag.{Tag as CodeTag}
 use Rattle.asn1_schema_tags.specs.Tags.{tag_of}
-use Rattle.asn1_schema_presented.specs.Records.{choice_begins}
+use Rattle.asn1_schema_laws.specs.Records.{choice_begins}
 use Rattle.oer_codec_encoder.specs.Steps.{open_type, alternative, State, run, tag_at, tags_among, chosen_on}
 use Rattle.oer_codec_encoder.specs.declared.frame.Frame.{Frame}
 use Rattle.oer_codec_encoder.specs.declared.frame.Frame.TheVariants.{OpenType, Alternative}

@@ -7,12 +7,12 @@ use Rattle.asn1_model.specs.Oer
 use Rattle.asn1_model.specs.Schema.{Size, Counts}
 use Rattle.asn1_schema_order.specs.declared.encodings.Entry.{Entry}
 use Rattle.asn1_schema_order.specs.Entries.{octets_of, ArePlaced, AreInOrder}
-use Rattle.asn1_schema_presented.specs.Records.{bag_begins, further, ends}
+use Rattle.asn1_schema_laws.specs.Records.{bag_begins, further, ends}
 use Rattle.oer_codec_encoder.specs.Steps.{bag_members, with_open, State, run, adds_text}
 use Rattle.oer_codec_encoder.specs.declared.frame.Bag.{Bag as BagFrame}
 use Rattle.oer_codec_encoder.specs.declared.frame.Frame.{Frame}
 use Rattle.oer_codec_encoder.specs.declared.frame.Frame.TheVariants.{Bag}
-use Rattle.asn1_schema_faults.specs.declared.EncodeError.{EncodeError}
+use Rattle.asn1_schema_errors.specs.declared.EncodeError.{EncodeError}
 use Rattle.oer_codec_encoder.specs.Frames.{NoEnd}
 use Rattle.oer_codec_encoder.specs.Holding.{NextOfBag, BagEnds, IsInBag, Holds, Does, Cannot}
 use Rattle.oer_codec_encoder.specs.Joined.{texts_joined}
@@ -134,7 +134,7 @@ ordered_text : (es fs : List Entry) → ascending (λ e. Some (octets_of e)) bef
 unfolding written Oer.in_any_order
 ordered_text es fs h = ap (λ o. written (given o (λ xs. joined xs)) 0) (formed es fs h) ∙ joined_text fs 0
 
--- the octets of members in their order
+-- the octets of elements in their order
 abbrev pub bag_text : List (List ℕ) → Option (List ℕ)
 bag_text ws = written (Oer.in_any_order (map (λ w. exactly w) ws) (λ xs. joined xs)) 0
 
@@ -144,13 +144,13 @@ adds_ordered ws es old new h e = ap (option_map (λ w. old ++ w)) (ap (λ l. wri
     forms : map (λ w. exactly w) ws ≡ map form_of h.all
     forms = ap (map (λ w. exactly w)) (sym (placed_octets 0 ws h.all h.placed)) ∙ sym (forms_of h.all)
 
--- a single member
+-- a single element
 pub adds_one : (ws : List (List ℕ)) (w old new : List ℕ) → ws ≡ [] → new ≡ old ++ w → Adds (bag_text (ws ++ w ∷ [])) old new
 unfolding written Oer.in_any_order
 adds_one [] w old new n e = ap (λ l. Some (old ++ l)) (append-nil w) ∙ ap Some (sym e)
 adds_one (v ∷ vs) w old new n e = cc
 
--- no members
+-- no elements
 adds_none : (old : List ℕ) → Adds (bag_text []) old old
 unfolding written Oer.in_any_order
 adds_none old = ap Some (append-nil old)
@@ -176,12 +176,12 @@ pub bag_ends : (f : Frame) (boxed : Box BagFrame Global) (o p : List ℕ) (r : R
 bag_ends f boxed o p (Ok u) x m = λ k. subst (λ g. Does ends (g ∷ k) o k p) (sym x) (does_end_bag boxed k o p m)
 bag_ends f boxed o p (Err e) x m = λ k. subst (λ g. Cannot ends (g ∷ k) o e) (sym x) (cannot ends (Bag boxed ∷ k) o e m.0 (λ n. no_end_of_bag boxed k o (m.1 n)))
 
--- a member is open
+-- an element is open
 pub ends_with_open : (b : BagFrame) (o p q w : List ℕ) (ms : List (List ℕ)) → b.due ≡ 0 → b.members ≡ Some ms → w ≡ o → q ≡ b.outer.items → Adds (bag_text (ms ++ w ∷ [])) q p → BagEnds b o p
 ends_with_open b o p q w ms n e f g x =
     (n, subst (λ l. Adds (bag_text l) b.outer.items p) (ap (λ l. ms ++ l ∷ []) f ∙ ap (λ m. with_open m o) (sym e)) (subst (λ l. Adds (bag_text (ms ++ w ∷ [])) l p) g x))
 
--- no members were due
+-- no elements were due
 pub ends_without : (b : BagFrame) (o p : List ℕ) → b.due ≡ 0 → b.members ≡ None → p ≡ b.outer.items → BagEnds b o p
 ends_without b o p n e g =
     (n, subst (λ l. Adds (bag_text l) b.outer.items p) (ap (λ m. with_open m o) (sym e)) (subst (λ l. Adds (bag_text []) b.outer.items l) (sym g) (adds_none b.outer.items)))

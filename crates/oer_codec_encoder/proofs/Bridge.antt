@@ -8,8 +8,8 @@ use Rattle.asn1_model.specs.Normal.{is_required, presence_bit_unless, presence_b
 use Rattle.asn1_model.specs.Numbers.{missing}
 use Rattle.asn1_model.specs.Form.{refused, both, varied, only_if, written}
 use Rattle.asn1_model.specs.Oer
-use Rattle.asn1_schema_presented.specs.Records.{Record, presence_bit, is_default, is_empty, ends, mismatch}
-use Rattle.asn1_schema_presented.specs.Presents.{presents, root_records, optional_count, with_presence_bit}
+use Rattle.asn1_schema_laws.specs.Records.{Record, presence_bit, is_default, is_empty, ends, mismatch}
+use Rattle.asn1_schema_laws.specs.Presents.{presents, root_records, optional_count, with_presence_bit}
 use Rattle.oer_codec_encoder.proofs.Still.{OctetsStill, still_if, counted_still, integer_still, item_still, bit_string_still, octets_still}
 use Rattle.oer_codec_encoder.specs.Steps.{Scope, components, State, adds_text, runs}
 use Rattle.oer_codec_encoder.specs.Ties.{BridgesAt, Bridges}

@@ -3,9 +3,9 @@ use Rattle.std.proofs.Common.{◌≡◌, ℕ, List, [], ◌∷◌, ◌++◌, Opt
 use Rattle.std.proofs.lemmas.List.{append-nil}
 use Rattle.asn1_model.specs.Form.{written}
 use Rattle.asn1_model.specs.Oer
-use Rattle.asn1_schema_presented.specs.Records.{Record}
-use Rattle.asn1_schema_presented.specs.Presents.{presents}
-use Rattle.asn1_schema_presented.specs.Chains.{Chain}
+use Rattle.asn1_schema_laws.specs.Records.{Record}
+use Rattle.asn1_schema_laws.specs.Presents.{presents}
+use Rattle.asn1_schema_laws.specs.Chains.{Chain}
 use Rattle.oer_codec_encoder.specs.Steps.{State, Step, run, runs}
 use Rattle.oer_codec_encoder.specs.Ties.{ChainsAddTheOctets}
 use Rattle.oer_codec_encoder.proofs.Types.{every_type}

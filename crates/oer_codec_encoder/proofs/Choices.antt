@@ -5,8 +5,8 @@ use Rattle.asn1_model.specs.Schema.{Tag, Schema, choice, Alternatives, no_altern
 use Rattle.asn1_model.specs.Lawful.{alternative_tags}
 use Rattle.asn1_model.specs.Form.{both, written}
 use Rattle.asn1_model.specs.Oer
-use Rattle.asn1_schema_presented.specs.Records.{Record, ends}
-use Rattle.asn1_schema_presented.specs.Presents.{presents, chosen_records}
+use Rattle.asn1_schema_laws.specs.Records.{Record, ends}
+use Rattle.asn1_schema_laws.specs.Presents.{presents, chosen_records}
 use Rattle.oer_codec_encoder.specs.Steps.{Scope, alternative, open_type, runs, tag_at, chosen_on}
 use Rattle.oer_codec_encoder.specs.Ties.{BridgesAt, Bridges}
 use Rattle.oer_codec_encoder.proofs.Still.{tag_still}

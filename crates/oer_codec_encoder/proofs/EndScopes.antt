@@ -7,10 +7,10 @@ use Rattle.asn1_model.specs.Oer
 use Rattle.asn1_values_bits.specs.Octets.{padded}
 use Rattle.asn1_values_bits.proofs.Binary.{length-octet_bits}
 use Rattle.asn1_values_bits.proofs.Change.{kept_changed}
-use Rattle.asn1_schema_faults.specs.declared.EncodeError.{EncodeError}
-use Rattle.asn1_schema_faults.specs.declared.EncodeError.TheVariants.{OutOfMemory}
-use Rattle.asn1_schema_presented.specs.Records.{ends}
-use Rattle.asn1_schema_finding.specs.PresenceBits.{is_any_set}
+use Rattle.asn1_schema_errors.specs.declared.EncodeError.{EncodeError}
+use Rattle.asn1_schema_errors.specs.declared.EncodeError.TheVariants.{OutOfMemory}
+use Rattle.asn1_schema_laws.specs.Records.{ends}
+use Rattle.asn1_schema_reading_laws.specs.PresenceBits.{is_any_set}
 use Rattle.oer_codec_encoder.specs.Steps.{State, run, adds_text, with_added}
 use Rattle.oer_codec_encoder.proofs.Still.{counted_bits_still}
 use Rattle.oer_codec_encoder.specs.declared.frame.Additions.{Additions}

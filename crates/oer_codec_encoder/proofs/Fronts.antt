@@ -5,7 +5,7 @@ use Rattle.asn1_model.specs.Form.{written}
 use Rattle.asn1_model.specs.Oer
 use Rattle.asn1_model.specs.Versions.{Begins}
 use Rattle.asn1_values_identifiers.proofs.Begins.{begins_same, begins_through}
-use Rattle.asn1_schema_presented.specs.Records.{Record, flag, nil, whole, one_of, bits, octets, characters, identifier, list_begins, bag_begins, further, sequence_begins, set_begins, group_begins, presence_bit, is_default, is_empty, additions_begin, addition, addition_ends, choice_begins, ends, mismatch}
+use Rattle.asn1_schema_laws.specs.Records.{Record, flag, nil, whole, one_of, bits, octets, characters, identifier, list_begins, bag_begins, further, sequence_begins, set_begins, group_begins, presence_bit, is_default, is_empty, additions_begin, addition, addition_ends, choice_begins, ends, mismatch}
 use Rattle.oer_codec_encoder.specs.Fronts.{outermost, first_of, ground, Keeps, Stands}
 use Rattle.oer_codec_encoder.specs.Holding.{shown, Holds, Does}
 use Rattle.oer_codec_encoder.specs.Steps.{Scope, components, added, open_type, members, bag_members, alternative, State, run, adds_text, presence_told, goes_on, ended, extended, adds, added_one, chosen_on, tag_at, tags_among}

@@ -1,4 +1,4 @@
--- Loops over members.
+-- Loops over elements.
 use Rattle.std.proofs.Common.{◌≡◌, ℕ, ◌+◌, ◌<◌, List, [], ◌∷◌, ◌++◌, length, get_or, map, take, ap, sym, ◌∙◌, append_assoc}
 use Rattle.std.proofs.lemmas.List.{take_more, append-nil}
 use Rattle.asn1_schema_order.specs.declared.encodings.Entry.{Entry}

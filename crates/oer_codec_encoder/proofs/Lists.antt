@@ -1,4 +1,4 @@
--- SEQUENCE OF: the count, and the members.
+-- SEQUENCE OF: the count, and the elements.
 use Rattle.std.proofs.Common.{◌≡◌, ℕ, suc, ◌+◌, Bool, true, false, List, ◌∷◌, ◌++◌, length, Option, Some, None, option_map, option_and_then, refl, ap, sym, ◌∙◌, append_assoc}
 use Rattle.std.proofs.lemmas.List.{append-nil}
 use Rattle.asn1_model.specs.Value.{Value, members as in_list, Values, no_more, member, each}
@@ -6,9 +6,9 @@ use Rattle.asn1_model.specs.Schema.{Counts, Size, Schema, sequence_of}
 use Rattle.asn1_model.specs.Numbers.{is_count_within}
 use Rattle.asn1_model.specs.Form.{both, only_if, joined, written}
 use Rattle.asn1_model.specs.Oer
-use Rattle.asn1_schema_presented.specs.Records.{Record}
+use Rattle.asn1_schema_laws.specs.Records.{Record}
 use Rattle.asn1_model.specs.Lawful.{member_count}
-use Rattle.asn1_schema_presented.specs.Presents.{presents, member_records}
+use Rattle.asn1_schema_laws.specs.Presents.{presents, member_records}
 use Rattle.oer_codec_encoder.specs.Steps.{Scope, members, State, runs}
 use Rattle.oer_codec_encoder.specs.Ties.{Bridges}
 use Rattle.oer_codec_encoder.proofs.Still.{unsigned_still}

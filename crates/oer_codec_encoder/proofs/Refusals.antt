@@ -2,9 +2,9 @@
 use Rattle.std.proofs.Common.{◌≡◌, ℕ, zero, suc, not, ltb, Bool, true, false, List, [], ◌∷◌, Option, None, Box, Global, Result, Ok, Err, MatchResult, refl, ap, subst, sym, ◌∙◌, arith}
 use Rattle.std.specs.Result.{IsErr, IsErrAnd}
 use Rattle.std.proofs.lemmas.Bool.{lt-ltb}
-use Rattle.asn1_schema_faults.specs.declared.EncodeError.{EncodeError}
-use Rattle.asn1_schema_faults.specs.declared.EncodeError.TheVariants.{ValueConstraintNotSatisfied, SizeConstraintNotSatisfied, AlphabetConstraintNotSatisfied, TooLongValue, LengthExceedsPlatformSize, CallOutOfPlace, OutOfMemory, AlreadyFailed}
-use Rattle.asn1_schema_presented.specs.Records.{Record, presence_bit, additions_begin, addition, addition_ends, further}
+use Rattle.asn1_schema_errors.specs.declared.EncodeError.{EncodeError}
+use Rattle.asn1_schema_errors.specs.declared.EncodeError.TheVariants.{ValueConstraintNotSatisfied, SizeConstraintNotSatisfied, AlphabetConstraintNotSatisfied, TooLongValue, LengthExceedsPlatformSize, CallOutOfPlace, OutOfMemory, AlreadyFailed}
+use Rattle.asn1_schema_laws.specs.Records.{Record, presence_bit, additions_begin, addition, addition_ends, further}
 use Rattle.oer_codec_encoder.specs.Steps.{components, open_type, bag_members, State, run}
 use Rattle.oer_codec_encoder.specs.declared.frame.Additions.{Additions}
 use Rattle.oer_codec_encoder.specs.declared.frame.Bag.{Bag as BagFrame}

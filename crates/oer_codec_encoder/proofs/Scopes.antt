@@ -8,7 +8,7 @@ use Rattle.asn1_values_bits.specs.Octets.{padded}
 use Rattle.asn1_values_bits.proofs.Binary.{octet_bits-append, length-octet_bits}
 use Rattle.asn1_values_bits.proofs.Change.{kept_changed}
 use Rattle.asn1_values_bits.proofs.Packed.{packed-octet_bits}
-use Rattle.asn1_schema_presented.specs.Records.{Record, sequence_begins, presence_bit, ends, further, list_begins}
+use Rattle.asn1_schema_laws.specs.Records.{Record, sequence_begins, presence_bit, ends, further, list_begins}
 use Rattle.asn1_model.specs.Form.{written, exactly, only_if}
 use Rattle.asn1_model.specs.Oer
 use Rattle.asn1_model.specs.Schema.{Size, Counts}
@@ -18,7 +18,7 @@ use Rattle.oer_codec_encoder.specs.declared.frame.Frame.{Frame}
 use Rattle.oer_codec_encoder.specs.declared.frame.Frame.TheVariants.{Components, Added, OpenType, Members, Bag, Alternative}
 use Rattle.oer_codec_encoder.specs.declared.frame.Preamble.{Preamble}
 use Rattle.oer_codec_encoder.specs.Frames.{told}
-use Rattle.asn1_schema_finding.specs.PresenceBits.{preamble}
+use Rattle.asn1_schema_reading_laws.specs.PresenceBits.{preamble}
 use Rattle.oer_codec_encoder.specs.Holding.{given_bits, octets_filled, shown, HasBits, IsOpen, IsExtended, IsApart, Holds, AreSound, Does}
 use Rattle.oer_codec_writing.specs.Writing.{Adds}
 

@@ -9,9 +9,9 @@ use Rattle.std.proofs.lemmas.Bool.{lt-ltb}
 use Rattle.asn1_model.specs.Form.{exactly, refused, both, given, joined, is_any_present, present_ones, covered_by, written}
 use Rattle.std.specs.Prelude.{is_some}
 use Rattle.asn1_model.specs.Oer
-use Rattle.asn1_schema_presented.specs.Records.{Record, additions_begin, addition, addition_ends, is_default, is_empty, mismatch}
-use Rattle.asn1_schema_presented.specs.Presents.{presents, added_records, component_count, root_records, optional_count, behind_root}
-use Rattle.asn1_schema_finding.specs.PresenceBits.{is_any_set}
+use Rattle.asn1_schema_laws.specs.Records.{Record, additions_begin, addition, addition_ends, is_default, is_empty, mismatch}
+use Rattle.asn1_schema_laws.specs.Presents.{presents, added_records, component_count, root_records, optional_count, behind_root}
+use Rattle.asn1_schema_reading_laws.specs.PresenceBits.{is_any_set}
 use Rattle.oer_codec_encoder.specs.Steps.{Scope, components, added, open_type, State, runs, adds_text, with_added}
 use Rattle.oer_codec_encoder.proofs.Still.{OctetsStill, still_both, counted_still, counted_bits_still}
 use Rattle.oer_codec_encoder.specs.Ties.{BridgesAt, Bridges}

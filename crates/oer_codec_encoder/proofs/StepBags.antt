@@ -1,4 +1,4 @@
--- SET OF: the members in the ascending order of their octets.
+-- SET OF: the elements in the ascending order of their octets.
 use Rattle.std.proofs.Common.{◌≡◌, ℕ, suc, ◌+◌, ltb, Bool, true, false, cond, List, [], ◌∷◌, ◌++◌, length, map, Option, Some, None, option_map, option_and_then, refl, ap, sym, subst, ◌∙◌, append_assoc}
 use Rattle.std.proofs.lemmas.List.{append-nil, length-map}
 use Rattle.asn1_model.specs.Value.{bag, Values, no_more, member, each}
@@ -6,9 +6,9 @@ use Rattle.asn1_model.specs.Schema.{Counts, Size, Schema, set_of}
 use Rattle.asn1_model.specs.Numbers.{is_count_within}
 use Rattle.asn1_model.specs.Form.{exactly, both, only_if, given, joined, written, stands_before, put_in_place, with_keys}
 use Rattle.asn1_model.specs.Oer
-use Rattle.asn1_schema_presented.specs.Records.{Record}
+use Rattle.asn1_schema_laws.specs.Records.{Record}
 use Rattle.asn1_model.specs.Lawful.{member_count}
-use Rattle.asn1_schema_presented.specs.Presents.{presents, member_records}
+use Rattle.asn1_schema_laws.specs.Presents.{presents, member_records}
 use Rattle.oer_codec_encoder.specs.Steps.{Scope, bag_members, with_open, State, runs}
 use Rattle.oer_codec_encoder.specs.Ties.{Bridges}
 use Rattle.oer_codec_encoder.proofs.Still.{OctetsStill, unsigned_still}
@@ -120,7 +120,7 @@ closed_bag ws = go (with_keys (λ x. written x 0) before (forms_of ws)) (rw (sym
     go None k = absurd k
     go (Some es) k = joined_keyed es (sorted ws) k.0 0
 
--- ---- the members
+-- ---- the elements
 
 all_in_bag : (s : Schema) → Bridges s → (vs : Values) (begun : Option (List (List ℕ))) (os front : List ℕ) (k : List Scope) (rest : List Record) → runs (member_records (λ v. presents s v) vs ++ rest) (os, bag_members (member_count vs) begun front ∷ k) ≡ option_and_then (λ ws. runs rest (front ++ all_of (sorted (with_open begun os ++ ws)), k)) (texts_each (each (λ v. Oer.form s v) vs))
 all_in_bag s h no_more begun os front k rest =
@@ -151,7 +151,7 @@ closed_of h n p (Some es) (Some ws) k = rw (length-map es (λ e. e.1), k.1) (go 
     go false = refl
     go true = chain_same (written (Oer.unsigned n) p) _ (λ a. Some (a ++ all_of (sorted ws))) (λ a. ap (option_map (λ b. a ++ b)) (joined_keyed es (sorted ws) k.0 (p + length a)))
 
--- the count, and the members after it
+-- the count, and the elements after it
 counted_bag : (n p : ℕ) (os : List ℕ) (k : List Scope) (rs rest : List Record) (ws : Option (List (List ℕ))) → ((front : List ℕ) → runs rs ([], bag_members n None front ∷ k) ≡ option_and_then (λ us. runs rest (front ++ all_of (sorted us), k)) ws) → (c : Bool) → option_and_then (λ m. runs rs m) (option_map {U = State} (λ w. ([], bag_members n None (os ++ w) ∷ k)) (written (only_if c (Oer.unsigned n)) 0)) ≡ option_and_then (λ w. runs rest (os ++ w, k)) (option_and_then (λ us. written (only_if c (both (Oer.unsigned n) (exactly (all_of (sorted us))))) p) ws)
 unfolding written
 counted_bag n p os k rs rest ws h false = ap (option_and_then (λ w. runs rest (os ++ w, k))) (sym (none_behind ws))

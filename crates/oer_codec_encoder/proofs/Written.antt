@@ -7,10 +7,10 @@ use Rattle.asn1_model.specs.Form.{written}
 use Rattle.asn1_model.specs.Rules.{octet_encoding, encoding, of_moderate_length, canonical}
 use Rattle.asn1_model.specs.Oer
 use Rattle.asn1_schema_encode.specs.Written.{IsWrittenIn}
-use Rattle.asn1_schema_presented.specs.Records.{Record}
-use Rattle.asn1_schema_presented.specs.Presents.{presents, Fits}
-use Rattle.asn1_schema_presented.specs.Chains.{Chain}
-use Rattle.asn1_schema_presented.specs.Tables.{IsValue}
+use Rattle.asn1_schema_laws.specs.Records.{Record}
+use Rattle.asn1_schema_laws.specs.Presents.{presents, Fits}
+use Rattle.asn1_schema_laws.specs.Chains.{Chain}
+use Rattle.asn1_schema_laws.specs.Tables.{IsValue}
 use Rattle.oer_codec_encoder.specs.Steps.{State, Step}
 use Rattle.oer_codec_encoder.specs.Written.{WrittenByRecords, RefusedByRecords, IsWriter, octet_rules, WritesTheOctets, RefusesOnlyNone}
 use Rattle.oer_codec_encoder.proofs.Chains.{chains_add}

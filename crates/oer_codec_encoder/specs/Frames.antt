@@ -1,7 +1,7 @@
 -- The frames of an encoder, and how they change.
 use Rattle.std.specs.Prelude.{◌≡◌, ℕ, ◌+◌, ◌-◌, ◌<◌, Bool, ◌||◌, List, [], ◌∷◌, reverse, not, ltb, Option, Some, None}
-use Rattle.asn1_schema_faults.specs.declared.EncodeError.{EncodeError}
-use Rattle.asn1_schema_faults.specs.declared.EncodeError.TheVariants.{AlreadyFailed, OutOfMemory}
+use Rattle.asn1_schema_errors.specs.declared.EncodeError.{EncodeError}
+use Rattle.asn1_schema_errors.specs.declared.EncodeError.TheVariants.{AlreadyFailed, OutOfMemory}
 use Rattle.oer_codec_encoder.specs.declared.frame.Additions.{Additions}
 use Rattle.oer_codec_encoder.specs.declared.frame.Frame.{Frame}
 use Rattle.oer_codec_encoder.specs.declared.frame.Frame.TheVariants.{OpenType, Members, Alternative}
@@ -43,10 +43,10 @@ with_next here a = record {
   root_end = a.root_end;
 }
 
--- Why a bag with a number of members due does not end: memory ran out, or one is due.
+-- Why a bag with a number of elements due does not end: memory ran out, or one is due.
 abbrev pub NoEnd : ℕ → EncodeError → Type 0
 NoEnd due e = ¬ (e ≡ AlreadyFailed) × (¬ (e ≡ OutOfMemory) → 0 < due)
 
--- Why no member, or no end of the members, comes with a number of them due: memory ran out, or something else is due.
+-- Why no element, or no end of the elements, comes with a number of them due: memory ran out, or something else is due.
 abbrev pub NoMember : Bool → ℕ → EncodeError → Type 0
 NoMember more due e = ¬ (e ≡ AlreadyFailed) × (¬ (e ≡ OutOfMemory) → more ≡ not (ltb 0 due))

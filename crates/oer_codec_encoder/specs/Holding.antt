@@ -5,11 +5,11 @@ use Rattle.asn1_model.specs.Form.{written, exactly, joined}
 use Rattle.asn1_model.specs.Numbers.{octet_bits}
 use Rattle.asn1_model.specs.Oer
 use Rattle.asn1_values_bits.specs.Octets.{padded}
-use Rattle.asn1_schema_faults.specs.declared.EncodeError.{EncodeError}
-use Rattle.asn1_schema_faults.specs.declared.EncodeError.TheVariants.{AlreadyFailed, OutOfMemory}
-use Rattle.asn1_schema_presented.specs.Records.{Record}
+use Rattle.asn1_schema_errors.specs.declared.EncodeError.{EncodeError}
+use Rattle.asn1_schema_errors.specs.declared.EncodeError.TheVariants.{AlreadyFailed, OutOfMemory}
+use Rattle.asn1_schema_laws.specs.Records.{Record}
 use Rattle.oer_codec_encoder.specs.Steps.{components, added, open_type, members, bag_members, alternative, with_open}
-use Rattle.asn1_schema_finding.specs.PresenceBits.{is_any_set, preamble}
+use Rattle.asn1_schema_reading_laws.specs.PresenceBits.{is_any_set, preamble}
 use Rattle.oer_codec_encoder.specs.Steps.{State, run}
 use Rattle.oer_codec_encoder.specs.declared.frame.Additions.{Additions}
 use Rattle.oer_codec_encoder.specs.declared.frame.Bag.{Bag as BagFrame}
@@ -103,7 +103,7 @@ pub record IsApart (below : List ℕ → State → Type 0) (start : ℕ) (o : Li
   pub under : below front outer
   pub is : s ≡ (inner, open_type outer.0 ∷ outer.1)
 
--- The octets are those of the open member of a bag. The bag has those before it.
+-- The octets are those of the open element of a bag. The bag has those before it.
 abbrev pub IsInBag : (List ℕ → State → Type 0) → BagFrame → List ℕ → State → Type 0
 IsInBag below b o s = (outer : State) × (s ≡ (o, bag_members b.due b.members outer.0 ∷ outer.1))
     × below b.outer.items outer
@@ -133,13 +133,13 @@ Cannot r fs o OutOfMemory = Unit {0}
 Cannot r fs o AlreadyFailed = ⊥
 Cannot r fs o e = (s : State) → Holds fs o s → run r s ≡ None
 
--- A bag, and the octets of a member: one that begins, or the bag as it was.
+-- A bag, and the octets of an element: one that begins, or the bag as it was.
 abbrev pub NextOfBag : Bool → BagFrame → List ℕ → BagFrame → List ℕ → Type 0
 NextOfBag true b o c p = (0 < b.due) × (c.due ≡ b.due - 1) × (c.outer ≡ b.outer)
     × (c.members ≡ Some (with_open b.members o)) × (p ≡ [])
 NextOfBag false b o c p = (b.due ≡ 0) × (c ≡ b) × (p ≡ o)
 
--- No member of a bag is due, and they are added in the ascending order of their octets.
+-- No element of a bag is due, and they are added in the ascending order of their octets.
 abbrev pub BagEnds : BagFrame → List ℕ → List ℕ → Type 0
 BagEnds b o p = (b.due ≡ 0) × Adds
     (written (Oer.in_any_order (map (λ w. exactly w) (with_open b.members o)) (λ xs. joined xs)) 0) b.outer.items p

@@ -1,4 +1,4 @@
--- Octets in sequence, as the end of a bag appends those of its members.
+-- Octets in sequence, as the end of a bag appends those of its elements.
 use Rattle.std.specs.Prelude.{ℕ, List, [], ◌∷◌, ◌++◌}
 
 -- The octets of some texts in sequence.

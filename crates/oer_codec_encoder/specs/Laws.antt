@@ -1,7 +1,7 @@
 -- The laws of the encoder.
 use Rattle.std.proofs.Common.{◌≡◌, ℕ, Bool, true, false, List, Some, refl, sym, ◌∙◌, ap}
-use Rattle.asn1_schema_faults.specs.declared.CodecKind.TheVariants.{Coer}
-use Rattle.asn1_schema_presented.specs.Records.{Record}
+use Rattle.asn1_schema_errors.specs.declared.CodecKind.TheVariants.{Coer}
+use Rattle.asn1_schema_laws.specs.Records.{Record}
 use Rattle.oer_codec_encoder.specs.Steps.{State}
 use Rattle.oer_codec_encoder.specs.Stepping.{Written, Puts}
 

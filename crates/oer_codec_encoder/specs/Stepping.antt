@@ -1,6 +1,6 @@
 -- What an encoder holds, and how records change it.
 use Rattle.std.specs.Prelude.{◌≡◌, ℕ, Bool, false, List, Some}
-use Rattle.asn1_schema_presented.specs.Records.{Record}
+use Rattle.asn1_schema_laws.specs.Records.{Record}
 use Rattle.oer_codec_encoder.specs.Steps.{State, run}
 
 -- What an encoder holds: what a writer holds, whether an earlier call failed, and the octets to which it appends.

@@ -8,11 +8,11 @@ use Rattle.asn1_model.specs.Schema.{object_identifier}
 use Rattle.asn1_model.specs.Numbers.{is_count_within}
 use Rattle.asn1_model.specs.Form.{exactly, written, both, joined, only_if}
 use Rattle.asn1_model.specs.Oer
-use Rattle.asn1_schema_finding.specs.PresenceBits.{is_any_set}
-use Rattle.asn1_schema_presented.specs.Records.{Record, flag, nil, whole, one_of, bits, octets, characters}
-use Rattle.asn1_schema_presented.specs.Records.{identifier, list_begins, bag_begins, further, sequence_begins}
-use Rattle.asn1_schema_presented.specs.Records.{set_begins, group_begins, presence_bit, additions_begin, addition}
-use Rattle.asn1_schema_presented.specs.Records.{addition_ends, choice_begins, ends}
+use Rattle.asn1_schema_reading_laws.specs.PresenceBits.{is_any_set}
+use Rattle.asn1_schema_laws.specs.Records.{Record, flag, nil, whole, one_of, bits, octets, characters}
+use Rattle.asn1_schema_laws.specs.Records.{identifier, list_begins, bag_begins, further, sequence_begins}
+use Rattle.asn1_schema_laws.specs.Records.{set_begins, group_begins, presence_bit, additions_begin, addition}
+use Rattle.asn1_schema_laws.specs.Records.{addition_ends, choice_begins, ends}
 
 -- An open scope.
 pub data Scope : Type 0 where
@@ -25,10 +25,10 @@ pub data Scope : Type 0 where
   added : ℕ → List Bool → List ℕ → List Bool → List ℕ → Scope
   -- an addition, or an added alternative: its octets are kept apart, and those before it are these
   open_type : List ℕ → Scope
-  -- a list: how many members are due
+  -- a list: how many elements are due
   members : ℕ → Scope
-  -- a bag: how many members are due, the octets of each member before the open one, if one is open, and the octets
-  -- before the members
+  -- a bag: how many elements are due, the octets of each element before the open one, if one is open, and the octets
+  -- before the elements
   bag_members : ℕ → Option (List (List ℕ)) → List ℕ → Scope
   -- an alternative of the root
   alternative : Scope
@@ -54,12 +54,12 @@ counted_on zero os k false = Some (os, members zero ∷ k)
 counted_on (suc n) os k true = Some (os, members n ∷ k)
 counted_on (suc n) os k false = None
 
--- The octets of each member of a bag, the open one last.
+-- The octets of each element of a bag, the open one last.
 abbrev pub with_open : Option (List (List ℕ)) → List ℕ → List (List ℕ)
 with_open None os = []
 with_open (Some ws) os = ws ++ os ∷ []
 
--- The members of a bag are kept apart until the end, which puts them in order.
+-- The elements of a bag are kept apart until the end, which puts them in order.
 abbrev pub counted_in : ℕ → Option (List (List ℕ)) → List ℕ → List ℕ → List Scope → Bool → Option State
 counted_in zero ws front os k true = None
 counted_in zero ws front os k false = Some (os, bag_members zero ws front ∷ k)
@@ -88,7 +88,7 @@ abbrev pub closed_added : ℕ → List Bool → List ℕ → List Bool → List 
 closed_added zero ms root bs os front k = adds_text (with_added ms root bs os) (front, k)
 closed_added n ms root bs os front k = None
 
--- The end of a bag puts its members in the ascending order of their octets (X.696 19).
+-- The end of a bag puts its elements in the ascending order of their octets (X.696 19).
 abbrev pub closed_bag : ℕ → List (List ℕ) → List ℕ → List Scope → Option State
 closed_bag zero ws front k = adds_text (written (Oer.in_any_order (map (λ w. exactly w) ws) (λ xs. joined xs)) 0)
     (front, k)

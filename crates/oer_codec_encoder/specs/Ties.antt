@@ -4,9 +4,9 @@ use Rattle.asn1_model.specs.Schema.{Schema}
 use Rattle.asn1_model.specs.Value.{Value}
 use Rattle.asn1_model.specs.Form.{written}
 use Rattle.asn1_model.specs.Oer
-use Rattle.asn1_schema_presented.specs.Records.{Record}
-use Rattle.asn1_schema_presented.specs.Presents.{presents}
-use Rattle.asn1_schema_presented.specs.Chains.{Chain}
+use Rattle.asn1_schema_laws.specs.Records.{Record}
+use Rattle.asn1_schema_laws.specs.Presents.{presents}
+use Rattle.asn1_schema_laws.specs.Chains.{Chain}
 use Rattle.oer_codec_encoder.specs.Steps.{Scope, State, Step, runs}
 
 -- whatever follows, and at every position: none of these forms depends on it

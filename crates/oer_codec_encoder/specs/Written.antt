@@ -4,13 +4,13 @@ use Rattle.asn1_model.specs.Schema.{Schema}
 use Rattle.asn1_model.specs.Value.{Value}
 use Rattle.asn1_model.specs.Normal.{normal}
 use Rattle.asn1_model.specs.Rules.{Rules, oer, coer, octet_encoding, of_moderate_length}
-use Rattle.asn1_schema_faults.specs.declared.EncodeError.{EncodeError}
-use Rattle.asn1_schema_faults.specs.declared.EncodeError.TheVariants.{OutOfMemory}
+use Rattle.asn1_schema_errors.specs.declared.EncodeError.{EncodeError}
+use Rattle.asn1_schema_errors.specs.declared.EncodeError.TheVariants.{OutOfMemory}
 use Rattle.asn1_schema_encode.specs.Writes.{Writes, CannotWrite}
 use Rattle.asn1_schema_encode.specs.Written.{IsWrittenIn}
-use Rattle.asn1_schema_presented.specs.Records.{Record}
-use Rattle.asn1_schema_presented.specs.Presents.{Fits}
-use Rattle.asn1_schema_presented.specs.Tables.{IsValue}
+use Rattle.asn1_schema_laws.specs.Records.{Record}
+use Rattle.asn1_schema_laws.specs.Presents.{Fits}
+use Rattle.asn1_schema_laws.specs.Tables.{IsValue}
 use Rattle.oer_codec_encoder.specs.Steps.{State, Step}
 
 -- From nothing, the records of a value lead exactly to its octets, with no open scope.

@@ -1,14 +1,14 @@
 //! Extension additions of sequences and sets, each an open type (X.696 16 and 30).
 ghost use Rattle.std.specs.Prelude.{◌≡◌, OnErr, MatchResult};
-ghost use Rattle.asn1_schema_presented.specs.Records.{additions_begin, addition, addition_ends};
+ghost use Rattle.asn1_schema_laws.specs.Records.{additions_begin, addition, addition_ends};
 ghost use Rattle.oer_codec_encoder.specs.Fronts.{Keeps};
 ghost use Rattle.oer_codec_encoder.specs.Holding.{AreSound, Does, Cannot};
 
 use crate::frame::{Additions, Frame};
 use crate::frames::Frames;
-use crate::open_types::{insert_length, open_in_place};
+use crate::open_type::{insert_length, open_in_place};
 use crate::sequences::{push_zeros, raise_bit};
-use asn1_schema_faults::EncodeError;
+use asn1_schema_errors::EncodeError;
 use oer_codec_writing::{preamble_len, push_bits_heading};
 use std::alloc::Global;
 

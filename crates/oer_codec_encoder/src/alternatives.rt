@@ -1,16 +1,15 @@
 //! Alternatives of choices (X.696 20).
 ghost use Rattle.std.specs.Prelude.{◌≡◌, map, option_map, OnErr, MatchResult};
-ghost use Rattle.asn1_schema_presented.specs.Records.{choice_begins};
+ghost use Rattle.asn1_schema_laws.specs.Records.{choice_begins};
 ghost use Rattle.asn1_schema_tags.specs.Tags.{tag_of};
 ghost use Rattle.oer_codec_encoder.specs.Fronts.{Keeps};
 ghost use Rattle.oer_codec_encoder.specs.Holding.{Does, Cannot};
 ghost use Rattle.oer_codec_encoder.specs.Steps.{tag_at, tags_among};
 
 use crate::frames::{Frames, SmallFrame};
-use crate::open_types::open_in_place;
-use asn1_schema_faults::EncodeError;
-use asn1_schema_tags::Tag;
-use asn1_schema_variants::Chosen;
+use crate::open_type::open_in_place;
+use asn1_schema_errors::EncodeError;
+use asn1_schema_tags::{Chosen, Tag};
 use oer_codec_writing::push_tag;
 
 /// The tag at an index, if there is one.

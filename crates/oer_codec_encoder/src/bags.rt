@@ -1,9 +1,9 @@
-//! Bags: SET OF, whose members are in ascending order (X.696 19).
+//! Bags: SET OF, whose elements are in ascending order (X.696 19).
 ghost use Rattle.std.specs.Prelude.{◌≡◌, ◌++◌, [], ◌∷◌, map, OnOk, OnErr, MatchResult};
 ghost use Rattle.asn1_model.specs.Form.{written, exactly, joined};
 ghost use Rattle.asn1_model.specs.Oer.{in_any_order};
 ghost use Rattle.asn1_model.specs.Versions.{Begins};
-ghost use Rattle.asn1_schema_presented.specs.Records.{bag_begins};
+ghost use Rattle.asn1_schema_laws.specs.Records.{bag_begins};
 ghost use Rattle.asn1_schema_constraints.specs.Bounds.{members_of};
 ghost use Rattle.asn1_schema_constraints.specs.Terms.{sizes_of};
 ghost use Rattle.asn1_schema_order.specs.Entries.{octets_of};
@@ -17,7 +17,7 @@ use crate::frame::{Bag, Frame};
 use crate::frames::Frames;
 use crate::sequences::count_member;
 use asn1_schema_constraints::{Bounded, Constraints};
-use asn1_schema_faults::EncodeError;
+use asn1_schema_errors::EncodeError;
 use asn1_schema_order::{Encodings, Entry};
 use oer_codec_writing::push_count;
 use std::alloc::{AllocError, Global};
@@ -27,7 +27,7 @@ use std::mem;
 ///
 /// # Errors
 ///
-/// `SizeConstraintNotSatisfied` if the Rust type cannot hold `count` members, and `OutOfMemory`.
+/// `SizeConstraintNotSatisfied` if the Rust type cannot hold `count` elements, and `OutOfMemory`.
 pub(crate) fn begin_bag(
     octets: &mut Vec<u8>,
     frames: &mut Frames,
@@ -63,7 +63,7 @@ pub(crate) fn exchange(octets: &mut Vec<u8>, bag: &mut Bag)
     mem::swap(octets, &mut bag.outer);
 }
 
-/// Begins a further member of a bag if `more`, else expects none to be due (X.696 19). The octets of each member are
+/// Begins a further element of a bag if `more`, else expects none to be due (X.696 19). The octets of each element are
 /// kept apart.
 pub(crate) fn next_of_bag(
     octets: &mut Vec<u8>,
@@ -97,7 +97,7 @@ fn push_each(octets: &mut Vec<u8>, entries: &[Entry<'_>]) -> Result<(), AllocErr
     Ok(())
 }
 
-/// Adds the members of a bag, `last` among them, in ascending order of their octets (X.696 19). A single member is
+/// Adds the elements of a bag, `last` among them, in ascending order of their octets (X.696 19). A single element is
 /// added as it is.
 pub(crate) fn push_members(
     octets: &mut Vec<u8>,

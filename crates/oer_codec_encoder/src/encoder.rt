@@ -1,8 +1,9 @@
 //! The encoder.
 ghost use Rattle.std.specs.Prelude.{◌≡◌, OnOk, OnErr, IfErr, [], true, false};
 ghost use Rattle.asn1_schema_encode.specs.Writes.{Refused};
-ghost use Rattle.asn1_schema_presented.specs.Records.{one_of};
+ghost use Rattle.asn1_schema_laws.specs.Records.{one_of};
 ghost use Rattle.oer_codec_encoder.specs.Stepping.{Puts};
+ghost use Rattle.asn1_schema_errors.specs.Calls.{EncoderCall};
 
 use crate::additions::{begin_additions, encode_addition, end_addition};
 use crate::alternatives::begin_choice;
@@ -12,9 +13,8 @@ use crate::options::EncoderOptions;
 use crate::sequences::{begin_components, begin_members, encode_presence_bit};
 use asn1_schema_constraints::{Bounded, Constraints};
 use asn1_schema_encode::{begin_record, go_on};
-use asn1_schema_faults::{CodecKind, EncodeError};
-use asn1_schema_tags::{Identifier, Tag};
-use asn1_schema_variants::{Chosen, Enumerated};
+use asn1_schema_errors::{CodecKind, EncodeError};
+use asn1_schema_tags::{Chosen, Enumerated, Identifier, Tag};
 use asn1_values_alphabets::StaticPermittedAlphabet;
 use asn1_values_bits::BitStr;
 use asn1_values_identifiers::Oid;
@@ -30,7 +30,7 @@ use std::mem;
 /// Encodes values in COER (X.696) into one buffer.
 ///
 /// Everything is written to the buffer directly, also the octets of additions, after their presence bitmap. Only the
-/// members of a SET OF are written apart, since their order is known at its end. Octets that were in the buffer when
+/// elements of a SET OF are written apart, since their order is known at its end. Octets that were in the buffer when
 /// the encoder began never change.
 #[derive(Drop)]
 pub struct Encoder<'buffer> {
@@ -145,7 +145,7 @@ macro_rules! record {
 
 impl<'buffer> asn1_schema_encode::Encoder for Encoder<'buffer> {
     ghost use Rattle.oer_codec_encoder.specs.Laws.{puts_one, puts_none, puts_on, puts_same};
-    ghost use Rattle.asn1_schema_faults.specs.declared.CodecKind.TheVariants.{Coer};
+    ghost use Rattle.asn1_schema_errors.specs.declared.CodecKind.TheVariants.{Coer};
 
     ghost step = { Puts };
 
@@ -196,10 +196,7 @@ impl<'buffer> asn1_schema_encode::Encoder for Encoder<'buffer> {
             (Puts self.old (one_of T.roots T.extensible T.additions (T.number value.now)) self.new) }
         ensures only { IfErr result
             (Refused Puts (one_of T.roots T.extensible T.additions (T.number value.now)) self.old) }
-        ensures failed { OnErr result (self.new.failed ≡ true) }
-        ensures front { self.new.front ≡ self.old.front }
-        ensures already { self.old.failed ≡ true → result ≡ Err EncodeError.AlreadyFailed }
-        ensures after { result ≡ Err EncodeError.AlreadyFailed → self.old.failed ≡ true }
+        ensures call { EncoderCall (λ s. s.failed ≡ true) (λ s. s.front) self.old self.new result }
     {
         record!(self, push_enumerated(self.output, value))
     }

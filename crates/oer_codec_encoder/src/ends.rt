@@ -1,7 +1,7 @@
 //! Ends of frames.
 ghost use Rattle.std.specs.Prelude.{◌≡◌, ◌<◌, ◌∷◌, OnErr, MatchResult, vec_len};
 ghost use Rattle.asn1_model.specs.Versions.{Begins};
-ghost use Rattle.asn1_schema_presented.specs.Records.{ends};
+ghost use Rattle.asn1_schema_laws.specs.Records.{ends};
 ghost use Rattle.oer_codec_encoder.specs.declared.frame.Frame.TheVariants.{Added};
 ghost use Rattle.oer_codec_encoder.specs.Frames.{frame_of, NoEnd};
 ghost use Rattle.oer_codec_encoder.specs.Fronts.{Keeps};
@@ -10,9 +10,9 @@ ghost use Rattle.oer_codec_encoder.specs.Holding.{AreSound, BagEnds, Does, Canno
 use crate::bags::{exchange, push_members};
 use crate::frame::{Additions, Bag, Frame};
 use crate::frames::SmallFrame;
-use crate::open_types::insert_length;
+use crate::open_type::insert_length;
 use crate::sequences::raise_bit;
-use asn1_schema_faults::EncodeError;
+use asn1_schema_errors::EncodeError;
 use std::alloc::Global;
 
 /// Ends a sequence or set after its root (X.696 16), if no addition is due. If an addition is present, the extension
@@ -36,7 +36,7 @@ fn end_added(octets: &mut Vec<u8>, additions: Additions) -> Result<(), EncodeErr
     Ok(())
 }
 
-/// Ends a bag (X.696 19), if no member is due: its members follow the octets before it, which the bag kept until now.
+/// Ends a bag (X.696 19), if no element is due: its elements follow the octets before it, which the bag kept until now.
 fn end_bag(octets: &mut Vec<u8>, alloc: Global, bag: &mut Bag) -> Result<(), EncodeError>
     ensures step { MatchResult result (λ _. BagEnds bag.old octets.old.items octets.new.items) (NoEnd bag.old.due) }
     ensures kept { OnErr result (Begins bag.old.outer.items bag.new.outer.items) }
@@ -57,7 +57,7 @@ fn end_bag(octets: &mut Vec<u8>, alloc: Global, bag: &mut Bag) -> Result<(), Enc
 ///
 /// # Errors
 ///
-/// `CallOutOfPlace` if a member of a list is due, and `OutOfMemory`.
+/// `CallOutOfPlace` if an element of a list is due, and `OutOfMemory`.
 #[inline(always)]
 pub(crate) fn end_small(
     octets: &mut Vec<u8>,
@@ -78,7 +78,7 @@ pub(crate) fn end_small(
 }
 
 /// Ends a frame that has nothing open inside (X.696 16, 17, 19, 20 and 30), if nothing is due: presence bits in a
-/// sequence without an extension marker, additions in one with a marker, members in a list or bag. Only a bag
+/// sequence without an extension marker, additions in one with a marker, elements in a list or bag. Only a bag
 /// changes: nothing is left in it. If it does not end, it still has the octets before it.
 ///
 /// # Errors

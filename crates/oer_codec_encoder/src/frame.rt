@@ -36,14 +36,14 @@ pub(crate) struct Additions {
     pub(crate) root_end: usize,
 }
 
-/// A bag (X.696 19). Its open member is written into a buffer that holds nothing else.
+/// A bag (X.696 19). Its open element is written into a buffer that holds nothing else.
 #[derive(Drop)]
 pub(crate) struct Bag {
-    /// The number of members still due.
+    /// The number of elements still due.
     pub(crate) due: usize,
-    /// The octets before the members.
+    /// The octets before the elements.
     pub(crate) outer: Vec<u8>,
-    /// The octets of each member before the open one; `None` if no member is open.
+    /// The octets of each element before the open one; `None` if no element is open.
     pub(crate) members: Option<Encodings>,
 }
 
@@ -61,7 +61,7 @@ pub(crate) enum Frame {
     },
     /// A list.
     Members {
-        /// The number of members still due.
+        /// The number of elements still due.
         due: usize,
     },
     /// A bag. It is boxed because it is larger than the others.

@@ -1,7 +1,7 @@
 //! All open frames.
 ghost use Rattle.std.specs.Prelude.{◌≡◌, ◌+◌, ◌^◌, ◌<◌, ◌∷◌, [], List, reverse, OnOk, OnErr, IfSome, IfNone};
 ghost use Rattle.std.specs.Prelude.{MatchResult};
-ghost use Rattle.asn1_schema_presented.specs.Records.{ends, further};
+ghost use Rattle.asn1_schema_laws.specs.Records.{ends, further};
 ghost use Rattle.oer_codec_encoder.specs.declared.frame.Frame.TheVariants.{Added, Bag, Components, OpenType};
 ghost use Rattle.oer_codec_encoder.specs.Frames.{frame_of, others_of, frames_of, told, with_next};
 ghost use Rattle.oer_codec_encoder.specs.Fronts.{ground, Keeps};
@@ -12,18 +12,18 @@ use crate::ends::{end_frame, end_small};
 use crate::frame::{Additions, Frame, Preamble};
 use crate::sequences::count_member;
 use asn1_schema_encode::let_go;
-use asn1_schema_faults::EncodeError;
+use asn1_schema_errors::EncodeError;
 use std::alloc::{AllocError, Global};
 use std::marker::Model;
 use std::mem;
 
-/// An innermost frame that needs no more than one number: a frame around a single value, or a list whose member has
+/// An innermost frame that needs no more than one number: a frame around a single value, or a list whose element has
 /// opened nothing.
 #[derive(Clone, Copy)]
 pub(crate) enum SmallFrame {
     /// A list.
     Members {
-        /// The number of members still due.
+        /// The number of elements still due.
         due: usize,
     },
     /// A root alternative of a choice.
@@ -96,7 +96,7 @@ fn open_frame(
 }
 
 /// Opens a small frame as a frame inside all others. Rarely called: only where something begins in an open type, in
-/// an alternative or in the first member of a list.
+/// an alternative or in the first element of a list.
 #[cold]
 fn settle_small(
     innermost: &mut Option<Frame>,
@@ -380,7 +380,7 @@ impl Frames {
         }
     }
 
-    /// Begins a further member of the innermost list or bag if `more`, else expects none to be due (X.696 17 and 19).
+    /// Begins a further element of the innermost list or bag if `more`, else expects none to be due (X.696 17 and 19).
     /// It writes nothing.
     ///
     /// # Errors

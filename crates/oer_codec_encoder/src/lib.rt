@@ -9,7 +9,7 @@ mod encoder;
 mod ends;
 mod frame;
 mod frames;
-mod open_types;
+mod open_type;
 mod options;
 mod sequences;
 pub mod step_laws;

@@ -3,7 +3,7 @@ ghost use Rattle.std.specs.Prelude.{◌≡◌, ℕ, List, ltb, ◌-◌, ◌+◌,
 ghost use Rattle.std.specs.Prelude.{OnErr, MatchResult, vec_len, true, slice_set, slice_index};
 ghost use Rattle.asn1_model.specs.Numbers.{binary};
 ghost use Rattle.asn1_model.specs.Versions.{Begins};
-ghost use Rattle.asn1_schema_presented.specs.Records.{sequence_begins, presence_bit, list_begins};
+ghost use Rattle.asn1_schema_laws.specs.Records.{sequence_begins, presence_bit, list_begins};
 ghost use Rattle.asn1_schema_constraints.specs.Bounds.{members_of};
 ghost use Rattle.asn1_schema_constraints.specs.Terms.{sizes_of};
 ghost use Rattle.oer_codec_encoder.specs.Frames.{NoMember};
@@ -13,7 +13,7 @@ ghost use Rattle.oer_codec_encoder.specs.Holding.{AreSound, Does, Cannot};
 use crate::frame::{Frame, Preamble};
 use crate::frames::{Frames, SmallFrame};
 use asn1_schema_constraints::{Bounded, Constraints};
-use asn1_schema_faults::EncodeError;
+use asn1_schema_errors::EncodeError;
 use oer_codec_writing::{preamble_len, push_count};
 
 /// Adds `count` zero octets.
@@ -109,7 +109,7 @@ pub(crate) fn encode_presence_bit(
 ///
 /// # Errors
 ///
-/// `SizeConstraintNotSatisfied` if the Rust type cannot hold `count` members, and `OutOfMemory`.
+/// `SizeConstraintNotSatisfied` if the Rust type cannot hold `count` elements, and `OutOfMemory`.
 #[inline]
 pub(crate) fn begin_members(
     octets: &mut Vec<u8>,
@@ -129,7 +129,7 @@ pub(crate) fn begin_members(
     Ok(())
 }
 
-/// Counts a further member if `more`, else expects none to be due.
+/// Counts a further element if `more`, else expects none to be due.
 #[inline(always)]
 pub(crate) fn count_member(due: &mut usize, more: bool) -> Result<(), EncodeError>
     ensures { MatchResult result (λ _. (more ≡ ltb 0 due.old) × (due.new ≡ due.old - cond more 1 0))

@@ -2,7 +2,7 @@
 //! canonical octets. A record is one call of an encoder, with its value. The functions do nothing: each contract is a
 //! law.
 
-ghost use Rattle.asn1_schema_presented.specs.Records.{Record};
+ghost use Rattle.asn1_schema_laws.specs.Records.{Record};
 ghost use Rattle.oer_codec_encoder.specs.Steps.{State};
 ghost use Rattle.oer_codec_encoder.specs.Ties.{ChainsAddTheOctets, EveryTypeBridges};
 ghost use Rattle.oer_codec_encoder.specs.Written.{IsWriter, RefusedByRecords, RefusesOnlyNone, WrittenByRecords};

@@ -10,10 +10,10 @@ use Rattle.asn1_values_bits.proofs.Binary.{binary_join, binary_zero, low_zeros, 
 use Rattle.asn1_values_bits.proofs.Packed.{packed-octet_bits}
 use Rattle.asn1_values_natives.proofs.OctetLaws.{AreOctets}
 use Rattle.oer_codec_reading.specs.Bits.{bits_in}
-use Rattle.oer_codec_reading_lengths.specs.Fronts.{freedoms, is_basic, Stands, NoneStands}
-use Rattle.oer_codec_reading_lengths.proofs.Fronts.{fronts_equal, exactly_stands, exactly_front, if_stands, if_front, varied_stands, varied_front}
-use Rattle.oer_codec_reading_lengths.proofs.Freedoms.{any_unused_bits_is_basic}
-use Rattle.oer_codec_reading_lengths.specs.declared.rules.EncodingRules.{EncodingRules}
+use Rattle.oer_codec_reading.specs.Fronts.{freedoms, is_basic, Stands, NoneStands}
+use Rattle.oer_codec_reading.proofs.Fronts.{fronts_equal, exactly_stands, exactly_front, if_stands, if_front, varied_stands, varied_front}
+use Rattle.oer_codec_reading.proofs.Freedoms.{any_unused_bits_is_basic}
+use Rattle.oer_codec_reading.specs.declared.rules.EncodingRules.{EncodingRules}
 use Rattle.std.specs.Int.Digits.{number_from_digits_after}
 
 -- ---- octets of bits, and back

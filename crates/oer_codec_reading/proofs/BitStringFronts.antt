@@ -7,15 +7,15 @@ use Rattle.asn1_model.specs.Numbers.{missing, packed}
 use Rattle.asn1_model.specs.Form.{Reads, exactly, only_if}
 use Rattle.asn1_model.specs.Oer.{Freedom, Detail, form, is_fixed, OctetForm, bit_string_form, bits_form, counted_bits, empty_bit_string, length_form}
 use Rattle.asn1_model.specs.Numbers.{admits}
-use Rattle.asn1_schema_faults.specs.declared.DecodeError.{DecodeError}
-use Rattle.oer_codec_reading_lengths.specs.declared.rules.EncodingRules.{EncodingRules}
+use Rattle.asn1_schema_errors.specs.declared.DecodeError.{DecodeError}
+use Rattle.oer_codec_reading.specs.declared.rules.EncodingRules.{EncodingRules}
 use Rattle.oer_codec_reading.specs.Bits.{bits_in, sized_bits}
 use Rattle.asn1_schema_constraints.specs.Terms.{one_size}
 use Rattle.oer_codec_reading.proofs.SizedFronts.{one_length}
-use Rattle.oer_codec_reading_lengths.specs.Fronts.{freedoms, is_basic, Stands, NoneStands, Misses}
-use Rattle.oer_codec_reading_lengths.proofs.Freedoms.{empty_bit_string_is_basic}
-use Rattle.oer_codec_reading_lengths.proofs.Fronts.{if_stands, if_front, varied_stands, varied_front, misses_also}
-use Rattle.oer_codec_reading_lengths.proofs.LengthFronts.{length_one}
+use Rattle.oer_codec_reading.specs.Fronts.{freedoms, is_basic, Stands, NoneStands, Misses}
+use Rattle.oer_codec_reading.proofs.Freedoms.{empty_bit_string_is_basic}
+use Rattle.oer_codec_reading.proofs.Fronts.{if_stands, if_front, varied_stands, varied_front, misses_also}
+use Rattle.oer_codec_reading.proofs.LengthFronts.{length_one}
 use Rattle.oer_codec_reading.proofs.BitFronts.{bits_long, bits_one}
 
 -- bits have one text at each position

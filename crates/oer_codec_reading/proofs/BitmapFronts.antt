@@ -5,10 +5,10 @@ use Rattle.std.proofs.lemmas.Bool.{eqb-true}
 use Rattle.asn1_model.specs.Form.{Reads}
 use Rattle.asn1_model.specs.Numbers.{binary, missing}
 use Rattle.asn1_model.specs.Oer.{Freedom, any_unused_bits, bit_string_form, bits_form, counted_bits, empty_bit_string, length_form}
-use Rattle.asn1_schema_faults.specs.declared.DecodeError.{DecodeError}
+use Rattle.asn1_schema_errors.specs.declared.DecodeError.{DecodeError}
 use Rattle.asn1_values_bits.proofs.Binary.{low_zeros}
-use Rattle.oer_codec_fronts.proofs.Anywhere.{Anywhere, moves_exactly, moves_if, moves_varied}
-use Rattle.oer_codec_reading_lengths.specs.declared.rules.EncodingRules.{EncodingRules}
+use Rattle.oer_codec_laws.proofs.Anywhere.{Anywhere, moves_exactly, moves_if, moves_varied}
+use Rattle.oer_codec_reading.specs.declared.rules.EncodingRules.{EncodingRules}
 use Rattle.oer_codec_reading.specs.Bits.{bits_in}
 use Rattle.oer_codec_reading.specs.Fronts.{freedoms, Stands, NoneStands, Misses}
 use Rattle.oer_codec_reading.proofs.Fronts.{if_front, misses_also, varied_stands}

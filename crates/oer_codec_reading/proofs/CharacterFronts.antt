@@ -7,8 +7,8 @@ use Rattle.asn1_model.specs.Numbers.{admits}
 use Rattle.asn1_model.specs.Schema.{Size, Counts, Alphabet, StringKind, character_string}
 use Rattle.asn1_model.specs.Strings.{may_hold}
 use Rattle.asn1_model.specs.Value.{Value, text}
-use Rattle.asn1_schema_faults.specs.declared.DecodeError.{DecodeError}
-use Rattle.asn1_schema_faults.specs.declared.DecodeError.TheVariants.{AlreadyFailed, OutOfMemory}
+use Rattle.asn1_schema_errors.specs.declared.DecodeError.{DecodeError}
+use Rattle.asn1_schema_errors.specs.declared.DecodeError.TheVariants.{AlreadyFailed, OutOfMemory}
 use Rattle.asn1_values_alphabets.specs.Permitted.{permits, permits_all}
 use Rattle.oer_codec_reading.specs.Fronts.{Stands, Front, NoneStands, NoFront, Misses}
 use Rattle.asn1_schema_constraints.specs.Terms.{one_size}

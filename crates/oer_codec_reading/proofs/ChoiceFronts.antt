@@ -5,11 +5,11 @@ use Rattle.asn1_model.specs.Oer
 use Rattle.asn1_model.specs.Lawful.{tag_same}
 use Rattle.asn1_model.specs.Schema.{Tag}
 use Rattle.std.specs.List.{list_all}
-use Rattle.asn1_schema_faults.specs.declared.DecodeError.{DecodeError}
+use Rattle.asn1_schema_errors.specs.declared.DecodeError.{DecodeError}
 use Rattle.asn1_schema_tags.specs.Chosen.{ChoiceTags, alternative_at, alternative_of}
 use Rattle.asn1_schema_tags.specs.Trees.{place_of}
-use Rattle.asn1_schema_variants.specs.declared.chosen.Chosen.{Chosen}
-use Rattle.oer_codec_fronts.specs.Takes.{IsPlace, tag_place}
+use Rattle.asn1_schema_tags.specs.declared.chosen.Chosen.{Chosen}
+use Rattle.oer_codec_laws.specs.Takes.{IsPlace, tag_place}
 use Rattle.oer_codec_reading.specs.Alternatives.{NoTag}
 use Rattle.oer_codec_reading.specs.Fronts.{Stands, Misses}
 use Rattle.oer_codec_reading.specs.Tags.{is_in_32_bits, tag_in}

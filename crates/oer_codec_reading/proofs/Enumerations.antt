@@ -6,11 +6,11 @@ use Rattle.asn1_model.specs.Form.{Reads}
 use Rattle.std.specs.Prelude.{is_some}
 use Rattle.asn1_model.specs.Oer.{Freedom, form, item_form}
 use Rattle.asn1_model.specs.Schema.{enumerated}
-use Rattle.asn1_model.specs.Normal.{item_place}
+use Rattle.asn1_model.specs.Normal.{item_index}
 use Rattle.asn1_model.specs.Value.{Value, item}
-use Rattle.asn1_schema_variants.specs.Items.{IsPlaced, IsNone}
-use Rattle.oer_codec_fronts.specs.Takes.{Front}
-use Rattle.oer_codec_fronts.proofs.Next.{same_fronts}
+use Rattle.asn1_schema_tags.specs.Items.{IsPlaced, IsNone}
+use Rattle.oer_codec_laws.specs.Takes.{Front}
+use Rattle.oer_codec_laws.proofs.Next.{same_fronts}
 use Rattle.oer_codec_reading.specs.Fronts.{Stands, NoneStands}
 use Rattle.oer_codec_reading.proofs.Fronts.{if_stands, if_front}
 
@@ -19,7 +19,7 @@ as_front free v os rest h = record { text = h.0; has_form = h.2; in_front = h.1 
 
 -- whether a number is one of a type's items
 abbrev is_item : List ℤ → Bool → List ℤ → ℤ → Bool
-is_item roots e adds v = is_some (item_place v roots) || (e && is_some (item_place v adds))
+is_item roots e adds v = is_some (item_index v roots) || (e && is_some (item_index v adds))
 
 present : (o : Option ℕ) (i : ℕ) → o ≡ Some i → is_some o ≡ true
 present None i e = cc e
@@ -38,13 +38,13 @@ both_true true c d e = e
 both_true false c d e = d
 
 placed : (roots : List ℤ) (e : Bool) (adds : List ℤ) (v : ℤ) (added : Bool) (i : ℕ) → IsPlaced roots e adds v added i → is_item roots e adds v ≡ true
-placed roots e adds v false i h = or_left _ _ (present (item_place v roots) i h)
-placed roots e adds v true i h = or_right _ _ (both_true e _ h.1 (present (item_place v adds) i h.2))
+placed roots e adds v false i h = or_left _ _ (present (item_index v roots) i h)
+placed roots e adds v true i h = or_right _ _ (both_true e _ h.1 (present (item_index v adds) i h.2))
 
 not_placed : (roots : List ℤ) (e : Bool) (adds : List ℤ) (v : ℤ) → IsNone roots e adds v → is_item roots e adds v ≡ true → ⊥
-not_placed roots e adds v h t = elim (or_cases (is_some (item_place v roots)) (e && is_some (item_place v adds)) t) [
-  | inl p ↦ none_present (item_place v roots) h.0 p
-  | inr p ↦ let q = and_parts e (is_some (item_place v adds)) p in none_present (item_place v adds) (h.1 q.0) q.1
+not_placed roots e adds v h t = elim (or_cases (is_some (item_index v roots)) (e && is_some (item_index v adds)) t) [
+  | inl p ↦ none_present (item_index v roots) h.0 p
+  | inr p ↦ let q = and_parts e (is_some (item_index v adds)) p in none_present (item_index v adds) (h.1 q.0) q.1
 ]
   where
     none_present : (o : Option ℕ) → o ≡ None → is_some o ≡ true → ⊥

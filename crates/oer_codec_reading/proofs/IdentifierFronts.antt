@@ -5,15 +5,15 @@ use Rattle.asn1_model.specs.Value.{Value, arcs}
 use Rattle.asn1_model.specs.Form.{Reads}
 use Rattle.asn1_model.specs.Strings.{is_identifier, identifier_octets}
 use Rattle.asn1_model.specs.Oer.{Freedom, form, counted}
-use Rattle.asn1_schema_faults.specs.declared.DecodeError.{DecodeError}
-use Rattle.asn1_schema_faults.specs.declared.DecodeError.TheVariants.{AlreadyFailed, OutOfMemory}
+use Rattle.asn1_schema_errors.specs.declared.DecodeError.{DecodeError}
+use Rattle.asn1_schema_errors.specs.declared.DecodeError.TheVariants.{AlreadyFailed, OutOfMemory}
 use Rattle.asn1_values_identifiers.specs.Identifiers.{arcs_of}
 use Rattle.asn1_values_identifiers.specs.declared.fault.IdentifierError.{IdentifierError}
 use Rattle.asn1_values_identifiers.specs.declared.fault.IdentifierError.TheVariants.{Memory}
 use Rattle.asn1_values_identifiers.proofs.Whole.{identifier_read}
-use Rattle.oer_codec_reading_lengths.specs.Fronts.{Stands, Front, NoneStands, NoFront}
-use Rattle.oer_codec_reading_lengths.proofs.Fronts.{if_stands, if_front, none_misses}
-use Rattle.oer_codec_reading_lengths.proofs.LengthFronts.{counted_one}
+use Rattle.oer_codec_reading.specs.Fronts.{Stands, Front, NoneStands, NoFront}
+use Rattle.oer_codec_reading.proofs.Fronts.{if_stands, if_front, none_misses}
+use Rattle.oer_codec_reading.proofs.LengthFronts.{counted_one}
 
 module _ (free : Freedom → Bool) where
   identifier_front : (v : Value) (w rest : List ℕ) → Front free object_identifier v w rest → (ns : List ℕ) × (is_identifier ns ≡ true) × Stands free (counted (identifier_octets ns)) w rest

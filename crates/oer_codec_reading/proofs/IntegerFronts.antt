@@ -20,13 +20,13 @@ use Rattle.asn1_schema_constraints.specs.Terms.{bounds_of, held_of, admits_whole
 use Rattle.asn1_schema_constraints.proofs.Held as Held
 use Rattle.asn1_schema_constraints.specs.declared.extensions.Extensible.{Extensible}
 use Rattle.asn1_schema_constraints.specs.declared.parts.Value as Constraint
-use Rattle.asn1_schema_faults.specs.declared.DecodeError.{DecodeError}
-use Rattle.asn1_schema_faults.specs.declared.DecodeError.TheVariants.{AlreadyFailed, OutOfMemory}
-use Rattle.oer_codec_reading_lengths.specs.Fronts.{Stands, Front, NoneStands, NoFront}
+use Rattle.asn1_schema_errors.specs.declared.DecodeError.{DecodeError}
+use Rattle.asn1_schema_errors.specs.declared.DecodeError.TheVariants.{AlreadyFailed, OutOfMemory}
+use Rattle.oer_codec_reading.specs.Fronts.{Stands, Front, NoneStands, NoFront}
 use Rattle.oer_codec_reading.specs.Whole.{holds, number_in, sign_under, width_under}
-use Rattle.oer_codec_reading_lengths.proofs.Freedoms.{and_true}
-use Rattle.oer_codec_reading_lengths.proofs.Fronts.{if_stands, if_front, none_misses}
-use Rattle.oer_codec_reading_lengths.proofs.LengthFronts.{octets_hold}
+use Rattle.oer_codec_reading.proofs.Freedoms.{and_true}
+use Rattle.oer_codec_reading.proofs.Fronts.{if_stands, if_front, none_misses}
+use Rattle.oer_codec_reading.proofs.LengthFronts.{octets_hold}
 use Rattle.oer_codec_reading.proofs.WholeFronts.{number_one, width_at_most}
 use Rattle.std.specs.Option.{option_map_or}
 

@@ -8,8 +8,8 @@ use Rattle.asn1_values_natives.specs.Octets.{is_padded, plain, signed_number}
 use Rattle.asn1_values_natives.proofs.OctetLaws.{AreOctets, pow_pos256, signed-low, signed-high}
 use Rattle.asn1_values_natives.proofs.TwosComplement.{complement-back, length-complement, plain-large, signed-back, signed_octets-fewest, signed_octets-least, written-fewest}
 use Rattle.asn1_values_natives.proofs.Widths.{signed_octets-plain}
-use Rattle.oer_codec_reading_lengths.specs.declared.rules.EncodingRules.{EncodingRules}
-use Rattle.oer_codec_reading_lengths.specs.declared.rules.EncodingRules.TheVariants.{Oer, Coer}
+use Rattle.oer_codec_reading.specs.declared.rules.EncodingRules.{EncodingRules}
+use Rattle.oer_codec_reading.specs.declared.rules.EncodingRules.TheVariants.{Oer, Coer}
 use Rattle.oer_codec_reading.specs.Fronts.{freedoms, is_basic, Stands, NoneStands}
 use Rattle.oer_codec_reading.proofs.Freedoms.{and_true}
 use Rattle.oer_codec_reading.proofs.Fronts.{fronts_equal, exactly_stands, exactly_front, if_stands, if_front, varied_stands, varied_front}

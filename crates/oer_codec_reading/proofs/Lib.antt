@@ -1,6 +1,7 @@
-pub use Rattle.oer_codec_reading_lengths.proofs.Freedoms
-pub use Rattle.oer_codec_reading_lengths.proofs.Fronts
-pub use Rattle.oer_codec_reading_lengths.proofs.LengthFronts
+pub mod Freedoms
+pub mod Fronts
+pub mod Rooms
+pub mod LengthFronts
 pub mod Truths
 pub mod SizedFronts
 pub mod WholeFronts

@@ -11,11 +11,11 @@ use Rattle.asn1_values_natives.specs.Ranges.{whole_range}
 use Rattle.asn1_values_natives.proofs.RangeLaws.{at_most}
 use Rattle.oer_codec_reading.proofs.Freedoms.{and_true}
 use Rattle.asn1_model.specs.Schema.{Tag}
-use Rattle.asn1_model.specs.Normal.{item_place}
+use Rattle.asn1_model.specs.Normal.{item_index}
 use Rattle.asn1_model.specs.Value.{same_number}
 use Rattle.std.specs.List.{list_all}
-use Rattle.oer_codec_fronts.specs.Takes.{tag_place}
-use Rattle.oer_codec_fronts.proofs.Next.{same_tag}
+use Rattle.oer_codec_laws.specs.Takes.{tag_place}
+use Rattle.oer_codec_laws.proofs.Next.{same_tag}
 use Rattle.oer_codec_reading.specs.Tags.{is_in_32_bits}
 use Rattle.oer_codec_reading.specs.Items.{native_of}
 
@@ -26,17 +26,17 @@ none_first false None e = (refl, refl)
 none_first false (Some i) e = cc e
 
 -- ---- items
-item_none : (v : ℤ) (ds : List ℤ) (d : ℤ) → item_place v ds ≡ None → same_number v d ≡ false → item_place v (ds ++ d ∷ []) ≡ None
+item_none : (v : ℤ) (ds : List ℤ) (d : ℤ) → item_index v ds ≡ None → same_number v d ≡ false → item_index v (ds ++ d ∷ []) ≡ None
 item_none v [] d e f = ap (λ b. cond b (Some zero) None) f
 item_none v (c ∷ ds) d e f =
-    let p = none_first (same_number v c) (item_place v ds) e in
-    ap (λ b. cond b (Some zero) (option_map suc (item_place v (ds ++ d ∷ [])))) p.0 ∙ ap (option_map suc) (item_none v ds d p.1 f)
+    let p = none_first (same_number v c) (item_index v ds) e in
+    ap (λ b. cond b (Some zero) (option_map suc (item_index v (ds ++ d ∷ [])))) p.0 ∙ ap (option_map suc) (item_none v ds d p.1 f)
 
-pub items_more : {X : Type 0} (f : X → ℤ) (v : ℤ) (xs : List X) (i : ℕ) (x : X) → i < length xs → x ≡ get_or xs i x → item_place v (map f (take i xs)) ≡ None → same_number v (f x) ≡ false → item_place v (map f (take (i + 1) xs)) ≡ None
+pub items_more : {X : Type 0} (f : X → ℤ) (v : ℤ) (xs : List X) (i : ℕ) (x : X) → i < length xs → x ≡ get_or xs i x → item_index v (map f (take i xs)) ≡ None → same_number v (f x) ≡ false → item_index v (map f (take (i + 1) xs)) ≡ None
 items_more f v xs i x l e g h =
-    ap (λ ys. item_place v (map f ys)) (take_more xs i x l)
-    ∙ ap (λ y. item_place v (map f (take i xs ++ y ∷ []))) (sym e)
-    ∙ ap (item_place v) (map-append f (take i xs) (x ∷ []))
+    ap (λ ys. item_index v (map f ys)) (take_more xs i x l)
+    ∙ ap (λ y. item_index v (map f (take i xs ++ y ∷ []))) (sym e)
+    ∙ ap (item_index v) (map-append f (take i xs) (x ∷ []))
     ∙ item_none v (map f (take i xs)) (f x) g h
 
 same_numbers : (v w : ℤ) → same_number v w ≡ true → v ≡ w

@@ -10,11 +10,11 @@ use Rattle.std.specs.List.{list_all}
 use Rattle.asn1_model.specs.Oer.{Freedom, form, is_fixed, octets_form, counted}
 use Rattle.asn1_model.specs.Numbers.{admits, is_fixed_at}
 use Rattle.asn1_values_natives.proofs.OctetLaws.{AreOctets}
-use Rattle.oer_codec_reading_lengths.specs.Fronts.{Stands, NoneStands}
+use Rattle.oer_codec_reading.specs.Fronts.{Stands, NoneStands}
 use Rattle.asn1_schema_constraints.specs.Terms.{one_size}
 use Rattle.oer_codec_reading.specs.Sized.{sized}
-use Rattle.oer_codec_reading_lengths.proofs.Fronts.{fronts_equal, exactly_stands, exactly_front, if_stands, if_front}
-use Rattle.oer_codec_reading_lengths.proofs.LengthFronts.{each_octet, counted_front, counted_one}
+use Rattle.oer_codec_reading.proofs.Fronts.{fronts_equal, exactly_stands, exactly_front, if_stands, if_front}
+use Rattle.oer_codec_reading.proofs.LengthFronts.{each_octet, counted_front, counted_one}
 use Rattle.std.specs.Option.{option_map_or}
 
 -- ---- a fixed size

@@ -3,11 +3,11 @@ use Rattle.std.proofs.Common.{◌≡◌, ℕ, ◌^◌, ◌-◌, ◌<◌, Bool, t
 use Rattle.asn1_laws_fronts.proofs.OerNumbers.{counted_alike}
 use Rattle.asn1_model.specs.Form.{joined, present_ones}
 use Rattle.asn1_model.specs.Oer
-use Rattle.asn1_schema_faults.specs.declared.DecodeError.{DecodeError}
-use Rattle.oer_codec_fronts.specs.Takes.{Front, Skips, unknown_forms}
-use Rattle.oer_codec_fronts.proofs.Anywhere.{joined_moves, each_unknown_moves}
-use Rattle.oer_codec_fronts.proofs.Fronts.{nothing_front, split, join}
-use Rattle.oer_codec_fronts.proofs.Next.{same_fronts}
+use Rattle.asn1_schema_errors.specs.declared.DecodeError.{DecodeError}
+use Rattle.oer_codec_laws.specs.Takes.{Front, Skips, unknown_forms}
+use Rattle.oer_codec_laws.proofs.Anywhere.{joined_moves, each_unknown_moves}
+use Rattle.oer_codec_laws.proofs.Fronts.{nothing_front, split, join}
+use Rattle.oer_codec_laws.proofs.Next.{same_fronts}
 use Rattle.oer_codec_reading.specs.Fronts.{Stands, Misses}
 use Rattle.oer_codec_reading.proofs.Fronts.{missed, not_before}
 use Rattle.oer_codec_reading.specs.Skipping.{SkipsNone}

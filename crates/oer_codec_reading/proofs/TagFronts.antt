@@ -5,8 +5,8 @@ use Rattle.asn1_model.specs.Schema.{Tag}
 use Rattle.asn1_model.specs.Form.{exactly, only_if}
 use Rattle.asn1_model.specs.Oer.{Freedom, OctetForm, long_tag, long_tag_octets, tag_form}
 use Rattle.asn1_model.specs.Strings.{groups_of_seven}
-use Rattle.oer_codec_reading_lengths.specs.declared.rules.EncodingRules.{EncodingRules}
-use Rattle.oer_codec_reading_lengths.specs.declared.rules.EncodingRules.TheVariants.{Oer, Coer}
+use Rattle.oer_codec_reading.specs.declared.rules.EncodingRules.{EncodingRules}
+use Rattle.oer_codec_reading.specs.declared.rules.EncodingRules.TheVariants.{Oer, Coer}
 use Rattle.oer_codec_reading.specs.Fronts.{freedoms, is_basic, Stands, NoneStands}
 use Rattle.oer_codec_reading.proofs.Fronts.{exactly_stands, exactly_front, if_stands, if_front, varied_stands, varied_front}
 use Rattle.oer_codec_reading.specs.Tags.{number_behind, tag_in}

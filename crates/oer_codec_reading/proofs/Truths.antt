@@ -6,10 +6,10 @@ use Rattle.asn1_model.specs.Value.{Value, truth, nothing}
 use Rattle.asn1_model.specs.Form.{Reads, exactly, only_if}
 use Rattle.asn1_model.specs.Strings.{is_octet}
 use Rattle.asn1_model.specs.Oer.{Freedom, form, any_truth}
-use Rattle.oer_codec_reading_lengths.specs.declared.rules.EncodingRules.{EncodingRules}
-use Rattle.oer_codec_reading_lengths.specs.Fronts.{freedoms, is_basic, Front, NoneStands}
-use Rattle.oer_codec_reading_lengths.proofs.Fronts.{exactly_stands, exactly_front, if_stands, if_front, varied_stands, varied_front}
-use Rattle.oer_codec_reading_lengths.proofs.Freedoms.{any_truth_is_basic, and_true}
+use Rattle.oer_codec_reading.specs.declared.rules.EncodingRules.{EncodingRules}
+use Rattle.oer_codec_reading.specs.Fronts.{freedoms, is_basic, Front, NoneStands}
+use Rattle.oer_codec_reading.proofs.Fronts.{exactly_stands, exactly_front, if_stands, if_front, varied_stands, varied_front}
+use Rattle.oer_codec_reading.proofs.Freedoms.{any_truth_is_basic, and_true}
 
 -- the octets of a BOOLEAN, if a reader takes any octet but zero for true
 abbrev IsTruth : Bool → ℕ → Type 0

@@ -10,13 +10,13 @@ use Rattle.asn1_values_natives.proofs.OctetLaws.{AreOctets, unsigned-lt, length-
 use Rattle.asn1_values_natives.proofs.TwosComplement.{signed_octets-least, signed_octets-fewest, complement-signed, signed-complement, plain-fits, octets-complement, length-complement, written-fewest}
 use Rattle.asn1_values_integers.proofs.KindLaws.{unsigned-written}
 use Rattle.asn1_values_natives.proofs.Widths.{octets-least, octet_width-octets, signed_octets-plain}
-use Rattle.oer_codec_reading_lengths.specs.declared.rules.EncodingRules.{EncodingRules}
-use Rattle.oer_codec_reading_lengths.specs.Fronts.{freedoms, is_basic, Stands, NoneStands}
+use Rattle.oer_codec_reading.specs.declared.rules.EncodingRules.{EncodingRules}
+use Rattle.oer_codec_reading.specs.Fronts.{freedoms, is_basic, Stands, NoneStands}
 use Rattle.oer_codec_reading.specs.Sized.{sized}
 use Rattle.oer_codec_reading.specs.Whole.{count_in, number_in, has_spare}
-use Rattle.oer_codec_reading_lengths.proofs.Freedoms.{longer_number_is_basic}
-use Rattle.oer_codec_reading_lengths.proofs.Fronts.{exactly_stands, exactly_front, if_stands, if_front, varied_stands, varied_front}
-use Rattle.oer_codec_reading_lengths.proofs.LengthFronts.{octets_hold, are_octets}
+use Rattle.oer_codec_reading.proofs.Freedoms.{longer_number_is_basic}
+use Rattle.oer_codec_reading.proofs.Fronts.{exactly_stands, exactly_front, if_stands, if_front, varied_stands, varied_front}
+use Rattle.oer_codec_reading.proofs.LengthFronts.{octets_hold, are_octets}
 use Rattle.oer_codec_reading.proofs.SizedFronts.{of_size, behind_number, sized_one, sized_octets, sized_text, sized_counted}
 
 -- ---- octets as numbers

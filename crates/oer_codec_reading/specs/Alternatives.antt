@@ -2,9 +2,9 @@
 use Rattle.std.specs.Prelude.{◌≡◌, ℕ, Bool, List}
 use Rattle.asn1_model.specs.Oer
 use Rattle.asn1_model.specs.Schema.{Tag}
-use Rattle.asn1_schema_faults.specs.declared.DecodeError.{DecodeError}
-use Rattle.asn1_schema_faults.specs.declared.DecodeError.TheVariants.{AlreadyFailed, OutOfMemory}
-use Rattle.oer_codec_fronts.specs.Takes.{IsPlace}
+use Rattle.asn1_schema_errors.specs.declared.DecodeError.{DecodeError}
+use Rattle.asn1_schema_errors.specs.declared.DecodeError.TheVariants.{AlreadyFailed, OutOfMemory}
+use Rattle.oer_codec_laws.specs.Takes.{IsPlace}
 use Rattle.oer_codec_reading.specs.Fronts.{Stands}
 
 -- No tag that is in one of the tables (X.696 8.7).

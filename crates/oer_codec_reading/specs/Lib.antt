@@ -1,4 +1,4 @@
-pub use Rattle.oer_codec_reading_lengths.specs.Fronts
+pub mod Fronts
 pub mod Sized
 pub mod Whole
 pub mod Bits

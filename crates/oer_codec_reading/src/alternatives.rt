@@ -2,15 +2,14 @@
 ghost use Rattle.std.specs.Prelude.{◌<◌, cond, length, IfOk, IfErr, IfSome, IfNone};
 ghost use Rattle.asn1_model.specs.Oer.{tag_form};
 ghost use Rattle.asn1_schema_tags.specs.Tags.{tag_of};
-ghost use Rattle.oer_codec_fronts.specs.Takes.{IsPlace};
+ghost use Rattle.oer_codec_laws.specs.Takes.{IsPlace};
 ghost use Rattle.oer_codec_reading.specs.Alternatives.{NoTag};
 ghost use Rattle.oer_codec_reading.specs.Fronts.{freedoms, Stands};
 
 use crate::tags::{read_tag, visit_numbers};
 use crate::{Cursor, EncodingRules};
-use asn1_schema_faults::DecodeError;
-use asn1_schema_tags::{Tag, TagTables};
-use asn1_schema_variants::Chosen;
+use asn1_schema_errors::DecodeError;
+use asn1_schema_tags::{Chosen, Tag, TagTables};
 
 /// Reads the tag of an alternative of a choice with these tables (X.696 20).
 ///

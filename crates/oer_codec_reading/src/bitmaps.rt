@@ -5,10 +5,10 @@ ghost use Rattle.asn1_model.specs.Oer.{counted_bits};
 ghost use Rattle.asn1_values_bits.specs.BitStr.{bits_of};
 ghost use Rattle.oer_codec_reading.specs.Fronts.{freedoms, Misses, Stands};
 
-use crate::bit_strings::{bit_count, read_bits_of_octets};
-use crate::lengths::read_length;
+use crate::bit_string::{bit_count, read_bits_of_octets};
+use crate::length::read_length;
 use crate::{Cursor, EncodingRules};
-use asn1_schema_faults::DecodeError;
+use asn1_schema_errors::DecodeError;
 use asn1_values_bits::BitStr;
 
 /// Removes and returns the first bit, if there is one.

@@ -1,17 +1,17 @@
 //! ENUMERATED (X.696 11).
 ghost use Rattle.std.specs.Prelude.{◌≡◌, ◌↔◌, IsTrue, Some, None, map, IfOk, IfErr, MatchOption};
 ghost use Rattle.asn1_model.specs.Schema as Asn1;
-ghost use Rattle.asn1_model.specs.Normal.{item_place};
+ghost use Rattle.asn1_model.specs.Normal.{item_index};
 ghost use Rattle.asn1_model.specs.Value as Asn1Value;
-ghost use Rattle.asn1_schema_variants.specs.Items.{IsNone};
+ghost use Rattle.asn1_schema_tags.specs.Items.{IsNone};
 ghost use Rattle.asn1_values_natives.specs.Octets.{signed_number};
 ghost use Rattle.oer_codec_reading.specs.Fronts.{freedoms, Front, NoFront};
 ghost use Rattle.oer_codec_reading.specs.Items.{native_of};
 
-use crate::items::read_item;
+use crate::item_numbers::read_item;
 use crate::{Cursor, EncodingRules};
-use asn1_schema_faults::DecodeError;
-use asn1_schema_variants::Enumerated;
+use asn1_schema_errors::DecodeError;
+use asn1_schema_tags::Enumerated;
 use asn1_values_natives::Wide;
 
 /// The number in octets of two's complement, if it fits in 64 bits.
@@ -50,7 +50,7 @@ fn is_number(number: Option<isize>, candidate: isize) -> bool
 /// fit in 64 bits.
 #[inline(always)]
 fn find_item<T: Enumerated>(items: &[T], octets: &[u8]) -> Option<T>
-    ensures { MatchOption result (item_place (signed_number octets.now) (map T.number items.now) ≡ None)
+    ensures { MatchOption result (item_index (signed_number octets.now) (map T.number items.now) ≡ None)
         (λ x. T.number x ≡ signed_number octets.now) }
 {
     let number = native_number(octets);

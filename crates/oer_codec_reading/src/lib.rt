@@ -8,24 +8,29 @@
 #![tactic(auto)]
 
 pub mod alternatives;
-pub mod bit_strings;
+pub mod bit_string;
 pub mod bitmaps;
-pub mod characters;
+pub mod boolean;
+pub mod character_string;
+pub mod cursor;
 pub mod enumerated;
-pub mod identifiers;
-pub mod integers;
-pub mod items;
+pub mod integer;
+pub mod item_numbers;
+pub mod length;
+pub mod magnitudes;
 pub mod numbers;
-pub mod octet_strings;
-pub mod open_types;
+pub mod object_identifier;
+pub mod octet_string;
+pub mod open_type;
+pub mod rules;
 pub mod tags;
-pub mod texts;
-pub mod units;
+pub mod utf8_string;
 
 pub use bitmaps::{are_zero, read_bitmap, take_bit};
-pub use characters::read_characters;
+pub use character_string::read_characters;
+pub use cursor::Cursor;
 pub use enumerated::read_enumerated;
-pub use oer_codec_reading_lengths::{Cursor, EncodingRules, lengths};
-pub use open_types::{enter_open_type, leave_open_type, skip_additions};
+pub use open_type::{enter_open_type, leave_open_type, skip_additions};
+pub use rules::EncodingRules;
 pub use tags::read_tag;
-pub use texts::read_utf8_string;
+pub use utf8_string::read_utf8_string;

@@ -2,13 +2,13 @@
 ghost use Rattle.std.specs.Prelude.{◌≡◌, ◌≤◌, ◌<◌, ◌||◌, not, is_some, length, IfOk, IfErr, IfSome};
 ghost use Rattle.asn1_model.specs.Oer.{unsigned};
 ghost use Rattle.asn1_values_natives.specs.Octets.{own_number};
-ghost use Rattle.oer_codec_reading_lengths.specs.Fronts.{freedoms, is_basic, Misses, Stands};
+ghost use Rattle.oer_codec_reading.specs.Fronts.{freedoms, is_basic, Misses, Stands};
 ghost use Rattle.oer_codec_reading.specs.Whole.{count_in, has_spare, number_in};
 
-use crate::lengths::number_of;
-use crate::octet_strings::read_sized;
+use crate::length::number_of;
+use crate::octet_string::read_sized;
 use crate::{Cursor, EncodingRules};
-use asn1_schema_faults::DecodeError;
+use asn1_schema_errors::DecodeError;
 use asn1_values_natives::octets::has_padding;
 
 /// Whether the first octet of a number is redundant (X.690 8.3.2).
@@ -35,7 +35,7 @@ fn is_taken(rules: EncodingRules, signed: bool, width: Option<usize>, octets: &[
 }
 
 /// Reads the octets of an INTEGER (X.696 10), signed or unsigned, of a fixed width or after a length determinant, and
-/// lends them.
+/// returns them borrowed.
 ///
 /// # Errors
 ///

@@ -7,7 +7,7 @@ ghost use Rattle.oer_codec_reading.specs.Fronts.{freedoms, Misses, Stands};
 ghost use Rattle.oer_codec_reading.specs.Tags.{is_in_32_bits, number_behind, tag_in};
 
 use crate::{Cursor, EncodingRules};
-use asn1_schema_faults::DecodeError;
+use asn1_schema_errors::DecodeError;
 use asn1_schema_tags::{Class, Tag};
 
 /// A number below this fits in 32 bits with seven more bits.
@@ -67,8 +67,7 @@ fn number_of(tag: &Tag) -> u32
     tag.value
 }
 
-/// Visits the numbers of the tags in a table: each fits in 32 bits, so a tag with a larger number is not in the
-/// table.
+// For the proof: the number of each tag in a table fits in 32 bits, so a tag with a larger number is not in the table.
 pub(crate) fn visit_numbers(table: &[Tag])
     ensures { list_all is_in_32_bits (map tag_of table.now) ≡ true }
 {

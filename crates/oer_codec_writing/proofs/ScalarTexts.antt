@@ -3,8 +3,8 @@ use Rattle.std.proofs.Common.{◌≡◌, ℕ, ℤ, ◌&&◌, ◌||◌, Bool, tru
 use Rattle.asn1_model.specs.Numbers.{admits}
 use Rattle.asn1_model.specs.Form.{written, only_if, exactly}
 use Rattle.std.specs.Prelude.{is_some}
-use Rattle.asn1_model.specs.Normal.{item_place}
-use Rattle.asn1_schema_variants.specs.Items.{IsPlaced}
+use Rattle.asn1_model.specs.Normal.{item_index}
+use Rattle.asn1_schema_tags.specs.Items.{IsPlaced}
 use Rattle.asn1_model.specs.Schema.{Size, Counts, boolean, enumerated, octet_string, object_identifier}
 use Rattle.asn1_model.specs.Value.{truth, item, octet_list, arcs}
 use Rattle.asn1_model.specs.Strings.{is_octet, is_identifier, identifier_octets}
@@ -84,10 +84,10 @@ placed_behind : (a b e : Bool) → e ≡ true → b ≡ true → (a || (e && b))
 placed_behind true b e h k = refl
 placed_behind false b e h k = ap (λ x. x && b) h ∙ k
 
-is_item : (roots : List ℤ) (e : Bool) (others : List ℤ) (v : ℤ) (added : Bool) (i : ℕ) → IsPlaced roots e others v added i → (is_some (item_place v roots) || (e && is_some (item_place v others))) ≡ true
+is_item : (roots : List ℤ) (e : Bool) (others : List ℤ) (v : ℤ) (added : Bool) (i : ℕ) → IsPlaced roots e others v added i → (is_some (item_index v roots) || (e && is_some (item_index v others))) ≡ true
 is_item roots e others v false i h = placed _ _ e (ap is_some h)
 is_item roots e others v true i h = placed_behind _ _ e h.1 (ap is_some h.2)
 
 pub item_text : (roots : List ℤ) (e : Bool) (others : List ℤ) (v : ℤ) (added : Bool) (i : ℕ) → IsPlaced roots e others v added i → written (Oer.form (enumerated roots e others) (item v)) 0 ≡ written (Oer.item_form v) 0
 unfolding Oer.form
-item_text roots e others v added i h = if_true (is_some (item_place v roots) || (e && is_some (item_place v others))) (Oer.item_form v) (is_item roots e others v added i h)
+item_text roots e others v added i h = if_true (is_some (item_index v roots) || (e && is_some (item_index v others))) (Oer.item_form v) (is_item roots e others v added i h)

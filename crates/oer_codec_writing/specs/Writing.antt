@@ -3,8 +3,8 @@ use Rattle.std.specs.Prelude.{◌≡◌, ℕ, ◌+◌, ◌/◌, List, [], ◌∷
 use Rattle.asn1_model.specs.Form.{exactly, both}
 use Rattle.asn1_model.specs.Numbers.{missing}
 use Rattle.asn1_model.specs.Oer
-use Rattle.asn1_schema_faults.specs.declared.EncodeError.{EncodeError}
-use Rattle.asn1_schema_faults.specs.declared.EncodeError.TheVariants.{AlreadyFailed, OutOfMemory}
+use Rattle.asn1_schema_errors.specs.declared.EncodeError.{EncodeError}
+use Rattle.asn1_schema_errors.specs.declared.EncodeError.TheVariants.{AlreadyFailed, OutOfMemory}
 
 -- What precedes `n` bits if the size is not fixed: the length of what follows, and the number of unused bits (X.696
 -- 13).

@@ -3,7 +3,7 @@ ghost use Rattle.std.specs.Prelude.{◌≡◌, ◌≤◌, ◌++◌, MatchResult,
 ghost use Rattle.asn1_model.specs.Numbers.{digits, least_octets, signed_octets};
 ghost use Rattle.asn1_model.specs.Versions.{Begins};
 
-use asn1_schema_faults::EncodeError;
+use asn1_schema_errors::EncodeError;
 use asn1_values_natives::Wide;
 use asn1_values_natives::octets::{bit_count, octet_width};
 

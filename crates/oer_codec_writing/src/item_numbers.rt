@@ -4,7 +4,7 @@ ghost use Rattle.asn1_model.specs.Form.{written};
 ghost use Rattle.asn1_model.specs.Oer.{item_form};
 ghost use Rattle.asn1_model.specs.Versions.{Begins};
 
-use asn1_schema_faults::EncodeError;
+use asn1_schema_errors::EncodeError;
 use asn1_values_integers::IntegerType;
 
 /// Adds an enumeration value (X.696 11): 0 to 127 in one octet, else an octet of 0x80 plus the count, then that count

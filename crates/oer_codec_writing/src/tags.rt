@@ -5,7 +5,7 @@ ghost use Rattle.asn1_model.specs.Oer.{tag_form};
 ghost use Rattle.asn1_model.specs.Versions.{Begins};
 ghost use Rattle.asn1_schema_tags.specs.Tags.{class_number, tag_of};
 
-use asn1_schema_faults::EncodeError;
+use asn1_schema_errors::EncodeError;
 use asn1_schema_tags::{Class, Tag};
 use asn1_values_identifiers::push_groups;
 

@@ -4,15 +4,15 @@ use Rattle.asn1_model.specs.Schema.{Schema}
 use Rattle.asn1_model.specs.Value.{Value, depth}
 use Rattle.asn1_model.specs.Normal.{normal}
 use Rattle.asn1_model.specs.Rules.{uper, aper, uper_strict, aper_strict, per, encoding, of_moderate_length}
-use Rattle.asn1_schema_faults.specs.declared.EncodeError.{EncodeError}
-use Rattle.asn1_schema_faults.specs.declared.EncodeError.TheVariants.{OutOfMemory}
-use Rattle.asn1_schema_faults.proofs.Passing.{PassedOn, never_long, no_memory_before}
+use Rattle.asn1_schema_errors.specs.declared.EncodeError.{EncodeError}
+use Rattle.asn1_schema_errors.specs.declared.EncodeError.TheVariants.{OutOfMemory}
+use Rattle.asn1_schema_errors.proofs.Passing.{PassedOn, never_long, no_memory_before}
 use Rattle.asn1_schema_encode.specs.Writes.{Writes, CannotWrite}
 use Rattle.asn1_schema_encode.specs.Written.{IsWrittenIn, HasTextIn, NotWrittenIn}
-use Rattle.asn1_schema_presented.specs.Records.{Record}
-use Rattle.asn1_schema_presented.specs.Presents.{presents, Fits}
-use Rattle.asn1_schema_presented.specs.Chains.{Chain}
-use Rattle.asn1_schema_presented.specs.Tables.{IsValue}
+use Rattle.asn1_schema_laws.specs.Records.{Record}
+use Rattle.asn1_schema_laws.specs.Presents.{presents, Fits}
+use Rattle.asn1_schema_laws.specs.Chains.{Chain}
+use Rattle.asn1_schema_laws.specs.Tables.{IsValue}
 use Rattle.per_codec_encoder.specs.Stepping.{Written, Puts}
 use Rattle.per_codec_encoder.specs.Steps.{State, run, runs}
 use Rattle.per_codec_encoder.specs.Ties.{octets_of}

@@ -1,3 +1,4 @@
 mod Encoding
+mod Leniently
 mod Messages
 mod Once

@@ -13,29 +13,29 @@ use Rattle.asn1_model.specs.Per
 use Rattle.asn1_model.specs.Rules.{IsEncoding}
 use Rattle.asn1_laws_fronts.proofs.Units.{complete_whole}
 use Rattle.asn1_schema_decode.specs.Reads.{Reads as ReadsValue, Unread}
-use Rattle.asn1_schema_faults.specs.declared.DecodeError.{DecodeError}
-use Rattle.asn1_schema_presented.proofs.Levels.{nests}
+use Rattle.asn1_schema_errors.specs.declared.DecodeError.{DecodeError}
+use Rattle.asn1_schema_laws.proofs.Levels.{nests}
 use Rattle.asn1_schema_decode.specs.Messages.{HasMessage, Tells, NoMessage, NeedsMore}
-use Rattle.asn1_schema_lacking.proofs.Nesting.{no_deeper}
-use Rattle.asn1_schema_presented.specs.Chains.{Chain}
-use Rattle.asn1_schema_presented.specs.Presents.{presents, Fits}
-use Rattle.asn1_schema_presented.proofs.OneValue.{one_value}
+use Rattle.asn1_schema_lacking_laws.proofs.Nesting.{no_deeper}
+use Rattle.asn1_schema_laws.specs.Chains.{Chain}
+use Rattle.asn1_schema_laws.specs.Presents.{presents, Fits}
+use Rattle.asn1_schema_laws.proofs.OneValue.{one_value}
 use Rattle.asn1_values_bits.proofs.Binary.{octet_bits-append, octet_bits-take, length-octet_bits}
-use Rattle.asn1_schema_finding.proofs.Fitting.{records_fit}
-use Rattle.per_codec_held.specs.Held.{Held, Finds}
-use Rattle.per_codec_held.specs.Few.{TooFewHeld, held_with, lacks}
-use Rattle.per_codec_held.proofs.Carried.{few_at_once}
-use Rattle.per_codec_held.specs.Held.{HasFailed, IsReady}
-use Rattle.per_codec_held.proofs.Finds.{finds_one}
-use Rattle.per_codec_fronts.specs.Takes.{Place, Front, completion}
-use Rattle.per_codec_fronts.proofs.Opened.{padded_in, padded_out}
-use Rattle.per_codec_fronts.proofs.Whole.{records_read, forms_show}
+use Rattle.asn1_schema_reading_laws.proofs.Fitting.{records_fit}
+use Rattle.per_codec_held_laws.specs.Held.{Held, Finds}
+use Rattle.per_codec_held_laws.specs.Few.{TooFewHeld, held_with, lacks}
+use Rattle.per_codec_held_laws.proofs.Carried.{few_at_once}
+use Rattle.per_codec_held_laws.specs.Held.{HasFailed, IsReady}
+use Rattle.per_codec_held_laws.proofs.Finds.{finds_one}
+use Rattle.per_codec_laws.specs.Takes.{Position, Front, completion}
+use Rattle.per_codec_laws.proofs.Opened.{padded_in, padded_out}
+use Rattle.per_codec_laws.proofs.Whole.{records_read, forms_show}
 use Rattle.per_codec_reading.specs.Fronts.{freedoms, is_aligned}
 use Rattle.per_codec_reading.specs.Runs.{Storage}
 use Rattle.per_codec_reading.specs.declared.rules.PackedRules.{PackedRules}
 use Rattle.per_codec_reading.specs.declared.rules.PackedRules.TheVariants.{Uper, Aper, UperStrict, AperStrict}
 use Rattle.per_codec.specs.Messages.{rules_of}
-use Rattle.per_codec_held.proofs.Lifting.{held_at, bits_taken, levels_taken, both_found, ready_still, rules_still}
+use Rattle.per_codec_held_laws.proofs.Lifting.{held_at, bits_taken, levels_taken, both_found, ready_still, rules_still}
 
 -- ---- the rules
 any_bitmap : (r : PackedRules) → IsTrue (freedoms r Per.other_bitmap)
@@ -83,13 +83,13 @@ front_octets k input h =
     ap (λ l. text ++ l) d ∙ i
 
 -- the bits of a value and their padding are those of whole octets
-record Whole (r : PackedRules) (s : Schema) (v : Value) (input : List ℕ) (after : Place) : Type 0 where
+record Whole (r : PackedRules) (s : Schema) (v : Value) (input : List ℕ) (after : Position) : Type 0 where
   count : ℕ
   within : count ≤ length (first input)
   left : length after.1 + count * 8 ≡ length (octet_bits (first input))
   reads : Reads (freedoms r) (Per.message (is_aligned r) s v) 0 (octet_bits (take count (first input)))
 
-whole : (r : PackedRules) (s : Schema) (v : Value) (input : List ℕ) (left after : Place) → Front (freedoms r) (Per.form (is_aligned r) s v) (0, octet_bits (first input)) left → Front (freedoms r) (completion left.0) left after → Whole r s v input after
+whole : (r : PackedRules) (s : Schema) (v : Value) (input : List ℕ) (left after : Position) → Front (freedoms r) (Per.form (is_aligned r) s v) (0, octet_bits (first input)) left → Front (freedoms r) (completion left.0) left after → Whole r s v input after
 unfolding Per.message Per.complete Reads
 whole r s v input left after f g =
     let free = freedoms r in
@@ -110,7 +110,7 @@ whole r s v input left after f g =
       reads = subst (λ (l : List Bool). Reads free (Per.complete (Per.form (is_aligned r) s v)) 0 l) (sym bits) reads;
     }
 
-abbrev pub Finished : PackedRules → Held → Place → Type 0
+abbrev pub Finished : PackedRules → Held → Position → Type 0
 Finished r new after = Front (freedoms r) (completion new.place.0) new.place after
 
 found_form : (r : PackedRules) (schema : ℕ → Schema) (v : Value) (input : List ℕ) (new : Held) (t : ReadsValue Finds schema 128 v (begun r input) new) → Front (freedoms r) (Per.form (is_aligned r) (schema 128) t.raw) (0, octet_bits (first input)) new.place
@@ -118,7 +118,7 @@ found_form r schema v input new t =
     let f = records_read (is_aligned r) (freedoms r) (schema 128) t.raw ((0, octet_bits (first input)), []) (new.place, new.scopes) (any_bitmap r) (any_order r) (bits_taken (presents (schema 128) t.raw) (begun r input) new t.chain) in
     f.0
 
-pub told : (r : PackedRules) (schema : ℕ → Schema) (v : Value) (input : List ℕ) (new : Held) (after : Place) → ReadsValue Finds schema 128 v (begun r input) new → Finished r new after → Tells (rules_of r) schema v input (drop ((length (octet_bits (first input)) - length after.1) / 8) input)
+pub told : (r : PackedRules) (schema : ℕ → Schema) (v : Value) (input : List ℕ) (new : Held) (after : Position) → ReadsValue Finds schema 128 v (begun r input) new → Finished r new after → Tells (rules_of r) schema v input (drop ((length (octet_bits (first input)) - length after.1) / 8) input)
 told r schema v input new after t g =
     let s = schema 128 in
     let w = whole r s t.raw input new.place after (found_form r schema v input new t) g in
@@ -139,7 +139,7 @@ told r schema v input new after t g =
     })
 
 -- the same for a new decoder
-pub told_from : (r : PackedRules) (schema : ℕ → Schema) (v : Value) (input : List ℕ) (old new : Held) (after : Place) → old ≡ begun r input → ReadsValue Finds schema old.levels v old new → Front (freedoms new.rules) (completion new.place.0) new.place after → Tells (rules_of r) schema v input (drop ((length old.place.1 - length after.1) / 8) input)
+pub told_from : (r : PackedRules) (schema : ℕ → Schema) (v : Value) (input : List ℕ) (old new : Held) (after : Position) → old ≡ begun r input → ReadsValue Finds schema old.levels v old new → Front (freedoms new.rules) (completion new.place.0) new.place after → Tells (rules_of r) schema v input (drop ((length old.place.1 - length after.1) / 8) input)
 told_from r schema v input old new after e t g =
     let u : ReadsValue Finds schema 128 v (begun r input) new = subst (λ (h : Held). ReadsValue Finds schema h.levels v h new) e t in
     let q : new.rules ≡ r = rules_still (presents (schema 128) u.raw) (begun r input) new u.chain in
@@ -147,7 +147,7 @@ told_from r schema v input old new after e t g =
     subst (λ (n : ℕ). Tells (rules_of r) schema v input (drop ((n - length after.1) / 8) input)) (sym (ap (λ (h : Held). length h.place.1) e)) (told r schema v input new after u f)
 
 -- at most as many bits are left as there were, and the octets that were taken are in the input
-pub left_within : (r : PackedRules) (schema : ℕ → Schema) (v : Value) (input : List ℕ) (old new : Held) (after : Place) → old ≡ begun r input → ReadsValue Finds schema old.levels v old new → Front (freedoms new.rules) (completion new.place.0) new.place after → (length after.1 ≤ length old.place.1) × ((length old.place.1 - length after.1) / 8 ≤ length input)
+pub left_within : (r : PackedRules) (schema : ℕ → Schema) (v : Value) (input : List ℕ) (old new : Held) (after : Position) → old ≡ begun r input → ReadsValue Finds schema old.levels v old new → Front (freedoms new.rules) (completion new.place.0) new.place after → (length after.1 ≤ length old.place.1) × ((length old.place.1 - length after.1) / 8 ≤ length input)
 left_within r schema v input old new after e t g =
     let u : ReadsValue Finds schema 128 v (begun r input) new = subst (λ (h : Held). ReadsValue Finds schema h.levels v h new) e t in
     let q : new.rules ≡ r = rules_still (presents (schema 128) u.raw) (begun r input) new u.chain in
@@ -168,8 +168,8 @@ module _ (r : PackedRules) (schema : ℕ → Schema) (input : List ℕ) (lawful 
   -- the message with which octets begin has records that are found, followed by its padding
   record Again : Type 0 where
     value : Value
-    left : Place
-    after : Place
+    left : Position
+    after : Position
     stands : List Storage
     fits : Fits (schema 128) value
     chain : Chain Finds (presents (schema 128) value) (begun r input) (held_at (begun r input) (left, []) 128 stands)
@@ -185,8 +185,8 @@ module _ (r : PackedRules) (schema : ℕ → Schema) (input : List ℕ) (lawful 
       let bits = q.1.0 in
       let z = padded_out free bits (octet_bits m.message) q.1.2 in
       let others = octet_bits (take (2 ^ 60 - 1 - length m.message) rest) in
-      let left : Place = (length bits, z.0 ++ others) in
-      let after : Place = (length bits + length z.0, others) in
+      let left : Position = (length bits, z.0 ++ others) in
+      let after : Position = (length bits + length z.0, others) in
       let all : bits ++ (z.0 ++ others) ≡ octet_bits (first input) = sym (append_assoc bits z.0 others) ∙ ap (λ l. l ++ others) z.1 ∙ sym (octet_bits-append m.message (take (2 ^ 60 - 1 - length m.message) rest)) ∙ ap octet_bits (front_of m.message rest input q.0 m.in_front) in
       let f : Front free (Per.form al s v) (0, octet_bits (first input)) (length bits, z.0 ++ others) = record { text = bits; has_form = q.1.1; in_front = all; moved = omega arith } in
       let g : Front free (completion (length bits)) (length bits, z.0 ++ others) (length bits + length z.0, others) = record { text = z.0; has_form = z.2; in_front = refl; moved = refl } in
@@ -208,7 +208,7 @@ module _ (r : PackedRules) (schema : ℕ → Schema) (input : List ℕ) (lawful 
   pub none_told : {failed : Held} (e : DecodeError) → Unread Finds TooFewHeld schema 128 (begun r input) failed e → NoMessage (rules_of r) schema input e
   none_told {failed} e u = record { none = λ n v rest m. let f = found_again v rest m in u.none n (begun r input) (few_at_once 0 (begun r input) failed) f.value (held_at (begun r input) (f.left, []) 128 f.stands) f.fits f.chain }
 
-  pub none_finished : (e : DecodeError) (x : Value) (new : Held) → ReadsValue Finds schema 128 x (begun r input) new → ((b : Place) → Front (freedoms r) (completion new.place.0) new.place b → ⊥) → NoMessage (rules_of r) schema input e
+  pub none_finished : (e : DecodeError) (x : Value) (new : Held) → ReadsValue Finds schema 128 x (begun r input) new → ((b : Position) → Front (freedoms r) (completion new.place.0) new.place b → ⊥) → NoMessage (rules_of r) schema input e
   none_finished e x new t none = record {
     none = λ n v rest m.
         let f = found_again v rest m in
@@ -219,7 +219,7 @@ module _ (r : PackedRules) (schema : ℕ → Schema) (input : List ℕ) (lawful 
 pub none_told_from : {failed : Held} (r : PackedRules) (schema : ℕ → Schema) (input : List ℕ) (old : Held) (e : DecodeError) → IsLawful (schema 128) → old ≡ begun r input → Unread Finds TooFewHeld schema old.levels old failed e → NoMessage (rules_of r) schema input e
 none_told_from {failed} r schema input old e lawful q u = none_told r schema input lawful e (subst (λ (h : Held). Unread Finds TooFewHeld schema h.levels h failed e) q u)
 
-pub none_finished_from : (r : PackedRules) (schema : ℕ → Schema) (input : List ℕ) (x : Value) (old new : Held) (e : DecodeError) → IsLawful (schema 128) → old ≡ begun r input → ReadsValue Finds schema old.levels x old new → (IsReady new → (b : Place) → Front (freedoms new.rules) (completion new.place.0) new.place b → ⊥) → NoMessage (rules_of r) schema input e
+pub none_finished_from : (r : PackedRules) (schema : ℕ → Schema) (input : List ℕ) (x : Value) (old new : Held) (e : DecodeError) → IsLawful (schema 128) → old ≡ begun r input → ReadsValue Finds schema old.levels x old new → (IsReady new → (b : Position) → Front (freedoms new.rules) (completion new.place.0) new.place b → ⊥) → NoMessage (rules_of r) schema input e
 none_finished_from r schema input x old new e lawful q t none =
     let u : ReadsValue Finds schema 128 x (begun r input) new = subst (λ (h : Held). ReadsValue Finds schema h.levels x h new) q t in
     let k : new.rules ≡ r = rules_still (presents (schema 128) u.raw) (begun r input) new u.chain in

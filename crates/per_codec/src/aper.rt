@@ -5,15 +5,16 @@ ghost use Rattle.asn1_model.specs.Rules.{aper};
 ghost use Rattle.asn1_schema_constraints.specs.Terms.{meant};
 ghost use Rattle.asn1_schema_decode.specs.Messages.{NeedsMore, NoMessage, Tells};
 ghost use Rattle.per_codec.specs.Encoded.{IsEncoded, NotEncoded};
+ghost use Rattle.asn1_schema_encode.specs.Written.{IsOfValue};
 
 use asn1_schema_constraints::Constraints;
 use asn1_schema_decode::{Decode, Refusal};
 use asn1_schema_encode::Encode;
-use asn1_schema_faults::{DecodeError, EncodeError};
+use asn1_schema_errors::{DecodeError, EncodeError};
 pub use per_codec_decoder::{Decoder, DecoderOptions};
 pub use per_codec_encoder::{Encoder, EncoderOptions};
-use per_codec_limits::Variant;
 use per_codec_reading::PackedRules;
+use per_codec_rules::Variant;
 use std::alloc::Global;
 
 /// The canonical encoding of a value (X.691 11.1): at least one octet.
@@ -26,9 +27,7 @@ use std::alloc::Global;
 pub fn encode<T: Encode>(alloc: Global, value: &T) -> Result<Vec<u8>, EncodeError>
     ensures ok { IfOk result (λ octets. IsEncoded Variant.Aligned T.schema (T.meaning value.now) octets.items) }
     ensures only { IfErr result (NotEncoded Variant.Aligned T.schema (T.meaning value.now)) }
-    ensures fresh { IfErr result (λ e. e ≡ EncodeError.AlreadyFailed → ⊥) }
-    ensures fits { IfErr result (λ e. e ≡ EncodeError.LengthExceedsPlatformSize → ⊥) }
-    ensures in_place { IfErr result (λ e. e ≡ EncodeError.CallOutOfPlace → ⊥) }
+    ensures kinds { IfErr result IsOfValue }
 {
     let octets = crate::writing::encode(alloc, EncoderOptions::aligned(), value)?;
     Ok(octets)
@@ -46,9 +45,7 @@ pub fn encode_buf<T: Encode>(
 ) -> Result<(), EncodeError>
     ensures ok { OnOk result (IsEncoded Variant.Aligned T.schema (T.meaning value.now) buffer.new.items) }
     ensures only { IfErr result (NotEncoded Variant.Aligned T.schema (T.meaning value.now)) }
-    ensures fresh { IfErr result (λ e. e ≡ EncodeError.AlreadyFailed → ⊥) }
-    ensures fits { IfErr result (λ e. e ≡ EncodeError.LengthExceedsPlatformSize → ⊥) }
-    ensures in_place { IfErr result (λ e. e ≡ EncodeError.CallOutOfPlace → ⊥) }
+    ensures kinds { IfErr result IsOfValue }
     ensures empty { OnErr result (buffer.new.items ≡ []) }
 {
     crate::writing::encode_buf(alloc, EncoderOptions::aligned(), value, buffer)?;
@@ -69,9 +66,7 @@ pub fn encode_with_constraints<T: Encode>(
         (λ octets. IsEncoded Variant.Aligned (T.under (meant constraints.now)) (T.meaning value.now) octets.items) }
     ensures only { IfErr result
         (NotEncoded Variant.Aligned (T.under (meant constraints.now)) (T.meaning value.now)) }
-    ensures fresh { IfErr result (λ e. e ≡ EncodeError.AlreadyFailed → ⊥) }
-    ensures fits { IfErr result (λ e. e ≡ EncodeError.LengthExceedsPlatformSize → ⊥) }
-    ensures in_place { IfErr result (λ e. e ≡ EncodeError.CallOutOfPlace → ⊥) }
+    ensures kinds { IfErr result IsOfValue }
 {
     let options = EncoderOptions::aligned();
     let octets = crate::writing::encode_with_constraints(alloc, options, constraints, value)?;

@@ -1,12 +1,22 @@
 //! Readers of the message with which octets begin, for each set of rules.
+ghost use Rattle.std.specs.Prelude.{◌≡◌};
 
 use asn1_schema_decode::{Decode, FrontReader};
-use asn1_schema_faults::DecodeError;
+use asn1_schema_errors::{CodecKind, DecodeError};
 use std::alloc::Global;
 
 /// Reads the message with which octets begin, by the unaligned packed encoding rules (X.691).
 #[derive(Clone, Copy, Debug, PartialEq, Eq)]
 pub struct UperFront;
+
+impl UperFront {
+    /// The rules, as an encoder and a decoder name them.
+    pub fn codec(&self) -> CodecKind
+        ensures { result ≡ CodecKind.Uper }
+    {
+        CodecKind::Uper
+    }
+}
 
 impl<T: Decode> FrontReader<T> for UperFront {
     ghost use Rattle.asn1_model.specs.Rules.{uper};
@@ -25,6 +35,15 @@ impl<T: Decode> FrontReader<T> for UperFront {
 /// Reads the message with which octets begin, by the aligned packed encoding rules (X.691).
 #[derive(Clone, Copy, Debug, PartialEq, Eq)]
 pub struct AperFront;
+
+impl AperFront {
+    /// The rules, as an encoder and a decoder name them.
+    pub fn codec(&self) -> CodecKind
+        ensures { result ≡ CodecKind.Aper }
+    {
+        CodecKind::Aper
+    }
+}
 
 impl<T: Decode> FrontReader<T> for AperFront {
     ghost use Rattle.asn1_model.specs.Rules.{aper};
@@ -45,6 +64,15 @@ impl<T: Decode> FrontReader<T> for AperFront {
 #[derive(Clone, Copy, Debug, PartialEq, Eq)]
 pub struct UperStrictFront;
 
+impl UperStrictFront {
+    /// The rules, as an encoder and a decoder name them.
+    pub fn codec(&self) -> CodecKind
+        ensures { result ≡ CodecKind.Uper }
+    {
+        CodecKind::Uper
+    }
+}
+
 impl<T: Decode> FrontReader<T> for UperStrictFront {
     ghost use Rattle.asn1_model.specs.Rules.{uper_strict};
     ghost use Rattle.asn1_schema_decode.specs.Messages.{NoMessage};
@@ -63,6 +91,15 @@ impl<T: Decode> FrontReader<T> for UperStrictFront {
 /// that an encoder writes.
 #[derive(Clone, Copy, Debug, PartialEq, Eq)]
 pub struct AperStrictFront;
+
+impl AperStrictFront {
+    /// The rules, as an encoder and a decoder name them.
+    pub fn codec(&self) -> CodecKind
+        ensures { result ≡ CodecKind.Aper }
+    {
+        CodecKind::Aper
+    }
+}
 
 impl<T: Decode> FrontReader<T> for AperStrictFront {
     ghost use Rattle.asn1_model.specs.Rules.{aper_strict};

@@ -11,8 +11,9 @@ pub mod uper;
 pub mod uper_strict;
 pub mod writing;
 
+pub use asn1_schema_decode::Refusal;
 pub use front_readers::{AperFront, AperStrictFront, UperFront, UperStrictFront};
 pub use per_codec_decoder::{Decoder, DecoderOptions};
 pub use per_codec_encoder::{Encoder, EncoderOptions};
-pub use per_codec_limits::Variant;
 pub use per_codec_reading::PackedRules;
+pub use per_codec_rules::Variant;

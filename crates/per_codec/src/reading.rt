@@ -7,7 +7,7 @@ ghost use Rattle.per_codec.specs.Messages.{rules_of};
 
 use asn1_schema_constraints::Constraints;
 use asn1_schema_decode::{Decode, Refusal};
-use asn1_schema_faults::DecodeError;
+use asn1_schema_errors::DecodeError;
 use per_codec_decoder::{Decoder, DecoderOptions};
 use per_codec_reading::PackedRules;
 use std::alloc::Global;
@@ -43,10 +43,14 @@ pub fn decode_with_remainder<'input, T: Decode>(
     ensures only { IfErr result (NoMessage (rules_of rules) T.schema input.now) }
     ensures fresh { IfErr result (λ e. e ≡ DecodeError.AlreadyFailed → ⊥) }
 {
-    match decode_or_need(alloc, input, rules) {
-        Ok(found) => Ok(found),
-        Err(refusal) => Err(refusal.error),
-    }
+    let mut decoder = Decoder::new(alloc, input, DecoderOptions { rules });
+    let looked_at = decoder.input().len();
+    let value = T::decode(alloc, &mut decoder)?;
+    decoder.finish()?;
+    let taken = (looked_at - decoder.input().len()) / 8;
+    decoder.let_go();
+    let (_, rest) = input.split_at(taken);
+    Ok((value, rest))
 }
 
 /// As `decode_with_remainder`; an error also says how many more octets are needed at least. With fewer octets appended,

@@ -12,7 +12,7 @@ ghost use Rattle.asn1_schema_decode.specs.Messages.{NeedsMore, NoMessage, Tells}
 
 use asn1_schema_constraints::Constraints;
 use asn1_schema_decode::{Decode, Refusal};
-use asn1_schema_faults::DecodeError;
+use asn1_schema_errors::DecodeError;
 use per_codec_reading::PackedRules;
 use std::alloc::Global;
 

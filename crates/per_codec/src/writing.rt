@@ -3,10 +3,11 @@ ghost use Rattle.std.specs.Prelude.{◌≡◌, [], length, OnOk, OnErr, IfOk, If
 ghost use Rattle.per_codec_encoder.specs.Stepping.{variant_of};
 ghost use Rattle.asn1_schema_constraints.specs.Terms.{meant};
 ghost use Rattle.per_codec.specs.Encoded.{IsEncoded, NotEncoded};
+ghost use Rattle.asn1_schema_encode.specs.Written.{IsOfValue};
 
 use asn1_schema_constraints::Constraints;
 use asn1_schema_encode::Encode;
-use asn1_schema_faults::{EncodeError, refusal, within_limit};
+use asn1_schema_errors::{EncodeError, refusal, within_limit};
 use per_codec_encoder::{Encoder, EncoderOptions};
 use std::alloc::Global;
 use std::mem;
@@ -36,9 +37,7 @@ pub fn encode<T: Encode>(
 ) -> Result<Vec<u8>, EncodeError>
     ensures ok { IfOk result (λ octets. IsEncoded (variant_of options) T.schema (T.meaning value.now) octets.items) }
     ensures only { IfErr result (NotEncoded (variant_of options) T.schema (T.meaning value.now)) }
-    ensures fresh { IfErr result (λ e. e ≡ EncodeError.AlreadyFailed → ⊥) }
-    ensures fits { IfErr result (λ e. e ≡ EncodeError.LengthExceedsPlatformSize → ⊥) }
-    ensures in_place { IfErr result (λ e. e ≡ EncodeError.CallOutOfPlace → ⊥) }
+    ensures kinds { IfErr result IsOfValue }
 {
     let room = with_room(alloc)?;
     encode_into(alloc, options, value, room)
@@ -54,9 +53,7 @@ fn encode_into<T: Encode>(
 ) -> Result<Vec<u8>, EncodeError>
     ensures ok { IfOk result (λ octets. IsEncoded (variant_of options) T.schema (T.meaning value.now) octets.items) }
     ensures only { IfErr result (NotEncoded (variant_of options) T.schema (T.meaning value.now)) }
-    ensures fresh { IfErr result (λ e. e ≡ EncodeError.AlreadyFailed → ⊥) }
-    ensures fits { IfErr result (λ e. e ≡ EncodeError.LengthExceedsPlatformSize → ⊥) }
-    ensures in_place { IfErr result (λ e. e ≡ EncodeError.CallOutOfPlace → ⊥) }
+    ensures kinds { IfErr result IsOfValue }
 {
     let mut encoder = Encoder::new_with_output(alloc, options, room);
     match value.encode(&mut encoder) {
@@ -84,9 +81,7 @@ pub fn encode_with_constraints<T: Encode>(
         (T.meaning value.now) octets.items) }
     ensures only { IfErr result
         (NotEncoded (variant_of options) (T.under (meant constraints.now)) (T.meaning value.now)) }
-    ensures fresh { IfErr result (λ e. e ≡ EncodeError.AlreadyFailed → ⊥) }
-    ensures fits { IfErr result (λ e. e ≡ EncodeError.LengthExceedsPlatformSize → ⊥) }
-    ensures in_place { IfErr result (λ e. e ≡ EncodeError.CallOutOfPlace → ⊥) }
+    ensures kinds { IfErr result IsOfValue }
 {
     let room = with_room(alloc)?;
     let mut encoder = Encoder::new_with_output(alloc, options, room);
@@ -112,9 +107,7 @@ pub fn encode_buf<T: Encode>(
 ) -> Result<(), EncodeError>
     ensures ok { OnOk result (IsEncoded (variant_of options) T.schema (T.meaning value.now) buffer.new.items) }
     ensures only { IfErr result (NotEncoded (variant_of options) T.schema (T.meaning value.now)) }
-    ensures fresh { IfErr result (λ e. e ≡ EncodeError.AlreadyFailed → ⊥) }
-    ensures fits { IfErr result (λ e. e ≡ EncodeError.LengthExceedsPlatformSize → ⊥) }
-    ensures in_place { IfErr result (λ e. e ≡ EncodeError.CallOutOfPlace → ⊥) }
+    ensures kinds { IfErr result IsOfValue }
     ensures none { OnErr result (buffer.new.items ≡ []) }
 {
     let room = mem::replace(buffer, Vec::new(alloc));

@@ -1,2 +1,2 @@
-pub mod AdditionTexts
+pub mod AdditionFieldLists
 pub mod KeptSlots

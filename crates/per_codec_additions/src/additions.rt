@@ -3,16 +3,16 @@ ghost use Rattle.std.specs.Prelude.{◌≡◌, ◌≤◌, length, map, MatchResu
 ghost use Rattle.asn1_model.specs.Form.{joined, present_ones};
 ghost use Rattle.asn1_model.specs.Numbers.{binary};
 ghost use Rattle.asn1_model.specs.Per.{additions, normally_few, bit_units};
-ghost use Rattle.per_codec_packing.specs.Texts.{as_text, text_at};
+ghost use Rattle.per_codec_packing.specs.FieldLists.{as_field_list, field_list_at};
 ghost use Rattle.per_codec_writing.specs.Writing.{Adds, place, plus};
 ghost use Rattle.per_codec_additions.specs.Additions.{as_open_types};
 ghost use Rattle.per_codec_additions.specs.Slots.{all_bits, is_there, EachIsSlotOf};
-ghost use Rattle.per_codec_limits.specs.Variants.{is_aligned};
+ghost use Rattle.per_codec_rules.specs.Variants.{is_aligned};
 
 use crate::slots::{Slot, Slots};
-use asn1_schema_faults::EncodeError;
-use per_codec_limits::Variant;
+use asn1_schema_errors::EncodeError;
 use per_codec_packing::Packing;
+use per_codec_rules::Variant;
 use per_codec_writing::{Units, push_counted};
 
 /// Adds units after a normally small length: for up to 64 units a zero bit and six bits, else a one bit and a length
@@ -27,7 +27,8 @@ pub fn push_normally_few<U: Units>(
     units: &U,
 ) -> Result<(), EncodeError>
     ensures { MatchResult result (λ _. Adds
-        (text_at (normally_few (is_aligned variant) (U.forms units.now)) (place output.old)) output.old output.new)
+        (field_list_at (normally_few (is_aligned variant) (U.forms units.now)) (place output.old))
+        output.old output.new)
         (λ e. e ≡ EncodeError.OutOfMemory) }
 {
     let count = units.count();
@@ -57,7 +58,7 @@ fn presence_number(slots: &[Slot]) -> u128
 /// Adds the presence bits of the additions, 64 at a time (X.691 19.8). The only error is `OutOfMemory`.
 fn push_presence_bits(output: &mut Packing, slots: &[Slot]) -> Result<(), EncodeError>
     ensures { MatchResult result
-        (λ _. output.new ≡ plus output.old (as_text (map is_there slots.now)))
+        (λ _. output.new ≡ plus output.old (as_field_list (map is_there slots.now)))
         (λ e. e ≡ EncodeError.OutOfMemory) }
 {
     let mut rest = slots;
@@ -92,7 +93,7 @@ impl Units for PresenceBits<'_> {
 /// them. The only error is `OutOfMemory`.
 fn push_presence(output: &mut Packing, variant: Variant, slots: &[Slot]) -> Result<(), EncodeError>
     ensures { MatchResult result (λ _. Adds
-        (text_at (normally_few (is_aligned variant) (bit_units (map is_there slots.now))) (place output.old))
+        (field_list_at (normally_few (is_aligned variant) (bit_units (map is_there slots.now))) (place output.old))
         output.old output.new) (λ e. e ≡ EncodeError.OutOfMemory) }
 {
     let units = PresenceBits { slots };
@@ -109,8 +110,9 @@ fn push_present(
 ) -> Result<(), EncodeError>
     requires { EachIsSlotOf shared.now slots.now }
     ensures { MatchResult result (λ _. Adds
-        (text_at (joined (present_ones (as_open_types (is_aligned variant) (all_bits shared.now slots.now))))
-        (place output.old)) output.old output.new)
+        (field_list_at (joined (present_ones (as_open_types (is_aligned variant) (all_bits shared.now slots.now))))
+        (place output.old))
+        output.old output.new)
         (λ e. e ≡ EncodeError.OutOfMemory) }
 {
     for slot in slots {
@@ -131,7 +133,8 @@ pub fn push_additions(
     slots: &Slots,
 ) -> Result<(), EncodeError>
     ensures { MatchResult result (λ _. Adds
-        (text_at (additions (is_aligned variant) (as_open_types (is_aligned variant) slots.now)) (place output.old))
+        (field_list_at (additions (is_aligned variant) (as_open_types (is_aligned variant) slots.now))
+        (place output.old))
         output.old output.new)
         (λ e. e ≡ EncodeError.OutOfMemory) }
 {

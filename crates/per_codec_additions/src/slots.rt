@@ -3,15 +3,15 @@ ghost use Rattle.std.specs.Prelude.{◌≡◌, ◌++◌, ◌∷◌, [], List, Bo
 ghost use Rattle.std.specs.Prelude.{MatchOption};
 ghost use Rattle.asn1_model.specs.Form.{exactly, is_any_present};
 ghost use Rattle.asn1_model.specs.Per.{open_type};
-ghost use Rattle.per_codec_packing.specs.Texts.{text_at};
+ghost use Rattle.per_codec_packing.specs.FieldLists.{field_list_at};
 ghost use Rattle.per_codec_additions.specs.Slots.{complete_octets, is_there, kept_bits, IsSlotOf, Keeps};
 ghost use Rattle.per_codec_writing.specs.Writing.{Adds, place};
-ghost use Rattle.per_codec_limits.specs.Variants.{is_aligned};
+ghost use Rattle.per_codec_rules.specs.Variants.{is_aligned};
 
-use asn1_schema_faults::EncodeError;
+use asn1_schema_errors::EncodeError;
 use asn1_values_bits::BitBuffer;
-use per_codec_limits::Variant;
 use per_codec_packing::Packing;
+use per_codec_rules::Variant;
 use per_codec_writing::push_counted_octets;
 use std::alloc::{AllocError, Global};
 use std::marker::Model;
@@ -178,7 +178,7 @@ impl Slot {
     ) -> Result<(), EncodeError>
         requires { IsSlotOf shared.now self.now }
         ensures present { OnOk result ((bits : List Bool) → kept_bits shared.now self.now ≡ Some bits → Adds
-            (text_at (open_type (is_aligned variant) (exactly bits)) (place output.old)) output.old output.new) }
+            (field_list_at (open_type (is_aligned variant) (exactly bits)) (place output.old)) output.old output.new) }
         ensures absent { OnOk result (kept_bits shared.now self.now ≡ None → output.new ≡ output.old) }
         ensures only { IfErr result (λ e. e ≡ EncodeError.OutOfMemory) }
     {

@@ -5,7 +5,7 @@ ghost use Rattle.asn1_model.specs.Per.{character_bits, raised};
 ghost use Rattle.asn1_model.specs.Strings.{how_many, largest};
 ghost use Rattle.per_codec_alphabets.specs.Codes.{runs_of, code_of, code_in, SameCharacters};
 ghost use Rattle.per_codec_alphabets.specs.Held.{held_runs, permitted_by};
-ghost use Rattle.per_codec_limits.specs.Variants.{is_aligned};
+ghost use Rattle.per_codec_rules.specs.Variants.{is_aligned};
 
 use crate::few::FewRuns;
 use crate::runs::{
@@ -14,7 +14,7 @@ use crate::runs::{
 use crate::single::{CodedRun, single_run};
 use asn1_schema_constraints::{Extensible, PermittedAlphabet};
 use asn1_values_alphabets::StaticPermittedAlphabet;
-use per_codec_limits::Variant;
+use per_codec_rules::Variant;
 use std::alloc::{AllocError, Global};
 use std::marker::Model;
 

@@ -2,11 +2,11 @@
 ghost use Rattle.std.specs.Prelude.{◌≡◌};
 ghost use Rattle.per_codec_alphabets.specs.Octets.{have_octet_codes as are_own_codes, alphabet_counts as counts};
 ghost use Rattle.per_codec_alphabets.specs.Octets.{is_encoded_as_octets as as_octets};
-ghost use Rattle.per_codec_limits.specs.Variants.{is_aligned};
+ghost use Rattle.per_codec_rules.specs.Variants.{is_aligned};
 
 use asn1_schema_constraints::{Constraints, Extensible, PermittedAlphabet};
 use asn1_values_alphabets::StaticPermittedAlphabet;
-use per_codec_limits::Variant;
+use per_codec_rules::Variant;
 
 /// Whether each character of a string type has one octet as its code in the aligned variant, its number, if no
 /// constraint is PER-visible (X.691 30.5.2 and 30.5.4).

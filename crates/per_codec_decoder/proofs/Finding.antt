@@ -1,7 +1,7 @@
--- How a record that is asked for is found, and why none is.
+-- How a requested record is found, and why none is.
 use Rattle.std.proofs.Common.{◌≡◌, ℕ, ℤ, suc, ◌+◌, Bool, true, false, ◌||◌, ◌&&◌, List, ◌∷◌, length, Some, Result, Ok, Err, refl, sym, ◌∙◌, ap, subst, arith}
 use Rattle.std.specs.Prelude.{OnOk, not, is_some}
-use Rattle.asn1_schema_presented.specs.Levels.{level}
+use Rattle.asn1_schema_laws.specs.Levels.{level}
 use Rattle.asn1_model.specs.Value.{Value, truth, nothing, number, item, bit_list, octet_list, text, arcs}
 use Rattle.asn1_model.specs.Schema.{Range, Bounds, Counts, Size, Alphabet, StringKind, Schema, boolean, null, integer, enumerated, bit_string, octet_string, character_string, object_identifier}
 use Rattle.asn1_model.specs.Numbers.{is_within, is_count_within, fits_128}
@@ -11,18 +11,18 @@ use Rattle.asn1_model.specs.Normal.{is_bounded}
 use Rattle.asn1_model.specs.Per
 use Rattle.asn1_laws_fronts.proofs.PerNumbers.{length_of_map}
 use Rattle.asn1_schema_decode.specs.Reads.{NoRecord}
-use Rattle.asn1_schema_lacking.specs.Carried.{AtOnce}
+use Rattle.asn1_schema_lacking_laws.specs.Carried.{AtOnce}
 use Rattle.asn1_schema_decode.proofs.AtOnce.{none_at_once}
-use Rattle.asn1_schema_faults.specs.declared.DecodeError.{DecodeError}
-use Rattle.asn1_schema_presented.specs.Records.{Record, Question, question, flag, nil, whole, one_of, bits, octets, characters, identifier, further, presence_bit, asks_flag, asks_nil, asks_whole, asks_one_of, asks_bits, asks_octets, asks_characters, asks_identifier, asks_further, asks_presence_bit}
-use Rattle.per_codec_fronts.specs.Takes.{Place, Scope, components, State, Front, Found, NextMember, NextPresenceBit, Begins, Takes}
-use Rattle.per_codec_fronts.proofs.Fronts.{if_out}
+use Rattle.asn1_schema_errors.specs.declared.DecodeError.{DecodeError}
+use Rattle.asn1_schema_laws.specs.Records.{Record, Question, question, flag, nil, whole, one_of, bits, octets, characters, identifier, further, presence_bit, asks_flag, asks_nil, asks_whole, asks_one_of, asks_bits, asks_octets, asks_characters, asks_identifier, asks_further, asks_presence_bit}
+use Rattle.per_codec_laws.specs.Takes.{Position, Scope, components, State, Front, Found, NextMember, NextPresenceBit, Begins, Takes}
+use Rattle.per_codec_laws.proofs.Fronts.{if_out}
 use Rattle.per_codec_reading.specs.Fronts.{freedoms, is_aligned, Misses}
-use Rattle.per_codec_held.specs.Held.{Held, state_of, kept, Finds}
-use Rattle.per_codec_held.specs.Held.{IsReady}
+use Rattle.per_codec_held_laws.specs.Held.{Held, state_of, kept, Finds}
+use Rattle.per_codec_held_laws.specs.Held.{IsReady}
 use Rattle.per_codec_decoder.specs.Members.{NoFurther}
 use Rattle.per_codec_decoder.specs.Preamble.{HasPreamble}
-use Rattle.per_codec_decoder.proofs.Counting.{missed}
+use Rattle.per_codec_reading.proofs.Fronts.{missed}
 
 -- ---- scalars
 module _ (al : Bool) (free : Per.Freedom → Bool) (a b : State) where
@@ -71,7 +71,7 @@ none_found old now q s e x same faults m asked =
     none_at_once Finds (λ i r new k p. let t = asked (is_aligned old.rules) (freedoms old.rules) (state_of old) (state_of new) r k p.taken in missed (freedoms old.rules) (Per.form (is_aligned old.rules) s) old.place e n (λ y. i (faults ∙ y)) t.0 new.place t.1.0)
 
 -- ---- what a form says of a value
-module _ (free : Per.Freedom → Bool) (al : Bool) (a b : Place) where
+module _ (free : Per.Freedom → Bool) (al : Bool) (a b : Position) where
   pub octets_within : (z : Size) (h : Counts) (v : List ℕ) → Front free (Per.form al (octet_string z h) (octet_list v)) a b → is_count_within h (length v) ≡ true
   unfolding Per.form Per.sized
   octets_within z h v f = subst (λ n. is_count_within h n ≡ true) (length_of_map _ v) (if_out free (is_count_within h (length (Per.octet_units v))) _ a b (if_out free (list_all is_octet v) _ a b f).1).0
@@ -94,7 +94,7 @@ pub both_ok : {A E : Type 0} {P Q R : Type 0} (r : Result A E) → OnOk r P → 
 both_ok (Ok x) p q f = f p q
 both_ok (Err e) p q f = tt
 
-pub opens : (old now new : Held) (s : Scope) (rest : Place) (r : Record) → now ≡ old → IsReady old → Takes (is_aligned now.rules) (freedoms now.rules) (state_of now) r (rest, s ∷ now.scopes) → ((most l : ℕ) → level most r (suc l) ≡ Some l) → old.stands ≡ kept old r new.place new.scopes → now.levels ≡ new.levels + 1 → new ≡ record { place = rest; scopes = s ∷ now.scopes; levels = new.levels; most = now.most; failed = now.failed; rules = now.rules; stands = now.stands } → Finds old r new
+pub opens : (old now new : Held) (s : Scope) (rest : Position) (r : Record) → now ≡ old → IsReady old → Takes (is_aligned now.rules) (freedoms now.rules) (state_of now) r (rest, s ∷ now.scopes) → ((most l : ℕ) → level most r (suc l) ≡ Some l) → old.stands ≡ kept old r new.place new.scopes → now.levels ≡ new.levels + 1 → new ≡ record { place = rest; scopes = s ∷ now.scopes; levels = new.levels; most = now.most; failed = now.failed; rules = now.rules; stands = now.stands } → Finds old r new
 opens old now new s rest r same ready t lower u e f =
     let g : Takes (is_aligned old.rules) (freedoms old.rules) (state_of old) r (rest, s ∷ old.scopes) = subst (λ (h : Held). Takes (is_aligned h.rules) (freedoms h.rules) (state_of h) r (rest, s ∷ h.scopes)) same t in
     let k : (rest, s ∷ old.scopes) ≡ state_of new = ap (λ (h : Held). (rest, s ∷ h.scopes)) (sym same) ∙ sym (ap state_of f) in
@@ -110,7 +110,7 @@ opens old now new s rest r same ready t lower u e f =
     }
 
 -- ---- SEQUENCE
-pub begins : (free : Per.Freedom → Bool) (e : Bool) (n : ℕ) (s : Scope) (a b : Place) (k : List Scope) → HasPreamble free e n s a b → Begins free e n (a, k) (b, s ∷ k)
+pub begins : (free : Per.Freedom → Bool) (e : Bool) (n : ℕ) (s : Scope) (a b : Position) (k : List Scope) → HasPreamble free e n s a b → Begins free e n (a, k) (b, s ∷ k)
 begins free e n (components x ms) a b k h = (x, ms, h.0, h.1, h.2, refl)
 begins free e n s a b k h = absurd h
 
@@ -129,7 +129,7 @@ asked_presence_bit : (al : Bool) (free : Per.Freedom → Bool) (a b : State) (r 
 asked_presence_bit al free a b (presence_bit v) k t = (v, t)
 asked_presence_bit al free a b r k t = cc k
 
-pub no_presence_bit : {failed : Held} (old now : Held) (x : DecodeError) → now ≡ old → ((v : Bool) (p : Place) (b : State) → NextPresenceBit v p now.scopes b → ⊥) → NoRecord Finds AtOnce asks_presence_bit old failed x
+pub no_presence_bit : {failed : Held} (old now : Held) (x : DecodeError) → now ≡ old → ((v : Bool) (p : Position) (b : State) → NextPresenceBit v p now.scopes b → ⊥) → NoRecord Finds AtOnce asks_presence_bit old failed x
 no_presence_bit old now x same none = none_at_once Finds (λ i r new k p.
     let t = asked_presence_bit (is_aligned old.rules) (freedoms old.rules) (state_of old) (state_of new) r k p.taken in
     none t.0 old.place (state_of new) (subst (λ (h : Held). NextPresenceBit t.0 old.place h.scopes (state_of new)) (sym same) t.1))

@@ -4,23 +4,23 @@ use Rattle.std.proofs.lemmas.Bool.{cases_lt}
 use Rattle.asn1_model.specs.Per
 use Rattle.asn1_model.specs.Schema.{Schema, Tag}
 use Rattle.asn1_schema_decode.specs.Reads.{NoRecord, NoLevel}
-use Rattle.asn1_schema_lacking.specs.Carried.{AtOnce}
-use Rattle.asn1_schema_faults.specs.declared.DecodeError.{DecodeError}
-use Rattle.asn1_schema_faults.specs.declared.DecodeError.TheVariants.{OutOfMemory}
-use Rattle.asn1_schema_presented.specs.Records.{Record, Question, question, asks_addition, asks_choice}
-use Rattle.asn1_schema_variants.specs.declared.chosen.Chosen.{Chosen}
-use Rattle.per_codec_fronts.specs.Takes.{Place, Scope, State, Front, Opens, Takes}
-use Rattle.per_codec_fronts.proofs.Next.{place_same}
-use Rattle.per_codec_longer.specs.More.{is_within, place_with, scopes_with}
-use Rattle.per_codec_longer.specs.Few.{due}
-use Rattle.per_codec_longer.proofs.Behind.{front_more}
+use Rattle.asn1_schema_lacking_laws.specs.Carried.{AtOnce}
+use Rattle.asn1_schema_errors.specs.declared.DecodeError.{DecodeError}
+use Rattle.asn1_schema_errors.specs.declared.DecodeError.TheVariants.{OutOfMemory}
+use Rattle.asn1_schema_laws.specs.Records.{Record, Question, question, asks_addition, asks_choice}
+use Rattle.asn1_schema_tags.specs.declared.chosen.Chosen.{Chosen}
+use Rattle.per_codec_laws.specs.Takes.{Position, Scope, State, Front, Opens, Takes}
+use Rattle.per_codec_laws.proofs.Next.{place_same}
+use Rattle.per_codec_longer_laws.specs.More.{is_within, place_with, scopes_with}
+use Rattle.per_codec_longer_laws.specs.Few.{due}
+use Rattle.per_codec_longer_laws.proofs.Behind.{front_more}
 use Rattle.per_codec_reading.specs.Fronts.{freedoms, is_aligned, Misses, NoneStands}
 use Rattle.per_codec_reading.specs.Units.{counted_units}
 use Rattle.per_codec_reading.proofs.Fronts.{misses_also}
 use Rattle.per_codec_reading.proofs.OctetFronts.{no_octets}
-use Rattle.per_codec_reading_values.specs.Places.{place_form}
-use Rattle.per_codec_held.specs.Held.{Held, Finds}
-use Rattle.per_codec_held.specs.Few.{held_with, told, TooFewHeld}
+use Rattle.per_codec_reading_values.specs.Places.{index_form}
+use Rattle.per_codec_held_laws.specs.Held.{Held, Finds}
+use Rattle.per_codec_held_laws.specs.Few.{held_with, told, TooFewHeld}
 use Rattle.per_codec_decoder.specs.Held.{NoOpening}
 use Rattle.per_codec_decoder.specs.Missing.{IsFew, StillTooShort}
 use Rattle.per_codec_decoder.specs.Scopes.{Flags}
@@ -47,11 +47,11 @@ still_lacking_in : {q : Question} {x : DecodeError} (old failed : Held) → due 
 still_lacking_in old failed d h = record { none = λ m c f l r new k p. let z = few_told old failed c d f in (h m z.0 z.2).none m c z.1 l r new k p }
 
 -- bits that do not begin with something do not with such bits appended
-none_more : {X : Type 0} (free : Per.Freedom → Bool) (f : X → Per.BitForm) (k : List Scope) (a : Place) (n : ℕ) (e : List Bool) → NoneStands free f a → StillTooShort free f a n → IsFew n e → NoneStands free f (place_with e k a)
+none_more : {X : Type 0} (free : Per.Freedom → Bool) (f : X → Per.BitForm) (k : List Scope) (a : Position) (n : ℕ) (e : List Bool) → NoneStands free f a → StillTooShort free f a n → IsFew n e → NoneStands free f (place_with e k a)
 none_more {X} free f k a n e none s w = by_case (is_within k)
   where
-    here : (p : Place) → p ≡ a → NoneStands free f p
-    here p i = subst (λ (q : Place). NoneStands free f q) (sym i) none
+    here : (p : Position) → p ≡ a → NoneStands free f p
+    here p i = subst (λ (q : Position). NoneStands free f q) (sym i) none
 
     by_case : (b : Bool) → NoneStands free f (a.0, cond b a.1 (a.1 ++ e))
     by_case true = here (a.0, a.1) (place_same (a.0, a.1) a refl refl)
@@ -83,7 +83,7 @@ flags_due : (v : Bool) (s k : List Scope) → Flags v s k → due k ≡ due s
 flags_due v s k f = ap (λ l. due l) f.4 ∙ sym (ap (λ l. due l) f.3)
 
 -- what is left in scopes after what was read
-abbrev placed_in : Held → Place → List Scope → Held
+abbrev placed_in : Held → Position → List Scope → Held
 placed_in now p k = record { place = p; scopes = k; levels = now.levels; most = now.most; failed = now.failed; rules = now.rules; stands = now.stands }
 
 pub addition_lacking : {x : DecodeError} (old now failed : Held) (v : Bool) (k : List Scope) (e : DecodeError) → now ≡ old → x ≡ e → v ≡ true → Flags v now.scopes k → NoOpening (placed_in now now.place k) e → (¬ (e ≡ OutOfMemory) → (failed.scopes ≡ k) × StillTooShort (freedoms now.rules) (counted_units (is_aligned now.rules) 8) now.place (told failed.failed)) → NoRecord Finds TooFewHeld asks_addition old failed x
@@ -100,17 +100,17 @@ addition_lacking {x} old now failed v k e same faults there flags none short =
     } in
     subst (λ (h : Held). NoRecord Finds TooFewHeld asks_addition h failed x) same here
 
-pub choice_lacking : {x : DecodeError} (now mid failed : Held) (xs : List Tag) (e : Bool) (ys : List Tag) (n m : ℕ) (c : Chosen) (here there : Place) → n ≡ length xs → m ≡ length ys → here ≡ now.place → c.added ≡ true → Front (freedoms now.rules) (place_form (is_aligned now.rules) n e m c) here there → mid ≡ placed_in now there now.scopes → NoOpening mid x → (¬ (x ≡ OutOfMemory) → (failed.scopes ≡ mid.scopes) × StillTooShort (freedoms mid.rules) (counted_units (is_aligned mid.rules) 8) mid.place (told failed.failed)) → NoLevel Finds TooFewHeld (asks_choice xs e ys) now.levels now failed x
+pub choice_lacking : {x : DecodeError} (now mid failed : Held) (xs : List Tag) (e : Bool) (ys : List Tag) (n m : ℕ) (c : Chosen) (here there : Position) → n ≡ length xs → m ≡ length ys → here ≡ now.place → c.added ≡ true → Front (freedoms now.rules) (index_form (is_aligned now.rules) n e m c) here there → mid ≡ placed_in now there now.scopes → NoOpening mid x → (¬ (x ≡ OutOfMemory) → (failed.scopes ≡ mid.scopes) × StillTooShort (freedoms mid.rules) (counted_units (is_aligned mid.rules) 8) mid.place (told failed.failed)) → NoLevel Finds TooFewHeld (asks_choice xs e ys) now.levels now failed x
 choice_lacking {x} now mid failed xs e ys n m c here there p q h t fr z none short =
     let own : Held = placed_in now there now.scopes in
     let w : NoOpening own x = subst (λ (g : Held). NoOpening g x) z none in
     let shorter : ¬ (x ≡ OutOfMemory) → (failed.scopes ≡ now.scopes) × StillTooShort (freedoms now.rules) (counted_units (is_aligned now.rules) 8) there (told failed.failed) = subst (λ (g : Held). ¬ (x ≡ OutOfMemory) → (failed.scopes ≡ g.scopes) × StillTooShort (freedoms g.rules) (counted_units (is_aligned g.rules) 8) g.place (told failed.failed)) z short in
-    let a : Front (freedoms now.rules) (place_form (is_aligned now.rules) n e m c) now.place there = subst (λ (y : Place). Front (freedoms now.rules) (place_form (is_aligned now.rules) n e m c) y there) h fr in
+    let a : Front (freedoms now.rules) (index_form (is_aligned now.rules) n e m c) now.place there = subst (λ (y : Position). Front (freedoms now.rules) (index_form (is_aligned now.rules) n e m c) y there) h fr in
     record {
       none = λ i d f l r new k g.
           let s = shorter i in
           let b : NoLevel Finds TooFewHeld (asks_choice xs e ys) now.levels now failed x = still_lacking_in now failed (ap (λ l. due l) s.0) (λ j more v.
-          let fronts = front_more (freedoms now.rules) more (place_form (is_aligned now.rules) n e m c) now.scopes now.place there a in
+          let fronts = front_more (freedoms now.rules) more (index_form (is_aligned now.rules) n e m c) now.scopes now.place there a in
           let opening : NoOpening (placed_in (held_with more now) (place_with more now.scopes there) (scopes_with more now.scopes)) x = λ u y o b. opening_more own failed now.scopes x i (λ y b o. w i y b o) s.1 more v y o b in
           no_chosen_type (held_with more now) (held_with more now) (placed_in (held_with more now) (place_with more now.scopes there) (scopes_with more now.scopes)) xs e ys n m c (place_with more now.scopes now.place) (place_with more now.scopes there) x refl p q refl t fronts refl opening) in
           b.none i d f l r new k g;

@@ -2,7 +2,7 @@
 use Rattle.std.proofs.Common.{◌≡◌, ◌⊎◌, inl, inr, ℕ, ◌+◌, ◌-◌, ◌*◌, ◌/◌, ◌<◌, ◌≤◌, ◌==◌, leb, min, true, false, ◌&&◌, IsTrue, List, [], ◌∷◌, refl, sym, ◌∙◌, arith}
 use Rattle.std.proofs.lemmas.Bool.{cases_lt, leb-true, le-leb, eqb-true, eq-eqb, and_parts, and_from, false≢true}
 use Rattle.asn1_model.specs.Per
-use Rattle.per_codec_fronts.specs.Takes.{in_all}
+use Rattle.per_codec_laws.specs.Takes.{in_all}
 use Rattle.per_codec_reading.specs.Units.{may_follow}
 use Rattle.per_codec_reading.proofs.LargestFirst.{none_of_them, first_of_them, follows_four, follows_last, follow_cases, kept_more, kept_behind}
 use Rattle.per_codec_decoder.specs.Members.{largest_behind}

@@ -1,4 +1,3 @@
-pub mod Closing
 pub mod Finding
 pub mod Settling
 pub mod Opening
@@ -10,4 +9,3 @@ pub mod Owing
 pub mod TooShort
 pub mod Lacking
 pub mod Largest
-pub mod SetBits

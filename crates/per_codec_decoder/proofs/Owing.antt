@@ -4,9 +4,9 @@ use Rattle.std.specs.Prelude.{IfSome, IfNone}
 use Rattle.std.specs.Option.{unwrap_or}
 use Rattle.std.proofs.Math.Seq.{drop-cons, drop-length}
 use Rattle.std.proofs.lemmas.List.{reverse-append, map-append}
-use Rattle.per_codec_fronts.specs.Takes.{Place, Scope, open_type, members, alternative}
-use Rattle.per_codec_longer.specs.More.{is_within}
-use Rattle.per_codec_longer.specs.Few.{due}
+use Rattle.per_codec_laws.specs.Takes.{Position, Scope, open_type, members, alternative}
+use Rattle.per_codec_longer_laws.specs.More.{is_within}
+use Rattle.per_codec_longer_laws.specs.Few.{due}
 use Rattle.per_codec_decoder.specs.declared.frames.Frame.{Frame}
 use Rattle.per_codec_decoder.specs.declared.frames.Frame.TheVariants.{Components, Added, OpenType, Members, Alternative}
 use Rattle.per_codec_decoder.specs.declared.frames.Enclosing.{Enclosing}
@@ -14,12 +14,12 @@ use Rattle.per_codec_decoder.specs.declared.frames.Enclosing.TheVariants.{Altern
 use Rattle.per_codec_decoder.specs.Scopes.{scope_of, scopes_of, scopes_in, owing}
 
 -- an open type around all others
-all_within : (k : List Scope) (p : Place) → is_within (k ++ (open_type p ∷ [])) ≡ true
+all_within : (k : List Scope) (p : Position) → is_within (k ++ (open_type p ∷ [])) ≡ true
 all_within [] p = refl
 all_within (open_type rest ∷ k) p = refl
 all_within (s ∷ k) p = all_within k p
 
-none_due : (k : List Scope) (p : Place) → due (k ++ (open_type p ∷ [])) ≡ 0
+none_due : (k : List Scope) (p : Position) → due (k ++ (open_type p ∷ [])) ≡ 0
 none_due [] p = refl
 none_due (members n hs ∷ k) p =
     ap (λ b. cond b (due (k ++ (open_type p ∷ []))) (n + due (k ++ (open_type p ∷ [])))) (all_within k p) ∙ none_due k p

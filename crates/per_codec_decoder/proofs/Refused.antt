@@ -3,16 +3,16 @@ use Rattle.std.proofs.Common.{◌≡◌, inl, inr, ◌≤◌, ◌<◌, ℕ, ◌+
 use Rattle.std.specs.Prelude.{OnErr}
 use Rattle.asn1_model.specs.Per
 use Rattle.asn1_schema_decode.specs.Reads.{NoRecord, NoLevel}
-use Rattle.asn1_schema_lacking.specs.Carried.{AtOnce}
-use Rattle.asn1_schema_faults.specs.declared.DecodeError.{DecodeError}
-use Rattle.asn1_schema_presented.specs.Records.{Question}
-use Rattle.per_codec_fronts.specs.Takes.{Place, Scope}
-use Rattle.per_codec_longer.specs.Few.{due}
-use Rattle.per_codec_held.specs.Held.{Held, Finds}
-use Rattle.per_codec_held.specs.Few.{held_with, lacks, told, TooFewHeld, OwesNoMore}
-use Rattle.per_codec_held.proofs.Carried.{nothing_more}
+use Rattle.asn1_schema_lacking_laws.specs.Carried.{AtOnce}
+use Rattle.asn1_schema_errors.specs.declared.DecodeError.{DecodeError}
+use Rattle.asn1_schema_laws.specs.Records.{Question}
+use Rattle.per_codec_laws.specs.Takes.{Position, Scope}
+use Rattle.per_codec_longer_laws.specs.Few.{due}
+use Rattle.per_codec_held_laws.specs.Held.{Held, Finds}
+use Rattle.per_codec_held_laws.specs.Few.{held_with, lacks, told, TooFewHeld, OwesNoMore}
+use Rattle.per_codec_held_laws.proofs.Carried.{nothing_more}
 use Rattle.per_codec_decoder.specs.Endings.{NotPassed}
-use Rattle.per_codec_held.specs.Held.{HasFailed, IsReady}
+use Rattle.per_codec_held_laws.specs.Held.{HasFailed, IsReady}
 use Rattle.per_codec_decoder.specs.Scopes.{Flags, Leaves, LeavesAddition}
 use Rattle.per_codec_decoder.specs.declared.frames.Ending.{Ending}
 use Rattle.per_codec_decoder.specs.declared.frames.Ending.TheVariants.{Nothing, Unknown, OpenType as Padded}
@@ -69,7 +69,7 @@ flags_owe v old now k same f =
     let j : due now.scopes ≡ due old.scopes = ap (λ (x : Held). due x.scopes) same in
     omega arith
 
-leaving_owes : (al : Bool) (free : Per.Freedom → Bool) (w : Ending) (old new : List Scope) (a : Place) (e : DecodeError) → Leaves w old new → NotPassed al free w a e → due new ≤ due old
+leaving_owes : (al : Bool) (free : Per.Freedom → Bool) (w : Ending) (old new : List Scope) (a : Position) (e : DecodeError) → Leaves w old new → NotPassed al free w a e → due new ≤ due old
 leaving_owes al free Nothing old new a e l n = absurd n
 leaving_owes al free (Unknown r) old new a e l n = let h : due old ≡ due new = ap (λ k. due k) l in omega arith
 leaving_owes al free (Padded p) old new a e l n = let h : due old ≡ due new = ap (λ k. due k) l in omega arith
@@ -80,10 +80,10 @@ left_owes old now failed k same s t h =
     let j : due now.scopes ≡ due old.scopes = ap (λ (x : Held). due x.scopes) same in
     record { owed = omega arith }
 
-pub ended_owes : (al : Bool) (free : Per.Freedom → Bool) (old now failed : Held) (w : Ending) (k : List Scope) (a : Place) (e : DecodeError) → now ≡ old → failed.scopes ≡ k → told failed.failed ≡ 0 → Leaves w now.scopes k → NotPassed al free w a e → OwesNoMore old failed
+pub ended_owes : (al : Bool) (free : Per.Freedom → Bool) (old now failed : Held) (w : Ending) (k : List Scope) (a : Position) (e : DecodeError) → now ≡ old → failed.scopes ≡ k → told failed.failed ≡ 0 → Leaves w now.scopes k → NotPassed al free w a e → OwesNoMore old failed
 ended_owes al free old now failed w k a e same s t l n = left_owes old now failed k same s t (leaving_owes al free w now.scopes k a e l n)
 
-pub addition_owes : (old now failed : Held) (p : Place) (k : List Scope) → now ≡ old → failed.scopes ≡ k → told failed.failed ≡ 0 → LeavesAddition p now.scopes k → OwesNoMore old failed
+pub addition_owes : (old now failed : Held) (p : Position) (k : List Scope) → now ≡ old → failed.scopes ≡ k → told failed.failed ≡ 0 → LeavesAddition p now.scopes k → OwesNoMore old failed
 addition_owes old now failed p k same s t l = let h : due now.scopes ≡ due k = ap (λ x. due x) l.0 in left_owes old now failed k same s t (omega arith)
 
 -- a decoder that had failed finds nothing

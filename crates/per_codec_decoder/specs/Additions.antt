@@ -1,6 +1,6 @@
 -- The extension additions of a SEQUENCE or SET that are still to come (X.691 19.7).
 use Rattle.std.specs.Prelude.{◌≡◌, Bool, List, ◌∷◌, drop}
-use Rattle.asn1_schema_finding.specs.PresenceBits.{first_bits}
+use Rattle.asn1_schema_reading_laws.specs.PresenceBits.{first_bits}
 use Rattle.per_codec_decoder.specs.declared.additions.Additions.{Additions}
 
 -- The presence bits of the type's additions; those after the end of the bitmap are absent.

@@ -1,14 +1,14 @@
 -- How the calls of a decoder of PER (X.691) change its state.
 use Rattle.std.specs.Prelude.{◌≡◌, ◌<◌, ℕ, suc, Bool, true, List, ◌∷◌, length, drop, Option}
 use Rattle.asn1_model.specs.Schema.{Counts, Size}
-use Rattle.asn1_schema_faults.specs.declared.DecodeError.{DecodeError}
-use Rattle.asn1_schema_faults.specs.declared.DecodeError.TheVariants.{OutOfMemory}
-use Rattle.asn1_schema_presented.specs.Records.{Record, octets}
+use Rattle.asn1_schema_errors.specs.declared.DecodeError.{DecodeError}
+use Rattle.asn1_schema_errors.specs.declared.DecodeError.TheVariants.{OutOfMemory}
+use Rattle.asn1_schema_laws.specs.Records.{Record, octets}
 use Rattle.per_codec_reading.specs.Fronts.{freedoms, is_aligned, Leads}
 use Rattle.per_codec_reading.specs.Runs.{Storage, EndsAtOctet, InOneRun}
 use Rattle.per_codec_reading.specs.Sizes.{told_in_front}
-use Rattle.per_codec_fronts.specs.Takes.{Place, Scope, State, Tally, members, Opens}
-use Rattle.per_codec_held.specs.Held.{Held, IsReady, state_of, innermost, stands_within}
+use Rattle.per_codec_laws.specs.Takes.{Position, Scope, State, Tally, members, Opens}
+use Rattle.per_codec_held_laws.specs.Held.{Held, IsReady, state_of, innermost, stands_within}
 use Rattle.per_codec_decoder.specs.Members.{HasMembers, NoMembers}
 use Rattle.per_codec_decoder.specs.Preamble.{HasPreamble, NoPreamble}
 use Rattle.per_codec_decoder.specs.declared.frames.Ending.{Ending}
@@ -28,7 +28,7 @@ Stays old new = new ≡ record {
 
 -- The position, in bits, that a reader reached from the old one.
 abbrev pub Moves : Held → ℕ → Held → Type 0
-Moves old n new = (w : List Bool) (b : Place) → b.0 ≡ n → Leads w old.place b
+Moves old n new = (w : List Bool) (b : Position) → b.0 ≡ n → Leads w old.place b
     → new ≡ record {
       place = b;
       scopes = old.scopes;

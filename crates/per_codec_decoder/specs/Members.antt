@@ -3,15 +3,15 @@ use Rattle.std.specs.Prelude.{◌≡◌, ℕ, leb, ◌==◌, ◌&&◌, Bool, tru
 use Rattle.std.proofs.Common.{Box, Global}
 use Rattle.asn1_model.specs.Schema.{Counts, Size}
 use Rattle.asn1_model.specs.Per
-use Rattle.asn1_schema_faults.specs.declared.DecodeError.{DecodeError}
-use Rattle.asn1_schema_faults.specs.declared.DecodeError.TheVariants.{OutOfMemory}
-use Rattle.per_codec_fronts.specs.Sizes.{extension_bit, told_highest}
-use Rattle.per_codec_fronts.specs.Takes.{Place, Tally, Scope, members, State, Front, NextDeterminant, Counted}
-use Rattle.per_codec_fronts.specs.Takes.{ListBegins, NextMember}
+use Rattle.asn1_schema_errors.specs.declared.DecodeError.{DecodeError}
+use Rattle.asn1_schema_errors.specs.declared.DecodeError.TheVariants.{OutOfMemory}
+use Rattle.per_codec_laws.specs.Sizes.{extension_bit, told_highest}
+use Rattle.per_codec_laws.specs.Takes.{Position, Tally, Scope, members, State, Front, NextDeterminant, Counted}
+use Rattle.per_codec_laws.specs.Takes.{ListBegins, NextMember}
 use Rattle.per_codec_reading.specs.declared.rules.PackedRules.{PackedRules}
 use Rattle.per_codec_reading.specs.Fronts.{freedoms, is_aligned}
 use Rattle.per_codec_reading.specs.Lengths.{length_form}
-use Rattle.per_codec_reading.specs.declared.lengths.Length.{Length}
+use Rattle.per_codec_reading.specs.declared.length.Length.{Length}
 
 -- The elements after one length determinant: how many are due, and what is known of the list if another length
 -- determinant follows them.
@@ -26,33 +26,33 @@ tally_in (Some boxed) = Some boxed.value
 
 -- The extension bit of the size, if it has one, and the first length determinant: this number of elements is due after
 -- it.
-abbrev pub HasMembers : Bool → (Per.Freedom → Bool) → Size → Counts → ℕ → Option Tally → Place → Place → Type 0
-HasMembers al free z h due hs a b = (out : Bool) × (mid : Place) × Front free (extension_bit z.extensible out) a mid
+abbrev pub HasMembers : Bool → (Per.Freedom → Bool) → Size → Counts → ℕ → Option Tally → Position → Position → Type 0
+HasMembers al free z h due hs a b = (out : Bool) × (mid : Position) × Front free (extension_bit z.extensible out) a mid
     × ((k : List Scope) → Counted al free z h out (told_highest out z.counts.high) mid k (b, members due hs ∷ k))
 
 -- Why the bits do not begin with it: memory ran out, or no list begins here.
-pub record NoMembers (al : Bool) (free : Per.Freedom → Bool) (z : Size) (h : Counts) (a : Place)
+pub record NoMembers (al : Bool) (free : Per.Freedom → Bool) (z : Size) (h : Counts) (a : Position)
     (e : DecodeError) : Type 0 where
   pub none : ¬ (e ≡ OutOfMemory) → (n : ℕ) (k : List Scope) (b : State) → ListBegins al free z h n (a, k) b → ⊥
 
 -- As `NoMembers`, for a length determinant.
-pub record NoDeterminant (al : Bool) (free : Per.Freedom → Bool) (t : Tally) (a : Place)
+pub record NoDeterminant (al : Bool) (free : Per.Freedom → Bool) (t : Tally) (a : Position)
     (e : DecodeError) : Type 0 where
-  pub none : ¬ (e ≡ OutOfMemory) → (b : Place) (due : ℕ) (hs : Option Tally) → NextDeterminant al free t a b due hs → ⊥
+  pub none : ¬ (e ≡ OutOfMemory) → (b : Position) (due : ℕ) (hs : Option Tally) → NextDeterminant al free t a b due hs → ⊥
 
 -- As `NoMembers`, for another element, or the end.
-pub record NoFurther (al : Bool) (free : Per.Freedom → Bool) (a : Place) (k : List Scope)
+pub record NoFurther (al : Bool) (free : Per.Freedom → Bool) (a : Position) (k : List Scope)
     (e : DecodeError) : Type 0 where
   pub none : ¬ (e ≡ OutOfMemory) → (v : Bool) (b : State) → NextMember al free v a k b → ⊥
 
 -- This number of elements is due after this length determinant, wherever it occurs.
 abbrev pub AreBehind : PackedRules → Tally → Length → ℕ → Option Tally → Type 0
-AreBehind r t l due hs = (a b : Place) → Front (freedoms r) (length_form (is_aligned r) l) a b
+AreBehind r t l due hs = (a b : Position) → Front (freedoms r) (length_form (is_aligned r) l) a b
     → NextDeterminant (is_aligned r) (freedoms r) t a b due hs
 
 -- Why no elements are due after it.
 abbrev pub NoneAreBehind : PackedRules → Tally → Length → DecodeError → Type 0
-NoneAreBehind r t l e = (a b : Place) → Front (freedoms r) (length_form (is_aligned r) l) a b
+NoneAreBehind r t l e = (a b : Position) → Front (freedoms r) (length_form (is_aligned r) l) a b
     → NoDeterminant (is_aligned r) (freedoms r) t a e
 
 -- After a fragment of m times 16384 elements, these come in the order of the largest first: no fragment follows one of

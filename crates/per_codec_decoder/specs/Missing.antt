@@ -1,7 +1,7 @@
 -- How many bits of a string or of an open type are missing.
 use Rattle.std.specs.Prelude.{◌≡◌, ◌⊎◌, ◌≤◌, ◌<◌, ℕ, Bool, List, [], ◌++◌, length}
 use Rattle.asn1_model.specs.Per
-use Rattle.per_codec_fronts.specs.Takes.{Place}
+use Rattle.per_codec_laws.specs.Takes.{Position}
 use Rattle.per_codec_reading.specs.Fronts.{NoneStands}
 use Rattle.per_codec_reading.specs.Units.{count_of}
 use Rattle.per_codec_reading.specs.declared.sizes.LengthDeterminant.{LengthDeterminant}
@@ -17,5 +17,5 @@ abbrev pub IsFew : ℕ → List Bool → Type 0
 IsFew n e = (e ≡ []) ⊎ ((0 < n) × (length e ≤ n))
 
 -- The bits do not begin with one of some forms, even with at most n bits appended, if n bits are known to be missing.
-abbrev pub StillTooShort : {X : Type 0} → (Per.Freedom → Bool) → (X → Per.BitForm) → Place → ℕ → Type 0
+abbrev pub StillTooShort : {X : Type 0} → (Per.Freedom → Bool) → (X → Per.BitForm) → Position → ℕ → Type 0
 StillTooShort {X} free f a n = (e : List Bool) → 0 < n → length e ≤ n → NoneStands free f (a.0, a.1 ++ e)

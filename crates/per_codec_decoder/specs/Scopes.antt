@@ -1,8 +1,8 @@
 -- What has begun and has not ended, as a decoder of PER (X.691) holds it.
 use Rattle.std.specs.Prelude.{◌≡◌, ℕ, ◌+◌, Bool, List, [], ◌∷◌, map, reverse, Option, Some, None}
 use Rattle.asn1_model.specs.Per
-use Rattle.per_codec_fronts.specs.Takes.{Place, State, Scope, components, added, open_type, members, alternative}
-use Rattle.per_codec_fronts.specs.Takes.{AdditionsBegin, NextAddition, AdditionEnds, Ends}
+use Rattle.per_codec_laws.specs.Takes.{Position, State, Scope, components, added, open_type, members, alternative}
+use Rattle.per_codec_laws.specs.Takes.{AdditionsBegin, NextAddition, AdditionEnds, Ends}
 use Rattle.per_codec_reading.specs.Runs.{Storage}
 use Rattle.per_codec_decoder.specs.Additions.{own_presence, unknown_presence}
 use Rattle.per_codec_decoder.specs.declared.frames.Frame.{Frame}
@@ -84,7 +84,7 @@ HasExtensionBit m s = (k : List Scope) × (s ≡ components (Some m) [] ∷ k)
 
 -- No additions come here.
 abbrev pub NoAdditions : List Scope → Type 0
-NoAdditions s = (al : Bool) (free : Per.Freedom → Bool) (n : ℕ) (a : Place) (b : State) → AdditionsBegin al free n a s b
+NoAdditions s = (al : Bool) (free : Per.Freedom → Bool) (n : ℕ) (a : Position) (b : State) → AdditionsBegin al free n a s b
     → ⊥
 
 -- The next bit of the innermost presence bitmap.
@@ -94,11 +94,11 @@ Flags v old new = (ms : List Bool) × (us : List Bool) × (k : List Scope) × (o
 
 -- No further addition is due here.
 abbrev pub NoFlag : List Scope → Type 0
-NoFlag s = (al : Bool) (free : Per.Freedom → Bool) (v : Bool) (a : Place) (b : State) → NextAddition al free v a s b → ⊥
+NoFlag s = (al : Bool) (free : Per.Freedom → Bool) (v : Bool) (a : Position) (b : State) → NextAddition al free v a s b → ⊥
 
 -- The innermost scope is left, with this before its end.
 abbrev pub Leaves : Ending → List Scope → List Scope → Type 0
-Leaves Nothing old new = (al : Bool) (free : Per.Freedom → Bool) (a : Place) → Ends al free a old (a, new)
+Leaves Nothing old new = (al : Bool) (free : Per.Freedom → Bool) (a : Position) → Ends al free a old (a, new)
 Leaves (Unknown r) old new = old ≡ added [] r.place.1 ∷ new
 Leaves (Padded p) old new = old ≡ open_type p.place ∷ new
 
@@ -110,16 +110,16 @@ LeavesBehind (Padded p) old new = old ≡ p.storage ∷ new
 
 -- No end comes here.
 abbrev pub NoEnd : List Scope → Type 0
-NoEnd s = (al : Bool) (free : Per.Freedom → Bool) (a : Place) (b : State) → Ends al free a s b → ⊥
+NoEnd s = (al : Bool) (free : Per.Freedom → Bool) (a : Position) (b : State) → Ends al free a s b → ⊥
 
 -- The innermost scope is that of extension additions.
 abbrev pub IsAdded : List Scope → Type 0
 IsAdded s = (ms : List Bool) × (us : List Bool) × (k : List Scope) × (s ≡ added ms us ∷ k)
 
 -- An addition is left, after which comes this position.
-abbrev pub LeavesAddition : Place → List Scope → List Scope → Type 0
+abbrev pub LeavesAddition : Position → List Scope → List Scope → Type 0
 LeavesAddition p old new = (old ≡ open_type p ∷ new) × IsAdded new
 
 -- No end of an addition comes here.
 abbrev pub NoAdditionEnd : List Scope → Type 0
-NoAdditionEnd s = (free : Per.Freedom → Bool) (a : Place) (b : State) → AdditionEnds free a s b → ⊥
+NoAdditionEnd s = (free : Per.Freedom → Bool) (a : Position) (b : State) → AdditionEnds free a s b → ⊥

@@ -2,45 +2,44 @@
 ghost use Rattle.std.specs.Cow.{cow_slice_items, IsBorrowedSlice};
 ghost use Rattle.std.specs.Prelude.{◌≡◌, ◌+◌, ◌-◌, ◌/◌, ◌<◌, ◌^◌, [], ◌∷◌, true, Some, None, length, take, min};
 ghost use Rattle.std.specs.Prelude.{OnOk, OnErr, IfErr, IfOk};
-ghost use Rattle.per_codec_held.specs.Held.{Held, Finds, kind_of};
+ghost use Rattle.per_codec_held_laws.specs.Held.{Held, Finds, kind_of};
 ghost use Rattle.per_codec_decoder.specs.Held.{Lends, Stays, Moves, Enters};
-ghost use Rattle.per_codec_held.specs.Held.{HasFailed, IsReady};
+ghost use Rattle.per_codec_held_laws.specs.Held.{HasFailed, IsReady};
 ghost use Rattle.per_codec_decoder.specs.Held.{HasOpened, HasPassed, NoOpening, EntersMembers, EntersComponents};
 ghost use Rattle.per_codec_decoder.specs.Held.{NotMembers, NotComponents};
 ghost use Rattle.per_codec_decoder.specs.Endings.{Passes, NotPassed};
 ghost use Rattle.per_codec_decoder.specs.Scopes.{scope_of, stands_in};
 ghost use Rattle.asn1_schema_constraints.specs.Bounds.{counts_of, members_of};
 ghost use Rattle.asn1_schema_decode.specs.Reads.{NoRecord};
-ghost use Rattle.per_codec_held.specs.Few.{TooFewHeld, OwesNoMore, lacks, told};
+ghost use Rattle.per_codec_held_laws.specs.Few.{TooFewHeld, OwesNoMore, lacks, told};
 ghost use Rattle.per_codec_decoder.specs.Missing.{StillTooShort};
 ghost use Rattle.per_codec_reading.specs.Units.{counted_units};
-ghost use Rattle.asn1_schema_presented.specs.Records.{octets, asks_octets, further, asks_further};
+ghost use Rattle.asn1_schema_laws.specs.Records.{octets, asks_octets, further, asks_further};
 ghost use Rattle.asn1_schema_constraints.specs.Terms.{size_of};
 ghost use Rattle.asn1_model.specs.Numbers.{octet_bits, is_count_within};
 ghost use Rattle.asn1_values_bits.specs.BitStr.{bits_of};
-ghost use Rattle.per_codec_fronts.specs.Takes.{alternative, Front, completion};
+ghost use Rattle.per_codec_laws.specs.Takes.{alternative, Front, completion};
 ghost use Rattle.per_codec_reading.specs.Fronts.{freedoms, is_aligned, IsFresh};
+ghost use Rattle.asn1_schema_errors.specs.Calls.{DecoderCall};
 
-use crate::completion::{read_completion, read_to_end};
-use crate::missing::{missing_octets, missing_of_string};
+use crate::missing::{missing_octets_at, missing_of_string_at};
 use crate::options::DecoderOptions;
-use crate::{
-    Additions, Enclosing, Ending, Frame, Scopes, read_bitmap, read_members, read_preamble,
-};
+use crate::{Additions, Enclosing, Ending, Frame, Scopes, read_members, read_preamble};
 use asn1_schema_constraints::{Bounded, Constraints, Sizes};
 use asn1_schema_decode::{Decoder as _, go_on};
-use asn1_schema_faults::{CodecKind, DecodeError};
-use asn1_schema_tags::{Tag, TagTables};
-use asn1_schema_variants::{Chosen, Enumerated};
+use asn1_schema_errors::{CodecKind, DecodeError};
+use asn1_schema_tags::{Chosen, Enumerated, Tag, TagTables};
 use asn1_values_alphabets::StaticPermittedAlphabet;
 use asn1_values_bit_strings::BitString;
 use asn1_values_bits::BitStr;
 use asn1_values_identifiers::ObjectIdentifier;
 use asn1_values_integers::IntegerType;
-use per_codec_reading::units::{read_boolean, read_null};
+use per_codec_reading::boolean::{read_boolean, read_null};
+use per_codec_reading::completion::{read_completion, read_to_end};
 use per_codec_reading::{PackedRules, read_bit_string, read_object_identifier, read_utf8_string};
 use per_codec_reading_values::{
-    Stretch, read_characters, read_integer, read_item, read_place_of_alternative, skip_unknown,
+    Stretch, read_alternative_index, read_bitmap, read_characters, read_integer, read_item,
+    skip_unknown,
 };
 use std::alloc::Global;
 use std::borrow::CowSlice;
@@ -63,7 +62,7 @@ pub struct Decoder<'input> {
 
 impl<'input> Model for Decoder<'input> {
     ghost use Rattle.std.specs.Prelude.{◌∷◌};
-    ghost use Rattle.per_codec_held.specs.Held.{Held};
+    ghost use Rattle.per_codec_held_laws.specs.Held.{Held};
 
     ghost Value = { Held };
 
@@ -147,9 +146,7 @@ impl<'input> Decoder<'input> {
         ensures rest { OnOk result (Stays self.old self.new) }
         ensures only { IfErr result (λ _. IsReady self.old → (b : _)
             → Front (freedoms self.old.rules) (completion self.old.place.0) self.old.place b → ⊥) }
-        ensures failed { OnErr result (HasFailed self.new) }
-        ensures already { HasFailed self.old → result ≡ Err DecodeError.AlreadyFailed }
-        ensures after { result ≡ Err DecodeError.AlreadyFailed → HasFailed self.old }
+        ensures call { DecoderCall HasFailed self.old self.new result }
     {
         record!(self, cursor, read_completion(&mut cursor, self.rules))
     }
@@ -183,15 +180,13 @@ impl<'input> Decoder<'input> {
         ensures level { OnOk result (self.new.levels ≡ self.old.levels) }
         ensures only { IfErr result (NoRecord Finds TooFewHeld
             (asks_octets (size_of sizes) (counts_of held)) self.old self.new) }
-        ensures failed { OnErr result (HasFailed self.new) }
-        ensures already { HasFailed self.old → result ≡ Err DecodeError.AlreadyFailed }
-        ensures after { result ≡ Err DecodeError.AlreadyFailed → HasFailed self.old }
+        ensures call { DecoderCall HasFailed self.old self.new result }
     {
         go_on(self.failed.is_some())?;
         match self.place.take_octet_string(alloc, self.rules, sizes, held) {
             Ok(octets) => Ok(octets),
             Err(error) => {
-                let missing = missing_of_string(self.place.cursor(), self.rules, sizes);
+                let missing = missing_of_string_at(&self.place, self.rules, &sizes);
                 Err(self.lack_bits(error, missing))
             }
         }
@@ -320,9 +315,7 @@ impl<'input> Decoder<'input> {
         ensures ok { OnOk result (EntersMembers self.old (size_of sizes) (members_of held) self.new) }
         ensures only { IfErr result (NotMembers self.old (size_of sizes) (members_of held)) }
         ensures owed { OnErr result (IsReady self.old → OwesNoMore self.old self.new) }
-        ensures failed { OnErr result (HasFailed self.new) }
-        ensures already { HasFailed self.old → result ≡ Err DecodeError.AlreadyFailed }
-        ensures after { result ≡ Err DecodeError.AlreadyFailed → HasFailed self.old }
+        ensures call { DecoderCall HasFailed self.old self.new result }
     {
         go_on(self.failed.is_some())?;
         if self.levels == 0 {
@@ -341,9 +334,7 @@ impl<'input> Decoder<'input> {
         ensures ok { IfOk result (λ more. Finds self.old (further more) self.new) }
         ensures level { OnOk result (self.new.levels ≡ self.old.levels) }
         ensures only { IfErr result (NoRecord Finds TooFewHeld asks_further self.old self.new) }
-        ensures failed { OnErr result (HasFailed self.new) }
-        ensures already { HasFailed self.old → result ≡ Err DecodeError.AlreadyFailed }
-        ensures after { result ≡ Err DecodeError.AlreadyFailed → HasFailed self.old }
+        ensures call { DecoderCall HasFailed self.old self.new result }
     {
         go_on(self.failed.is_some())?;
         let mut cursor = self.place.cursor();
@@ -363,9 +354,7 @@ impl<'input> Decoder<'input> {
         ensures ok { OnOk result (EntersComponents self.old extensible optional self.new) }
         ensures only { IfErr result (NotComponents self.old extensible optional) }
         ensures owed { OnErr result (IsReady self.old → OwesNoMore self.old self.new) }
-        ensures failed { OnErr result (HasFailed self.new) }
-        ensures already { HasFailed self.old → result ≡ Err DecodeError.AlreadyFailed }
-        ensures after { result ≡ Err DecodeError.AlreadyFailed → HasFailed self.old }
+        ensures call { DecoderCall HasFailed self.old self.new result }
     {
         go_on(self.failed.is_some())?;
         if self.levels == 0 {
@@ -378,7 +367,7 @@ impl<'input> Decoder<'input> {
         }
     }
 
-    // Begins an open type: what is read next is its contents.
+    // Begins an open type (X.691 11.2): takes its octets, where reading goes on; `pass_over` checks what is left.
     fn open_type(&mut self) -> Result<(), DecodeError>
         ensures ok { OnOk result (HasOpened self.old self.new) }
         ensures only { IfErr result (NoOpening self.old) }
@@ -392,7 +381,7 @@ impl<'input> Decoder<'input> {
         let inside = match self.place.take_open_type(alloc, self.rules) {
             Ok(inside) => inside,
             Err(error) => {
-                let missing = missing_octets(self.place.cursor(), self.rules);
+                let missing = missing_octets_at(&self.place, self.rules);
                 return Err(self.lack_bits(error, missing));
             }
         };
@@ -434,10 +423,10 @@ impl<'input> Decoder<'input> {
 
 #[tactic(auto, using(crate::proofs::Refused::none_ready, crate::proofs::Refused::none_begun))]
 impl<'input> asn1_schema_decode::Decoder for Decoder<'input> {
-    ghost use Rattle.per_codec_held.proofs.Finds.{finds_one, finds_held, finds_bag_held, finds_none, finds_on};
-    ghost use Rattle.per_codec_held.proofs.Finds.{finds_same};
-    ghost use Rattle.per_codec_held.specs.Few.{TooFewMembersHeld};
-    ghost use Rattle.per_codec_held.proofs.Carried.{at_once, held_records, held_values, held_members};
+    ghost use Rattle.per_codec_held_laws.proofs.Finds.{finds_one, finds_held, finds_bag_held, finds_none, finds_on};
+    ghost use Rattle.per_codec_held_laws.proofs.Finds.{finds_same};
+    ghost use Rattle.per_codec_held_laws.specs.Few.{TooFewMembersHeld};
+    ghost use Rattle.per_codec_held_laws.proofs.Carried.{at_once, held_records, held_values, held_members};
 
     type Octets = CowSlice<'input, u8>;
 
@@ -701,7 +690,7 @@ impl<'input> asn1_schema_decode::Decoder for Decoder<'input> {
         let extensible = tables.extensible();
         let added_count = tables.additions().len();
         let mut cursor = self.place.cursor();
-        let answer = read_place_of_alternative(
+        let answer = read_alternative_index(
             alloc,
             &mut cursor,
             self.rules,

@@ -1,10 +1,10 @@
 //! Open scopes.
 ghost use Rattle.std.specs.Prelude.{◌≡◌, ◌<◌, ◌+◌, ◌-◌, ◌^◌, ◌∷◌, [], List, true, false, min};
 ghost use Rattle.std.specs.Prelude.{OnOk, IfOk, IfErr, IfSome, IfNone, MatchBool};
-ghost use Rattle.per_codec_fronts.specs.Takes.{NextPresenceBit, NextMember, open_type};
+ghost use Rattle.per_codec_laws.specs.Takes.{NextPresenceBit, NextMember, open_type};
 ghost use Rattle.per_codec_reading.specs.Fronts.{freedoms, is_aligned, IsFresh};
 ghost use Rattle.per_codec_decoder.specs.Members.{NoFurther};
-ghost use Rattle.per_codec_longer.specs.Few.{due};
+ghost use Rattle.per_codec_longer_laws.specs.Few.{due};
 ghost use Rattle.per_codec_decoder.specs.declared.frames.Frame.{Frame};
 ghost use Rattle.per_codec_decoder.specs.Scopes.{behind_around, behind_frame, behind_in, behind_of, scope_of};
 ghost use Rattle.per_codec_decoder.specs.Scopes.{owing, scope_around, scopes_in, scopes_of};
@@ -13,7 +13,7 @@ ghost use Rattle.per_codec_decoder.specs.Scopes.{LeavesAddition, NoAdditionEnd, 
 
 use crate::additions::Additions;
 use crate::members::DueMembers;
-use asn1_schema_faults::DecodeError;
+use asn1_schema_errors::DecodeError;
 use per_codec_reading::{Cursor, PackedRules};
 use per_codec_reading_values::Stretch;
 use std::alloc::{AllocError, Global};
@@ -394,7 +394,8 @@ impl<'input> Scopes<'input> {
     ///
     /// # Errors
     ///
-    /// Those of a length determinant, and `SizeConstraintNotSatisfied` if the number of all elements is not allowed.
+    /// Those of a length determinant, `SizeConstraintNotSatisfied` if the number of all elements is not allowed, and
+    /// `NotValidCanonicalEncoding` if strict rules do not accept it here, or if the innermost scope is not a list.
     #[inline(always)]
     pub fn next_member(
         &mut self,

@@ -3,8 +3,6 @@
 #![tactic(auto)]
 
 mod additions;
-mod bitmaps;
-mod completion;
 pub mod decoder;
 mod frames;
 mod members;
@@ -17,4 +15,4 @@ pub use decoder::Decoder;
 pub use frames::{Enclosing, Ending, Frame, Scopes};
 pub use members::{DueMembers, read_members};
 pub use options::DecoderOptions;
-pub use preamble::{read_bitmap, read_preamble};
+pub use preamble::read_preamble;

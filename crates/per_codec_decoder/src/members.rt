@@ -5,7 +5,7 @@ ghost use Rattle.asn1_model.specs.Numbers.{is_count_within};
 ghost use Rattle.asn1_model.specs.Per;
 ghost use Rattle.asn1_schema_constraints.specs.Bounds.{members_of};
 ghost use Rattle.asn1_schema_constraints.specs.Terms.{size_of};
-ghost use Rattle.per_codec_fronts.specs.Takes.{MemberDue, NextMember, members, in_all};
+ghost use Rattle.per_codec_laws.specs.Takes.{MemberDue, NextMember, members, in_all};
 ghost use Rattle.per_codec_reading.specs.Fronts.{freedoms, is_aligned, IsFresh};
 ghost use Rattle.per_codec_reading.specs.Lengths.{IsLength};
 ghost use Rattle.per_codec_reading.specs.Sizes.{admitted, may_be_outside};
@@ -14,8 +14,8 @@ ghost use Rattle.per_codec_decoder.specs.Members.{HasMembers, NoFurther, NoMembe
 
 use asn1_schema_constraints::{Bounded, Sizes};
 use asn1_schema_decode::most_members;
-use asn1_schema_faults::DecodeError;
-use per_codec_reading::lengths::{Length, read_length};
+use asn1_schema_errors::DecodeError;
+use per_codec_reading::length::{Length, read_length};
 use per_codec_reading::{
     Cursor, FRAGMENT, LengthDeterminant, PackedRules, is_accepted_outside, is_admitted,
     read_heading,
@@ -36,7 +36,7 @@ pub(crate) struct Tally {
 impl Model for Tally {
     ghost use Rattle.asn1_schema_constraints.specs.Bounds.{members_of};
     ghost use Rattle.asn1_schema_constraints.specs.Terms.{size_of};
-    ghost use Rattle.per_codec_fronts.specs.Takes.{Tally as TallyTerm};
+    ghost use Rattle.per_codec_laws.specs.Takes.{Tally as TallyTerm};
 
     ghost Value = { TallyTerm };
 
@@ -75,6 +75,7 @@ impl Tally {
         ensures none { IfNone result (admitted self.now.held self.now.size.counts self.now.outside
             (in_all self.now.sizes last) ≡ true → ⊥) }
     {
+        // For the proof: the greatest number of elements that the type can hold fits in 64 bits.
         let _most = most_members(self.held);
         match total_of(&self.fragments, last) {
             Some(total) => {

@@ -1,7 +1,7 @@
 //! How many bits of a string or of an open type are missing.
 ghost use Rattle.std.specs.Prelude.{◌≡◌, ◌≤◌, ◌<◌, ◌-◌, ◌*◌, length, OnOk, IfErr};
 ghost use Rattle.asn1_schema_constraints.specs.Terms.{size_of};
-ghost use Rattle.per_codec_fronts.specs.Takes.{Front};
+ghost use Rattle.per_codec_laws.specs.Takes.{Front};
 ghost use Rattle.per_codec_reading.specs.Fronts.{freedoms, is_aligned};
 ghost use Rattle.per_codec_reading.specs.Lengths.{length_form, IsLength};
 ghost use Rattle.per_codec_reading.specs.Sizes.{contents_have_padding, sized_units};
@@ -10,8 +10,9 @@ ghost use Rattle.per_codec_reading.specs.declared.sized.Contents.TheVariants.{St
 ghost use Rattle.per_codec_decoder.specs.Missing.{StillTooShort};
 
 use asn1_schema_constraints::Sizes;
-use per_codec_reading::lengths::{Length, read_length};
+use per_codec_reading::length::{Length, read_length};
 use per_codec_reading::{Cursor, LengthDeterminant, PackedRules, read_heading};
+use per_codec_reading_values::Stretch;
 
 /// One less than the number of bits that are missing after those that are left, for this number of octets.
 fn lacking(cursor: &Cursor<'_>, octets: usize) -> usize
@@ -57,7 +58,7 @@ fn pass_fragment(
 /// One less than the number of bits that are missing at least, for octets after their length determinant (X.691 11.9);
 /// 0 if none are known to be.
 #[cold]
-pub(crate) fn missing_octets(cursor: Cursor<'_>, rules: PackedRules) -> usize
+fn missing_octets(cursor: Cursor<'_>, rules: PackedRules) -> usize
     ensures { StillTooShort (freedoms rules) (counted_units (is_aligned rules) 8) cursor.entry result }
 {
     let mut behind = cursor;
@@ -73,7 +74,7 @@ pub(crate) fn missing_octets(cursor: Cursor<'_>, rules: PackedRules) -> usize
 
 /// As `missing_octets`, for octets under a size constraint (X.691 17).
 #[cold]
-pub(crate) fn missing_of_string(cursor: Cursor<'_>, rules: PackedRules, sizes: Sizes) -> usize
+fn missing_of_string(cursor: Cursor<'_>, rules: PackedRules, sizes: Sizes) -> usize
     ensures { (held : _) → StillTooShort (freedoms rules)
         (sized_units (is_aligned rules) (size_of sizes) held 8 (contents_have_padding Strings 8))
         cursor.entry result }
@@ -91,4 +92,24 @@ pub(crate) fn missing_of_string(cursor: Cursor<'_>, rules: PackedRules, sizes: S
             }
         }
     }
+}
+
+/// As [`missing_octets`], of octets at a place. Out of line, so that a reader that is not refused keeps nothing for it.
+#[cold]
+#[inline(never)]
+pub(crate) fn missing_octets_at(place: &Stretch<'_>, rules: PackedRules) -> usize
+    ensures { StillTooShort (freedoms rules) (counted_units (is_aligned rules) 8) place.now.place result }
+{
+    missing_octets(place.cursor(), rules)
+}
+
+/// As [`missing_of_string`], of a string at a place.
+#[cold]
+#[inline(never)]
+pub(crate) fn missing_of_string_at(place: &Stretch<'_>, rules: PackedRules, sizes: &Sizes) -> usize
+    ensures { (held : _) → StillTooShort (freedoms rules)
+        (sized_units (is_aligned rules) (size_of sizes.now) held 8 (contents_have_padding Strings 8))
+        place.now.place result }
+{
+    missing_of_string(place.cursor(), rules, *sizes)
 }

@@ -1,16 +1,14 @@
 //! The preamble of a SEQUENCE, SET or group (X.691 19.1 to 19.3).
 ghost use Rattle.std.specs.Prelude.{◌≡◌, [], true, OnOk, IfOk, IfErr};
 ghost use Rattle.std.specs.Prelude.{is_some};
-ghost use Rattle.asn1_schema_finding.specs.PresenceBits.{preamble_bits};
-ghost use Rattle.per_codec_reading.specs.Fronts.{freedoms, is_aligned, IsFresh, Leads};
-ghost use Rattle.per_codec_decoder.specs.Preamble.{HasBitmap, HasPreamble, NoBitmap, NoPreamble};
+ghost use Rattle.asn1_schema_reading_laws.specs.PresenceBits.{preamble_bits};
+ghost use Rattle.per_codec_reading.specs.Fronts.{freedoms, IsFresh, Leads};
+ghost use Rattle.per_codec_decoder.specs.Preamble.{HasPreamble, NoPreamble};
 ghost use Rattle.per_codec_decoder.specs.Scopes.{scope_of, stands_in};
 
-use crate::bitmaps::is_accepted;
 use crate::frames::Frame;
-use asn1_schema_faults::DecodeError;
-use asn1_values_bits::BitStr;
-use per_codec_reading::{PackedRules, RunBits};
+use asn1_schema_errors::DecodeError;
+use per_codec_reading::PackedRules;
 use per_codec_reading_values::{Field, Stretch};
 use std::alloc::Global;
 
@@ -63,33 +61,4 @@ pub fn read_preamble<'input>(
     let extension_bit = read_extension_bit(place, extensible)?;
     let presence = place.take_field(alloc, rules, Field::Bits(optional))?;
     Ok(Frame::Components(presence, extension_bit))
-}
-
-/// Reads the presence bitmap of the extension additions of a SEQUENCE or SET (X.691 19.7), if the extension bit says
-/// that there is one.
-///
-/// # Errors
-///
-/// `Incomplete` if the bits end early, the errors of a length determinant, `NotValidCanonicalEncoding` if no bit is
-/// set, in strict rules, and `OutOfMemory`.
-pub fn read_bitmap<'input>(
-    alloc: Global,
-    place: &mut Stretch<'input>,
-    rules: PackedRules,
-    is_extended: bool,
-) -> Result<Stretch<'input>, DecodeError>
-    ensures ok { IfOk result (λ bitmap. HasBitmap (freedoms rules)
-        (is_aligned rules) is_extended bitmap.place.1 place.old.place place.new.place) }
-    ensures storage { OnOk result (place.new.storage ≡ place.old.storage) }
-    ensures only { IfErr result (NoBitmap (freedoms rules) (is_aligned rules) is_extended place.old.place) }
-    ensures fresh { IfErr result IsFresh }
-{
-    if !is_extended {
-        return Ok(Stretch::new(RunBits::Lent(BitStr::new())));
-    }
-    let bitmap = place.take_field(alloc, rules, Field::Bitmap)?;
-    if !is_accepted(rules, bitmap.bits()) {
-        return Err(DecodeError::NotValidCanonicalEncoding);
-    }
-    Ok(bitmap)
 }

@@ -1,9 +1,9 @@
 -- The innermost frame, changed in place.
 use Rattle.std.proofs.Common.{◌≡◌, Bool, List, [], ◌∷◌, ◌++◌, reverse, Option, Some, None, option_copied, option_to_list, MatchOption, Bor, Result, Ok, Err, MatchResult, refl, ap, subst, sym, ◌∙◌}
 use Rattle.std.proofs.lemmas.List.{same_from_push}
-use Rattle.asn1_schema_faults.specs.declared.EncodeError.{EncodeError}
-use Rattle.asn1_schema_faults.specs.declared.EncodeError.TheVariants.{OutOfMemory}
-use Rattle.asn1_schema_presented.specs.Records.{Record, further, ends}
+use Rattle.asn1_schema_errors.specs.declared.EncodeError.{EncodeError}
+use Rattle.asn1_schema_errors.specs.declared.EncodeError.TheVariants.{OutOfMemory}
+use Rattle.asn1_schema_laws.specs.Records.{Record, further, ends}
 use Rattle.per_codec_packing.specs.Packed.{Packed}
 use Rattle.per_codec_encoder.specs.Steps.{State, run}
 use Rattle.per_codec_encoder.specs.declared.frame.Frame.{Frame}
@@ -67,7 +67,7 @@ pub around_left : (outer around : List Frame) (t : Option Frame) (left : Frame) 
 around_left outer around None left n e = absurd (one_there around left (sym e ∙ ap (λ l. l ++ []) (n refl)))
 around_left outer around (Some f) left n e = (same_from_push outer around f left e).0
 
--- if nothing is open, no member comes
+-- if nothing is open, no element comes
 pub no_member : (al : Bool) (fs outer : List Frame) (t : Option Frame) (o : Packed) (more : Bool) → outer ++ option_to_list t ≡ fs → t ≡ None → outer ≡ [] → (s : State) → Holds (reverse fs) o s → run al (further more) s ≡ None
 no_member al fs outer t o more a e n s h =
     let b : [] ≡ fs = sym (ap (λ l. l ++ []) n) ∙ sym (ap (λ (u : Option Frame). outer ++ option_to_list u) e) ∙ a in

@@ -1,5 +1,5 @@
--- In the forms of PER only padding depends on the position, so a text at an unknown position determines the text at
--- each.
+-- In the forms of PER only padding depends on the position, so a field-list at an unknown position determines the
+-- field-list at each.
 use Rattle.std.proofs.Common.{◌≡◌, ℕ, ℤ, zero, suc, ◌-◌, ◌==◌, leb, ltb, Bool, true, false, cond, not, ◌&&◌, ◌||◌, List, [], ◌∷◌, ◌++◌, length, map, flat_map, take, drop, Option, Some, None, option_map, option_and_then, refl, ap, sym, ◌∙◌}
 use Rattle.std.proofs.lemmas.List.{append-nil}
 use Rattle.asn1_model.specs.Value.{Value, truth, nothing, number, item, bit_list, octet_list, text, arcs, members, bag, fields, chosen, Values, no_more, member, each, Parts, end, absent, present}
@@ -11,58 +11,58 @@ use Rattle.std.specs.List.{list_all}
 use Rattle.asn1_model.specs.Numbers.{digits, binary, width, octet_width, least_octets, above, is_count_within}
 use Rattle.asn1_model.specs.Form.{exactly, refused, both, placed, varied, within, only_if, given, joined, is_any_present, present_ones, put_in_place, with_keys, ascending, written}
 use Rattle.asn1_model.specs.Per
-use Rattle.per_codec_packing.specs.Texts.{Text, plain, on, text_at, as_form}
+use Rattle.per_codec_packing.specs.FieldLists.{FieldList, plain, on, field_list_at, as_form}
 use Rattle.per_codec_packing.proofs.Formed.{chain_same, none_behind, in_turn, bits_of}
 use Rattle.per_codec_packing.proofs.Forms.{as_form-append, form_of_bits}
 use Rattle.per_codec_encoder.proofs.StepAdditions.{by_presence, own}
 
--- a form whose text at an unknown position determines it at each
+-- a form whose field-list at an unknown position determines it at each
 pub record PaddingAlone (x : Per.BitForm) : Type 0 where
-  pub at : (q : Option ℕ) → text_at x q ≡ option_and_then (λ t. text_at (as_form t) q) (text_at x None)
+  pub at : (q : Option ℕ) → field_list_at x q ≡ option_and_then (λ t. field_list_at (as_form t) q) (field_list_at x None)
 
 padding_exactly : (l : List Bool) → PaddingAlone (exactly l)
-unfolding text_at
+unfolding field_list_at
 padding_exactly l = record { at = λ q. form_of_bits l q }
 
 padding_refused : PaddingAlone refused
-unfolding text_at
+unfolding field_list_at
 padding_refused = record { at = λ q. refl }
 
 padding_both : {x y : Per.BitForm} → PaddingAlone x → PaddingAlone y → PaddingAlone (both x y)
-unfolding text_at
-padding_both {x} {y} h k = record { at = λ q. ap (option_and_then (λ a. option_map (λ b. a ++ b) (text_at y (on q a)))) (h.at q) ∙ first q (text_at x None) (text_at y None) (λ p. k.at p) }
+unfolding field_list_at
+padding_both {x} {y} h k = record { at = λ q. ap (option_and_then (λ a. option_map (λ b. a ++ b) (field_list_at y (on q a)))) (h.at q) ∙ first q (field_list_at x None) (field_list_at y None) (λ p. k.at p) }
   where
-    first : (q : Option ℕ) (o u : Option Text) → ((p : Option ℕ) → text_at y p ≡ option_and_then (λ t. text_at (as_form t) p) u) → option_and_then (λ a. option_map (λ b. a ++ b) (text_at y (on q a))) (option_and_then (λ t. text_at (as_form t) q) o) ≡ option_and_then (λ t. text_at (as_form t) q) (option_and_then (λ a. option_map (λ b. a ++ b) u) o)
+    first : (q : Option ℕ) (o u : Option FieldList) → ((p : Option ℕ) → field_list_at y p ≡ option_and_then (λ t. field_list_at (as_form t) p) u) → option_and_then (λ a. option_map (λ b. a ++ b) (field_list_at y (on q a))) (option_and_then (λ t. field_list_at (as_form t) q) o) ≡ option_and_then (λ t. field_list_at (as_form t) q) (option_and_then (λ a. option_map (λ b. a ++ b) u) o)
     first q None u h = refl
-    first q (Some a) None h = chain_same (text_at (as_form a) q) (λ c. option_map (λ b. c ++ b) (text_at y (on q c))) (λ c. None) (λ c. ap (option_map (λ b. c ++ b)) (h (on q c))) ∙ none_behind (text_at (as_form a) q)
-    first q (Some a) (Some b) h = chain_same (text_at (as_form a) q) (λ c. option_map (λ b. c ++ b) (text_at y (on q c))) (λ c. option_map (λ d. c ++ d) (text_at (as_form b) (on q c))) (λ c. ap (option_map (λ b. c ++ b)) (h (on q c))) ∙ sym (as_form-append a b q)
+    first q (Some a) None h = chain_same (field_list_at (as_form a) q) (λ c. option_map (λ b. c ++ b) (field_list_at y (on q c))) (λ c. None) (λ c. ap (option_map (λ b. c ++ b)) (h (on q c))) ∙ none_behind (field_list_at (as_form a) q)
+    first q (Some a) (Some b) h = chain_same (field_list_at (as_form a) q) (λ c. option_map (λ b. c ++ b) (field_list_at y (on q c))) (λ c. option_map (λ d. c ++ d) (field_list_at (as_form b) (on q c))) (λ c. ap (option_map (λ b. c ++ b)) (h (on q c))) ∙ sym (as_form-append a b q)
 
 padding_itself : PaddingAlone (placed (λ p. Per.padding (Per.missing p)))
-unfolding text_at
+unfolding field_list_at
 padding_itself = record { at = go }
   where
-    put : (o : Option Text) → o ≡ option_and_then (λ a. option_map (λ b. a ++ b) (Some [])) o
+    put : (o : Option FieldList) → o ≡ option_and_then (λ a. option_map (λ b. a ++ b) (Some [])) o
     put None = refl
     put (Some w) = ap Some (sym (append-nil w))
 
-    go : (q : Option ℕ) → text_at (placed (λ p. Per.padding (Per.missing p))) q ≡ option_and_then (λ t. text_at (as_form t) q) (text_at (placed (λ p. Per.padding (Per.missing p))) None)
+    go : (q : Option ℕ) → field_list_at (placed (λ p. Per.padding (Per.missing p))) q ≡ option_and_then (λ t. field_list_at (as_form t) q) (field_list_at (placed (λ p. Per.padding (Per.missing p))) None)
     go None = refl
-    go (Some p) = put (text_at (Per.padding (Per.missing p)) (Some p))
+    go (Some p) = put (field_list_at (Per.padding (Per.missing p)) (Some p))
 
 padding_varied : {c : Per.Freedom} {d : Per.Detail c} {f : Per.Detail c → Per.BitForm} → PaddingAlone (f d) → PaddingAlone (varied c d f)
-unfolding text_at
+unfolding field_list_at
 padding_varied h = record { at = λ q. h.at q }
 
 padding_within : {x : Per.BitForm} {f : List Bool → Per.BitForm} → ((w : List Bool) → PaddingAlone (f w)) → PaddingAlone (within x f)
-unfolding text_at
+unfolding field_list_at
 padding_within {x} {f} h = record { at = λ q. go q (written x 0) }
   where
-    go : (q : Option ℕ) (o : Option (List Bool)) → option_and_then (λ w. text_at (f w) q) o ≡ option_and_then (λ t. text_at (as_form t) q) (option_and_then (λ w. text_at (f w) None) o)
+    go : (q : Option ℕ) (o : Option (List Bool)) → option_and_then (λ w. field_list_at (f w) q) o ≡ option_and_then (λ t. field_list_at (as_form t) q) (option_and_then (λ w. field_list_at (f w) None) o)
     go q None = refl
     go q (Some w) = (h w).at q
 
-padding_by : {x y : Per.BitForm} → ((q : Option ℕ) → text_at x q ≡ text_at y q) → PaddingAlone y → PaddingAlone x
-padding_by e h = record { at = λ q. e q ∙ h.at q ∙ ap (option_and_then (λ t. text_at (as_form t) q)) (sym (e None)) }
+padding_by : {x y : Per.BitForm} → ((q : Option ℕ) → field_list_at x q ≡ field_list_at y q) → PaddingAlone y → PaddingAlone x
+padding_by e h = record { at = λ q. e q ∙ h.at q ∙ ap (option_and_then (λ t. field_list_at (as_form t) q)) (sym (e None)) }
 
 padding_cond : (b : Bool) {x y : Per.BitForm} → PaddingAlone x → PaddingAlone y → PaddingAlone (cond b x y)
 padding_cond true h k = h
@@ -344,8 +344,8 @@ mutual
 
 -- ---- bits
 
-pub told_bits : {x : Per.BitForm} → PaddingAlone x → (p : ℕ) → written x p ≡ option_and_then (λ t. written (as_form t) p) (text_at x None)
+pub told_bits : {x : Per.BitForm} → PaddingAlone x → (p : ℕ) → written x p ≡ option_and_then (λ t. written (as_form t) p) (field_list_at x None)
 told_bits {x} h p =
     bits_of x p ∙ ap (option_and_then plain) (h.at (Some p))
-    ∙ in_turn (text_at x None) (λ t. text_at (as_form t) (Some p)) plain
-    ∙ chain_same (text_at x None) (λ t. option_and_then plain (text_at (as_form t) (Some p))) (λ t. written (as_form t) p) (λ t. sym (bits_of (as_form t) p))
+    ∙ in_turn (field_list_at x None) (λ t. field_list_at (as_form t) (Some p)) plain
+    ∙ chain_same (field_list_at x None) (λ t. option_and_then plain (field_list_at (as_form t) (Some p))) (λ t. written (as_form t) p) (λ t. sym (bits_of (as_form t) p))

@@ -2,8 +2,8 @@
 use Rattle.std.proofs.Common.{refl}
 use Rattle.asn1_model.specs.Schema.{Schema, cut, boolean, null, integer, enumerated, bit_string, octet_string, character_string, object_identifier, sequence_of, set_of, sequence, set, group, choice, Components, no_component, component, Alternatives, no_alternative, alternative}
 use Rattle.asn1_model.specs.Per
-use Rattle.asn1_schema_presented.specs.Presents.{presents}
-use Rattle.per_codec_packing.specs.Texts.{text_at}
+use Rattle.asn1_schema_laws.specs.Presents.{presents}
+use Rattle.per_codec_packing.specs.FieldLists.{field_list_at}
 use Rattle.per_codec_encoder.specs.Ties.{Bridges}
 use Rattle.per_codec_encoder.proofs.Bridge.{boolean_bridges, null_bridges, integer_bridges, enumerated_bridges, bit_string_bridges, octet_string_bridges, string_bridges, identifier_bridges}
 use Rattle.per_codec_encoder.proofs.Lists.{lists}
@@ -14,7 +14,7 @@ use Rattle.per_codec_encoder.proofs.StepBags.{bags}
 
 -- below the levels of a recursive type there is no value
 cut_bridges : Bridges cut
-unfolding presents Per.form text_at
+unfolding presents Per.form field_list_at
 cut_bridges al v os k rest = refl
 
 mutual

@@ -8,45 +8,45 @@ use Rattle.asn1_model.specs.Form.{written}
 use Rattle.asn1_model.specs.Per
 use Rattle.asn1_model.specs.Rules.{uper, aper, uper_strict, aper_strict, per, encoding, of_moderate_length, canonical}
 use Rattle.asn1_schema_encode.specs.Written.{IsWrittenIn}
-use Rattle.asn1_schema_presented.specs.Records.{Record}
-use Rattle.asn1_schema_presented.specs.Presents.{presents, Fits}
-use Rattle.asn1_schema_presented.specs.Chains.{Chain}
-use Rattle.asn1_schema_presented.specs.Tables.{IsValue}
-use Rattle.per_codec_packing.specs.Texts.{Text, as_text, plain, text_at}
+use Rattle.asn1_schema_laws.specs.Records.{Record}
+use Rattle.asn1_schema_laws.specs.Presents.{presents, Fits}
+use Rattle.asn1_schema_laws.specs.Chains.{Chain}
+use Rattle.asn1_schema_laws.specs.Tables.{IsValue}
+use Rattle.per_codec_packing.specs.FieldLists.{FieldList, as_field_list, plain, field_list_at}
 use Rattle.per_codec_encoder.specs.Steps.{State, Step}
 use Rattle.per_codec_encoder.specs.Ties.{octets_of}
 use Rattle.per_codec_encoder.specs.Written.{canonical_bits, WrittenByRecords, RefusedByRecords, IsWriter, packed_rules, WritesTheOctets, RefusesOnlyNone}
-use Rattle.per_codec_packing.proofs.Formed.{known, plain_text}
+use Rattle.per_codec_packing.proofs.Formed.{known, plain_field_list}
 use Rattle.per_codec_encoder.proofs.Chains.{added}
 
 -- the bits of a value that is in its normal form
 as_it_is : (al : Bool) (s : Schema) (v : Value) → normal s v ≡ v → canonical_bits al s v ≡ written (Per.form al s v) 0
 as_it_is al s v e = ap (λ u. written (Per.form al s u) 0) e
 
--- a text at the start consists of bits
-to_bits : (x : Per.BitForm) (w : Text) → text_at x (Some 0) ≡ Some w → (l : List Bool) × (written x 0 ≡ Some l) × (w ≡ as_text l)
+-- a field-list at the start consists of bits
+to_bits : (x : Per.BitForm) (w : FieldList) → field_list_at x (Some 0) ≡ Some w → (l : List Bool) × (written x 0 ≡ Some l) × (w ≡ as_field_list l)
 to_bits x w e = go (written x 0) refl (sym (known x 0) ∙ e)
   where
-    go : (o : Option (List Bool)) → written x 0 ≡ o → option_map as_text o ≡ Some w → (l : List Bool) × (written x 0 ≡ Some l) × (w ≡ as_text l)
+    go : (o : Option (List Bool)) → written x 0 ≡ o → option_map as_field_list o ≡ Some w → (l : List Bool) × (written x 0 ≡ Some l) × (w ≡ as_field_list l)
     go None f g = cc
-    go (Some l) f g = (l, f, let q : w ≡ as_text l = cc in q)
+    go (Some l) f g = (l, f, let q : w ≡ as_field_list l = cc in q)
 
-chain_to_bits : (al : Bool) (s : Schema) (v : Value) (new : State) → normal s v ≡ v → Chain (Step al) (presents s v) ([], []) new → (l : List Bool) × (canonical_bits al s v ≡ Some l) × (new ≡ (as_text l, []))
+chain_to_bits : (al : Bool) (s : Schema) (v : Value) (new : State) → normal s v ≡ v → Chain (Step al) (presents s v) ([], []) new → (l : List Bool) × (canonical_bits al s v ≡ Some l) × (new ≡ (as_field_list l, []))
 chain_to_bits al s v new e c =
     let t = (added al s v [] [] new).0 c in
     let b = to_bits (Per.form al s v) t.0 t.1 in
     (b.0, as_it_is al s v e ∙ b.1, t.2 ∙ ap (λ w. (w, [])) b.2)
 
-chain_by_bits : (al : Bool) (s : Schema) (v : Value) (l : List Bool) → normal s v ≡ v → canonical_bits al s v ≡ Some l → Chain (Step al) (presents s v) ([], []) (as_text l, [])
-chain_by_bits al s v l e h = (added al s v [] [] (as_text l, [])).1 (as_text l, known (Per.form al s v) 0 ∙ ap (option_map as_text) (sym (as_it_is al s v e) ∙ h), refl)
+chain_by_bits : (al : Bool) (s : Schema) (v : Value) (l : List Bool) → normal s v ≡ v → canonical_bits al s v ≡ Some l → Chain (Step al) (presents s v) ([], []) (as_field_list l, [])
+chain_by_bits al s v l e h = (added al s v [] [] (as_field_list l, [])).1 (as_field_list l, known (Per.form al s v) 0 ∙ ap (option_map as_field_list) (sym (as_it_is al s v e) ∙ h), refl)
 
 at_its_depth : (schema : ℕ → Schema) (v : Value) → IsValue schema v → Fits (schema (depth v)) v
 at_its_depth schema v h = h.fits (depth v) (omega arith)
 
 -- the state determines the bits
-same_bits : (l m : List Bool) → ◌≡◌ {A = State} (as_text l, []) (as_text m, []) → l ≡ m
+same_bits : (l m : List Bool) → ◌≡◌ {A = State} (as_field_list l, []) (as_field_list m, []) → l ≡ m
 same_bits l m e =
-    let f : Some l ≡ Some m = sym (plain_text l) ∙ ap (λ (s : State). plain s.0) e ∙ plain_text m in
+    let f : Some l ≡ Some m = sym (plain_field_list l) ∙ ap (λ (s : State). plain s.0) e ∙ plain_field_list m in
     cc
 
 pub written_by_records : WrittenByRecords
@@ -63,7 +63,7 @@ none_by_none al s v e h = go (canonical_bits al s v) refl
   where
     go : (o : Option (List Bool)) → canonical_bits al s v ≡ o → o ≡ None
     go None f = refl
-    go (Some l) f = absurd (h (as_text l, []) (chain_by_bits al s v l e f))
+    go (Some l) f = absurd (h (as_field_list l, []) (chain_by_bits al s v l e f))
 
 pub refused_by_records : RefusedByRecords
 refused_by_records al schema v x h y = (
@@ -108,16 +108,16 @@ canonically al schema v o h n f =
     let m : per al (schema n) (normal (schema n) v) ≡ padded_octets o = ap padded_octets (h n f) in
     (ap (option_and_then of_moderate_length) (b.0 ∙ m), ap (option_and_then of_moderate_length) (b.1 ∙ m))
 
-padded_text : (l : List Bool) → padded_octets (Some l) ≡ octets_of (as_text l, [])
+padded_field_list : (l : List Bool) → padded_octets (Some l) ≡ octets_of (as_field_list l, [])
 unfolding padded_octets
-padded_text l = ap (option_and_then (λ w. option_map packed (written (Per.padded w) 0))) (sym (plain_text l))
+padded_field_list l = ap (option_and_then (λ w. option_map packed (written (Per.padded w) 0))) (sym (plain_field_list l))
 
 pub writes_the_octets : {S : Type 0} {step : S → Record → S → Type 0} {aligned : S → Bool} {held : S → State} {Ready : S → Type 0} → IsWriter step aligned held Ready → WritesTheOctets step aligned held
 writes_the_octets {aligned} {held} h schema v old new i e w =
     let P : State → Type 0 = λ s. (n : ℕ) → Fits (schema n) v → Chain (Step (aligned old)) (presents (schema n) v) s (held new) in
     let t = (written_by_records (aligned old) schema v (held new) i).0 (record { chain = subst P e (λ n f. chain_held h (presents (schema n) v) old new (w.chain n f)) }) in
     let Q : Option (List ℕ) → Type 0 = λ o. IsWrittenIn (packed_rules (aligned old)) schema v (option_and_then of_moderate_length o) in
-    (ap (λ (s : State). s.1) t.1, subst Q (padded_text t.0 ∙ ap octets_of (sym t.1)) (canonically (aligned old) schema v (Some t.0) t.2))
+    (ap (λ (s : State). s.1) t.1, subst Q (padded_field_list t.0 ∙ ap octets_of (sym t.1)) (canonically (aligned old) schema v (Some t.0) t.2))
 
 pub refuses_only_none : {S : Type 0} {step : S → Record → S → Type 0} {aligned : S → Bool} {held : S → State} {Ready : S → Type 0} → IsWriter step aligned held Ready → RefusesOnlyNone step aligned held Ready
 unfolding padded_octets

@@ -15,7 +15,7 @@ is_written_at_end (Members d) = false
 is_written_at_end (Bag b) = true
 is_written_at_end Alternative = false
 
--- An open type, if there is one, is inside the others: the text before it is given.
+-- An open type, if there is one, is inside the others: the field-list before it is given.
 abbrev pub enclosed : Option Packed → List Frame → List Frame
 enclosed None fs = fs
 enclosed (Some o) fs = fs ++ OpenType o ∷ []

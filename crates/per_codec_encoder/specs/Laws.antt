@@ -1,6 +1,6 @@
 -- The laws of the encoder.
 use Rattle.std.proofs.Common.{◌≡◌, Bool, true, false, Some, sym, ◌∙◌, ap}
-use Rattle.asn1_schema_presented.specs.Records.{Record}
+use Rattle.asn1_schema_laws.specs.Records.{Record}
 use Rattle.per_codec_encoder.specs.Steps.{State}
 use Rattle.per_codec_encoder.specs.Stepping.{Written, Puts, rules_of}
 

@@ -3,8 +3,8 @@
 use Rattle.std.specs.Prelude.{◌≡◌, ℕ, ℤ, pos, negsuc, Bool, true, false, List, [], ◌∷◌, ◌++◌, Some, None}
 use Rattle.std.specs.Prelude.{option_and_then, replicate}
 use Rattle.asn1_model.specs.Types.{from_to, any_number, any_count, any_size, sizes, sizes_or_more, context}
-use Rattle.asn1_schema_presented.specs.Records as call
-use Rattle.per_codec_packing.specs.Texts.{padding, as_text}
+use Rattle.asn1_schema_laws.specs.Records as call
+use Rattle.per_codec_packing.specs.FieldLists.{padding, as_field_list}
 use Rattle.per_codec_encoder.specs.Steps.{components, members, bag_members, run, runs}
 use Rattle.per_codec_encoder.specs.Ties.{octets_of}
 
@@ -66,7 +66,7 @@ abbrev pub bag_of_three : List call.Record
 bag_of_three = call.bag_begins any_size any_count 3 ∷ call.further true ∷ whole (pos 256) ∷ call.further true ∷ whole
     (negsuc 0) ∷ call.further true ∷ whole (pos 1) ∷ call.further false ∷ call.ends ∷ []
 
--- SEQUENCE {a BOOLEAN, b SET (SIZE (1..2)) OF SEQUENCE {c BOOLEAN, d INTEGER (0..65535)}}: the members change order,
+-- SEQUENCE {a BOOLEAN, b SET (SIZE (1..2)) OF SEQUENCE {c BOOLEAN, d INTEGER (0..65535)}}: the elements change order,
 -- and each is padded at its own position
 abbrev pub bag_behind_bit : List call.Record
 bag_behind_bit =
@@ -117,32 +117,32 @@ closing_of_one = replicate 7 false ++ true ∷ []
 abbrev pub StateRows : Type 0
 StateRows =
     (run false (call.list_begins any_size any_count 3) ([], []) ≡ Some
-    (as_text (replicate 6 false ++ replicate 2 true), members 3 None ∷ []))
+    (as_field_list (replicate 6 false ++ replicate 2 true), members 3 None ∷ []))
     × (run false (call.list_begins any_size any_count 16385) ([], []) ≡ Some
-    (as_text (true ∷ true ∷ replicate 5 false ++ true ∷ []), members 16384 (Some ([], 1)) ∷ []))
+    (as_field_list (true ∷ true ∷ replicate 5 false ++ true ∷ []), members 16384 (Some ([], 1)) ∷ []))
     × (run false (call.list_begins any_size any_count 81925) ([], []) ≡ Some (
-      as_text (true ∷ true ∷ replicate 3 false ++ true ∷ false ∷ false ∷ []),
+      as_field_list (true ∷ true ∷ replicate 3 false ++ true ∷ false ∷ false ∷ []),
       members 65536
           (Some (1 ∷ [], 16389)) ∷ [],
     ))
-    × (run false (call.further true) (as_text (true ∷ []), members 0 (Some ([], 1)) ∷ []) ≡ Some
-    (as_text (true ∷ closing_of_one), members 0 None ∷ []))
-    × (run true (call.further true) (as_text (true ∷ []), members 0 (Some ([], 1)) ∷ []) ≡ Some
-    (as_text (true ∷ replicate 7 false ++ closing_of_one), members 0 None ∷ []))
-    × (run true (call.further false) (as_text (true ∷ []), members 0 (Some ([], 0)) ∷ []) ≡ Some
-    (as_text (true ∷ replicate 15 false), members 0 None ∷ []))
+    × (run false (call.further true) (as_field_list (true ∷ []), members 0 (Some ([], 1)) ∷ []) ≡ Some
+    (as_field_list (true ∷ closing_of_one), members 0 None ∷ []))
+    × (run true (call.further true) (as_field_list (true ∷ []), members 0 (Some ([], 1)) ∷ []) ≡ Some
+    (as_field_list (true ∷ replicate 7 false ++ closing_of_one), members 0 None ∷ []))
+    × (run true (call.further false) (as_field_list (true ∷ []), members 0 (Some ([], 0)) ∷ []) ≡ Some
+    (as_field_list (true ∷ replicate 15 false), members 0 None ∷ []))
     × (run false (call.further false) ([], members 1 None ∷ []) ≡ None)
-    × (run false (call.list_begins (sizes 1 2) any_count 2) ([], []) ≡ Some (as_text (true ∷ []), members 2 None ∷ []))
+    × (run false (call.list_begins (sizes 1 2) any_count 2) ([], []) ≡ Some (as_field_list (true ∷ []), members 2 None ∷ []))
     × (run false (call.list_begins (sizes 1 2) any_count 3) ([], []) ≡ None)
     × (run false (call.list_begins (sizes_or_more 1 2) any_count 2) ([], []) ≡ Some
-    (as_text (false ∷ true ∷ []), members 2 None ∷ []))
+    (as_field_list (false ∷ true ∷ []), members 2 None ∷ []))
     × (run false (call.list_begins (sizes_or_more 1 2) any_count 3) ([], []) ≡ Some
-    (as_text (true ∷ replicate 6 false ++ replicate 2 true), members 3 None ∷ []))
+    (as_field_list (true ∷ replicate 6 false ++ replicate 2 true), members 3 None ∷ []))
     × (run false (call.bag_begins (sizes 1 2) any_count 3) ([], []) ≡ None)
-    × (run true (word 258) (as_text (true ∷ []), []) ≡ Some
-    (as_text (true ∷ replicate 7 false ++ closing_of_one ++ replicate 6 false ++ true ∷ false ∷ []), []))
+    × (run true (word 258) (as_field_list (true ∷ []), []) ≡ Some
+    (as_field_list (true ∷ replicate 7 false ++ closing_of_one ++ replicate 6 false ++ true ∷ false ∷ []), []))
     × (run true (word 258) ([], bag_members any_size any_count 0 None [] ∷ []) ≡ Some (
-      padding ∷ as_text (closing_of_one ++ replicate 6 false ++ true ∷ false ∷ []),
+      padding ∷ as_field_list (closing_of_one ++ replicate 6 false ++ true ∷ false ∷ []),
       bag_members any_size any_count 0
           None [] ∷ [],
     ))

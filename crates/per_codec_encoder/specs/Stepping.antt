@@ -1,9 +1,9 @@
 -- What an encoder holds, and how records change it.
 use Rattle.std.specs.Prelude.{◌≡◌, Bool, true, false, Some}
-use Rattle.asn1_schema_faults.specs.declared.CodecKind.{CodecKind}
-use Rattle.asn1_schema_faults.specs.declared.CodecKind.TheVariants.{Uper, Aper}
-use Rattle.asn1_schema_presented.specs.Records.{Record}
-use Rattle.per_codec_limits.specs.declared.variant.Variant.{Variant}
+use Rattle.asn1_schema_errors.specs.declared.CodecKind.{CodecKind}
+use Rattle.asn1_schema_errors.specs.declared.CodecKind.TheVariants.{Uper, Aper}
+use Rattle.asn1_schema_laws.specs.Records.{Record}
+use Rattle.per_codec_rules.specs.declared.variant.Variant.{Variant}
 use Rattle.per_codec_encoder.specs.Steps.{State, run}
 use Rattle.per_codec_encoder.specs.declared.options.EncoderOptions.{EncoderOptions}
 

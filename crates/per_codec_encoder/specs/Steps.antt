@@ -1,5 +1,5 @@
--- What a writer of PER (X.691) holds: the text of the innermost open scope, and the open scopes. Each record changes
--- them. What is written depends on the number of bits before it in its message or open type.
+-- What a writer of PER (X.691) holds: the field-list of the innermost open scope, and the open scopes. Each record
+-- changes them. What is written depends on the number of bits before it in its message or open type.
 use Rattle.std.specs.Prelude.{◌≡◌, ℕ, zero, suc, ◌+◌, ◌-◌, Bool, true, false, cond, List, [], ◌∷◌}
 use Rattle.std.specs.Prelude.{◌++◌, length, map, Option, Some, None, option_map, option_and_then}
 use Rattle.asn1_model.specs.Value.{truth, number, item, bit_list, octet_list, text, arcs}
@@ -8,34 +8,34 @@ use Rattle.asn1_model.specs.Schema.{character_string, object_identifier}
 use Rattle.asn1_model.specs.Numbers.{is_count_within}
 use Rattle.asn1_model.specs.Form.{exactly, both, is_any_present}
 use Rattle.asn1_model.specs.Per
-use Rattle.per_codec_packing.specs.Texts.{Text, as_text, plain, moved, on, text_at, as_form}
+use Rattle.per_codec_packing.specs.FieldLists.{FieldList, as_field_list, plain, moved, on, field_list_at, as_form}
 pub use Rattle.per_codec_writing.specs.Headings.{LengthDeterminants, Heading, next_determinant, heading}
-use Rattle.asn1_schema_presented.specs.Records.{Record, flag, nil, whole, one_of, bits, octets, characters, identifier}
-use Rattle.asn1_schema_presented.specs.Records.{list_begins, bag_begins, further, sequence_begins, set_begins}
-use Rattle.asn1_schema_presented.specs.Records.{group_begins, presence_bit, additions_begin, addition, addition_ends}
-use Rattle.asn1_schema_presented.specs.Records.{choice_begins, ends}
+use Rattle.asn1_schema_laws.specs.Records.{Record, flag, nil, whole, one_of, bits, octets, characters, identifier}
+use Rattle.asn1_schema_laws.specs.Records.{list_begins, bag_begins, further, sequence_begins, set_begins}
+use Rattle.asn1_schema_laws.specs.Records.{group_begins, presence_bit, additions_begin, addition, addition_ends}
+use Rattle.asn1_schema_laws.specs.Records.{choice_begins, ends}
 
 -- An open scope.
 pub data Scope : Type 0 where
   -- a sequence, set or group: whether it has an extension bit, how many presence bits are due, those that were given,
-  -- and the text before it
-  components : Bool → ℕ → List Bool → Text → Scope
+  -- and the field-list before it
+  components : Bool → ℕ → List Bool → FieldList → Scope
   -- after the root of such a type with an extension bit: how many additions are due, the presence bits, the root's
-  -- text, each addition's bits, and the text before the sequence
-  added : ℕ → List Bool → Text → List (Option (List Bool)) → Text → Scope
-  -- an addition, or an added alternative: its bits are kept apart, and this is the text before it
-  open_type : Text → Scope
-  -- a list: how many members are due before the next length determinant or the end, and the length
+  -- field-list, each addition's bits, and the field-list before the sequence
+  added : ℕ → List Bool → FieldList → List (Option (List Bool)) → FieldList → Scope
+  -- an addition, or an added alternative: its bits are kept apart, and this is the field-list before it
+  open_type : FieldList → Scope
+  -- a list: how many elements are due before the next length determinant or the end, and the length
   -- determinants to come
   members : ℕ → LengthDeterminants → Scope
-  -- a bag: its size, the counts that the Rust type holds, how many members are due, the text of each member before
-  -- the open one, if one is open, and the text before the bag
-  bag_members : Size → Counts → ℕ → Option (List Text) → Text → Scope
+  -- a bag: its size, the counts that the Rust type holds, how many elements are due, the field-list of each element
+  -- before the open one, if one is open, and the field-list before the bag
+  bag_members : Size → Counts → ℕ → Option (List FieldList) → FieldList → Scope
   -- an alternative of the root
   alternative : Scope
 
 abbrev pub State : Type 0
-State = Text × List Scope
+State = FieldList × List Scope
 
 -- ---- positions
 
@@ -58,51 +58,51 @@ offset (alternative ∷ k) = offset k
 abbrev pub position : State → Option ℕ
 position s = on (offset s.1) s.0
 
--- A text is added to the innermost open scope, if there is one.
-abbrev pub adds_text : Option Text → State → Option State
-adds_text o s = option_map (λ w. (s.0 ++ w, s.1)) o
+-- A field-list is added to the innermost open scope, if there is one.
+abbrev pub adds_field_list : Option FieldList → State → Option State
+adds_field_list o s = option_map (λ w. (s.0 ++ w, s.1)) o
 
--- A form's text at its position.
+-- A form's field-list at its position.
 abbrev pub adds_form : Per.BitForm → State → Option State
-adds_form x s = adds_text (text_at x (position s)) s
+adds_form x s = adds_field_list (field_list_at x (position s)) s
 
 -- ---- presence bits
 
-abbrev pub presence_told_in : Bool → ℕ → List Bool → Text → Text → List Scope → Bool → Option State
+abbrev pub presence_told_in : Bool → ℕ → List Bool → FieldList → FieldList → List Scope → Bool → Option State
 presence_told_in e zero ms front os k b = None
 presence_told_in e (suc n) ms front os k b = Some (os, components e n (ms ++ b ∷ []) front ∷ k)
 
-abbrev pub presence_told : Bool → Text → List Scope → Option State
+abbrev pub presence_told : Bool → FieldList → List Scope → Option State
 presence_told b os (components e n ms front ∷ k) = presence_told_in e n ms front os k b
 presence_told b os k = None
 
 -- ---- lists (X.691 20)
 
--- How a list of `n` members begins, at a position, if the size and the Rust type allow that many.
+-- How a list of `n` elements begins, at a position, if the size and the Rust type allow that many.
 abbrev pub list_heading : Bool → Size → Counts → ℕ → Option ℕ → Option Heading
 list_heading al z held n q = cond (is_count_within held n) (heading al z false n q) None
 
--- The members are due after their heading.
-abbrev pub headed : Text → List Scope → Option Heading → Option State
-headed os k o = option_map (λ (h : Heading). (os ++ h.text, members h.due h.determinants ∷ k)) o
+-- The elements are due after their heading.
+abbrev pub headed : FieldList → List Scope → Option Heading → Option State
+headed os k o = option_map (λ (h : Heading). (os ++ h.field_list, members h.due h.determinants ∷ k)) o
 
--- A further member, or the end, with no length determinant in between.
-abbrev pub counted_on : ℕ → LengthDeterminants → Text → List Scope → Bool → Option State
+-- A further element, or the end, with no length determinant in between.
+abbrev pub counted_on : ℕ → LengthDeterminants → FieldList → List Scope → Bool → Option State
 counted_on (suc n) hs os k true = Some (os, members n hs ∷ k)
 counted_on zero None os k false = Some (os, members zero None ∷ k)
 counted_on n hs os k b = None
 
 -- If none is due before the next length determinant, that comes first.
-abbrev pub goes_on_in : Bool → ℕ → LengthDeterminants → Text → List Scope → Bool → Option State
+abbrev pub goes_on_in : Bool → ℕ → LengthDeterminants → FieldList → List Scope → Bool → Option State
 goes_on_in al zero (Some h) os k b =
-    option_and_then (λ (g : Heading). counted_on g.due g.determinants (os ++ g.text) k b)
+    option_and_then (λ (g : Heading). counted_on g.due g.determinants (os ++ g.field_list) k b)
     (next_determinant al h.0 h.1 (position (os, k)))
 goes_on_in al n hs os k b = counted_on n hs os k b
 
 -- ---- bags (X.691 22)
 
--- The text of each member of a bag, the open one last.
-abbrev pub with_open : Option (List Text) → Text → List Text
+-- The field-list of each element of a bag, the open one last.
+abbrev pub with_open : Option (List FieldList) → FieldList → List FieldList
 with_open None os = []
 with_open (Some ts) os = ts ++ os ∷ []
 
@@ -110,22 +110,22 @@ with_open (Some ts) os = ts ++ os ∷ []
 abbrev pub bag_opened : Size → Counts → ℕ → State → Option Heading → Option State
 bag_opened z h n s o = option_map (λ (g : Heading). ([], bag_members z h n None s.0 ∷ s.1)) o
 
--- The members of a bag are kept apart until the end, which puts them in order.
-abbrev pub counted_in : Size → Counts → ℕ → Option (List Text) → Text → Text → List Scope → Bool → Option State
+-- The elements of a bag are kept apart until the end, which puts them in order.
+abbrev pub counted_in : Size → Counts → ℕ → Option (List FieldList) → FieldList → FieldList → List Scope → Bool → Option State
 counted_in z h zero ts front os k true = None
 counted_in z h zero ts front os k false = Some (os, bag_members z h zero ts front ∷ k)
 counted_in z h (suc n) ts front os k true = Some ([], bag_members z h n (Some (with_open ts os)) front ∷ k)
 counted_in z h (suc n) ts front os k false = None
 
--- The end of a bag puts its members in ascending order of their complete encodings: its form is that of the
--- definitions, around their texts.
-abbrev pub closed_bag : Bool → Size → Counts → ℕ → List Text → Text → List Scope → Option State
+-- The end of a bag puts its elements in ascending order of their complete encodings: its form is that of the
+-- definitions, around their field-lists.
+abbrev pub closed_bag : Bool → Size → Counts → ℕ → List FieldList → FieldList → List Scope → Option State
 closed_bag al z h zero ts front k = adds_form (Per.in_any_order (map as_form ts) (Per.sized al z h (λ c. false)))
     (front, k)
 closed_bag al z h n ts front k = None
 
--- Whether a further member of a list or bag comes.
-abbrev pub goes_on : Bool → Bool → Text → List Scope → Option State
+-- Whether a further element of a list or bag comes.
+abbrev pub goes_on : Bool → Bool → FieldList → List Scope → Option State
 goes_on al b os (members n hs ∷ k) = goes_on_in al n hs os k b
 goes_on al b os (bag_members z h n ts front ∷ k) = counted_in z h n ts front os k b
 goes_on al b os k = None
@@ -133,8 +133,8 @@ goes_on al b os k = None
 -- ---- the end of a sequence, set or group, and additions (X.691 19)
 
 -- The presence bits precede the root.
-abbrev pub closed : Bool → ℕ → List Bool → Text → Text → List Scope → Option State
-closed false zero ms front os k = Some (front ++ (as_text ms ++ os), k)
+abbrev pub closed : Bool → ℕ → List Bool → FieldList → FieldList → List Scope → Option State
+closed false zero ms front os k = Some (front ++ (as_field_list ms ++ os), k)
 closed e n ms front os k = None
 
 -- An addition as an open type.
@@ -143,38 +143,38 @@ opened al o = option_map (λ w. Per.open_type al (exactly w)) o
 
 -- The extension bit says whether an addition is present; if one is, they follow the root (X.691 19.1 and 19.7 to
 -- 19.9).
-abbrev pub extended_text : Bool → List Bool → Text → List (Option (List Bool)) → Option ℕ → Option Text
-extended_text al ms root slots q =
+abbrev pub extended_field_list : Bool → List Bool → FieldList → List (Option (List Bool)) → Option ℕ → Option FieldList
+extended_field_list al ms root slots q =
     cond (is_any_present slots)
-    (option_map (λ w. as_text (true ∷ ms) ++ (root ++ w))
-    (text_at (Per.additions al (map (opened al) slots)) (on (on q (as_text (true ∷ ms))) root)))
-    (Some (as_text (false ∷ ms) ++ root))
+    (option_map (λ w. as_field_list (true ∷ ms) ++ (root ++ w))
+    (field_list_at (Per.additions al (map (opened al) slots)) (on (on q (as_field_list (true ∷ ms))) root)))
+    (Some (as_field_list (false ∷ ms) ++ root))
 
-abbrev pub closed_added : Bool → ℕ → List Bool → Text → List (Option (List Bool)) → Text → List Scope → Option State
-closed_added al zero ms root slots front k = adds_text (extended_text al ms root slots (position (front, k))) (front, k)
+abbrev pub closed_added : Bool → ℕ → List Bool → FieldList → List (Option (List Bool)) → FieldList → List Scope → Option State
+closed_added al zero ms root slots front k = adds_field_list (extended_field_list al ms root slots (position (front, k))) (front, k)
 closed_added al n ms root slots front k = None
 
 -- After the root components of a type with an extension bit come the additions.
-abbrev pub rooted : Bool → ℕ → List Bool → Text → Text → List Scope → ℕ → Option State
+abbrev pub rooted : Bool → ℕ → List Bool → FieldList → FieldList → List Scope → ℕ → Option State
 rooted true zero ms front os k n = Some ([], added n ms os [] front ∷ k)
 rooted e due ms front os k n = None
 
-abbrev pub extended : ℕ → Text → List Scope → Option State
+abbrev pub extended : ℕ → FieldList → List Scope → Option State
 extended n os (components e due ms front ∷ k) = rooted e due ms front os k n
 extended n os k = None
 
-abbrev pub next_addition : ℕ → List Bool → Text → List (Option (List Bool)) → Text → Text → List Scope → Bool
+abbrev pub next_addition : ℕ → List Bool → FieldList → List (Option (List Bool)) → FieldList → FieldList → List Scope → Bool
     → Option State
 next_addition zero ms root slots front os k b = None
 next_addition (suc n) ms root slots front os k false = Some (os, added n ms root (slots ++ None ∷ []) front ∷ k)
 next_addition (suc n) ms root slots front os k true = Some ([], open_type os ∷ added n ms root slots front ∷ k)
 
-abbrev pub adds : Bool → Text → List Scope → Option State
+abbrev pub adds : Bool → FieldList → List Scope → Option State
 adds b os (added n ms root slots front ∷ k) = next_addition n ms root slots front os k b
 adds b os k = None
 
 -- An addition's bits are stored for the end.
-abbrev pub added_one : Text → List Scope → Option State
+abbrev pub added_one : FieldList → List Scope → Option State
 added_one os (open_type front ∷ added n ms root slots before ∷ k) = option_map
     (λ w. (front, added n ms root (slots ++ Some w ∷ []) before ∷ k)) (plain os)
 added_one os k = None
@@ -185,12 +185,12 @@ added_one os k = None
 -- has (X.691 23).
 abbrev pub chosen_on : Bool → Bool → ℕ → Bool → ℕ → State → Option State
 chosen_on al e n false i s = option_map (λ w. (s.0 ++ w, alternative ∷ s.1))
-    (text_at (both (Per.extension_bit_of e false) (Per.constrained al (n - 1) i)) (position s))
+    (field_list_at (both (Per.extension_bit_of e false) (Per.constrained al (n - 1) i)) (position s))
 chosen_on al true n true i s = option_map (λ w. ([], open_type (s.0 ++ w) ∷ s.1))
-    (text_at (both (exactly (true ∷ [])) (Per.normally_small al i)) (position s))
+    (field_list_at (both (exactly (true ∷ [])) (Per.normally_small al i)) (position s))
 chosen_on al false n true i s = None
 
-abbrev pub ended : Bool → Text → List Scope → Option State
+abbrev pub ended : Bool → FieldList → List Scope → Option State
 ended al os (components e n ms front ∷ k) = closed e n ms front os k
 ended al os (added n ms root slots front ∷ k) = closed_added al n ms root slots front k
 ended al os (open_type front ∷ k) = option_and_then (λ w. adds_form (Per.open_type al (exactly w)) (front, k))
@@ -205,7 +205,7 @@ ended al os k = None
 -- One record, unaligned or aligned.
 abbrev pub run : Bool → Record → State → Option State
 run al (flag b) s = adds_form (Per.form al boolean (truth b)) s
-run al nil s = adds_text (Some []) s
+run al nil s = adds_field_list (Some []) s
 run al (whole b h v) s = adds_form (Per.form al (integer b h) (number v)) s
 run al (one_of roots e others v) s = adds_form (Per.form al (enumerated roots e others) (item v)) s
 run al (bits z h bs) s = adds_form (Per.form al (bit_string z h) (bit_list bs)) s

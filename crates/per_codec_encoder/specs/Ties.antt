@@ -6,38 +6,38 @@ use Rattle.asn1_model.specs.Numbers.{packed}
 use Rattle.asn1_model.specs.Form.{written}
 use Rattle.asn1_model.specs.Per
 use Rattle.asn1_model.specs.Rules.{per}
-use Rattle.asn1_schema_presented.specs.Records.{Record}
-use Rattle.asn1_schema_presented.specs.Presents.{presents}
-use Rattle.asn1_schema_presented.specs.Chains.{Chain}
-use Rattle.per_codec_packing.specs.Texts.{Text, as_text, plain, text_at, as_form}
+use Rattle.asn1_schema_laws.specs.Records.{Record}
+use Rattle.asn1_schema_laws.specs.Presents.{presents}
+use Rattle.asn1_schema_laws.specs.Chains.{Chain}
+use Rattle.per_codec_packing.specs.FieldLists.{FieldList, as_field_list, plain, field_list_at, as_form}
 use Rattle.per_codec_encoder.specs.Steps.{Scope, State, Step, position, runs}
 
 -- in each state, whatever follows
 abbrev pub BridgesAt : Bool → Schema → Value → Type 0
-BridgesAt al s v = (os : Text) (k : List Scope) (rest : List Record)
+BridgesAt al s v = (os : FieldList) (k : List Scope) (rest : List Record)
     → runs al (presents s v ++ rest) (os, k) ≡ option_and_then (λ w. runs al rest (os ++ w, k))
-    (text_at (Per.form al s v) (position (os, k)))
+    (field_list_at (Per.form al s v) (position (os, k)))
 
 -- in both variants, aligned and not
 abbrev pub Bridges : Schema → Type 0
 Bridges s = (al : Bool) (v : Value) → BridgesAt al s v
 
--- the records of a value of any type add its text
+-- the records of a value of any type add its field-list
 abbrev pub EveryTypeBridges : Type 0
 EveryTypeBridges = (s : Schema) → Bridges s
 
--- The text of a value at a known position is that of the definitions, bit by bit. The text at an unknown position
--- determines it at each position.
-abbrev pub TextsAreWritten : Type 0
-TextsAreWritten = (al : Bool) (s : Schema) (v : Value) (p : ℕ)
-    → (text_at (Per.form al s v) (Some p) ≡ option_map as_text (written (Per.form al s v) p))
-    × (written (Per.form al s v) p ≡ option_and_then (λ t. written (as_form t) p) (text_at (Per.form al s v) None))
+-- The field-list of a value at a known position is that of the definitions, bit by bit. The field-list at an unknown
+-- position determines it at each position.
+abbrev pub FieldListsAreWritten : Type 0
+FieldListsAreWritten = (al : Bool) (s : Schema) (v : Value) (p : ℕ)
+    → (field_list_at (Per.form al s v) (Some p) ≡ option_map as_field_list (written (Per.form al s v) p))
+    × (written (Per.form al s v) p ≡ option_and_then (λ t. written (as_form t) p) (field_list_at (Per.form al s v) None))
 
 -- a chain of steps by them does exactly that
-abbrev pub ChainsAddTheTexts : Type 0
-ChainsAddTheTexts = (al : Bool) (s : Schema) (v : Value) (os : Text) (k : List Scope) (new : State)
+abbrev pub ChainsAddTheFieldLists : Type 0
+ChainsAddTheFieldLists = (al : Bool) (s : Schema) (v : Value) (os : FieldList) (k : List Scope) (new : State)
     → Chain (Step al) (presents s v) (os, k) new
-    ↔ ((w : Text) × (text_at (Per.form al s v) (position (os, k)) ≡ Some w) × (new ≡ (os ++ w, k)))
+    ↔ ((w : FieldList) × (field_list_at (Per.form al s v) (position (os, k)) ≡ Some w) × (new ≡ (os ++ w, k)))
 
 -- the bits of the state after a whole value, padded to octets (X.691 11.1)
 abbrev pub octets_of : State → Option (List ℕ)

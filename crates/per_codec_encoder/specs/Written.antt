@@ -6,14 +6,14 @@ use Rattle.asn1_model.specs.Normal.{normal}
 use Rattle.asn1_model.specs.Form.{written}
 use Rattle.asn1_model.specs.Per
 use Rattle.asn1_model.specs.Rules.{Rules, uper, aper, uper_strict, aper_strict, of_moderate_length}
-use Rattle.asn1_schema_faults.specs.declared.EncodeError.{EncodeError}
-use Rattle.asn1_schema_faults.specs.declared.EncodeError.TheVariants.{OutOfMemory}
+use Rattle.asn1_schema_errors.specs.declared.EncodeError.{EncodeError}
+use Rattle.asn1_schema_errors.specs.declared.EncodeError.TheVariants.{OutOfMemory}
 use Rattle.asn1_schema_encode.specs.Writes.{Writes, CannotWrite}
 use Rattle.asn1_schema_encode.specs.Written.{IsWrittenIn}
-use Rattle.asn1_schema_presented.specs.Records.{Record}
-use Rattle.asn1_schema_presented.specs.Presents.{Fits}
-use Rattle.asn1_schema_presented.specs.Tables.{IsValue}
-use Rattle.per_codec_packing.specs.Texts.{as_text}
+use Rattle.asn1_schema_laws.specs.Records.{Record}
+use Rattle.asn1_schema_laws.specs.Presents.{Fits}
+use Rattle.asn1_schema_laws.specs.Tables.{IsValue}
+use Rattle.per_codec_packing.specs.FieldLists.{as_field_list}
 use Rattle.per_codec_encoder.specs.Steps.{State, Step}
 use Rattle.per_codec_encoder.specs.Ties.{octets_of}
 
@@ -25,7 +25,7 @@ canonical_bits al s v = written (Per.form al s (normal s v)) 0
 abbrev pub WrittenByRecords : Type 0
 WrittenByRecords = (al : Bool) (schema : ℕ → Schema) (v : Value) (new : State) → IsValue schema v
     → Writes (Step al) schema v ([], []) new
-    ↔ ((w : List Bool) × (new ≡ (as_text w, []))
+    ↔ ((w : List Bool) × (new ≡ (as_field_list w, []))
     × ((n : ℕ) → Fits (schema n) v → canonical_bits al (schema n) v ≡ Some w))
 
 -- They are refused, other than for memory, exactly if the value has no bits.

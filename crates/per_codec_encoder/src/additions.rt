@@ -1,13 +1,13 @@
 //! Extension additions of sequences and sets, which are stored until these end.
 ghost use Rattle.std.specs.Prelude.{◌≡◌, ◌⊎◌, Bool, MatchResult};
-ghost use Rattle.asn1_schema_presented.specs.Records.{additions_begin, addition, addition_ends};
+ghost use Rattle.asn1_schema_laws.specs.Records.{additions_begin, addition, addition_ends};
 ghost use Rattle.per_codec_encoder.specs.Frames.{Next};
 ghost use Rattle.per_codec_encoder.specs.Holding.{Does, Cannot};
 
-use crate::frame::{Additions, Frame, Place};
+use crate::frame::{Additions, Frame, Position};
 use crate::frames::Frames;
 use crate::nested::Nested;
-use asn1_schema_faults::EncodeError;
+use asn1_schema_errors::EncodeError;
 use per_codec_additions::Slots;
 use per_codec_packing::Packing;
 use std::alloc::Global;
@@ -49,7 +49,7 @@ pub(crate) fn open_additions(
         due: count,
         given,
         start,
-        end: Place::end_of(output),
+        end: Position::end_of(output),
         slots,
     }));
     Ok(())

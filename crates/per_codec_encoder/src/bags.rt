@@ -1,32 +1,32 @@
-//! Bags, whose members are stored until they end.
+//! Bags, whose elements are stored until they end.
 ghost use Rattle.std.specs.Prelude.{◌≡◌, Bool, MatchResult, IfOk};
-ghost use Rattle.asn1_schema_presented.specs.Records.{bag_begins};
+ghost use Rattle.asn1_schema_laws.specs.Records.{bag_begins};
 ghost use Rattle.asn1_schema_constraints.specs.Bounds.{members_of};
 ghost use Rattle.asn1_schema_constraints.specs.Terms.{size_of};
 ghost use Rattle.per_codec_packing.specs.Packed.{Adds, place};
 ghost use Rattle.per_codec_encoder.specs.Steps.{with_open};
-ghost use Rattle.per_codec_packing.specs.Texts.{text_at};
+ghost use Rattle.per_codec_packing.specs.FieldLists.{field_list_at};
 ghost use Rattle.per_codec_writing.specs.Writing.{Refuses};
 ghost use Rattle.per_codec_encoder.specs.Bags.{form_of, GoesOnInBag, NoFurther};
 ghost use Rattle.per_codec_encoder.specs.Holding.{Does, Cannot};
-ghost use Rattle.per_codec_limits.specs.Variants.{is_aligned};
+ghost use Rattle.per_codec_rules.specs.Variants.{is_aligned};
 
 use crate::frame::{Bag, Frame};
 use crate::frames::Frames;
 use asn1_schema_constraints::{Bounded, Sizes};
-use asn1_schema_faults::EncodeError;
-use per_codec_limits::Variant;
-use per_codec_packing::{Packing, Texts};
+use asn1_schema_errors::EncodeError;
+use per_codec_packing::{FieldLists, Packing};
+use per_codec_rules::Variant;
 use per_codec_writing::push_bag;
 use std::alloc::{AllocError, Global};
 use std::mem;
 
-/// Begins a bag (X.691 22) of `count` members, if the size and the Rust type allow that many. The count is checked
+/// Begins a bag (X.691 22) of `count` elements, if the size and the Rust type allow that many. The count is checked
 /// here, and written at the end of the bag.
 ///
 /// # Errors
 ///
-/// `SizeConstraintNotSatisfied` if the Rust type does not hold that many members, or a size without an extension
+/// `SizeConstraintNotSatisfied` if the Rust type does not hold that many elements, or a size without an extension
 /// marker does not admit them; `OutOfMemory`.
 pub(crate) fn begin_bag(
     output: &mut Packing,
@@ -56,11 +56,11 @@ pub(crate) fn begin_bag(
     Ok(())
 }
 
-/// Begins a further member of a bag if `more`, else expects none to be due. Each member begins a new text.
+/// Begins a further element of a bag if `more`, else expects none to be due. Each element begins a new field-list.
 ///
 /// # Errors
 ///
-/// `CallOutOfPlace` if there are more or fewer members than due; `OutOfMemory`.
+/// `CallOutOfPlace` if there are more or fewer elements than due; `OutOfMemory`.
 pub(crate) fn next_of_bag(
     output: &mut Packing,
     bag: &mut Bag,
@@ -77,7 +77,7 @@ pub(crate) fn next_of_bag(
         return Ok(());
     }
     match &mut bag.members {
-        None => bag.members = Some(Texts::new(alloc)),
+        None => bag.members = Some(FieldLists::new(alloc)),
         Some(members) => members.push(output)?,
     }
     output.truncate(0, 0);
@@ -85,18 +85,22 @@ pub(crate) fn next_of_bag(
     Ok(())
 }
 
-/// The members before the open one, and the open one last, if one is open.
-fn all_members(members: Option<Texts>, last: &Packing, alloc: Global) -> Result<Texts, AllocError>
-    ensures { IfOk result (λ all. all ≡ with_open members last.now.text) }
+/// The elements before the open one, and the open one last, if one is open.
+fn all_members(
+    members: Option<FieldLists>,
+    last: &Packing,
+    alloc: Global,
+) -> Result<FieldLists, AllocError>
+    ensures { IfOk result (λ all. all ≡ with_open members last.now.field_list) }
 {
     let Some(mut all) = members else {
-        return Ok(Texts::new(alloc));
+        return Ok(FieldLists::new(alloc));
     };
     all.push(last)?;
     Ok(all)
 }
 
-/// Ends a bag, if no member is due: adds its length determinant and its members in order, after what precedes the bag
+/// Ends a bag, if no element is due: adds its length determinant and its elements in order, after what precedes the bag
 /// (X.691 22).
 pub(crate) fn end_bag(
     output: &mut Packing,
@@ -105,9 +109,10 @@ pub(crate) fn end_bag(
     variant: Variant,
 ) -> Result<(), EncodeError>
     ensures { MatchResult result (λ _. Adds
-        (text_at (form_of (is_aligned variant) bag (with_open bag.members output.old.text)) (place bag.outer))
+        (field_list_at (form_of (is_aligned variant) bag (with_open bag.members output.old.field_list)) (place
+        bag.outer))
         bag.outer output.new)
-        (Refuses (text_at (form_of (is_aligned variant) bag (with_open bag.members output.old.text))
+        (Refuses (field_list_at (form_of (is_aligned variant) bag (with_open bag.members output.old.field_list))
         (place bag.outer))) }
 {
     let members = all_members(bag.members, output, alloc)?;

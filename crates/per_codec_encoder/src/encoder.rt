@@ -2,11 +2,12 @@
 ghost use Rattle.std.specs.Prelude.{◌≡◌, OnOk, OnErr, IfOk, IfErr, MatchResult, [], Some, true, false};
 ghost use Rattle.asn1_schema_encode.specs.Fronts.{no_front};
 ghost use Rattle.asn1_schema_encode.specs.Writes.{Refused};
-ghost use Rattle.asn1_schema_presented.specs.Records.{one_of};
-ghost use Rattle.per_codec_packing.specs.Texts.{as_text};
+ghost use Rattle.asn1_schema_laws.specs.Records.{one_of};
+ghost use Rattle.per_codec_packing.specs.FieldLists.{as_field_list};
 ghost use Rattle.per_codec_encoder.specs.Ties.{octets_of};
 ghost use Rattle.per_codec_encoder.specs.Stepping.{Puts, variant_of};
-ghost use Rattle.per_codec_limits.specs.Variants.{is_aligned};
+ghost use Rattle.per_codec_rules.specs.Variants.{is_aligned};
+ghost use Rattle.asn1_schema_errors.specs.Calls.{EncoderCall};
 
 use crate::additions::{encode_addition, end_addition};
 use crate::alternatives::begin_alternative;
@@ -18,15 +19,14 @@ use crate::options::EncoderOptions;
 use crate::sequences::begin_components;
 use asn1_schema_constraints::{Bounded, Constraints};
 use asn1_schema_encode::{begin_record, go_on};
-use asn1_schema_faults::{CodecKind, EncodeError};
-use asn1_schema_tags::{Identifier, Tag};
-use asn1_schema_variants::{Chosen, Enumerated};
+use asn1_schema_errors::{CodecKind, EncodeError};
+use asn1_schema_tags::{Chosen, Enumerated, Identifier, Tag};
 use asn1_values_alphabets::StaticPermittedAlphabet;
 use asn1_values_bits::{BitBuffer, BitStr};
 use asn1_values_identifiers::Oid;
 use asn1_values_integers::IntegerType;
-use per_codec_limits::Variant;
 use per_codec_packing::Packing;
+use per_codec_rules::Variant;
 use per_codec_writing::{
     push_bit_string, push_boolean, push_characters, push_enumerated, push_identifier, push_integer,
     push_octet_string, push_utf8,
@@ -48,7 +48,7 @@ pub struct Encoder {
 impl Model for Encoder {
     ghost use Rattle.std.specs.Prelude.{◌≡◌, false, reverse};
     ghost use Rattle.per_codec_encoder.specs.Stepping.{Written};
-    ghost use Rattle.per_codec_limits.specs.Variants.{is_aligned};
+    ghost use Rattle.per_codec_rules.specs.Variants.{is_aligned};
 
     ghost Value = { Written };
 
@@ -67,7 +67,7 @@ impl Model for Encoder {
 /// (X.691 11.1).
 #[inline(always)]
 fn message(bits: BitBuffer) -> Result<Vec<u8>, EncodeError>
-    ensures { MatchResult result (λ octets. octets_of (as_text bits, []) ≡ Some octets.items)
+    ensures { MatchResult result (λ octets. octets_of (as_field_list bits, []) ≡ Some octets.items)
         (λ e. (e ≡ EncodeError.OutOfMemory) × (bits ≡ [])) }
 {
     if bits.is_empty() {
@@ -213,10 +213,7 @@ impl asn1_schema_encode::Encoder for Encoder {
             (one_of T.roots T.extensible T.additions (T.number value.now)) self.new) }
         ensures only { IfErr result (Refused Puts
             (one_of T.roots T.extensible T.additions (T.number value.now)) self.old) }
-        ensures failed { OnErr result (self.new.failed ≡ true) }
-        ensures front { no_front self.new ≡ no_front self.old }
-        ensures already { self.old.failed ≡ true → result ≡ Err EncodeError.AlreadyFailed }
-        ensures after { result ≡ Err EncodeError.AlreadyFailed → self.old.failed ≡ true }
+        ensures call { EncoderCall (λ s. s.failed ≡ true) no_front self.old self.new result }
     {
         record!(self, push_enumerated(&mut self.output, self.variant, value))
     }

@@ -3,22 +3,22 @@ ghost use Rattle.std.specs.Prelude.{◌≡◌, ◌<◌, ◌++◌, ◌∷◌, [],
 ghost use Rattle.std.specs.Prelude.{MatchResult};
 ghost use Rattle.asn1_model.specs.Form.{is_any_present};
 ghost use Rattle.asn1_model.specs.Per.{additions};
-ghost use Rattle.asn1_schema_presented.specs.Records.{ends};
+ghost use Rattle.asn1_schema_laws.specs.Records.{ends};
 ghost use Rattle.per_codec_packing.specs.Packed.{Adds, Packed, place, solid, with_bit};
-ghost use Rattle.per_codec_packing.specs.Texts.{text_at};
+ghost use Rattle.per_codec_packing.specs.FieldLists.{field_list_at};
 ghost use Rattle.per_codec_additions.specs.Additions.{as_open_types};
 ghost use Rattle.per_codec_encoder.specs.declared.frame.Frame.{Frame};
 ghost use Rattle.per_codec_encoder.specs.Frames.{is_written_at_end};
 ghost use Rattle.per_codec_encoder.specs.Holding.{AreSound, Does, Cannot};
-ghost use Rattle.per_codec_limits.specs.Variants.{is_aligned};
+ghost use Rattle.per_codec_rules.specs.Variants.{is_aligned};
 
 use crate::bags::end_bag;
 use crate::frame::{Additions, Frame};
 use crate::frames::Frames;
-use asn1_schema_faults::EncodeError;
+use asn1_schema_errors::EncodeError;
 use per_codec_additions::{Slots, push_additions};
-use per_codec_limits::Variant;
 use per_codec_packing::Packing;
+use per_codec_rules::Variant;
 use per_codec_writing::push_open_type;
 use std::alloc::Global;
 use std::mem;
@@ -31,12 +31,13 @@ fn push_extension(
     extension_bit: usize,
     slots: &Slots,
 ) -> Result<(), EncodeError>
-    requires { extension_bit < length (solid output.old.text) }
+    requires { extension_bit < length (solid output.old.field_list) }
     ensures only { IfErr result (λ e. e ≡ EncodeError.OutOfMemory) }
     ensures some { IfOk result (λ _. is_any_present slots.now ≡ true
-        → Adds (text_at (additions (is_aligned variant) (as_open_types (is_aligned variant) slots.now))
+        → Adds (field_list_at (additions (is_aligned variant) (as_open_types (is_aligned variant) slots.now))
         (place output.old))
-        (record { text = with_bit extension_bit true output.old.text; placed = output.old.placed }) output.new) }
+        (record { field_list = with_bit extension_bit true output.old.field_list; placed = output.old.placed })
+        output.new) }
     ensures none { IfOk result (λ _. is_any_present slots.now ≡ false → output.new ≡ output.old) }
 {
     if !slots.is_any_present() {
@@ -144,7 +145,7 @@ fn end_taken(
     }
 }
 
-/// Ends the innermost frame: a sequence, set or group with nothing due (X.691 19), a list with all its members and
+/// Ends the innermost frame: a sequence, set or group with nothing due (X.691 19), a list with all its elements and
 /// length determinants (X.691 20), a bag (X.691 22), an open type (X.691 11.2) or an alternative (X.691 23).
 ///
 /// # Errors

@@ -4,27 +4,27 @@ ghost use Rattle.per_codec_packing.specs.Packed.{solid};
 
 use asn1_schema_constraints::{Bounded, Sizes};
 use per_codec_additions::Slots;
-use per_codec_packing::{Packing, Texts};
+use per_codec_packing::{FieldLists, Packing};
 use per_codec_writing::Due;
 
-/// A position in a text.
+/// A position in a field-list.
 #[derive(Clone, Copy, PartialEq, Eq)]
-pub(crate) struct Place {
+pub(crate) struct Position {
     /// The number of bits before it.
     pub bits: usize,
     /// The number of open paddings before it.
     pub paddings: usize,
 }
 
-impl Place {
-    /// The position after a text.
-    pub(crate) fn end_of(text: &Packing) -> Self
-        ensures bits { result.bits ≡ length (solid text.now.text) }
-        ensures all { result.bits + result.paddings ≡ length text.now.text }
+impl Position {
+    /// The position after a field-list.
+    pub(crate) fn end_of(field_list: &Packing) -> Self
+        ensures bits { result.bits ≡ length (solid field_list.now.field_list) }
+        ensures all { result.bits + result.paddings ≡ length field_list.now.field_list }
     {
-        Place {
-            bits: text.len(),
-            paddings: text.padding_count(),
+        Position {
+            bits: field_list.len(),
+            paddings: field_list.padding_count(),
         }
     }
 }
@@ -41,7 +41,7 @@ pub(crate) enum Frame {
         /// The number of presence bits given.
         given: usize,
         /// The start of its preamble.
-        start: Place,
+        start: Position,
     },
     /// A sequence or a set after its root.
     Added(Additions),
@@ -50,9 +50,9 @@ pub(crate) enum Frame {
         /// What precedes it.
         outer: Packing,
     },
-    /// A list, and what is due of its members.
+    /// A list, and what is due of its elements.
     Members(Due),
-    /// A bag, whose members are stored until it ends. It is boxed because it is larger than the others.
+    /// A bag, whose elements are stored until it ends. It is boxed because it is larger than the others.
     Bag(Box<Bag>),
     /// A root alternative of a choice.
     Alternative,
@@ -66,14 +66,14 @@ pub(crate) struct Additions {
     /// The number of presence bits in the preamble.
     pub given: usize,
     /// The start of the preamble.
-    pub start: Place,
+    pub start: Position,
     /// The end of the root.
-    pub end: Place,
+    pub end: Position,
     /// The additions so far: the bits of each that is present.
     pub slots: Slots,
 }
 
-/// A bag. Its members are kept apart until the bag ends, which orders them (X.691 22).
+/// A bag. Its elements are kept apart until the bag ends, which orders them (X.691 22).
 #[derive(Drop)]
 pub(crate) struct Bag {
     /// What precedes it.
@@ -82,8 +82,8 @@ pub(crate) struct Bag {
     pub sizes: Sizes,
     /// The counts that the Rust type holds.
     pub held: Bounded<usize>,
-    /// The number of members still due.
+    /// The number of elements still due.
     pub due: usize,
-    /// The members before the open one; `None` if no member is open.
-    pub members: Option<Texts>,
+    /// The elements before the open one; `None` if no element is open.
+    pub members: Option<FieldLists>,
 }

@@ -1,22 +1,22 @@
 //! The open frames, outermost first.
 ghost use Rattle.std.specs.Prelude.{◌≡◌, ◌++◌, ◌∷◌, [], Bool, None, true, false, OnOk, IfErr, MatchResult};
 ghost use Rattle.std.specs.Prelude.{option_to_list};
-ghost use Rattle.asn1_schema_presented.specs.Records.{addition, addition_ends, additions_begin, ends, further};
-ghost use Rattle.asn1_schema_presented.specs.Records.{presence_bit};
+ghost use Rattle.asn1_schema_laws.specs.Records.{addition, addition_ends, additions_begin, ends, further};
+ghost use Rattle.asn1_schema_laws.specs.Records.{presence_bit};
 ghost use Rattle.per_codec_packing.specs.Packed.{Packed};
 ghost use Rattle.per_codec_encoder.specs.declared.frame.Frame.{Frame};
 ghost use Rattle.per_codec_encoder.specs.Frames.{enclosed, CountsAddition, KeepsAddition};
 ghost use Rattle.per_codec_encoder.specs.Holding.{AreSound, Does, Cannot};
-ghost use Rattle.per_codec_limits.specs.Variants.{is_aligned};
+ghost use Rattle.per_codec_rules.specs.Variants.{is_aligned};
 
 use crate::additions::open_additions;
 use crate::frame::Frame;
 use crate::nested::Nested;
 use crate::sequences::{next_member, set_presence_bit};
-use asn1_schema_faults::EncodeError;
+use asn1_schema_errors::EncodeError;
 use asn1_values_bits::BitBuffer;
-use per_codec_limits::Variant;
 use per_codec_packing::Packing;
+use per_codec_rules::Variant;
 use std::alloc::{AllocError, Global};
 use std::marker::Model;
 use std::mem;
@@ -108,7 +108,7 @@ impl Frames {
         alloc: Global,
     ) -> Result<(), AllocError>
         ensures items { OnOk result (self.new ≡ self.old ++ Frame.OpenType output.old ∷ []) }
-        ensures bits { OnOk result (output.new ≡ record { text = []; placed = true }) }
+        ensures bits { OnOk result (output.new ≡ record { field_list = []; placed = true }) }
     {
         settle(&mut self.enclosing, &mut self.nested)?;
         let room = mem::replace(&mut self.room, Vec::new(alloc));
@@ -190,11 +190,11 @@ impl Frames {
         set_presence_bit(output, &mut self.nested, present)
     }
 
-    /// Begins a further member of the innermost list or bag if `more`, else expects none to be due.
+    /// Begins a further element of the innermost list or bag if `more`, else expects none to be due.
     ///
     /// # Errors
     ///
-    /// `CallOutOfPlace` if the innermost frame is not a list or bag, or there are more or fewer members than due;
+    /// `CallOutOfPlace` if the innermost frame is not a list or bag, or there are more or fewer elements than due;
     /// `OutOfMemory`.
     #[inline(always)]
     pub(crate) fn encode_further(

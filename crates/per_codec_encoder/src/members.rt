@@ -1,28 +1,27 @@
-//! Lists, whose members follow a length determinant, or are in fragments after length determinants (X.691 11.9 and
-//! 20).
+//! SEQUENCE OF: elements after one length determinant, or in fragments after one each (X.691 11.9 and 20).
 ghost use Rattle.std.specs.Prelude.{◌≡◌, IfOk, MatchResult};
-ghost use Rattle.asn1_schema_presented.specs.Records.{list_begins};
+ghost use Rattle.asn1_schema_laws.specs.Records.{list_begins};
 ghost use Rattle.asn1_schema_constraints.specs.Bounds.{members_of};
 ghost use Rattle.asn1_schema_constraints.specs.Terms.{size_of};
 ghost use Rattle.per_codec_encoder.specs.Headings.{GoesOn, GoesOnInList, NoMember};
 ghost use Rattle.per_codec_encoder.specs.Holding.{Does, Cannot};
-ghost use Rattle.per_codec_limits.specs.Variants.{is_aligned};
+ghost use Rattle.per_codec_rules.specs.Variants.{is_aligned};
 ghost use Rattle.per_codec_packing.specs.Packed.{place};
 ghost use Rattle.per_codec_writing.specs.Headings.{general, Heads, IsDue};
 
 use crate::frame::Frame;
 use crate::frames::Frames;
 use asn1_schema_constraints::{Bounded, Sizes};
-use asn1_schema_faults::EncodeError;
-use per_codec_limits::Variant;
+use asn1_schema_errors::EncodeError;
 use per_codec_packing::Packing;
+use per_codec_rules::Variant;
 use per_codec_writing::{Due, push_heading, push_length_determinant};
 
-/// Begins a list with what precedes its members (X.691 20), if the size and the Rust type allow `count` of them.
+/// Begins a list with what precedes its elements (X.691 20), if the size and the Rust type allow `count` of them.
 ///
 /// # Errors
 ///
-/// `SizeConstraintNotSatisfied` if the Rust type does not hold that many members, or a size without an extension
+/// `SizeConstraintNotSatisfied` if the Rust type does not hold that many elements, or a size without an extension
 /// marker does not admit them; `OutOfMemory`.
 pub(crate) fn begin_members(
     output: &mut Packing,
@@ -44,7 +43,7 @@ pub(crate) fn begin_members(
     Ok(())
 }
 
-/// Adds a further length determinant of a list with `count` members left (X.691 11.9.3.8). Few lists need one. The
+/// Adds a further length determinant of a list with `count` elements left (X.691 11.9.3.8). Few lists need one. The
 /// only error is `OutOfMemory`.
 #[cold]
 fn push_further_length_determinant(
@@ -60,7 +59,7 @@ fn push_further_length_determinant(
     push_length_determinant(output, variant, count)
 }
 
-/// Adds the length determinant before the next member or the end, if one is due (X.691 11.9.3.8). The only error is
+/// Adds the length determinant before the next element or the end, if one is due (X.691 11.9.3.8). The only error is
 /// `OutOfMemory`.
 #[inline(always)]
 fn push_next_length_determinant(
@@ -80,12 +79,12 @@ fn push_next_length_determinant(
     }
 }
 
-/// Begins a further member of a list if `more`, else expects none to be due. Each fragment follows its length
+/// Begins a further element of a list if `more`, else expects none to be due. Each fragment follows its length
 /// determinant (X.691 11.9.3.8).
 ///
 /// # Errors
 ///
-/// `CallOutOfPlace` if there are more or fewer members than due; `OutOfMemory`.
+/// `CallOutOfPlace` if there are more or fewer elements than due; `OutOfMemory`.
 #[inline(always)]
 pub(crate) fn next_of_list(
     output: &mut Packing,

@@ -1,7 +1,7 @@
 //! The open frames, outermost first, except an innermost open type.
 ghost use Rattle.std.specs.Prelude.{◌≡◌, ◌++◌, ◌∷◌, [], Bool, List, MatchOption, OnOk, IfErr, true, false};
 ghost use Rattle.std.specs.Prelude.{option_to_list};
-ghost use Rattle.asn1_schema_presented.specs.Records.{addition, addition_ends, ends};
+ghost use Rattle.asn1_schema_laws.specs.Records.{addition, addition_ends, ends};
 ghost use Rattle.per_codec_packing.specs.Packed.{Packed};
 ghost use Rattle.per_codec_encoder.specs.declared.frame.Frame.{Frame};
 ghost use Rattle.per_codec_encoder.specs.Frames.{CountsAddition, KeepsAddition};
@@ -11,7 +11,7 @@ use crate::additions::count_addition;
 use crate::ends::is_complete;
 use crate::frame::Frame;
 use asn1_schema_encode::let_go;
-use asn1_schema_faults::EncodeError;
+use asn1_schema_errors::EncodeError;
 use asn1_values_bits::BitBuffer;
 use std::alloc::{AllocError, Global};
 use std::marker::Model;

@@ -1,7 +1,7 @@
 //! Options of encoders.
 ghost use Rattle.std.specs.Prelude.{◌≡◌};
 
-use per_codec_limits::Variant;
+use per_codec_rules::Variant;
 
 /// Options of an encoder: the variant of PER.
 #[derive(Clone, Copy, Debug)]
@@ -11,7 +11,7 @@ pub struct EncoderOptions {
 
 impl EncoderOptions {
     ghost use Rattle.per_codec_encoder.specs.Stepping.{variant_of};
-    ghost use Rattle.per_codec_limits.specs.Variants.{is_aligned};
+    ghost use Rattle.per_codec_rules.specs.Variants.{is_aligned};
 
     /// The aligned variant, APER.
     pub fn aligned() -> Self

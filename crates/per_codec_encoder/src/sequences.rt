@@ -1,18 +1,18 @@
-//! Sequences, sets and groups, with the positions of their preambles, and members of lists and bags.
+//! Sequences, sets and groups, with the positions of their preambles, and elements of lists and bags.
 ghost use Rattle.std.specs.Prelude.{◌≡◌, Bool, List, [], ◌∷◌, ◌++◌, ◌+◌, ◌≤◌, ◌^◌, cond, MatchOption, MatchResult};
-ghost use Rattle.asn1_schema_presented.specs.Records.{sequence_begins, presence_bit, further};
+ghost use Rattle.asn1_schema_laws.specs.Records.{sequence_begins, presence_bit, further};
 ghost use Rattle.per_codec_encoder.specs.declared.frame.Frame.{Frame};
 ghost use Rattle.per_codec_encoder.specs.Holding.{AreSound, Does, Cannot};
-ghost use Rattle.per_codec_limits.specs.Variants.{is_aligned};
+ghost use Rattle.per_codec_rules.specs.Variants.{is_aligned};
 
 use crate::bags::next_of_bag;
-use crate::frame::{Frame, Place};
+use crate::frame::{Frame, Position};
 use crate::frames::Frames;
 use crate::members::next_of_list;
 use crate::nested::Nested;
-use asn1_schema_faults::EncodeError;
-use per_codec_limits::Variant;
+use asn1_schema_errors::EncodeError;
 use per_codec_packing::Packing;
+use per_codec_rules::Variant;
 use std::alloc::Global;
 
 /// The position after a preamble that begins at a bit, if it fits in 64 bits.
@@ -41,7 +41,7 @@ pub(crate) fn begin_components(
         → Does al (sequence_begins extensible optional) frames.old output.old frames.new output.new)
         (λ e. e ≡ EncodeError.OutOfMemory) }
 {
-    let start = Place::end_of(output);
+    let start = Position::end_of(output);
     let Some(end) = preamble_end(start.bits, extensible, optional) else {
         return Err(EncodeError::OutOfMemory);
     };
@@ -92,7 +92,7 @@ pub(crate) fn set_presence_bit(
     Ok(())
 }
 
-/// Begins a further member of the innermost frame, a list or bag, if `more`, else expects none to be due.
+/// Begins a further element of the innermost frame, a list or bag, if `more`, else expects none to be due.
 #[inline(always)]
 fn next_of_frame(
     output: &mut Packing,
@@ -115,11 +115,11 @@ fn next_of_frame(
     }
 }
 
-/// Begins a further member of a list or bag if `more`, else expects none to be due.
+/// Begins a further element of a list or bag if `more`, else expects none to be due.
 ///
 /// # Errors
 ///
-/// `CallOutOfPlace` if the innermost frame is not a list or bag, or there are more or fewer members than due;
+/// `CallOutOfPlace` if the innermost frame is not a list or bag, or there are more or fewer elements than due;
 /// `OutOfMemory`.
 #[inline(always)]
 pub(crate) fn next_member(

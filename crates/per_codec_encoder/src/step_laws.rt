@@ -3,27 +3,28 @@
 //! contract is a law.
 
 ghost use Rattle.std.specs.Prelude.{Bool};
-ghost use Rattle.asn1_schema_presented.specs.Records.{Record};
+ghost use Rattle.asn1_schema_laws.specs.Records.{Record};
 ghost use Rattle.per_codec_encoder.specs.Rows.{OctetRows, StateRows};
 ghost use Rattle.per_codec_encoder.specs.Steps.{State};
-ghost use Rattle.per_codec_encoder.specs.Ties.{ChainsAddTheTexts, EveryTypeBridges, MessagesAreTheirs, TextsAreWritten};
+ghost use Rattle.per_codec_encoder.specs.Ties.{ChainsAddTheFieldLists, EveryTypeBridges};
+ghost use Rattle.per_codec_encoder.specs.Ties.{MessagesAreTheirs, FieldListsAreWritten};
 ghost use Rattle.per_codec_encoder.specs.Written.{IsWriter, RefusedByRecords, RefusesOnlyNone, WritesTheOctets};
 ghost use Rattle.per_codec_encoder.specs.Written.{WrittenByRecords};
 
-/// The records of each value of each type append the value's text. They are refused if it has none.
+/// The records of each value of each type append the value's field-list. They are refused if it has none.
 pub fn every_type_bridges()
     ensures { EveryTypeBridges }
 {}
 
-/// A text at a known position is the bits that are written there; one at an unknown position determines those at each
-/// position.
-pub fn texts_are_written()
-    ensures { TextsAreWritten }
+/// A field-list at a known position is the bits that are written there; one at an unknown position determines those at
+/// each position.
+pub fn field_lists_are_written()
+    ensures { FieldListsAreWritten }
 {}
 
-/// The records of a value lead from a state exactly to the state with the value's text appended.
-pub fn chains_add_the_texts()
-    ensures { ChainsAddTheTexts }
+/// The records of a value lead from a state exactly to the state with the value's field-list appended.
+pub fn chains_add_the_field_lists()
+    ensures { ChainsAddTheFieldLists }
 {}
 
 /// The records of a value, from the empty state and padded to octets, are its message. They are refused if it has

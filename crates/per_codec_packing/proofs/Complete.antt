@@ -1,26 +1,26 @@
--- The complete encoding of a text by itself (X.691 11.1).
+-- The complete encoding of a field-list by itself (X.691 11.1).
 use Rattle.std.proofs.Common.{◌≡◌, ℕ, ◌==◌, Bool, true, false, List, [], ◌∷◌, ◌++◌, length, replicate, Option, Some, None, option_map, option_and_then, refl, ap, sym, ◌∙◌, append_assoc, eq-eqb}
 use Rattle.std.proofs.lemmas.List.{length-replicate}
 use Rattle.asn1_model.specs.Form.{exactly, only_if, written}
 use Rattle.asn1_model.specs.Numbers.{binary, missing, octet_bits}
 use Rattle.asn1_model.specs.Per
 use Rattle.asn1_values_bits.specs.Octets.{padded}
-use Rattle.per_codec_packing.specs.Texts.{Text, as_text, text_at, as_form}
+use Rattle.per_codec_packing.specs.FieldLists.{FieldList, as_field_list, field_list_at, as_form}
 use Rattle.per_codec_packing.proofs.Formed.{known}
 use Rattle.per_codec_packing.specs.Packed.{Packed, Adds, place, solid}
 use Rattle.per_codec_packing.proofs.Adding.{added}
 use Rattle.per_codec_packing.proofs.Bits.{solid-bits}
 
--- the bits of a text after nothing
-pub bits_at_start : (o : Option (List Bool)) (w : Text) → option_map as_text o ≡ Some w → o ≡ Some (solid w)
+-- the bits of a field-list after nothing
+pub bits_at_start : (o : Option (List Bool)) (w : FieldList) → option_map as_field_list o ≡ Some w → o ≡ Some (solid w)
 bits_at_start None w e = cc
-bits_at_start (Some l) w e = let f : as_text l ≡ w = cc in ap Some (sym (solid-bits l) ∙ ap solid f)
+bits_at_start (Some l) w e = let f : as_field_list l ≡ w = cc in ap Some (sym (solid-bits l) ∙ ap solid f)
 
-pub alone : (t : Text) (nothing all : Packed) → nothing ≡ record { text = []; placed = true } → Adds (text_at (as_form t) (place nothing)) nothing all → written (as_form t) 0 ≡ Some (solid all.text)
+pub alone : (t : FieldList) (nothing all : Packed) → nothing ≡ record { field_list = []; placed = true } → Adds (field_list_at (as_form t) (place nothing)) nothing all → written (as_form t) 0 ≡ Some (solid all.field_list)
 alone t nothing all e a =
-    let p = added (text_at (as_form t) (place nothing)) nothing all a in
-    let w : p.0 ≡ all.text = ap (λ (q : Packed). q.text ++ p.0) (sym e) ∙ ap (λ (q : Packed). q.text) p.2 in
-    bits_at_start (written (as_form t) 0) p.0 (sym (known (as_form t) 0) ∙ ap (λ (q : Packed). text_at (as_form t) (place q)) (sym e) ∙ p.1) ∙ ap (λ u. Some (solid u)) w
+    let p = added (field_list_at (as_form t) (place nothing)) nothing all a in
+    let w : p.0 ≡ all.field_list = ap (λ (q : Packed). q.field_list ++ p.0) (sym e) ∙ ap (λ (q : Packed). q.field_list) p.2 in
+    bits_at_start (written (as_form t) 0) p.0 (sym (known (as_form t) 0) ∙ ap (λ (q : Packed). field_list_at (as_form t) (place q)) (sym e) ∙ p.1) ∙ ap (λ u. Some (solid u)) w
 
 padding_written : (n p : ℕ) → written (Per.padding n) p ≡ Some (replicate n false)
 unfolding Per.padding written

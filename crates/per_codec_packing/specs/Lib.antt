@@ -3,5 +3,5 @@ pub mod Spread
 pub mod Viewed
 pub mod Whole
 pub mod Parts
-pub mod Texts
+pub mod FieldLists
 pub mod Laws

@@ -1,43 +1,43 @@
--- What is built: a text, at a known position or not.
+-- What is built: a field-list, at a known position or not.
 use Rattle.std.specs.Prelude.{◌≡◌, ℕ, zero, suc, Bool, true, false, cond, List, [], ◌∷◌, ◌++◌, length, replicate}
 use Rattle.std.specs.Prelude.{Option, Some, None, option_map}
 use Rattle.asn1_model.specs.Numbers.{missing}
-use Rattle.per_codec_packing.specs.Texts.{Text, bit, padding, as_text}
+use Rattle.per_codec_packing.specs.FieldLists.{FieldList, bit, padding, as_field_list}
 
--- A text, and whether its position is known: it then starts where its message or open type starts.
+-- A field-list, and whether its position is known: it then starts where its message or open type starts.
 pub record Packed : Type 0 where
-  pub text : Text
+  pub field_list : FieldList
   pub placed : Bool
 
 -- Bits from the start of a message or open type.
 abbrev pub from_start : List Bool → Packed
-from_start l = record { text = as_text l; placed = true }
+from_start l = record { field_list = as_field_list l; placed = true }
 
--- The position after a text, if it is known.
+-- The position after a field-list, if it is known.
 abbrev pub place : Packed → Option ℕ
-place p = cond p.placed (Some (length p.text)) None
+place p = cond p.placed (Some (length p.field_list)) None
 
--- What is there, and a text after it.
-abbrev pub plus : Packed → Text → Packed
-plus p w = record { text = p.text ++ w; placed = p.placed }
+-- What is there, and a field-list after it.
+abbrev pub plus : Packed → FieldList → Packed
+plus p w = record { field_list = p.field_list ++ w; placed = p.placed }
 
--- The text, if there is one, follows what was there before.
-abbrev pub Adds : Option Text → Packed → Packed → Type 0
-Adds text old new = option_map (λ w. plus old w) text ≡ Some new
+-- The field-list, if there is one, follows what was there before.
+abbrev pub Adds : Option FieldList → Packed → Packed → Type 0
+Adds field_list old new = option_map (λ w. plus old w) field_list ≡ Some new
 
 -- The padding from a position to the next octet boundary: zero bits, if the position is known (X.691 11.1).
-abbrev pub padding_at : Option ℕ → Text
+abbrev pub padding_at : Option ℕ → FieldList
 padding_at None = padding ∷ []
-padding_at (Some p) = as_text (replicate (missing p) false)
+padding_at (Some p) = as_field_list (replicate (missing p) false)
 
--- The bits of a text, without open padding.
-abbrev pub solid : Text → List Bool
+-- The bits of a field-list, without open padding.
+abbrev pub solid : FieldList → List Bool
 solid [] = []
 solid (bit b ∷ t) = b ∷ solid t
 solid (padding ∷ t) = solid t
 
--- A text with one of these bits changed; the first has index 0.
-abbrev pub with_bit : ℕ → Bool → Text → Text
+-- A field-list with one of these bits changed; the first has index 0.
+abbrev pub with_bit : ℕ → Bool → FieldList → FieldList
 with_bit i b [] = []
 with_bit i b (padding ∷ t) = padding ∷ with_bit i b t
 with_bit zero b (bit c ∷ t) = bit b ∷ t

@@ -1,17 +1,17 @@
--- How a text is stored: its bits, and the number of bits before each open padding.
+-- How a field-list is stored: its bits, and the number of bits before each open padding.
 use Rattle.std.specs.Prelude.{◌≡◌, ℕ, ◌-◌, ◌≤◌, Bool, true, List, [], ◌∷◌, ◌++◌, length, take, drop}
 use Rattle.std.specs.Coded.{×_prop, le_prop}
-use Rattle.per_codec_packing.specs.Texts.{Text, padding, as_text}
+use Rattle.per_codec_packing.specs.FieldLists.{FieldList, padding, as_field_list}
 use Rattle.per_codec_packing.specs.Packed.{Packed}
 
--- The text of the bits from one on, with paddings at these positions.
-abbrev pub spread : ℕ → List Bool → List ℕ → Text
-spread from bits [] = as_text bits
-spread from bits (f ∷ fs) = as_text (take (f - from) bits) ++ padding ∷ spread f (drop (f - from) bits) fs
+-- The field-list of the bits from one on, with paddings at these positions.
+abbrev pub spread : ℕ → List Bool → List ℕ → FieldList
+spread from bits [] = as_field_list bits
+spread from bits (f ∷ fs) = as_field_list (take (f - from) bits) ++ padding ∷ spread f (drop (f - from) bits) fs
 
 -- What the bits, the positions of padding and the knowledge of the position represent.
 abbrev pub shown : List Bool → List ℕ → Bool → Packed
-shown bits paddings placed = record { text = spread 0 bits paddings; placed = placed }
+shown bits paddings placed = record { field_list = spread 0 bits paddings; placed = placed }
 
 -- The positions ascend, between two bounds.
 abbrev pub Ascend : ℕ → List ℕ → ℕ → Type 0

@@ -2,7 +2,7 @@
 use Rattle.std.proofs.Common.{◌≡◌, ◌⊎◌, inl, inr, ℕ, suc, ◌+◌, ◌-◌, ◌*◌, ◌/◌, ◌%◌, ◌<◌, ◌≤◌, ◌==◌, ltb, min, Bool, true, false, cond, not, ◌||◌, IsTrue, List, [], ◌∷◌, ◌++◌, filter, replicate, refl, ap, sym, ◌∙◌, arith}
 use Rattle.std.proofs.lemmas.Bool.{cases_lt, lt-ltb, ltb-true, eqb-true, eq-eqb, or_cases, false≢true}
 use Rattle.asn1_model.specs.Per
-use Rattle.per_codec_reading.specs.declared.lengths.Length.TheVariants.{Fragment}
+use Rattle.per_codec_reading.specs.declared.length.Length.TheVariants.{Fragment}
 use Rattle.per_codec_reading.specs.Units.{may_follow, length_may_follow}
 
 -- a fragment of m times 16384, if m is not zero

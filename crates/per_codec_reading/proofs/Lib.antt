@@ -13,3 +13,5 @@ pub mod ToldFronts
 pub mod StringFronts
 pub mod LastFronts
 pub mod BitsAt
+pub mod Closing
+pub mod CodesAhead

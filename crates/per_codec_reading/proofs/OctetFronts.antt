@@ -8,8 +8,8 @@ use Rattle.asn1_model.specs.Form.{exactly}
 use Rattle.asn1_model.specs.Per
 use Rattle.asn1_laws_values.proofs.Octets.{packed_octets}
 use Rattle.asn1_values_bits.specs.Octets.{padded}
-use Rattle.per_codec_fronts.specs.Takes.{Place, Front}
-use Rattle.per_codec_fronts.proofs.Fronts.{if_in, if_out}
+use Rattle.per_codec_laws.specs.Takes.{Position, Front}
+use Rattle.per_codec_laws.proofs.Fronts.{if_in, if_out}
 use Rattle.per_codec_reading.specs.Fronts.{NoneStands}
 use Rattle.per_codec_reading.specs.Units.{Units, units_of, counted_units}
 
@@ -37,10 +37,10 @@ octet_pieces (o ∷ os) = ap (λ us. exactly (binary 8 o) ∷ us) (octet_pieces 
 
 module _ (free : Per.Freedom → Bool) where
   -- Units of a width have this number of bits.
-  pub counted_size : (al : Bool) (w n : ℕ) (bs : List Bool) (a b : Place) → Front free (counted_units al w (n, bs)) a b → length bs ≡ n * w
+  pub counted_size : (al : Bool) (w n : ℕ) (bs : List Bool) (a b : Position) → Front free (counted_units al w (n, bs)) a b → length bs ≡ n * w
   counted_size al w n bs a b f = eqb-true _ _ (if_out free (length bs == n * w) _ a b f).0
 
-  pub octets_front : (al : Bool) (us : Units) (os : List ℕ) (a b : Place) → Front free (counted_units al 8 us) a b → list_all is_octet os ≡ true → octet_bits os ≡ us.1 → Front free (Per.counted_octets al os) a b
+  pub octets_front : (al : Bool) (us : Units) (os : List ℕ) (a b : Position) → Front free (counted_units al 8 us) a b → list_all is_octet os ≡ true → octet_bits os ≡ us.1 → Front free (Per.counted_octets al os) a b
   unfolding Per.counted_octets
   octets_front al us os a b f s e =
       let i = if_out free (length us.1 == us.0 * 8) _ a b f in
@@ -51,7 +51,7 @@ module _ (free : Per.Freedom → Bool) where
       let q : units_of 8 us.0 us.1 ≡ Per.octet_units os = ap (λ j. units_of 8 j us.1) k ∙ ap (units_of 8 (length os)) (sym e) ∙ octet_pieces os in
       if_in free (list_all is_octet os) _ a b s (subst (λ x. Front free (Per.counted al x) a b) q i.1)
 
-  pub no_octets : (al : Bool) (a : Place) → NoneStands free (counted_units al 8) a → NoneStands free (Per.counted_octets al) a
+  pub no_octets : (al : Bool) (a : Position) → NoneStands free (counted_units al 8) a → NoneStands free (Per.counted_octets al) a
   unfolding Per.counted_octets
   no_octets al a n os b f =
       let i = if_out free (list_all is_octet os) _ a b f in

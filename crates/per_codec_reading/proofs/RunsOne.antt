@@ -1,14 +1,14 @@
 -- The bits begin with at most one run of units.
 use Rattle.std.proofs.Common.{◌≡◌, inl, inr, ℕ, ◌+◌, ◌*◌, Bool, List, [], ◌∷◌, ap, sym, ◌∙◌, subst}
 use Rattle.asn1_model.specs.Per
-use Rattle.per_codec_fronts.specs.Takes.{Place, Front}
-use Rattle.per_codec_reading.specs.declared.lengths.Length.TheVariants.{Short, Fragment}
+use Rattle.per_codec_laws.specs.Takes.{Position, Front}
+use Rattle.per_codec_reading.specs.declared.length.Length.TheVariants.{Short, Fragment}
 use Rattle.per_codec_reading.specs.Units.{Units, counted_units}
 use Rattle.per_codec_reading.proofs.UnitFronts.{Divided, last_out, more_out}
 use Rattle.per_codec_reading.proofs.RunFronts.{Run, piece_in, piece_one, run_cases, run_out}
 
 module _ (free : Per.Freedom → Bool) (al : Bool) (w : ℕ) where
-  divided_one : (ms : List ℕ) (n m : ℕ) (bs cs : List Bool) (a b c : Place) → Divided free al w ms n bs a b → Run free al w m cs a c → n ≡ m
+  divided_one : (ms : List ℕ) (n m : ℕ) (bs cs : List Bool) (a b c : Position) → Divided free al w ms n bs a b → Run free al w m cs a c → n ≡ m
   divided_one [] n m bs cs a b c d r =
       let l = last_out free al w n bs a b d in
       let p = piece_in free al w (Short n) bs a l.0 b l.1 l.2 d.size in
@@ -30,7 +30,7 @@ module _ (free : Per.Freedom → Bool) (al : Bool) (w : ℕ) where
       ]
 
   -- Units after a length determinant are equal in number.
-  pub counted_one : (us vs : Units) (a b c : Place) → Front free (counted_units al w us) a b → Front free (counted_units al w vs) a c → us.0 ≡ vs.0
+  pub counted_one : (us vs : Units) (a b c : Position) → Front free (counted_units al w us) a b → Front free (counted_units al w vs) a c → us.0 ≡ vs.0
   counted_one us vs a b c f g =
       let r = run_out free al w us.0 us.1 a b f in
       divided_one r.sizes us.0 vs.0 us.1 vs.1 a b c r.divided (run_out free al w vs.0 vs.1 a c g)

@@ -7,11 +7,11 @@ use Rattle.asn1_model.specs.Numbers.{binary}
 use Rattle.asn1_model.specs.Form.{Reads, exactly, both, joined}
 use Rattle.asn1_model.specs.Per
 use Rattle.asn1_laws_fronts.proofs.PerNumbers.{length_of_map}
-use Rattle.per_codec_fronts.specs.Takes.{Place, Front}
-use Rattle.per_codec_fronts.proofs.Fronts.{split, join, if_in, if_out}
+use Rattle.per_codec_laws.specs.Takes.{Position, Front}
+use Rattle.per_codec_laws.proofs.Fronts.{split, join, if_in, if_out}
 use Rattle.per_codec_reading.specs.Fronts.{Leads}
 use Rattle.per_codec_reading.specs.Lengths.{length_form}
-use Rattle.per_codec_reading.specs.declared.lengths.Length.TheVariants.{Fragment}
+use Rattle.per_codec_reading.specs.declared.length.Length.TheVariants.{Fragment}
 use Rattle.per_codec_reading.specs.Units.{pieces, units_of}
 
 -- ---- pieces
@@ -61,28 +61,28 @@ module _ (free : Per.Freedom → Bool) where
       let i = joined_text w n (drop w bs) r.1 (p + length r.0) s.1 r.3 in
       sym r.4 ∙ ap (λ y. r.0 ++ y) i ∙ ap (λ x. x ++ drop w bs) (sym r.2) ∙ take-append-drop w bs
 
-  pub units_in : (w n : ℕ) (bs : List Bool) (a b : Place) → length bs ≡ n * w → Leads bs a b → Front free (joined (units_of w n bs)) a b
+  pub units_in : (w n : ℕ) (bs : List Bool) (a b : Position) → length bs ≡ n * w → Leads bs a b → Front free (joined (units_of w n bs)) a b
   units_in w n bs a b l h = record { text = bs; has_form = joined_reads w n bs a.0 l; in_front = h.0; moved = h.1 }
 
-  pub units_out : (w n : ℕ) (bs : List Bool) (a b : Place) → length bs ≡ n * w → Front free (joined (units_of w n bs)) a b → Leads bs a b
+  pub units_out : (w n : ℕ) (bs : List Bool) (a b : Position) → length bs ≡ n * w → Front free (joined (units_of w n bs)) a b → Leads bs a b
   units_out w n bs a b l f =
       let e : f.text ≡ bs = joined_text w n bs f.text a.0 l f.has_form in
       (ap (λ t. t ++ b.1) (sym e) ∙ f.in_front, ap (λ t. a.0 + length t) (sym e) ∙ f.moved)
 
   -- ---- fragments
   -- units in fragments, each a multiple of 16384, and the rest after a short length determinant
-  pub record Divided (al : Bool) (w : ℕ) (ms : List ℕ) (n : ℕ) (bs : List Bool) (a b : Place) : Type 0 where
+  pub record Divided (al : Bool) (w : ℕ) (ms : List ℕ) (n : ℕ) (bs : List Bool) (a b : Position) : Type 0 where
     pub size : length bs ≡ n * w
     pub front : Front free (Per.fragments al ms (units_of w n bs)) a b
 
-  pub last_in : (al : Bool) (w n : ℕ) (bs : List Bool) (a mid b : Place) → length bs ≡ n * w → Front free (Per.short_length al n) a mid → Leads bs mid b → Divided al w [] n bs a b
+  pub last_in : (al : Bool) (w n : ℕ) (bs : List Bool) (a mid b : Position) → length bs ≡ n * w → Front free (Per.short_length al n) a mid → Leads bs mid b → Divided al w [] n bs a b
   unfolding Per.fragments
   last_in al w n bs a mid b l f h = record {
     size = l;
     front = join free (Per.short_length al (length (units_of w n bs))) (joined (units_of w n bs)) a mid b (rw (length-units w n bs) f) (units_in w n bs mid b l h);
   }
 
-  pub last_out : (al : Bool) (w n : ℕ) (bs : List Bool) (a b : Place) → Divided al w [] n bs a b → (mid : Place) × Front free (Per.short_length al n) a mid × Leads bs mid b
+  pub last_out : (al : Bool) (w n : ℕ) (bs : List Bool) (a b : Position) → Divided al w [] n bs a b → (mid : Position) × Front free (Per.short_length al n) a mid × Leads bs mid b
   unfolding Per.fragments
   last_out al w n bs a b d =
       let s = split free (Per.short_length al (length (units_of w n bs))) (joined (units_of w n bs)) a b d.front in
@@ -94,7 +94,7 @@ module _ (free : Per.Freedom → Bool) where
   abbrev more : Bool → ℕ → List ℕ → List Per.BitForm → Per.BitForm
   more al m ms us = both (Per.at_octet al (exactly (true ∷ true ∷ binary 6 m))) (both (joined (take (m * 16384) us)) (Per.fragments al ms (drop (m * 16384) us)))
 
-  pub more_in : (al : Bool) (w m n : ℕ) (ms : List ℕ) (xs ys : List Bool) (a mid next b : Place) → Front free (length_form al (Fragment m)) a mid → length xs ≡ m * 16384 * w → Leads xs mid next → Divided al w ms n ys next b → Divided al w (m ∷ ms) (m * 16384 + n) (xs ++ ys) a b
+  pub more_in : (al : Bool) (w m n : ℕ) (ms : List ℕ) (xs ys : List Bool) (a mid next b : Position) → Front free (length_form al (Fragment m)) a mid → length xs ≡ m * 16384 * w → Leads xs mid next → Divided al w ms n ys next b → Divided al w (m ∷ ms) (m * 16384 + n) (xs ++ ys) a b
   unfolding Per.fragments
   more_in al w m n ms xs ys a mid next b f l h d =
       let i = if_out free (leb 1 m && leb m 4) _ a mid f in
@@ -110,12 +110,12 @@ module _ (free : Per.Freedom → Bool) where
       }
 
   -- a fragment, and what follows it
-  pub record Behind (al : Bool) (w m : ℕ) (ms : List ℕ) (n : ℕ) (bs : List Bool) (a b : Place) : Type 0 where
+  pub record Behind (al : Bool) (w m : ℕ) (ms : List ℕ) (n : ℕ) (bs : List Bool) (a b : Position) : Type 0 where
     pub rest : ℕ
     pub first : List Bool
     pub further : List Bool
-    pub mid : Place
-    pub next : Place
+    pub mid : Position
+    pub next : Position
     pub count : n ≡ m * 16384 + rest
     pub bits : bs ≡ first ++ further
     pub size : length first ≡ m * 16384 * w
@@ -123,7 +123,7 @@ module _ (free : Per.Freedom → Bool) where
     pub leads : Leads first mid next
     pub behind : Divided al w ms rest further next b
 
-  pub more_out : (al : Bool) (w m n : ℕ) (ms : List ℕ) (bs : List Bool) (a b : Place) → Divided al w (m ∷ ms) n bs a b → Behind al w m ms n bs a b
+  pub more_out : (al : Bool) (w m n : ℕ) (ms : List ℕ) (bs : List Bool) (a b : Position) → Divided al w (m ∷ ms) n bs a b → Behind al w m ms n bs a b
   unfolding Per.fragments
   more_out al w m n ms bs a b d =
       let us = units_of w n bs in

@@ -3,8 +3,8 @@ use Rattle.std.specs.Prelude.{ℕ, ◌≤◌, ◌<◌, ◌^◌, leb, ltb, ◌&&�
 use Rattle.asn1_model.specs.Numbers.{binary}
 use Rattle.asn1_model.specs.Form.{exactly, only_if}
 use Rattle.asn1_model.specs.Per.{BitForm, at_octet, short_length}
-use Rattle.per_codec_reading.specs.declared.lengths.Length.{Length}
-use Rattle.per_codec_reading.specs.declared.lengths.Length.TheVariants.{Short, Fragment}
+use Rattle.per_codec_reading.specs.declared.length.Length.{Length}
+use Rattle.per_codec_reading.specs.declared.length.Length.TheVariants.{Short, Fragment}
 
 -- A length below 16384 (X.691 11.9.3.5 to 11.9.3.7), or that of a fragment of one to four times 16384 units (X.691
 -- 11.9.3.8).

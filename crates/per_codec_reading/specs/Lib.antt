@@ -3,3 +3,5 @@ pub mod Lengths
 pub mod Units
 pub mod Runs
 pub mod Sizes
+pub mod Closed
+pub mod Unread

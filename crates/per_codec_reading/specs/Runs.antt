@@ -2,7 +2,7 @@
 use Rattle.std.specs.Prelude.{◌≡◌, ℕ, ◌+◌, ◌*◌, ◌%◌, ◌<◌, ltb, cond, Bool, List, ◌++◌, Option, Some, None}
 use Rattle.asn1_model.specs.Per
 use Rattle.asn1_values_bits.specs.BitStr.{bits_of, offset_of}
-use Rattle.per_codec_fronts.specs.Takes.{Place, Front}
+use Rattle.per_codec_laws.specs.Takes.{Position, Front}
 use Rattle.per_codec_reading.specs.Fronts.{Leads}
 use Rattle.per_codec_reading.specs.Units.{Units}
 use Rattle.per_codec_reading.specs.declared.runs.Run.{Run}
@@ -50,24 +50,24 @@ InOneRun None n = n < 16384
 InOneRun (Some high) n = Unit {0}
 
 -- These bits are the last of those that were taken.
-abbrev pub EndsWith : List Bool → Place → Place → Type 0
+abbrev pub EndsWith : List Bool → Position → Position → Type 0
 EndsWith bs old new = (w : List Bool) × Leads (w ++ bs) old new
 
 -- So are borrowed ones.
-abbrev pub EndsWithLent : RunBits → Place → Place → Type 0
+abbrev pub EndsWithLent : RunBits → Position → Position → Type 0
 EndsWithLent (Lent bits) old new = EndsWith (bits_of bits) old new
 EndsWithLent (Joined bits) old new = Unit {0}
 
 -- A position in a message with these bits.
-abbrev pub StandsIn : List Bool → Place → Type 0
+abbrev pub StandsIn : List Bool → Position → Type 0
 StandsIn all a = (w : List Bool) × Leads w (0, all) a
 
 -- The borrowed bits end at this position of such a message.
 abbrev pub StandsBefore : RunBits → List Bool → ℕ → Type 0
-StandsBefore (Lent bits) all n = (b : Place) × (b.0 ≡ n) × EndsWith (bits_of bits) (0, all) b
+StandsBefore (Lent bits) all n = (b : Position) × (b.0 ≡ n) × EndsWith (bits_of bits) (0, all) b
 StandsBefore (Joined bits) all n = Unit {0}
 
 -- Some units, and after them those that come next, are all of these.
-abbrev pub Continued : (Per.Freedom → Bool) → (Units → Per.BitForm) → Units → Units → Place → Place → Type 0
+abbrev pub Continued : (Per.Freedom → Bool) → (Units → Per.BitForm) → Units → Units → Position → Position → Type 0
 Continued free form first all old new = (us : Units) × (first.0 + us.0 ≡ all.0) × (first.1 ++ us.1 ≡ all.1)
     × Front free (form us) old new

@@ -5,7 +5,7 @@ use Rattle.asn1_model.specs.Schema.{Counts, Size}
 use Rattle.asn1_model.specs.Numbers.{is_count_within}
 use Rattle.asn1_model.specs.Form.{exactly, both, only_if, refused}
 use Rattle.asn1_model.specs.Per
-use Rattle.per_codec_fronts.specs.Sizes.{extension_bit, told_highest}
+use Rattle.per_codec_laws.specs.Sizes.{extension_bit, told_highest}
 use Rattle.per_codec_reading.specs.Lengths.{length_form, IsLength}
 use Rattle.per_codec_reading.specs.Units.{Units, units_of, counted_units}
 use Rattle.per_codec_reading.specs.declared.sized.Contents.{Contents}

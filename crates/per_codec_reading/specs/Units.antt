@@ -3,8 +3,8 @@ use Rattle.std.specs.Prelude.{ℕ, zero, suc, ◌*◌, ◌==◌, ltb, ◌||◌, 
 use Rattle.asn1_model.specs.Form.{exactly, both, only_if}
 use Rattle.asn1_model.specs.Per
 use Rattle.per_codec_reading.specs.Lengths.{length_form}
-use Rattle.per_codec_reading.specs.declared.lengths.Length.{Length}
-use Rattle.per_codec_reading.specs.declared.lengths.Length.TheVariants.{Short, Fragment}
+use Rattle.per_codec_reading.specs.declared.length.Length.{Length}
+use Rattle.per_codec_reading.specs.declared.length.Length.TheVariants.{Short, Fragment}
 
 -- The number of units, and the bits of all of them.
 abbrev pub Units : Type 0

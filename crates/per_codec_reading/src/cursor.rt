@@ -4,7 +4,7 @@ ghost use Rattle.asn1_model.specs.Numbers.{binary, octet_bits};
 ghost use Rattle.asn1_values_bits.specs.BitStr.{bits_of};
 ghost use Rattle.per_codec_reading.specs.Fronts.{Leads};
 
-use asn1_schema_faults::{DecodeError, MOST_OCTETS};
+use asn1_schema_errors::{DecodeError, MOST_OCTETS};
 use asn1_values_bits::BitStr;
 use std::marker::Model;
 
@@ -19,9 +19,9 @@ pub struct Cursor<'input> {
 impl<'input> Model for Cursor<'input> {
     ghost use Rattle.std.specs.Prelude.{◌+◌, ◌<◌, ◌^◌, length};
     ghost use Rattle.asn1_values_bits.specs.BitStr.{bits_of};
-    ghost use Rattle.per_codec_fronts.specs.Takes.{Place};
+    ghost use Rattle.per_codec_laws.specs.Takes.{Position};
 
-    ghost Value = { Place };
+    ghost Value = { Position };
 
     ghost view = { λ cursor. (cursor.position, bits_of cursor.unread) };
 
@@ -43,6 +43,7 @@ impl<'input> Cursor<'input> {
     pub fn from_bits(bits: BitStr<'input>) -> Self
         ensures { result ≡ (0, bits_of bits.entry) }
     {
+        // For the proof: the number of bits fits in 64 bits.
         let _count = bits.len();
         Cursor {
             position: 0,
@@ -93,7 +94,7 @@ impl<'input> Cursor<'input> {
         self.unread.is_empty()
     }
 
-    /// Takes the first `count` bits, and lends them.
+    /// Takes the first `count` bits, and returns them borrowed.
     ///
     /// # Errors
     ///

@@ -1,17 +1,19 @@
 //! Constrained whole numbers (X.691 11.5).
-ghost use Rattle.std.specs.Prelude.{◌≡◌, ◌+◌, ◌-◌, ◌≤◌, ◌<◌, ◌^◌, ◌==◌, ◌||◌, true, IfOk, IfErr};
+ghost use Rattle.std.specs.Prelude.{◌≡◌, ◌+◌, ◌-◌, ◌*◌, ◌≤◌, ◌<◌, ◌^◌, ◌==◌, ◌||◌, true, Bool};
+ghost use Rattle.std.specs.Prelude.{IfOk, IfErr, IfSome, IfNone};
 ghost use Rattle.asn1_model.specs.Numbers as Numbers;
 ghost use Rattle.asn1_model.specs.Per as Per;
-ghost use Rattle.per_codec_fronts.specs.Takes.{Front};
+ghost use Rattle.per_codec_laws.specs.Takes.{Front};
 ghost use Rattle.per_codec_reading.specs.Fronts as fronts;
 ghost use Rattle.per_codec_reading.specs.Fronts.{freedoms, Misses};
 ghost use Rattle.per_codec_reading.specs.Lengths.{aligned_within, number_within};
 
 use crate::padding::read_padding;
 use crate::{Cursor, PackedRules};
-use asn1_schema_faults::DecodeError;
+use asn1_schema_errors::DecodeError;
+use asn1_values_bits::free_bits;
 use asn1_values_natives::octets::{bit_count, octet_width};
-use per_codec_limits::LONG_SPAN;
+use per_codec_rules::LONG_SPAN;
 
 /// Reads a number of `bits` bits that is at most `most`.
 ///
@@ -57,23 +59,57 @@ fn read_aligned_within(
     read_number_within(cursor, rules, bits, most)
 }
 
-/// Whether a number has `further + 1` octets at the fewest.
-#[cold]
-#[inline(never)]
+/// Whether a number in `further + 1` octets needs that many: only then is the first of several not zero.
+#[inline(always)]
 fn needs_octets(number: u128, further: usize) -> bool
-    requires { further < 16 }
+    requires narrow { further < 16 }
+    requires fits { number < 2 ^ (8 * (further + 1)) }
     ensures { result ≡ (Numbers.least_octets number == further + 1) }
 {
-    octet_width(number).max(1) == further + 1
+    if further == 0 {
+        return true;
+    }
+    if further < 8 {
+        return number as u64 >> (8 * further) != 0;
+    }
+    number >> (8 * further) != 0
 }
 
 /// Whether a number in `further + 1` octets is accepted: in strict rules only if it needs that many (X.691 11.5.7.4).
 #[inline(always)]
 fn is_accepted(rules: PackedRules, number: u128, further: usize) -> bool
-    requires { further < 16 }
+    requires narrow { further < 16 }
+    requires fits { number < 2 ^ (8 * (further + 1)) }
     ensures { result ≡ (freedoms rules Per.longer_number || (Numbers.least_octets number == further + 1)) }
 {
     !rules.is_strict() || needs_octets(number, further)
+}
+
+/// Takes the padding and the `further + 1` octets of a number at once, if all readers accept them: the padding is zero,
+/// the number is at most `span` and needs its octets. Otherwise, and if they are many, the cursor stays.
+#[inline(always)]
+fn take_plain(cursor: &mut Cursor<'_>, further: usize, span: u128) -> Option<u128>
+    ensures stands { IfSome result (λ number. (free : Per.Freedom → Bool)
+        → Front free (aligned_within true (8 * (further + 1)) span number) cursor.old cursor.new) }
+    ensures least { IfSome result (λ number. Numbers.least_octets number ≡ further + 1) }
+    ensures bound { IfSome result (λ number. number ≤ span) }
+    ensures stays { IfNone result (cursor.new ≡ cursor.old) }
+{
+    if further > 5 {
+        return None;
+    }
+    let width = free_bits(cursor.position()) as usize + 8 * (further + 1);
+    if width > cursor.len() {
+        return None;
+    }
+    let number = cursor.bits().first_number(width as u32);
+    if number > span || number as u64 >> (8 * further) > 255 || !needs_octets(number, further) {
+        return None;
+    }
+    let Ok(_octets) = cursor.take(width) else {
+        return None;
+    };
+    Some(number)
 }
 
 /// Reads a number whose range has more than 65536 values in the aligned variant: octets after their count. More
@@ -90,8 +126,11 @@ fn read_octets_within(
     ensures bound { IfOk result (λ number. number ≤ span) }
     ensures only { IfErr result (Misses (freedoms rules) (Per.constrained true span) cursor.old) }
 {
-    let most = octet_width(span) as u128 - 1;
+    let most = (octet_width(span) - 1) as u128;
     let further = read_number_within(cursor, rules, bit_count(most), most)? as usize;
+    if let Some(number) = take_plain(cursor, further, span) {
+        return Ok(number);
+    }
     let number = read_aligned_within(cursor, rules, 8 * (further + 1), span)?;
     if !is_accepted(rules, number, further) {
         return Err(DecodeError::NotValidCanonicalEncoding);

@@ -4,16 +4,15 @@ ghost use Rattle.asn1_model.specs.Per as Per;
 ghost use Rattle.per_codec_reading.specs.Fronts as fronts;
 ghost use Rattle.asn1_values_bits.specs.BitStr.{bits_of};
 ghost use Rattle.per_codec_reading.specs.Fronts.{freedoms, ArePadding, Misses, to_octet};
-ghost use Rattle.per_codec_fronts.specs.Takes.{Front};
+ghost use Rattle.per_codec_laws.specs.Takes.{Front};
 ghost use Rattle.asn1_model.specs.Form.{exactly};
 
 use crate::{Cursor, PackedRules};
-use asn1_schema_faults::DecodeError;
+use asn1_schema_errors::DecodeError;
 use asn1_values_bits::{BitStr, free_bits};
 
 /// Whether all of these bits are zero.
-#[cold]
-#[inline(never)]
+#[inline(always)]
 pub fn are_zero(bits: BitStr<'_>) -> bool
     requires { length (bits_of bits) ≤ 128 }
     ensures { IsTrue result ↔ (bits_of bits.entry ≡ replicate (length (bits_of bits.entry)) false) }
@@ -42,7 +41,11 @@ pub fn skip_padding(cursor: &mut Cursor<'_>, rules: PackedRules) -> Result<(), D
     ensures only { IfErr result (Misses (freedoms rules) (λ (_ : Unit {0}). to_octet) cursor.old) }
     ensures no_memory { IfErr result (λ e. ¬ (e ≡ DecodeError.OutOfMemory)) }
 {
-    let bits = cursor.take(free_bits(cursor.position()) as usize)?;
+    let count = free_bits(cursor.position()) as usize;
+    if count == 0 {
+        return Ok(());
+    }
+    let bits = cursor.take(count)?;
     if !are_accepted(rules, bits) {
         return Err(DecodeError::InvalidPadding);
     }

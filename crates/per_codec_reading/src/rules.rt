@@ -2,7 +2,7 @@
 ghost use Rattle.std.specs.Prelude.{◌≡◌};
 ghost use Rattle.per_codec_reading.specs.Fronts as fronts;
 
-use per_codec_limits::Variant;
+use per_codec_rules::Variant;
 
 /// UPER or APER (X.691), each with a lenient or a strict reader.
 #[derive(Clone, Copy, Debug, PartialEq, Eq)]
@@ -11,9 +11,9 @@ pub enum PackedRules {
     Uper,
     /// Aligned PER: a decoder accepts all forms.
     Aper,
-    /// Unaligned PER: a decoder accepts only the forms that an encoder writes.
+    /// Unaligned PER: a decoder accepts only the forms that an encoder writes, except for the freedoms of strict rules.
     UperStrict,
-    /// Aligned PER: a decoder accepts only the forms that an encoder writes.
+    /// Aligned PER: a decoder accepts only the forms that an encoder writes, except for the freedoms of strict rules.
     AperStrict,
 }
 
@@ -36,24 +36,14 @@ impl PackedRules {
     pub fn is_aligned(self) -> bool
         ensures { result ≡ fronts.is_aligned self }
     {
-        match self {
-            PackedRules::Uper => false,
-            PackedRules::Aper => true,
-            PackedRules::UperStrict => false,
-            PackedRules::AperStrict => true,
-        }
+        self as u8 & 1 == 1
     }
 
-    /// Whether a decoder accepts only the forms that an encoder writes.
+    /// Whether a decoder accepts only the forms that an encoder writes, except for the freedoms of strict rules.
     #[inline(always)]
     pub fn is_strict(self) -> bool
         ensures { result ≡ fronts.is_strict self }
     {
-        match self {
-            PackedRules::Uper => false,
-            PackedRules::Aper => false,
-            PackedRules::UperStrict => true,
-            PackedRules::AperStrict => true,
-        }
+        self as u8 >= 2
     }
 }

@@ -5,16 +5,16 @@ ghost use Rattle.asn1_model.specs.Numbers.{octet_bits};
 ghost use Rattle.asn1_model.specs.Per as Per;
 ghost use Rattle.asn1_values_bits.specs.BitStr.{bits_of, offset_of};
 ghost use Rattle.asn1_values_bits.specs.Octets.{padded};
-ghost use Rattle.per_codec_fronts.specs.Takes.{Front};
+ghost use Rattle.per_codec_laws.specs.Takes.{Front};
 ghost use Rattle.per_codec_reading.specs.Fronts.{freedoms, Completes, Misses, MissesRest};
 ghost use Rattle.per_codec_reading.specs.Fronts as fronts;
 ghost use Rattle.per_codec_reading.specs.Lengths.{IsLength, length_form};
 ghost use Rattle.per_codec_reading.specs.Units.{counted_units, piece_form, units_after};
 ghost use Rattle.per_codec_reading.specs.Runs.{units_in, IsLent, EndsWith, EndsWithLent, Continued};
 
-use crate::lengths::{Length, read_length};
+use crate::length::{Length, read_length};
 use crate::{Cursor, FRAGMENT, PackedRules};
-use asn1_schema_faults::DecodeError;
+use asn1_schema_errors::DecodeError;
 use asn1_values_bits::{BitBuffer, BitStr};
 use std::alloc::Global;
 

@@ -3,7 +3,7 @@ ghost use Rattle.std.specs.Prelude.{◌≡◌, ◌&&◌, IfOk, OnOk, IfErr, []};
 ghost use Rattle.asn1_model.specs.Per as Per;
 ghost use Rattle.asn1_schema_constraints.specs.Bounds.{counts_of};
 ghost use Rattle.asn1_schema_constraints.specs.Terms.{size_of};
-ghost use Rattle.per_codec_fronts.specs.Takes.{Front};
+ghost use Rattle.per_codec_laws.specs.Takes.{Front};
 ghost use Rattle.per_codec_reading.specs.Fronts.{freedoms, Completes, Misses, MissesRest};
 ghost use Rattle.per_codec_reading.specs.Fronts as fronts;
 ghost use Rattle.per_codec_reading.specs.Runs.{units_in, IsLent, InOneRun, EndsWithLent};
@@ -17,8 +17,8 @@ use crate::runs::{Run, RunBits, read_units_behind};
 use crate::sizes::{LengthDeterminant, is_accepted_outside, is_admitted, read_heading};
 use crate::{Cursor, PackedRules};
 use asn1_schema_constraints::{Bounded, Sizes};
-use asn1_schema_faults::DecodeError;
-use per_codec_limits::{characters_have_padding, string_has_padding};
+use asn1_schema_errors::DecodeError;
+use per_codec_rules::{characters_have_padding, string_has_padding};
 use std::alloc::Global;
 
 /// What the units make up. It determines where padding precedes them.
@@ -46,7 +46,7 @@ fn has_padding(contents: Contents, width: u32, root: Bounded<usize>, count: usiz
 ///
 /// # Errors
 ///
-/// `Incomplete` if there are fewer bits.
+/// `Incomplete` if there are fewer bits, and `InvalidPadding` if a bit is not zero, in strict rules.
 fn read_padding_if(
     cursor: &mut Cursor<'_>,
     rules: PackedRules,
@@ -68,7 +68,9 @@ fn read_padding_if(
 ///
 /// # Errors
 ///
-/// `Incomplete` if the bits end early, the errors of a length determinant, and `OutOfMemory`.
+/// `Incomplete` if the bits end early, in strict rules `InvalidPadding` if a bit of padding is not zero and
+/// `NotValidCanonicalEncoding` if the largest fragments are not first, the errors of a length determinant, and
+/// `OutOfMemory`.
 #[inline(always)]
 fn read_units<'input>(
     alloc: Global,
@@ -112,8 +114,9 @@ fn read_units<'input>(
 /// # Errors
 ///
 /// `SizeConstraintNotSatisfied` if the size or the Rust type does not admit their number, `Incomplete` if the bits
-/// end early, `NotValidCanonicalEncoding` if a number in the root is said to be outside it, in strict rules, the
-/// errors of a constrained whole number and of a length determinant, and `OutOfMemory`.
+/// end early, in strict rules `InvalidPadding` if a bit of padding is not zero and `NotValidCanonicalEncoding` if a
+/// number in the root is said to be outside it or the largest fragments are not first, the errors of a constrained
+/// whole number and of a length determinant, and `OutOfMemory`.
 #[inline(always)]
 pub fn read_sized<'input>(
     alloc: Global,

@@ -4,21 +4,21 @@ ghost use Rattle.std.specs.Prelude.{◌≡◌, ◌≤◌, ◌<◌, IfOk, IfErr, 
 ghost use Rattle.asn1_model.specs.Per;
 ghost use Rattle.asn1_schema_constraints.specs.Bounds.{counts_of, members_of};
 ghost use Rattle.asn1_schema_constraints.specs.Terms.{size_of};
-ghost use Rattle.per_codec_fronts.specs.Sizes as fronts_sizes;
-ghost use Rattle.per_codec_fronts.specs.Takes.{Front};
+ghost use Rattle.per_codec_laws.specs.Sizes as fronts_sizes;
+ghost use Rattle.per_codec_laws.specs.Takes.{Front};
 ghost use Rattle.per_codec_reading.specs.Fronts.{freedoms, Misses};
 ghost use Rattle.per_codec_reading.specs.Fronts as fronts;
 ghost use Rattle.asn1_model.specs.Numbers.{is_count_within};
 ghost use Rattle.per_codec_reading.specs.Sizes.{admitted, determinant_form, heading_form, told_count, IsDeterminant};
 ghost use Rattle.per_codec_reading.specs.Sizes.{may_be_outside};
 
-use crate::lengths::{Length, read_length};
+use crate::boolean::read_extension_bit;
+use crate::length::{Length, read_length};
 use crate::numbers::read_constrained;
-use crate::units::read_extension_bit;
 use crate::{Cursor, PackedRules};
 use asn1_schema_constraints::{Bounded, Sizes};
-use asn1_schema_faults::DecodeError;
-use per_codec_limits::told_highest;
+use asn1_schema_errors::DecodeError;
+use per_codec_rules::told_highest;
 
 /// The first length determinant under a size constraint (X.691 11.9).
 #[derive(Clone, Copy, Debug, PartialEq, Eq)]
@@ -56,7 +56,8 @@ fn highest_inside(root: Bounded<usize>, is_outside: bool) -> Option<usize>
 ///
 /// # Errors
 ///
-/// `Incomplete` if the bits end early, and `SizeConstraintNotSatisfied` if the size is too large.
+/// `Incomplete` if the bits end early, `SizeConstraintNotSatisfied` if the size is too large, and `InvalidPadding` if a
+/// bit of padding is not zero, in strict rules.
 #[inline(always)]
 fn read_size(cursor: &mut Cursor<'_>, rules: PackedRules, span: u128) -> Result<u128, DecodeError>
     ensures ok { IfOk result (λ number. Front (freedoms rules)
@@ -78,7 +79,8 @@ fn read_size(cursor: &mut Cursor<'_>, rules: PackedRules, span: u128) -> Result<
 ///
 /// # Errors
 ///
-/// `Incomplete` if the bits end early, and `SizeConstraintNotSatisfied` if there is no such number.
+/// `Incomplete` if the bits end early, `SizeConstraintNotSatisfied` if there is no such number, and `InvalidPadding` if
+/// a bit of padding is not zero, in strict rules.
 fn read_told_count(
     cursor: &mut Cursor<'_>,
     rules: PackedRules,

@@ -20,11 +20,11 @@ use Rattle.asn1_laws_fronts.proofs.Strings.{Orderly, place_top, place_fits}
 use Rattle.asn1_laws_fronts.proofs.Units.{sized_alike}
 use Rattle.asn1_values_alphabets.specs.Permitted.{permits_all}
 use Rattle.per_codec_alphabets.specs.Codes.{Coded, SameCharacters, code_of, has_code, text_of}
-use Rattle.per_codec_fronts.specs.Takes.{Place, Front}
-use Rattle.per_codec_fronts.proofs.Fronts.{if_in, if_out, of_refused}
-use Rattle.per_codec_fronts.proofs.Next.{same_fronts}
-use Rattle.asn1_schema_faults.specs.declared.DecodeError.{DecodeError}
-use Rattle.asn1_schema_faults.specs.declared.DecodeError.TheVariants.{OutOfMemory}
+use Rattle.per_codec_laws.specs.Takes.{Position, Front}
+use Rattle.per_codec_laws.proofs.Fronts.{if_in, if_out, of_refused}
+use Rattle.per_codec_laws.proofs.Next.{same_fronts}
+use Rattle.asn1_schema_errors.specs.declared.DecodeError.{DecodeError}
+use Rattle.asn1_schema_errors.specs.declared.DecodeError.TheVariants.{OutOfMemory}
 use Rattle.per_codec_reading.specs.Fronts.{NoneStands, IsFresh, Misses}
 use Rattle.per_codec_reading.proofs.Fronts.{none_misses}
 use Rattle.per_codec_reading.specs.Units.{Units, pieces, units_of}
@@ -174,7 +174,7 @@ module _ (free : Per.Freedom → Bool) (al : Bool) where
   unfolding Per.character
   placed_alike rs o c d = agree_given free (place_of c rs) (place_of d rs) _ _ (λ i j e f. agree_map free (λ q. ap is_some e) (binary_alike free (Per.character_bits al rs) _ _ (code_fits al rs c i o e) (code_fits al rs d j o f)))
 
-  all_coded : (z : Size) (held : Counts) (a : Coded) (rs : List Run) (cs : List ℕ) (p q : Place) → SameCharacters a.runs rs → Orderly rs → Front free (Per.characters al z held rs cs) p q → list_all (has_code a) cs ≡ true
+  all_coded : (z : Size) (held : Counts) (a : Coded) (rs : List Run) (cs : List ℕ) (p q : Position) → SameCharacters a.runs rs → Orderly rs → Front free (Per.characters al z held rs cs) p q → list_all (has_code a) cs ≡ true
   unfolding Per.characters
   all_coded z held a rs cs p q s o f =
       let x = sized_alike free ℕ (HasPlace rs) (Per.character (Per.character_bits al rs) rs) (placed_alike rs o) al z held (Per.characters_have_padding (Per.character_bits al rs) (length cs)) (Per.characters_have_padding (Per.character_bits al rs) (length cs)) cs cs (λ n. refl) in
@@ -191,7 +191,7 @@ module _ (free : Per.Freedom → Bool) (al : Bool) (k : StringKind) (z : Size) (
   unfolding Per.characters
   of_width cs h = ap (λ n. Per.sized al z any_count (Per.characters_have_padding n (length cs)) (map (Per.character n (permitted k l)) cs)) (sym b) ∙ ap (λ us. Per.sized al z any_count (Per.characters_have_padding a.code_bits (length cs)) us) (forms a (permitted k l) cs s h)
 
-  pub codes_stand : (us : Units) (cs : List ℕ) (p q : Place) → Front free (of_units us) p q → length cs ≡ us.0 → Spells k a cs us.1 → Front free (Per.form al (character_string k z l any_count) (text cs)) p q
+  pub codes_stand : (us : Units) (cs : List ℕ) (p q : Position) → Front free (of_units us) p q → length cs ≡ us.0 → Spells k a cs us.1 → Front free (Per.form al (character_string k z l any_count) (text cs)) p q
   unfolding Per.form Per.string_form
   codes_stand us cs p q f e t =
       let i = if_out free (length us.1 == us.0 * a.code_bits) _ p q f in
@@ -201,12 +201,12 @@ module _ (free : Per.Freedom → Bool) (al : Bool) (k : StringKind) (z : Size) (
       let v = subst (λ f. Front free f p q) (sym (of_width cs t.coded)) y in
       if_in free (may_hold k cs) _ p q (holds cs ∙ t.permitted) (subst (λ t. Front free (cond t (only_if (is_count_within any_count (length cs)) (Per.counted_octets al cs)) (Per.characters al z any_count (permitted k l) cs)) p q) (sym o) v)
 
-  record Told (p q : Place) : Type 0 where
+  record Told (p q : Position) : Type 0 where
     pub told : List ℕ
     pub spells : Spells k a told (flat_map (text_of a) told)
     pub front_of : Front free (in_codes told) p q
 
-  told_of : Orderly (permitted k l) → (v : Value) (p q : Place) → Front free (Per.form al (character_string k z l any_count) v) p q → Told p q
+  told_of : Orderly (permitted k l) → (v : Value) (p q : Position) → Front free (Per.form al (character_string k z l any_count) v) p q → Told p q
   unfolding Per.form Per.string_form
   told_of w (text cs) p q f =
       let i = if_out free (may_hold k cs) _ p q f in
@@ -215,7 +215,7 @@ module _ (free : Per.Freedom → Bool) (al : Bool) (k : StringKind) (z : Size) (
       record { told = cs; spells = record { permitted = sym (holds cs) ∙ i.0; coded = c; spelled = refl }; front_of = subst (λ f. Front free f p q) (of_width cs c) x }
   told_of w v p q f = absurd (of_refused free p q f)
 
-  pub no_codes : Orderly (permitted k l) → (p : Place) → NoneStands free of_units p → NoneStands free (Per.form al (character_string k z l any_count)) p
+  pub no_codes : Orderly (permitted k l) → (p : Position) → NoneStands free of_units p → NoneStands free (Per.form al (character_string k z l any_count)) p
   no_codes w p n v q f =
       let x = told_of w v p q f in
       let ws = flat_map (text_of a) x.told in
@@ -225,7 +225,7 @@ module _ (free : Per.Freedom → Bool) (al : Bool) (k : StringKind) (z : Size) (
   length-texts [] = refl
   length-texts (c ∷ cs) = ap suc (length-texts cs)
 
-  pub no_characters : Orderly (permitted k l) → (us : Units) (p c : Place) → Front free (of_units us) p c → Stuck k a us.0 us.1 → NoneStands free (Per.form al (character_string k z l any_count)) p
+  pub no_characters : Orderly (permitted k l) → (us : Units) (p c : Position) → Front free (of_units us) p c → Stuck k a us.0 us.1 → NoneStands free (Per.form al (character_string k z l any_count)) p
   no_characters w us p c g t v q f =
       let x = told_of w v p q f in
       let i = if_out free (length us.1 == us.0 * a.code_bits) _ p c g in
@@ -236,6 +236,6 @@ module _ (free : Per.Freedom → Bool) (al : Bool) (k : StringKind) (z : Size) (
       t x.told r.0 (record { permitted = d.permitted; coded = d.coded; spelled = r.1 })
 
 -- Codes of no characters are refused, or memory ran out.
-pub refused_codes : (free : Per.Freedom → Bool) (x : Value → Per.BitForm) (k : StringKind) (a : Coded) (us : Units) (p : Place) (e : DecodeError) → IsFitting a → (Stuck k a us.0 us.1 → NoneStands free x p) → (e ≡ OutOfMemory) ⊎ (IsFitting a → Stuck k a us.0 us.1) → IsFresh e → Misses free x p e
+pub refused_codes : (free : Per.Freedom → Bool) (x : Value → Per.BitForm) (k : StringKind) (a : Coded) (us : Units) (p : Position) (e : DecodeError) → IsFitting a → (Stuck k a us.0 us.1 → NoneStands free x p) → (e ≡ OutOfMemory) ⊎ (IsFitting a → Stuck k a us.0 us.1) → IsFresh e → Misses free x p e
 refused_codes free x k a us p e f h (inl m) n = subst (Misses free x p) (sym m) tt
 refused_codes free x k a us p e f h (inr s) n = none_misses free x p e n (h (s f))

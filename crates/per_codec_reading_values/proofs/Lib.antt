@@ -2,7 +2,7 @@ pub mod OctetFronts
 pub mod WholeFronts
 pub mod IntegerFronts
 pub mod SmallFronts
-pub mod PlaceFronts
+pub mod IndexFronts
 pub mod FieldFronts
 pub mod Moving
 pub mod Passing
@@ -11,4 +11,4 @@ pub mod CharacterFronts
 pub mod CharacterOctetFronts
 pub mod OctetCodeFronts
 pub mod Inside
-pub mod CodesAhead
+pub mod SetBits

@@ -14,9 +14,9 @@ use Rattle.asn1_values_natives.proofs.TwosComplement.{signed_octets-least, signe
 use Rattle.asn1_values_integers.proofs.KindLaws.{unsigned-written}
 use Rattle.asn1_values_natives.proofs.Widths.{octets-least, octet_width-octets, signed_octets-plain}
 use Rattle.asn1_laws_fronts.proofs.PerNumbers.{counted_octets_alike}
-use Rattle.per_codec_fronts.specs.Takes.{Place, Front}
-use Rattle.per_codec_fronts.proofs.Fronts.{varied_in, varied_out, if_in, if_out}
-use Rattle.per_codec_fronts.proofs.Next.{same_fronts}
+use Rattle.per_codec_laws.specs.Takes.{Position, Front}
+use Rattle.per_codec_laws.proofs.Fronts.{varied_in, varied_out, if_in, if_out}
+use Rattle.per_codec_laws.proofs.Next.{same_fronts}
 use Rattle.per_codec_reading.specs.Fronts.{NoneStands}
 use Rattle.per_codec_reading.proofs.Fronts.{or_free, free_or}
 use Rattle.per_codec_reading_values.specs.Whole.{has_spare, number_octets, offset_form, is_offset, in_128_bits}
@@ -83,7 +83,7 @@ is_not true e = absurd (false≢true e)
 is_not false e = refl
 
 module _ (free : Per.Freedom → Bool) where
-  octets_of : (al : Bool) (os : List ℕ) (a b : Place) → Front free (Per.counted_octets al os) a b → AreOctets os
+  octets_of : (al : Bool) (os : List ℕ) (a b : Position) → Front free (Per.counted_octets al os) a b → AreOctets os
   unfolding Per.counted_octets
   octets_of al os a b f = are_octets os (if_out free (list_all is_octet os) _ a b f).0
 
@@ -91,22 +91,22 @@ module _ (free : Per.Freedom → Bool) where
   any = free Per.longer_number
 
   -- ---- the octets
-  pub octets_read : (sign al : Bool) (os : List ℕ) (a b : Place) → 0 < length os → (any || not (has_spare sign os)) ≡ true → Front free (Per.counted_octets al os) a b → Front free (number_octets any sign al os) a b
+  pub octets_read : (sign al : Bool) (os : List ℕ) (a b : Position) → 0 < length os → (any || not (has_spare sign os)) ≡ true → Front free (Per.counted_octets al os) a b → Front free (number_octets any sign al os) a b
   octets_read sign al os a b l h f = if_in free (ltb 0 (length os) && (any || not (has_spare sign os))) _ a b (and_from _ _ (lt-ltb 0 (length os) l) h) f
 
-  octets_parts : (sign al : Bool) (os : List ℕ) (a b : Place) → Front free (number_octets any sign al os) a b → (0 < length os) × ((any || not (has_spare sign os)) ≡ true) × Front free (Per.counted_octets al os) a b
+  octets_parts : (sign al : Bool) (os : List ℕ) (a b : Position) → Front free (number_octets any sign al os) a b → (0 < length os) × ((any || not (has_spare sign os)) ≡ true) × Front free (Per.counted_octets al os) a b
   octets_parts sign al os a b f =
       let i = if_out free (ltb 0 (length os) && (any || not (has_spare sign os))) _ a b f in
       let p = and_parts (ltb 0 (length os)) (any || not (has_spare sign os)) i.0 in
       (ltb-true 0 (length os) p.0, p.1, i.1)
 
-  octets_told : (sign al : Bool) (os : List ℕ) (a b : Place) → Front free (number_octets any sign al os) a b → (0 < length os) × Front free (Per.counted_octets al os) a b
+  octets_told : (sign al : Bool) (os : List ℕ) (a b : Position) → Front free (number_octets any sign al os) a b → (0 < length os) × Front free (Per.counted_octets al os) a b
   octets_told sign al os a b f = let p = octets_parts sign al os a b f in (p.0, p.2)
 
-  pub none_counted : (sign al : Bool) (a : Place) → NoneStands free (Per.counted_octets al) a → NoneStands free (number_octets any sign al) a
+  pub none_counted : (sign al : Bool) (a : Position) → NoneStands free (Per.counted_octets al) a → NoneStands free (number_octets any sign al) a
   none_counted sign al a n os b f = n os b (octets_told sign al os a b f).1
 
-  pub no_octets : (sign al : Bool) (os : List ℕ) (a b : Place) → length os ≡ 0 → Front free (Per.counted_octets al os) a b → NoneStands free (number_octets any sign al) a
+  pub no_octets : (sign al : Bool) (os : List ℕ) (a b : Position) → length os ≡ 0 → Front free (Per.counted_octets al os) a b → NoneStands free (number_octets any sign al) a
   no_octets sign al os a b l f ps c g =
       let t = octets_told sign al ps a c g in
       let e : os ≡ ps = (same_fronts free (counted_octets_alike free al os ps) a b c f t.1).0 in
@@ -115,17 +115,17 @@ module _ (free : Per.Freedom → Bool) where
       omega arith
 
   -- octets that the reader does not accept
-  pub spare_octets : (sign al : Bool) (os : List ℕ) (a b : Place) → (any || not (has_spare sign os)) ≡ false → Front free (Per.counted_octets al os) a b → NoneStands free (number_octets any sign al) a
+  pub spare_octets : (sign al : Bool) (os : List ℕ) (a b : Position) → (any || not (has_spare sign os)) ≡ false → Front free (Per.counted_octets al os) a b → NoneStands free (number_octets any sign al) a
   spare_octets sign al os a b h f ps c g =
       let t = octets_parts sign al ps a c g in
       let e : os ≡ ps = (same_fronts free (counted_octets_alike free al os ps) a b c f t.2).0 in
       false≢true (sym h ∙ ap (λ l. any || not (has_spare sign l)) e ∙ t.1)
 
-  octets_same : (sign al : Bool) (os ps : List ℕ) (a b c : Place) → Front free (number_octets any sign al os) a b → Front free (number_octets any sign al ps) a c → os ≡ ps
+  octets_same : (sign al : Bool) (os ps : List ℕ) (a b c : Position) → Front free (number_octets any sign al os) a b → Front free (number_octets any sign al ps) a c → os ≡ ps
   octets_same sign al os ps a b c f g = (same_fronts free (counted_octets_alike free al os ps) a b c (octets_told sign al os a b f).1 (octets_told sign al ps a c g).1).0
 
   -- ---- with a sign
-  signed_read : (al : Bool) (os : List ℕ) (a b : Place) → Front free (number_octets any true al os) a b → Front free (Per.unconstrained al (signed_number os)) a b
+  signed_read : (al : Bool) (os : List ℕ) (a b : Position) → Front free (number_octets any true al os) a b → Front free (Per.unconstrained al (signed_number os)) a b
   unfolding Per.unconstrained
   signed_read al os a b f =
       let i = octets_told true al os a b f in
@@ -135,7 +135,7 @@ module _ (free : Per.Freedom → Bool) where
       varied_in free (λ k. only_if (leb (signed_octets v) k) (Per.counted_octets al (complement k v))) (length os) t a b
       (if_in free (leb (signed_octets v) (length os)) _ a b (le-leb (signed_octets v) (length os) (least_signed os o i.0)) (subst (λ l. Front free (Per.counted_octets al l) a b) (sym (complement-back os o i.0)) i.1))
 
-  signed_told : (al : Bool) (v : ℤ) (a b : Place) → Front free (Per.unconstrained al v) a b → (os : List ℕ) × (signed_number os ≡ v) × Front free (number_octets any true al os) a b
+  signed_told : (al : Bool) (v : ℤ) (a b : Position) → Front free (Per.unconstrained al v) a b → (os : List ℕ) × (signed_number os ≡ v) × Front free (number_octets any true al os) a b
   unfolding Per.unconstrained
   signed_told al v a b f =
       let q = varied_out free (λ k. only_if (leb (signed_octets v) k) (Per.counted_octets al (complement k v))) a b f in
@@ -146,29 +146,29 @@ module _ (free : Per.Freedom → Bool) where
       let own : (not (is_padded (complement q.0 v)) ≡ true) ⊎ IsTrue any = elim q.1 [ inl e ↦ inl (ap not (ap (λ k. is_padded (complement k v)) e ∙ written-fewest v)) | inr e ↦ inr e ] in
       (complement q.0 v, signed_back q.0 v l, octets_read true al (complement q.0 v) a b (omega arith) (free_or any (not (is_padded (complement q.0 v))) own) i.1)
 
-  pub unconstrained_read : (al : Bool) (v : ℤ) (os : List ℕ) (a b : Place) → v ≡ signed_number os → is_within wide_range (signed_number os) ≡ true → Front free (number_octets any true al os) a b → Front free (in_128_bits (Per.unconstrained al) v) a b
+  pub unconstrained_read : (al : Bool) (v : ℤ) (os : List ℕ) (a b : Position) → v ≡ signed_number os → is_within wide_range (signed_number os) ≡ true → Front free (number_octets any true al os) a b → Front free (in_128_bits (Per.unconstrained al) v) a b
   unconstrained_read al v os a b e w f = subst (λ z. Front free (in_128_bits (Per.unconstrained al) z) a b) (sym e) (if_in free (is_within wide_range (signed_number os)) _ a b w (signed_read al os a b f))
 
   -- the same for a number of any size
-  pub number_read : (al : Bool) (v : ℤ) (os : List ℕ) (a b : Place) → v ≡ signed_number os → Front free (number_octets any true al os) a b → Front free (Per.unconstrained al v) a b
+  pub number_read : (al : Bool) (v : ℤ) (os : List ℕ) (a b : Position) → v ≡ signed_number os → Front free (number_octets any true al os) a b → Front free (Per.unconstrained al v) a b
   number_read al v os a b e f = subst (λ z. Front free (Per.unconstrained al z) a b) (sym e) (signed_read al os a b f)
 
-  pub none_signed : (al : Bool) (a : Place) → NoneStands free (number_octets any true al) a → NoneStands free (Per.unconstrained al) a
+  pub none_signed : (al : Bool) (a : Position) → NoneStands free (number_octets any true al) a → NoneStands free (Per.unconstrained al) a
   none_signed al a n v b f = let t = signed_told al v a b f in n t.0 b t.2
 
-  pub signed_same : (al : Bool) (v : ℤ) (os : List ℕ) (a b c : Place) → Front free (number_octets any true al os) a b → Front free (Per.unconstrained al v) a c → v ≡ signed_number os
+  pub signed_same : (al : Bool) (v : ℤ) (os : List ℕ) (a b c : Position) → Front free (number_octets any true al os) a b → Front free (Per.unconstrained al v) a c → v ≡ signed_number os
   signed_same al v os a b c f g = let t = signed_told al v a c g in sym t.1 ∙ ap signed_number (octets_same true al t.0 os a c b t.2 f)
 
-  pub no_unconstrained : (al : Bool) (a : Place) → NoneStands free (number_octets any true al) a → NoneStands free (in_128_bits (Per.unconstrained al)) a
+  pub no_unconstrained : (al : Bool) (a : Position) → NoneStands free (number_octets any true al) a → NoneStands free (in_128_bits (Per.unconstrained al)) a
   no_unconstrained al a n v b f = none_signed al a n v b (if_out free (is_within wide_range v) _ a b f).1
 
-  pub unconstrained_outside : (al : Bool) (os : List ℕ) (a b : Place) → is_within wide_range (signed_number os) ≡ false → Front free (number_octets any true al os) a b → NoneStands free (in_128_bits (Per.unconstrained al)) a
+  pub unconstrained_outside : (al : Bool) (os : List ℕ) (a b : Position) → is_within wide_range (signed_number os) ≡ false → Front free (number_octets any true al os) a b → NoneStands free (in_128_bits (Per.unconstrained al)) a
   unconstrained_outside al os a b w f v c g =
       let i = if_out free (is_within wide_range v) _ a c g in
       false≢true (sym w ∙ ap (is_within wide_range) (sym (signed_same al v os a b c f i.1)) ∙ i.0)
 
   -- ---- without a sign
-  pub offset_read : (al : Bool) (n : ℕ) (os : List ℕ) (a b : Place) → n ≡ unsigned_number os → is_offset (unsigned_number os) ≡ true → Front free (number_octets any false al os) a b → Front free (offset_form al n) a b
+  pub offset_read : (al : Bool) (n : ℕ) (os : List ℕ) (a b : Position) → n ≡ unsigned_number os → is_offset (unsigned_number os) ≡ true → Front free (number_octets any false al os) a b → Front free (offset_form al n) a b
   unfolding Per.semi_constrained
   offset_read al n os a b e w f =
       let i = octets_told false al os a b f in
@@ -178,7 +178,7 @@ module _ (free : Per.Freedom → Bool) where
       subst (λ z. Front free (offset_form al z) a b) (sym e) (if_in free (is_offset m) _ a b w (varied_in free (λ k. only_if (leb (least_octets m) k) (Per.counted_octets al (digits 256 k m))) (length os) t a b
       (if_in free (leb (least_octets m) (length os)) _ a b (le-leb (least_octets m) (length os) (least_unsigned os o i.0)) (subst (λ l. Front free (Per.counted_octets al l) a b) (sym (digits-unsigned os o)) i.1))))
 
-  unsigned_told : (al : Bool) (n : ℕ) (a b : Place) → Front free (Per.semi_constrained al n) a b → (os : List ℕ) × (unsigned_number os ≡ n) × Front free (number_octets any false al os) a b
+  unsigned_told : (al : Bool) (n : ℕ) (a b : Position) → Front free (Per.semi_constrained al n) a b → (os : List ℕ) × (unsigned_number os ≡ n) × Front free (number_octets any false al os) a b
   unfolding Per.semi_constrained
   unsigned_told al n a b f =
       let q = varied_out free (λ k. only_if (leb (least_octets n) k) (Per.counted_octets al (digits 256 k n))) a b f in
@@ -189,10 +189,10 @@ module _ (free : Per.Freedom → Bool) where
       let own : (not (has_spare false (digits 256 q.0 n)) ≡ true) ⊎ IsTrue any = elim q.1 [ inl e ↦ inl (ap not (not_spare (digits 256 q.0 n) (octets-digits q.0 n) (m ∙ e ∙ ap least_octets (sym u)))) | inr e ↦ inr e ] in
       (digits 256 q.0 n, u, octets_read false al (digits 256 q.0 n) a b (omega arith) (free_or any (not (has_spare false (digits 256 q.0 n))) own) i.1)
 
-  pub no_offset : (al : Bool) (a : Place) → NoneStands free (number_octets any false al) a → NoneStands free (offset_form al) a
+  pub no_offset : (al : Bool) (a : Position) → NoneStands free (number_octets any false al) a → NoneStands free (offset_form al) a
   no_offset al a n m b f = let t = unsigned_told al m a b (if_out free (is_offset m) _ a b f).1 in n t.0 b t.2
 
-  pub offset_outside : (al : Bool) (os : List ℕ) (a b : Place) → is_offset (unsigned_number os) ≡ false → Front free (number_octets any false al os) a b → NoneStands free (offset_form al) a
+  pub offset_outside : (al : Bool) (os : List ℕ) (a b : Position) → is_offset (unsigned_number os) ≡ false → Front free (number_octets any false al os) a b → NoneStands free (offset_form al) a
   offset_outside al os a b w f m c g =
       let i = if_out free (is_offset m) _ a c g in
       let t = unsigned_told al m a c i.1 in

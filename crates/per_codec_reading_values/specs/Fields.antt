@@ -2,10 +2,10 @@
 use Rattle.std.specs.Prelude.{◌≡◌, ◌↔◌, ℕ, ◌*◌, ◌<◌, ◌/◌, ◌==◌, Bool, List, length}
 use Rattle.asn1_model.specs.Form.{exactly, only_if}
 use Rattle.asn1_model.specs.Per
-use Rattle.asn1_schema_faults.specs.declared.DecodeError.{DecodeError}
-use Rattle.asn1_schema_faults.specs.declared.DecodeError.TheVariants.{OutOfMemory}
-use Rattle.per_codec_fronts.specs.Takes.{Place, Front, Skips}
-use Rattle.per_codec_reading.specs.declared.lengths.Length.{Length}
+use Rattle.asn1_schema_errors.specs.declared.DecodeError.{DecodeError}
+use Rattle.asn1_schema_errors.specs.declared.DecodeError.TheVariants.{OutOfMemory}
+use Rattle.per_codec_laws.specs.Takes.{Position, Front, Skips}
+use Rattle.per_codec_reading.specs.declared.length.Length.{Length}
 use Rattle.per_codec_reading.specs.Runs.{bits_in, IsLent}
 use Rattle.per_codec_reading.specs.declared.runs.RunBits.{RunBits}
 use Rattle.per_codec_reading.specs.Units.{Units, counted_units, piece_form}
@@ -30,21 +30,21 @@ field_form al (Bits n) bs = bits_form n bs
 field_form al Bitmap bs = few_form al bs
 
 -- Bits of a form come next, and this position is after them.
-abbrev pub EndsAt : (Per.Freedom → Bool) → Per.BitForm → Place → ℕ → Type 0
-EndsAt free x a n = (b : Place) × (b.0 ≡ n) × Front free x a b
+abbrev pub EndsAt : (Per.Freedom → Bool) → Per.BitForm → Position → ℕ → Type 0
+EndsAt free x a n = (b : Position) × (b.0 ≡ n) × Front free x a b
 
 -- The bits of octets are borrowed exactly if the octets are in one run (X.691 11.9.3.5 to 11.9.3.7).
 abbrev pub LentInOneRun : RunBits → Type 0
 LentInOneRun bits = IsLent bits ↔ (length (bits_in bits) < 8 * 16384)
 
 -- Octets come next, after this length determinant.
-abbrev pub HasPiece : (Per.Freedom → Bool) → Bool → Length → Place → Place → Type 0
+abbrev pub HasPiece : (Per.Freedom → Bool) → Bool → Length → Position → Position → Type 0
 HasPiece free al l a b = (bs : List Bool) × Front free (piece_form al 8 (l, bs)) a b
 
 -- Octets come next, after a length determinant.
-abbrev pub HasUnits : (Per.Freedom → Bool) → Bool → Place → Place → Type 0
+abbrev pub HasUnits : (Per.Freedom → Bool) → Bool → Position → Position → Type 0
 HasUnits free al a b = (us : Units) × Front free (counted_units al 8 us) a b
 
 -- Why no unknown additions are skipped: memory ran out, or the bits do not begin with them.
-abbrev pub NoSkip : (Per.Freedom → Bool) → Bool → List Bool → Place → DecodeError → Type 0
-NoSkip free al us a e = ¬ (e ≡ OutOfMemory) → (b : Place) → Skips al free us a b → ⊥
+abbrev pub NoSkip : (Per.Freedom → Bool) → Bool → List Bool → Position → DecodeError → Type 0
+NoSkip free al us a e = ¬ (e ≡ OutOfMemory) → (b : Position) → Skips al free us a b → ⊥

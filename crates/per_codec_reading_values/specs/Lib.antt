@@ -4,4 +4,4 @@ pub mod Fields
 pub mod Stretches
 pub mod Spelled
 pub mod Texts
-pub mod Unread
+pub mod Bitmaps

@@ -2,9 +2,9 @@
 use Rattle.std.specs.Prelude.{◌≡◌, ◌≤◌, ℕ, ℤ, ◌-◌, ltb, Bool, true, cond, List, length}
 use Rattle.asn1_model.specs.Form.{both, only_if}
 use Rattle.asn1_model.specs.Per.{BitForm, constrained, normally_small}
-use Rattle.asn1_schema_variants.specs.declared.chosen.Chosen.{Chosen}
+use Rattle.asn1_schema_tags.specs.declared.chosen.Chosen.{Chosen}
 use Rattle.per_codec_reading_values.specs.Whole.{is_offset}
-use Rattle.per_codec_fronts.specs.Sizes.{extension_bit}
+use Rattle.per_codec_laws.specs.Sizes.{extension_bit}
 
 -- A normally small number, if it fits in 128 bits (X.691 11.6).
 abbrev pub small_form : Bool → ℕ → BitForm
@@ -19,8 +19,8 @@ abbrev pub added_form : Bool → ℕ → ℕ → BitForm
 added_form al count i = only_if (ltb i count) (normally_small al i)
 
 -- The extension bit, if there is one, and the index.
-abbrev pub place_form : Bool → ℕ → Bool → ℕ → Chosen → BitForm
-place_form al roots e others c = both (extension_bit e c.added)
+abbrev pub index_form : Bool → ℕ → Bool → ℕ → Chosen → BitForm
+index_form al roots e others c = both (extension_bit e c.added)
     (cond c.added (added_form al others c.place) (root_form al roots c.place))
 
 -- There is no item with the index: it is past the end of its table.

@@ -2,8 +2,8 @@
 use Rattle.std.specs.Prelude.{◌≡◌, ◌⊎◌, ℕ, ◌^◌, ◌<◌, Bool, true, List, length, flat_map, Some}
 use Rattle.asn1_model.specs.Schema.{StringKind}
 use Rattle.std.specs.List.{list_all}
-use Rattle.asn1_schema_faults.specs.declared.DecodeError.{DecodeError}
-use Rattle.asn1_schema_faults.specs.declared.DecodeError.TheVariants.{OutOfMemory}
+use Rattle.asn1_schema_errors.specs.declared.DecodeError.{DecodeError}
+use Rattle.asn1_schema_errors.specs.declared.DecodeError.TheVariants.{OutOfMemory}
 use Rattle.asn1_values_alphabets.specs.Permitted.{permits_all}
 use Rattle.per_codec_alphabets.specs.Codes.{Coded, code_of, has_code, text_of}
 

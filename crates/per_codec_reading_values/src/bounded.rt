@@ -4,17 +4,17 @@ ghost use Rattle.std.specs.Prelude.{◌≡◌, ◌+ℤ◌, pos, true, false, Som
 ghost use Rattle.asn1_model.specs.Numbers.{is_within};
 ghost use Rattle.asn1_model.specs.Per as Per;
 ghost use Rattle.asn1_schema_constraints.specs.Bounds.{lower, range_of, upper};
-ghost use Rattle.per_codec_fronts.specs.Takes.{Front};
+ghost use Rattle.per_codec_laws.specs.Takes.{Front};
 ghost use Rattle.per_codec_reading.specs.Fronts as fronts;
 ghost use Rattle.per_codec_reading.specs.Fronts.{freedoms, IsFresh, Misses};
 ghost use Rattle.per_codec_reading.specs.Sizes.{may_be_outside};
 ghost use Rattle.per_codec_reading_values.specs.Whole.{behind_extension_bit, in_128_bits, under_constraint};
 
-use crate::octets::{read_semi_constrained, read_unconstrained};
+use crate::number_octets::{read_semi_constrained, read_unconstrained};
 use asn1_schema_constraints::{Bounded, Extensible, Value};
-use asn1_schema_faults::DecodeError;
+use asn1_schema_errors::DecodeError;
+use per_codec_reading::boolean::read_bit;
 use per_codec_reading::numbers::read_constrained;
-use per_codec_reading::units::read_bit;
 use per_codec_reading::{Cursor, PackedRules};
 use std::alloc::Global;
 

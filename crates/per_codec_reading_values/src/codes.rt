@@ -9,11 +9,11 @@ ghost use Rattle.per_codec_alphabets.specs.Codes.{code_of, code_in};
 ghost use Rattle.per_codec_reading.specs.Fronts.{IsFresh};
 ghost use Rattle.per_codec_reading_values.specs.Spelled.{Spells, Stuck, IsFitting};
 
-use crate::unread::UnreadCodes;
-use asn1_schema_faults::DecodeError;
+use asn1_schema_errors::DecodeError;
 use asn1_values_alphabets::StaticPermittedAlphabet;
 use asn1_values_bits::BitStr;
 use per_codec_alphabets::{CodedRun, EffectiveAlphabet};
+use per_codec_reading::unread::UnreadCodes;
 use std::alloc::Global;
 
 /// The permitted character with this code, if there is one.

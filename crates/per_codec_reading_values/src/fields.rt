@@ -1,15 +1,15 @@
 //! Bits that are taken as a whole: presence bits, bitmaps, and the octets of open types.
 ghost use Rattle.std.specs.Prelude.{◌≡◌, ◌%◌, ◌||◌, not, length, IfOk, IfErr};
 ghost use Rattle.asn1_model.specs.Per as Per;
-ghost use Rattle.per_codec_fronts.specs.Takes.{Front};
+ghost use Rattle.per_codec_laws.specs.Takes.{Front};
 ghost use Rattle.per_codec_reading.specs.Fronts as fronts;
 ghost use Rattle.per_codec_reading.specs.Fronts.{freedoms, Misses};
 ghost use Rattle.per_codec_reading.specs.Runs.{bits_in, EndsWithLent};
 ghost use Rattle.per_codec_reading_values.specs.Fields.{field_form, few_form, bits_form, octets_form, LentInOneRun};
 
-use asn1_schema_faults::DecodeError;
+use asn1_schema_errors::DecodeError;
+use per_codec_reading::boolean::read_bit;
 use per_codec_reading::numbers::read_number_within;
-use per_codec_reading::units::read_bit;
 use per_codec_reading::{Cursor, PackedRules, RunBits, read_counted};
 use std::alloc::Global;
 
@@ -74,7 +74,8 @@ fn read_bitmap<'input>(
 ///
 /// # Errors
 ///
-/// `Incomplete` if the bits end early, the errors of a length determinant, and `OutOfMemory`.
+/// `Incomplete` if the bits end early, `NotValidCanonicalEncoding` if the largest fragments are not first, in strict
+/// rules, the errors of a length determinant, and `OutOfMemory`.
 #[inline(always)]
 pub(crate) fn read_octets<'input>(
     alloc: Global,
@@ -96,7 +97,8 @@ pub(crate) fn read_octets<'input>(
 ///
 /// # Errors
 ///
-/// `Incomplete` if the bits end early, the errors of a length determinant, and `OutOfMemory`.
+/// `Incomplete` if the bits end early, `NotValidCanonicalEncoding` if another form is canonical, in strict rules, the
+/// errors of a length determinant, and `OutOfMemory`.
 #[inline(always)]
 pub(crate) fn read_field<'input>(
     alloc: Global,

@@ -1,28 +1,28 @@
 //! Readers of PER (X.691) for whole numbers, enumeration and choice indices, character strings, octet strings, and
-//! ranges of bits, such as presence bits and open types.
+//! ranges of bits, such as presence bits, bitmaps of additions and open types.
 #![tactic(auto)]
 
+pub mod bitmaps;
 pub mod bounded;
+mod character_string;
 mod codes;
+pub mod enumerated;
 pub mod fields;
-pub mod integers;
-pub mod items;
-mod lending;
-mod octet_strings;
-pub mod octets;
-pub mod places;
+pub mod indexes;
+pub mod integer;
+pub mod number_octets;
+mod octet_string;
+pub mod open_type;
 pub mod skipping;
 pub mod small;
-pub mod stretches;
-mod strings;
-mod unread;
 
+pub use bitmaps::read_bitmap;
+pub use character_string::read_characters;
 pub use codes::string_of;
+pub use enumerated::read_item;
 pub use fields::Field;
-pub use integers::read_integer;
-pub use items::read_item;
-pub use places::read_place_of_alternative;
+pub use indexes::read_alternative_index;
+pub use integer::read_integer;
+pub use open_type::Stretch;
 pub use skipping::skip_unknown;
 pub use small::read_normally_small;
-pub use stretches::Stretch;
-pub use strings::read_characters;

@@ -1,14 +1,14 @@
 //! Unknown additions, skipped by their length determinants (X.691 19.8 and 19.9).
 ghost use Rattle.std.specs.Prelude.{IfOk, OnOk, IfErr};
-ghost use Rattle.per_codec_fronts.specs.Takes.{Front, Skips};
+ghost use Rattle.per_codec_laws.specs.Takes.{Front, Skips};
 ghost use Rattle.per_codec_reading.specs.Fronts as fronts;
 ghost use Rattle.per_codec_reading.specs.Fronts.{freedoms, IsFresh, Misses};
 ghost use Rattle.per_codec_reading.specs.Units.{counted_units, piece_form};
 ghost use Rattle.per_codec_reading_values.specs.Fields.{HasPiece, HasUnits, NoSkip};
 
-use crate::stretches::Stretch;
-use asn1_schema_faults::DecodeError;
-use per_codec_reading::lengths::{Length, read_length};
+use crate::open_type::Stretch;
+use asn1_schema_errors::DecodeError;
+use per_codec_reading::length::{Length, read_length};
 use per_codec_reading::{Cursor, PackedRules};
 
 /// Skips a length determinant and its octets.

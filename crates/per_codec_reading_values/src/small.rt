@@ -1,15 +1,15 @@
 //! Normally small numbers (X.691 11.6).
 ghost use Rattle.std.specs.Prelude.{◌≡◌, ◌||◌, leb, IfOk, IfErr};
 ghost use Rattle.asn1_model.specs.Per as Per;
-ghost use Rattle.per_codec_fronts.specs.Takes.{Front};
+ghost use Rattle.per_codec_laws.specs.Takes.{Front};
 ghost use Rattle.per_codec_reading.specs.Fronts as fronts;
 ghost use Rattle.per_codec_reading.specs.Fronts.{freedoms, Misses};
 ghost use Rattle.per_codec_reading_values.specs.Places.{small_form};
 
-use crate::octets::read_semi_constrained;
-use asn1_schema_faults::DecodeError;
+use crate::number_octets::read_semi_constrained;
+use asn1_schema_errors::DecodeError;
+use per_codec_reading::boolean::read_bit;
 use per_codec_reading::numbers::read_number_within;
-use per_codec_reading::units::read_bit;
 use per_codec_reading::{Cursor, PackedRules};
 use std::alloc::Global;
 

@@ -3,7 +3,7 @@ use crate::spelled::push_spelled;
 use asn1_schema_constraints::{Bounded, Constraints, Extensible, Size, Value as Range};
 use asn1_schema_decode::{Decode, Decoder as _};
 use asn1_schema_encode::{Encode, Encoder as _};
-use asn1_schema_faults::{DecodeError, EncodeError};
+use asn1_schema_errors::{DecodeError, EncodeError};
 use asn1_schema_tags::{Identifier, Tag};
 use asn1_values_bit_strings::BitString;
 use asn1_values_bits::BitBuffer;

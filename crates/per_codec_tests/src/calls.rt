@@ -2,7 +2,7 @@
 use crate::reading::PACKED;
 use asn1_schema_constraints::{Bounded, Constraint, Constraints, Extensible, Size, Value};
 use asn1_schema_encode::Encode;
-use asn1_schema_faults::{DecodeError, EncodeError};
+use asn1_schema_errors::{DecodeError, EncodeError};
 use asn1_values_identifiers::Oid;
 use asn1_values_integers::Integer;
 use asn1_values_octets::OctetString;

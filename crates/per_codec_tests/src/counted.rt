@@ -1,7 +1,7 @@
 //! Octets after a length determinant, in one piece and in fragments, after 0 to 7 bits (X.691 11.9), and which of them
 //! are borrowed.
 use crate::spelled::octets;
-use asn1_schema_faults::{DecodeError, EncodeError};
+use asn1_schema_errors::{DecodeError, EncodeError};
 use asn1_values_bits::BitBuffer;
 use per_codec_packing::Packing;
 use per_codec_reading::{Cursor, PackedRules, Variant, read_counted_octets};
@@ -98,7 +98,7 @@ fn placed_later(
 ) -> Result<Packing, EncodeError> {
     let text = unplaced(alloc, variant, octets)?;
     let mut output = set_bits(alloc, count)?;
-    output.append_text(text.as_text())?;
+    output.append_field_list(text.as_field_list())?;
     Ok(output)
 }
 

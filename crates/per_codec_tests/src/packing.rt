@@ -22,7 +22,7 @@ fn member(alloc: Global) -> Result<Packing, AllocError> {
 /// Appends a bit, and an element after it.
 fn push_within(outer: &mut Packing, inner: &Packing) -> Result<(), AllocError> {
     outer.push(true)?;
-    outer.append_text(inner.as_text())
+    outer.append_field_list(inner.as_field_list())
 }
 
 /// The same after a bit, at an unknown position.
@@ -42,7 +42,7 @@ fn stands_behind(
 ) -> Result<bool, AllocError> {
     let mut text = Packing::new(alloc);
     text.resize(zeros, false)?;
-    text.append_text(inner.as_text())?;
+    text.append_field_list(inner.as_field_list())?;
     Ok(text.as_bits().as_bytes() == octets)
 }
 
@@ -66,7 +66,7 @@ fn is_right(alloc: Global, (zeros, is_nested, octets): (usize, bool, &[u8])) -> 
 
 /// Whether these octets are the complete encoding of a field-list.
 fn completes(alloc: Global, text: &Packing, octets: &[u8]) -> Result<bool, AllocError> {
-    let complete = complete_in(text.as_text(), Vec::new(alloc))?;
+    let complete = complete_in(text.as_field_list(), Vec::new(alloc))?;
     Ok(complete.as_slice() == octets)
 }
 

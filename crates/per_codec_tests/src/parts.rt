@@ -1,15 +1,15 @@
 //! Parts of encodings after a number of bits: numbers, length determinants, indexes, and other parts that are not a
 //! message by themselves (X.691 11).
 use crate::spelled::push_spelled;
-use asn1_schema_faults::EncodeError;
-use asn1_schema_variants::Chosen;
+use asn1_schema_errors::EncodeError;
+use asn1_schema_tags::Chosen;
 use asn1_values_bits::BitBuffer;
 use per_codec_additions::push_normally_few;
 use per_codec_packing::Packing;
 use per_codec_reading::Variant;
 use per_codec_writing::{
-    push_boolean, push_constrained, push_fragment_length, push_normally_small, push_open_type,
-    push_place, push_short_length,
+    push_boolean, push_constrained, push_fragment_length, push_index, push_normally_small,
+    push_open_type, push_short_length,
 };
 use std::alloc::{AllocError, Global};
 use std::test::Fail;
@@ -105,8 +105,8 @@ fn push_part(
         Part::Length(length) if length < 16384 => push_short_length(output, variant, length),
         Part::Fragment(times) if times <= 4 => push_fragment_length(output, variant, times),
         Part::Length(_) | Part::Fragment(_) => Err(EncodeError::SizeConstraintNotSatisfied),
-        Part::Root(place) => push_place(output, variant, 2, false, Chosen::root(place)),
-        Part::Added(place) => push_place(output, variant, 2, true, Chosen::addition(place)),
+        Part::Root(place) => push_index(output, variant, 2, false, Chosen::root(place)),
+        Part::Added(place) => push_index(output, variant, 2, true, Chosen::addition(place)),
         Part::OpenType => push_open_type(output, variant, &BitBuffer::new(alloc)),
         Part::Bitmap => push_bitmap_of_one(alloc, output, variant),
     }
@@ -138,7 +138,7 @@ fn written(
     } else {
         let mut text = Packing::unplaced(alloc);
         push_parts(alloc, &mut text, variant, parts)?;
-        output.append_text(text.as_text())?;
+        output.append_field_list(text.as_field_list())?;
     }
     Ok(output)
 }

@@ -3,12 +3,12 @@ ghost use Rattle.std.specs.Prelude.{◌<◌, ◌≡◌, IfErr};
 
 use asn1_schema_constraints::{Bounded, Constraints};
 use asn1_schema_decode::Decoder as _;
-use asn1_schema_faults::{CodecKind, DecodeError};
+use asn1_schema_errors::{CodecKind, DecodeError};
 use asn1_schema_tags::{Class, Tag, TagPlace, TagTables};
 use per_codec::uper::{Decoder, DecoderOptions};
-use per_codec_reading::lengths::{Length, read_length};
+use per_codec_reading::boolean::{read_boolean, read_null};
+use per_codec_reading::length::{Length, read_length};
 use per_codec_reading::numbers::read_constrained;
-use per_codec_reading::units::{read_boolean, read_null};
 use per_codec_reading::{Cursor, PackedRules};
 use std::alloc::Global;
 use std::borrow::CowSlice;

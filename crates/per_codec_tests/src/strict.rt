@@ -1,7 +1,7 @@
 //! What decoders accept leniently and reject strictly, and what both accept.
 use crate::spelled::octets;
 use asn1_schema_decode::{Decode, Decoder as _};
-use asn1_schema_faults::DecodeError;
+use asn1_schema_errors::DecodeError;
 use asn1_schema_tags::Tag;
 use per_codec::uper::{Decoder, DecoderOptions};
 use per_codec::{aper, aper_strict, uper, uper_strict};

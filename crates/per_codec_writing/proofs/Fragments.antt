@@ -7,9 +7,9 @@ use Rattle.std.specs.List.{list_all}
 use Rattle.asn1_model.specs.Per
 use Rattle.asn1_values_natives.proofs.OctetLaws.{AreOctets}
 use Rattle.asn1_values_natives.proofs.TwosComplement.{octets-all}
-use Rattle.per_codec_packing.specs.Texts.{text_at}
+use Rattle.per_codec_packing.specs.FieldLists.{field_list_at}
 use Rattle.per_codec_writing.specs.Writing.{Packed, Adds, place}
-use Rattle.per_codec_writing.proofs.PaddingTexts.{adds_same, if_true}
+use Rattle.per_codec_writing.proofs.PaddingFieldLists.{adds_same, if_true}
 
 -- ---- how units are divided
 
@@ -63,6 +63,6 @@ octets_are (o ∷ os) h = ap (λ b. b && list_all is_octet os) (lt-ltb _ _ h.0) 
 pub all_octets : (os : List ℕ) → ((i : ℕ) → Fits w8 (get_or os i 0)) → list_all is_octet os ≡ true
 all_octets os h = octets_are os (octets-all os h)
 
-pub adds_octets : (al : Bool) (os : List ℕ) (old new : Packed) → list_all is_octet os ≡ true → Adds (text_at (Per.counted al (Per.octet_units os)) (place old)) old new → Adds (text_at (Per.counted_octets al os) (place old)) old new
+pub adds_octets : (al : Bool) (os : List ℕ) (old new : Packed) → list_all is_octet os ≡ true → Adds (field_list_at (Per.counted al (Per.octet_units os)) (place old)) old new → Adds (field_list_at (Per.counted_octets al os) (place old)) old new
 unfolding Per.counted_octets
 adds_octets al os old new h a = adds_same _ _ old new (if_true (list_all is_octet os) (Per.counted al (Per.octet_units os)) (place old) h) a

@@ -1,4 +1,4 @@
--- Texts in the order of their complete encodings are those in the order of the octets of these.
+-- Field-lists in the order of their complete encodings are those in the order of the octets of these.
 use Rattle.std.proofs.Common.{◌≡◌, ℕ, zero, suc, ◌+◌, ◌<◌, Bool, true, false, cond, ltb, List, [], ◌∷◌, ◌++◌, length, map, take, drop, get_or, Option, Some, option_map, option_and_then, refl, ap, subst, sym, ◌∙◌, add-one, arith}
 use Rattle.std.specs.Prelude.{⊤}
 use Rattle.std.proofs.lemmas.List.{length-drop, drop_more, take_more, map-append}
@@ -10,9 +10,9 @@ use Rattle.asn1_model.specs.Per
 use Rattle.asn1_laws_numbers.proofs.Ordered.{ordered_as_bits}
 use Rattle.asn1_schema_order.specs.Entries.{octets_of, ArePlaced, AreInOrder}
 use Rattle.asn1_schema_order.specs.declared.encodings.Entry.{Entry}
-use Rattle.per_codec_packing.specs.Texts.{Text, text_at, as_form}
-use Rattle.per_codec_packing.specs.Viewed.{text_of}
-use Rattle.per_codec_packing.specs.declared.text_view.TextView.{TextView}
+use Rattle.per_codec_packing.specs.FieldLists.{FieldList, field_list_at, as_form}
+use Rattle.per_codec_packing.specs.Viewed.{field_list_of}
+use Rattle.per_codec_packing.specs.declared.field_list_view.FieldListView.{FieldListView}
 use Rattle.per_codec_writing.specs.Keys.{AreKeyed}
 use Rattle.per_codec_writing.specs.Members.{forms, forms_of}
 
@@ -32,18 +32,18 @@ own e = Some (octets_of e)
 abbrev Held : Type 0
 Held = List ℕ × Entry
 
--- the entries are of some texts, and have octets
-abbrev AreOf : List Text → List Held → Type 0
+-- the entries are of some field-lists, and have octets
+abbrev AreOf : List FieldList → List Held → Type 0
 AreOf ts [] = ⊤
 AreOf ts (e ∷ es) = (list_all is_octet e.0 ≡ true) × (e.1.index < length ts) × AreOf ts es
 
--- entries are of some texts
-abbrev pub AreWithin : List Text → List Entry → Type 0
+-- entries are of some field-lists
+abbrev pub AreWithin : List FieldList → List Entry → Type 0
 AreWithin ts [] = ⊤
 AreWithin ts (e ∷ es) = (e.index < length ts) × AreWithin ts es
 
-module _ (ts : List Text) where
-  -- the text of an entry, as a form
+module _ (ts : List FieldList) where
+  -- the field-list of an entry, as a form
   abbrev pub form_at : Entry → Per.BitForm
   form_at e = as_form (get_or ts e.index [])
 
@@ -69,21 +69,21 @@ module _ (ts : List Text) where
       go true i = (k.0, k.1, i)
       go false i = (h, l, k)
 
-  -- the entries of texts, by octets and by bits
-  record Entered (us : List Text) (es : List Entry) : Type 0 where
+  -- the entries of field-lists, by octets and by bits
+  record Entered (us : List FieldList) (es : List Entry) : Type 0 where
     held : List Held
     sound : AreOf ts held
     owned : with_keys own by_octets es ≡ Some held
     keyed : with_keys key by_bits (forms us) ≡ Some (map turned held)
 
-  -- the text at an index, and those after it
-  front : (i : ℕ) (u : Text) (us : List Text) → drop i ts ≡ u ∷ us → (i < length ts) × (get_or ts i [] ≡ u) × (drop (suc i) ts ≡ us)
+  -- the field-list at an index, and those after it
+  front : (i : ℕ) (u : FieldList) (us : List FieldList) → drop i ts ≡ u ∷ us → (i < length ts) × (get_or ts i [] ≡ u) × (drop (suc i) ts ≡ us)
   front i u us e =
       let l : i < length ts = omega (arith, length-drop i ts, ap length e) in
       let d : get_or ts i [] ∷ drop (suc i) ts ≡ u ∷ us = ap (λ n. get_or ts i [] ∷ drop n ts) (sym (add-one i)) ∙ sym (drop_more ts i [] l) ∙ e in
       (l, cc, cc)
 
-  entered : (i : ℕ) (us : List Text) (ws : List (List ℕ)) (es : List Entry) → drop i ts ≡ us → AreKeyed us ws → ArePlaced i ws es → Entered us es
+  entered : (i : ℕ) (us : List FieldList) (ws : List (List ℕ)) (es : List Entry) → drop i ts ≡ us → AreKeyed us ws → ArePlaced i ws es → Entered us es
   entered i [] (w ∷ ws) es d r p = absurd r
   entered i (u ∷ us) [] es d r p = absurd r
   entered i [] [] (e ∷ es) d r p = absurd p
@@ -100,8 +100,8 @@ module _ (ts : List Text) where
       octets : list_all is_octet (octets_of e) ≡ true
       octets = ap (list_all is_octet) p.0 ∙ r.0.octets
 
-      text : get_or ts e.index [] ≡ u
-      text = ap (λ k. get_or ts k []) p.1 ∙ at.1
+      field_list : get_or ts e.index [] ≡ u
+      field_list = ap (λ k. get_or ts k []) p.1 ∙ at.1
 
       within : e.index < length ts
       within = subst (λ k. k < length ts) (sym p.1) at.0
@@ -115,7 +115,7 @@ module _ (ts : List Text) where
             ap (option_and_then (λ b. option_map (λ l. put_in_place by_bits (b, as_form u) l) (with_keys key by_bits (forms us)))) r.0.key
             ∙ ap (option_map (λ l. put_in_place by_bits (octet_bits w, as_form u) l)) x.keyed
             ∙ ap (λ v. Some (put_in_place by_bits (octet_bits v, as_form u) (map turned x.held))) (sym p.0)
-            ∙ ap (λ t. Some (put_in_place by_bits (octet_bits (octets_of e), as_form t) (map turned x.held))) (sym text)
+            ∙ ap (λ t. Some (put_in_place by_bits (octet_bits (octets_of e), as_form t) (map turned x.held))) (sym field_list)
             ∙ ap Some (put_turned entry x.held octets x.sound);
       }
 
@@ -137,28 +137,28 @@ module _ (ts : List Text) where
     pub entries_within : AreWithin ts entries
     entries_within = subst (AreWithin ts) sorted (last_within all.held all.sound)
 
-    pub in_order_of_bits : (vs : List TextView) → forms_of vs ≡ map form_at entries → ascending key by_bits (forms ts) ≡ Some (forms_of vs)
+    pub in_order_of_bits : (vs : List FieldListView) → forms_of vs ≡ map form_at entries → ascending key by_bits (forms ts) ≡ Some (forms_of vs)
     in_order_of_bits vs e =
         ap (option_map (map (λ (e : List Bool × Per.BitForm). e.1))) all.keyed ∙ ap Some (last_turned all.held ∙ ap (map form_at) sorted ∙ sym e)
 
-pub within_at : (ts : List Text) (es : List Entry) (k : ℕ) (e d : Entry) → AreWithin ts es → k < length es → e ≡ get_or es k d → e.index < length ts
+pub within_at : (ts : List FieldList) (es : List Entry) (k : ℕ) (e d : Entry) → AreWithin ts es → k < length es → e ≡ get_or es k d → e.index < length ts
 within_at ts [] k e d h l q = absurd (omega arith)
 within_at ts (f ∷ es) zero e d h l q = subst (λ (x : Entry). x.index < length ts) (sym q) h.0
 within_at ts (f ∷ es) (suc k) e d h l q = within_at ts es k e d h.1 (omega arith) q
 
--- one more view of the texts of entries
-pub next_of : (ts : List Text) (es : List Entry) (vs more : List TextView) (k : ℕ) (e d : Entry) (v : TextView) → k < length es → forms_of vs ≡ map (form_at ts) (take k es) → e ≡ get_or es k d → text_of v ≡ get_or ts e.index [] → more ≡ vs ++ v ∷ [] → forms_of more ≡ map (form_at ts) (take (k + 1) es)
+-- one more view of the field-lists of entries
+pub next_of : (ts : List FieldList) (es : List Entry) (vs more : List FieldListView) (k : ℕ) (e d : Entry) (v : FieldListView) → k < length es → forms_of vs ≡ map (form_at ts) (take k es) → e ≡ get_or es k d → field_list_of v ≡ get_or ts e.index [] → more ≡ vs ++ v ∷ [] → forms_of more ≡ map (form_at ts) (take (k + 1) es)
 next_of ts es vs more k e d v l h q t f =
-    ap forms_of f ∙ map-append (λ u. as_form (text_of u)) vs (v ∷ [])
-    ∙ ap (λ us. us ++ as_form (text_of v) ∷ []) h ∙ ap (λ u. map (form_at ts) (take k es) ++ as_form u ∷ []) t
+    ap forms_of f ∙ map-append (λ u. as_form (field_list_of u)) vs (v ∷ [])
+    ∙ ap (λ us. us ++ as_form (field_list_of v) ∷ []) h ∙ ap (λ u. map (form_at ts) (take k es) ++ as_form u ∷ []) t
     ∙ sym (map-append (form_at ts) (take k es) (e ∷ []))
     ∙ ap (map (form_at ts)) (ap (λ x. take k es ++ x ∷ []) q ∙ sym (take_more es k d l))
 
-pub length-members : (vs : List TextView) → length (forms_of vs) ≡ length vs
+pub length-members : (vs : List FieldListView) → length (forms_of vs) ≡ length vs
 length-members [] = refl
 length-members (v ∷ vs) = ap suc (length-members vs)
 
--- the text of a bag is that of the list of its members in order
-pub bag_text : (ts : List Text) (vs : List TextView) (f : List Per.BitForm → Per.BitForm) (q : Option ℕ) → ascending (λ x. written (Per.complete x) 0) (stands_before Per.bit_less) (forms ts) ≡ Some (forms_of vs) → text_at (Per.in_any_order (forms ts) f) q ≡ text_at (f (forms_of vs)) q
-unfolding text_at Per.in_any_order
-bag_text ts vs f q e = ap (λ o. text_at (given o f) q) e
+-- the field-list of a bag is that of the list of its elements in order
+pub bag_field_list : (ts : List FieldList) (vs : List FieldListView) (f : List Per.BitForm → Per.BitForm) (q : Option ℕ) → ascending (λ x. written (Per.complete x) 0) (stands_before Per.bit_less) (forms ts) ≡ Some (forms_of vs) → field_list_at (Per.in_any_order (forms ts) f) q ≡ field_list_at (f (forms_of vs)) q
+unfolding field_list_at Per.in_any_order
+bag_field_list ts vs f q e = ap (λ o. field_list_at (given o f) q) e

@@ -4,8 +4,8 @@ use Rattle.asn1_model.specs.Numbers.{binary}
 use Rattle.per_codec_alphabets.specs.Codes.{Coded, text_of}
 
 -- The bits of each character's code.
-abbrev pub texts_of : Coded → List ℕ → List (List Bool)
-texts_of a cs = map (text_of a) cs
+abbrev pub field_lists_of : Coded → List ℕ → List (List Bool)
+field_lists_of a cs = map (text_of a) cs
 
 -- The low bits of a number minus `base`.
 abbrev pub low_bits : ℕ → ℕ → ℕ → List Bool

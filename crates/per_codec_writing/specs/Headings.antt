@@ -6,12 +6,12 @@ use Rattle.asn1_model.specs.Schema.{Counts, Size}
 use Rattle.asn1_model.specs.Numbers.{binary, is_count_within, missing}
 use Rattle.asn1_model.specs.Form.{exactly, both, only_if, joined, placed}
 use Rattle.asn1_model.specs.Per
-use Rattle.asn1_schema_faults.specs.declared.EncodeError.{EncodeError}
-use Rattle.asn1_schema_faults.specs.declared.EncodeError.TheVariants.{OutOfMemory, CallOutOfPlace, AlreadyFailed}
-use Rattle.per_codec_limits.specs.Counts.{below_long_count}
-use Rattle.per_codec_packing.specs.Texts.{Text, bit, moved, text_at}
+use Rattle.asn1_schema_errors.specs.declared.EncodeError.{EncodeError}
+use Rattle.asn1_schema_errors.specs.declared.EncodeError.TheVariants.{OutOfMemory, CallOutOfPlace, AlreadyFailed}
+use Rattle.per_codec_rules.specs.Counts.{below_long_count}
+use Rattle.per_codec_packing.specs.FieldLists.{FieldList, bit, moved, field_list_at}
 use Rattle.per_codec_packing.specs.Packed.{Packed, plus}
-use Rattle.per_codec_writing.specs.declared.lengths.Due.{Due}
+use Rattle.per_codec_writing.specs.declared.length.Due.{Due}
 
 -- The length determinants still to come: the multiples of 16384 units of the fragments, and the number of units after
 -- the first of these determinants (X.691 11.9.3.8). There are none if the units are not in fragments, nor after the
@@ -19,23 +19,23 @@ use Rattle.per_codec_writing.specs.declared.lengths.Due.{Due}
 abbrev pub LengthDeterminants : Type 0
 LengthDeterminants = Option (List ℕ × ℕ)
 
--- What precedes units: its text, the number of units due after it, and the length determinants to come.
+-- What precedes units: its field-list, the number of units due after it, and the length determinants to come.
 pub record Heading : Type 0 where
-  pub text : Text
+  pub field_list : FieldList
   pub due : ℕ
   pub determinants : LengthDeterminants
 
 -- A number that precedes all its units.
-abbrev pub before_all : ℕ → Text → Heading
-before_all n w = record { text = w; due = n; determinants = None }
+abbrev pub before_all : ℕ → FieldList → Heading
+before_all n w = record { field_list = w; due = n; determinants = None }
 
 -- The next length determinant of `n` units in fragments, at a position: that of a fragment, or the closing one (X.691
 -- 11.9.3.5 to 11.9.3.8).
 abbrev pub next_determinant : Bool → List ℕ → ℕ → Option ℕ → Option Heading
-next_determinant al [] n q = option_map (λ w. before_all n w) (text_at (Per.short_length al n) q)
+next_determinant al [] n q = option_map (λ w. before_all n w) (field_list_at (Per.short_length al n) q)
 next_determinant al (m ∷ ms) n q =
-    option_map (λ w. record { text = w; due = m * 16384; determinants = Some (ms, n - m * 16384) })
-    (text_at (only_if (leb 1 m && leb m 4 && leb (m * 16384) n) (Per.at_octet al (exactly (true ∷ true ∷ binary 6 m))))
+    option_map (λ w. record { field_list = w; due = m * 16384; determinants = Some (ms, n - m * 16384) })
+    (field_list_at (only_if (leb 1 m && leb m 4 && leb (m * 16384) n) (Per.at_octet al (exactly (true ∷ true ∷ binary 6 m))))
     q)
 
 -- The first general length determinant of `n` units, the largest fragments first.
@@ -56,7 +56,7 @@ count_form al low high has_padding n = padding_behind (has_padding && al) (Per.c
 abbrev pub count_up_to : Bool → ℕ → Bool → ℕ → Option ℕ → Option ℕ → Option Heading
 count_up_to al low has_padding n q None = general al n q
 count_up_to al low has_padding n q (Some high) =
-    option_map (λ w. before_all n w) (text_at (count_form al low high has_padding n) q)
+    option_map (λ w. before_all n w) (field_list_at (count_form al low high has_padding n) q)
 
 -- The number of `n` units of the root of a size, by its bounds if the upper one is below 65536, and the padding after
 -- it, else in the general form (X.691 11.9.4.1, 16.8 to 16.11, 17.5 to 17.8, 20.5, 30.5.6 and 30.5.7).
@@ -66,7 +66,7 @@ sized_count al c high has_padding n q = count_up_to al c.low has_padding n q (be
 -- A heading after a bit.
 abbrev pub behind_bit : Bool → (Option ℕ → Option Heading) → Option ℕ → Option Heading
 behind_bit b f q =
-    option_map (λ (h : Heading). record { text = bit b ∷ h.text; due = h.due; determinants = h.determinants })
+    option_map (λ (h : Heading). record { field_list = bit b ∷ h.field_list; due = h.due; determinants = h.determinants })
     (f (moved q 1))
 
 -- Within the root or, after an extension bit, outside (X.691 16.6, 17.3, 20.4 and 30.4).
@@ -96,15 +96,15 @@ abbrev pub determinants_of : Option ℕ → LengthDeterminants
 determinants_of None = None
 determinants_of (Some n) = Some (Per.largest_first n, n)
 
--- A heading: its text, and what is due after it.
-abbrev pub heading_of : Text → Due → Heading
-heading_of w d = record { text = w; due = d.units; determinants = determinants_of d.behind }
+-- A heading: its field-list, and what is due after it.
+abbrev pub heading_of : FieldList → Due → Heading
+heading_of w d = record { field_list = w; due = d.units; determinants = determinants_of d.behind }
 
--- There is this heading, and its text follows what was there.
+-- There is this heading, and its field-list follows what was there.
 pub record Heads (o : Option Heading) (old : Packed) (d : Due) (new : Packed) : Type 0 where
-  pub text : Text
-  pub is : o ≡ Some (heading_of text d)
-  pub added : new ≡ plus old text
+  pub field_list : FieldList
+  pub is : o ≡ Some (heading_of field_list d)
+  pub added : new ≡ plus old field_list
 
 -- Why there is no heading: memory ran out, or there is none.
 abbrev pub NoHeading : Option Heading → EncodeError → Type 0

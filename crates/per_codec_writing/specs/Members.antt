@@ -1,14 +1,14 @@
--- The members of a bag.
+-- The elements of a bag.
 use Rattle.std.specs.Prelude.{List, map}
 use Rattle.asn1_model.specs.Per
-use Rattle.per_codec_packing.specs.Texts.{Text, as_form}
-use Rattle.per_codec_packing.specs.Viewed.{text_of}
-use Rattle.per_codec_packing.specs.declared.text_view.TextView.{TextView}
+use Rattle.per_codec_packing.specs.FieldLists.{FieldList, as_form}
+use Rattle.per_codec_packing.specs.Viewed.{field_list_of}
+use Rattle.per_codec_packing.specs.declared.field_list_view.FieldListView.{FieldListView}
 
--- The members by their texts.
-abbrev pub forms : List Text → List Per.BitForm
+-- The elements by their field-lists.
+abbrev pub forms : List FieldList → List Per.BitForm
 forms ts = map (λ t. as_form t) ts
 
--- The members by views of their texts.
-abbrev pub forms_of : List TextView → List Per.BitForm
-forms_of vs = map (λ v. as_form (text_of v)) vs
+-- The elements by views of their field-lists.
+abbrev pub forms_of : List FieldListView → List Per.BitForm
+forms_of vs = map (λ v. as_form (field_list_of v)) vs

@@ -1,15 +1,15 @@
--- Units by their texts, and units under a size constraint.
+-- Units by their field-lists, and units under a size constraint.
 use Rattle.std.specs.Prelude.{Bool, List, length, map, flat_map}
 use Rattle.asn1_model.specs.Form.{exactly}
 use Rattle.asn1_model.specs.Numbers.{is_count_within}
 use Rattle.asn1_model.specs.Schema.{Size}
 use Rattle.asn1_model.specs.Per
 
--- Texts in sequence.
+-- Field-lists in sequence.
 abbrev pub together : List (List Bool) → List Bool
 together ts = flat_map (λ t. t) ts
 
--- Units as forms: each has exactly its text.
+-- Units as forms: each has exactly its field-list.
 abbrev pub forms_of : List (List Bool) → List Per.BitForm
 forms_of ts = map (λ t. exactly t) ts
 

@@ -1,14 +1,14 @@
 //! Constrained whole numbers (X.691 11.5).
 ghost use Rattle.std.specs.Prelude.{◌≡◌, ◌≤◌, true, MatchResult};
 ghost use Rattle.asn1_model.specs.Per.{constrained};
-ghost use Rattle.per_codec_packing.specs.Texts.{text_at};
+ghost use Rattle.per_codec_packing.specs.FieldLists.{field_list_at};
 ghost use Rattle.per_codec_writing.specs.Writing.{Adds, Refuses, place};
-ghost use Rattle.per_codec_limits.specs.Variants.{is_aligned};
+ghost use Rattle.per_codec_rules.specs.Variants.{is_aligned};
 
-use asn1_schema_faults::EncodeError;
+use asn1_schema_errors::EncodeError;
 use asn1_values_natives::octets::{bit_count, octet_width};
-use per_codec_limits::{LONG_SPAN, Variant};
 use per_codec_packing::Packing;
+use per_codec_rules::{LONG_SPAN, Variant};
 
 /// Adds a number of 0 to `span` in its fewest octets, octet-aligned, after their count, itself a constrained whole
 /// number (X.691 11.5.7.4 and 13.2.6).
@@ -16,7 +16,7 @@ fn push_fewest_octets(output: &mut Packing, span: u128, value: u128) -> Result<(
     requires within { value ≤ span }
     requires large { 65536 ≤ span }
     ensures { MatchResult result (λ _. Adds
-        (text_at (constrained true span value) (place output.old)) output.old output.new)
+        (field_list_at (constrained true span value) (place output.old)) output.old output.new)
         (λ e. e ≡ EncodeError.OutOfMemory) }
 {
     let count = octet_width(value).max(1);
@@ -34,7 +34,7 @@ fn push_octets(output: &mut Packing, span: u128, value: u128) -> Result<(), Enco
     requires within { value ≤ span }
     requires large { 255 ≤ span }
     ensures { MatchResult result (λ _. Adds
-        (text_at (constrained true span value) (place output.old)) output.old output.new)
+        (field_list_at (constrained true span value) (place output.old)) output.old output.new)
         (λ e. e ≡ EncodeError.OutOfMemory) }
 {
     if span >= LONG_SPAN {
@@ -60,8 +60,8 @@ pub fn push_constrained(
     value: u128,
 ) -> Result<(), EncodeError>
     ensures { MatchResult result (λ _. Adds
-        (text_at (constrained (is_aligned variant) span value) (place output.old)) output.old output.new)
-        (Refuses (text_at (constrained (is_aligned variant) span value) (place output.old))) }
+        (field_list_at (constrained (is_aligned variant) span value) (place output.old)) output.old output.new)
+        (Refuses (field_list_at (constrained (is_aligned variant) span value) (place output.old))) }
 {
     if value > span {
         return Err(EncodeError::ValueConstraintNotSatisfied);

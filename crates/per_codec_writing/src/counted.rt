@@ -1,15 +1,15 @@
 //! Units after a general length determinant (X.691 11.9).
 ghost use Rattle.std.specs.Prelude.{◌≡◌, ◌^◌, ◌<◌, length, MatchResult};
 ghost use Rattle.asn1_model.specs.Per.{counted, counted_octets};
-ghost use Rattle.per_codec_packing.specs.Texts.{text_at};
+ghost use Rattle.per_codec_packing.specs.FieldLists.{field_list_at};
 ghost use Rattle.per_codec_writing.specs.Headings.{form_due, determinants_of, IsDue};
 ghost use Rattle.per_codec_writing.specs.Writing.{Adds, place};
-ghost use Rattle.per_codec_limits.specs.Variants.{is_aligned};
+ghost use Rattle.per_codec_rules.specs.Variants.{is_aligned};
 
 use crate::{Due, Units, push_length_determinant};
-use asn1_schema_faults::EncodeError;
-use per_codec_limits::Variant;
+use asn1_schema_errors::EncodeError;
 use per_codec_packing::Packing;
+use per_codec_rules::Variant;
 
 /// Adds the units that are due and, while more follow another length determinant, this one and the units after it
 /// (X.691 11.9.3.8). The only error is `OutOfMemory`.
@@ -23,7 +23,7 @@ fn push_fragments<U: Units>(
     requires fits { length (U.forms units.now) < 2 ^ 64 }
     requires due { IsDue (length (U.forms units.now)) first }
     ensures { MatchResult result (λ _. Adds
-        (text_at (form_due (is_aligned variant) first.units (determinants_of first.behind) (U.forms units.now))
+        (field_list_at (form_due (is_aligned variant) first.units (determinants_of first.behind) (U.forms units.now))
         (place output.old)) output.old output.new) (λ e. e ≡ EncodeError.OutOfMemory) }
 {
     let mut due = first;
@@ -49,7 +49,7 @@ pub(crate) fn push_due<U: Units>(
     requires fits { length (U.forms units.now) < 2 ^ 64 }
     requires due { IsDue (length (U.forms units.now)) first }
     ensures { MatchResult result (λ _. Adds
-        (text_at (form_due (is_aligned variant) first.units (determinants_of first.behind) (U.forms units.now))
+        (field_list_at (form_due (is_aligned variant) first.units (determinants_of first.behind) (U.forms units.now))
         (place output.old)) output.old output.new) (λ e. e ≡ EncodeError.OutOfMemory) }
 {
     match first.behind {
@@ -74,7 +74,7 @@ pub fn push_counted<U: Units>(
     units: &U,
 ) -> Result<(), EncodeError>
     ensures { MatchResult result (λ _. Adds
-        (text_at (counted (is_aligned variant) (U.forms units.now)) (place output.old)) output.old output.new)
+        (field_list_at (counted (is_aligned variant) (U.forms units.now)) (place output.old)) output.old output.new)
         (λ e. e ≡ EncodeError.OutOfMemory) }
 {
     let due = push_length_determinant(output, variant, units.count())?;
@@ -94,7 +94,7 @@ pub fn push_counted_octets(
     octets: &[u8],
 ) -> Result<(), EncodeError>
     ensures { MatchResult result (λ _. Adds
-        (text_at (counted_octets (is_aligned variant) octets.now) (place output.old)) output.old output.new)
+        (field_list_at (counted_octets (is_aligned variant) octets.now) (place output.old)) output.old output.new)
         (λ e. e ≡ EncodeError.OutOfMemory) }
 {
     let units = octets;

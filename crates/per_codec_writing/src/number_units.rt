@@ -2,12 +2,12 @@
 ghost use Rattle.std.specs.Prelude.{◌≡◌, ◌≤◌, flat_map, length, map, MatchResult};
 ghost use Rattle.asn1_model.specs.Numbers.{binary};
 ghost use Rattle.per_codec_writing.specs.Characters.{low_bits};
-ghost use Rattle.per_codec_packing.specs.Texts.{as_text};
+ghost use Rattle.per_codec_packing.specs.FieldLists.{as_field_list};
 ghost use Rattle.per_codec_writing.specs.Units.{forms_of};
 ghost use Rattle.per_codec_writing.specs.Writing.{plus};
 
 use crate::Units;
-use asn1_schema_faults::EncodeError;
+use asn1_schema_errors::EncodeError;
 use per_codec_packing::Packing;
 
 /// Octets as units: the low `width` bits, at most eight, of each octet minus `base`.
@@ -47,7 +47,7 @@ fn push_low_bits(
 ) -> Result<(), EncodeError>
     requires { width ≤ 8 }
     ensures { MatchResult result
-        (λ _. output.new ≡ plus output.old (as_text (flat_map (low_bits base width) octets.now)))
+        (λ _. output.new ≡ plus output.old (as_field_list (flat_map (low_bits base width) octets.now)))
         (λ e. e ≡ EncodeError.OutOfMemory) }
 {
     if width == 8 && base == 0 {

@@ -1,11 +1,11 @@
 //! Padding to octet boundaries (X.691 11.1).
 ghost use Rattle.std.specs.Prelude.{◌≡◌, MatchResult};
 ghost use Rattle.per_codec_writing.specs.Writing.{padding_if, place, plus};
-ghost use Rattle.per_codec_limits.specs.Variants.{is_aligned};
+ghost use Rattle.per_codec_rules.specs.Variants.{is_aligned};
 
-use asn1_schema_faults::EncodeError;
-use per_codec_limits::Variant;
+use asn1_schema_errors::EncodeError;
 use per_codec_packing::Packing;
+use per_codec_rules::Variant;
 
 /// Adds padding to the next octet boundary in the aligned variant, and nothing in the unaligned one (X.691 11.1).
 ///

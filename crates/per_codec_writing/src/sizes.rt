@@ -4,17 +4,17 @@ ghost use Rattle.std.specs.Prelude.{◌≡◌, ◌≤◌, true, IfOk, MatchResul
 ghost use Rattle.asn1_model.specs.Numbers.{is_count_within};
 ghost use Rattle.asn1_schema_constraints.specs.Bounds.{counts_of, upper};
 ghost use Rattle.asn1_schema_constraints.specs.Terms.{size_of};
-ghost use Rattle.per_codec_packing.specs.Texts.{text_at};
+ghost use Rattle.per_codec_packing.specs.FieldLists.{field_list_at};
 ghost use Rattle.per_codec_writing.specs.Headings.{count_form, sized_count, heading, Heads, IsDue, NoHeading};
 ghost use Rattle.per_codec_writing.specs.Writing.{Adds, Refuses, place};
-ghost use Rattle.per_codec_limits.specs.Variants.{is_aligned};
+ghost use Rattle.per_codec_rules.specs.Variants.{is_aligned};
 
-use crate::lengths::push_length_determinant;
+use crate::length::push_length_determinant;
 use crate::{Due, push_constrained, push_padding};
 use asn1_schema_constraints::{Bounded, Sizes};
-use asn1_schema_faults::EncodeError;
-use per_codec_limits::{Variant, told_highest};
+use asn1_schema_errors::EncodeError;
 use per_codec_packing::Packing;
+use per_codec_rules::{Variant, told_highest};
 
 /// Adds a number of units of `low` to `high`, and padding after it if `has_padding` (X.691 11.9.4.1).
 #[inline(always)]
@@ -29,8 +29,9 @@ fn push_number(
     requires least { low ≤ count }
     requires most { count ≤ high }
     ensures { MatchResult result (λ _. Adds
-        (text_at (count_form (is_aligned variant) low high has_padding count) (place output.old)) output.old output.new)
-        (Refuses (text_at (count_form (is_aligned variant) low high has_padding count) (place output.old))) }
+        (field_list_at (count_form (is_aligned variant) low high has_padding count) (place output.old)) output.old
+        output.new)
+        (Refuses (field_list_at (count_form (is_aligned variant) low high has_padding count) (place output.old))) }
 {
     push_constrained(output, variant, (high - low) as u128, (count - low) as u128)?;
     if has_padding {
@@ -68,9 +69,11 @@ fn push_root_count(
     })
 }
 
-/// Adds what precedes `count` units under a size constraint: the extension bit, if the size is extensible, and the
-/// number of units or the first general length determinant. `has_padding` says whether padding follows a number
-/// encoded by the bounds of the root, in the aligned variant.
+/// Adds what precedes `count` units under a size constraint, in a string as in a list (X.691 16, 17, 20 and 30): the
+/// extension bit, if the size is extensible, and the number of units or the first general length determinant. Later
+/// fragments get their length determinants in lists by `next_of_list` of `per_codec_encoder::members`, elsewhere by
+/// `push_due`. `has_padding` says whether padding follows a number encoded by the bounds of the root, in the aligned
+/// variant.
 ///
 /// # Errors
 ///

@@ -1,14 +1,14 @@
 //! Normally small whole numbers (X.691 11.6).
 ghost use Rattle.std.specs.Prelude.{◌≡◌, MatchResult};
 ghost use Rattle.asn1_model.specs.Per.{normally_small};
-ghost use Rattle.per_codec_packing.specs.Texts.{text_at};
+ghost use Rattle.per_codec_packing.specs.FieldLists.{field_list_at};
 ghost use Rattle.per_codec_writing.specs.Writing.{Adds, place};
-ghost use Rattle.per_codec_limits.specs.Variants.{is_aligned};
+ghost use Rattle.per_codec_rules.specs.Variants.{is_aligned};
 
-use crate::integers::push_semi_constrained;
-use asn1_schema_faults::EncodeError;
-use per_codec_limits::Variant;
+use crate::integer::push_semi_constrained;
+use asn1_schema_errors::EncodeError;
 use per_codec_packing::Packing;
+use per_codec_rules::Variant;
 
 /// Adds a normally small number (X.691 11.6): up to 63 a zero bit and six bits, else a one bit, a length determinant
 /// and the fewest octets.
@@ -22,7 +22,7 @@ pub fn push_normally_small(
     number: u64,
 ) -> Result<(), EncodeError>
     ensures { MatchResult result (λ _. Adds
-        (text_at (normally_small (is_aligned variant) number) (place output.old)) output.old output.new)
+        (field_list_at (normally_small (is_aligned variant) number) (place output.old)) output.old output.new)
         (λ e. e ≡ EncodeError.OutOfMemory) }
 {
     if number < 64 {

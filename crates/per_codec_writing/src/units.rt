@@ -3,14 +3,14 @@ ghost use Rattle.std.specs.Prelude.{◌≡◌, ◌≤◌, List, length, slice_ra
 ghost use Rattle.asn1_model.specs.Form.{joined};
 ghost use Rattle.asn1_model.specs.Per.{BitForm, bit_units, octet_units};
 ghost use Rattle.asn1_values_bits.specs.BitStr.{bits_of};
-ghost use Rattle.per_codec_packing.specs.Texts.{text_at};
+ghost use Rattle.per_codec_packing.specs.FieldLists.{field_list_at};
 ghost use Rattle.per_codec_writing.specs.Members.{forms_of};
 ghost use Rattle.per_codec_writing.specs.Writing.{Adds, place};
 
 use crate::members::push_each;
-use asn1_schema_faults::EncodeError;
+use asn1_schema_errors::EncodeError;
 use asn1_values_bits::BitStr;
-use per_codec_packing::{Packing, TextView};
+use per_codec_packing::{FieldListView, Packing};
 
 /// Units that can be written in pieces: 16384 units or more are split into fragments (X.691 11.9.3.8).
 pub trait Units {
@@ -26,7 +26,7 @@ pub trait Units {
         requires order { from ≤ to }
         requires within { to ≤ length (forms self.now) }
         ensures { MatchResult result (λ _. Adds
-            (text_at (joined (slice_range (forms self.now) from to)) (place output.old)) output.old output.new)
+            (field_list_at (joined (slice_range (forms self.now) from to)) (place output.old)) output.old output.new)
             (λ e. e ≡ EncodeError.OutOfMemory) };
 }
 
@@ -61,8 +61,8 @@ impl Units for BitStr<'_> {
     }
 }
 
-/// Members of a bag, already in order.
-impl Units for &[TextView<'_>] {
+/// Elements of a bag, already in order.
+impl Units for &[FieldListView<'_>] {
     ghost forms = { λ members. forms_of members.now };
 
     fn count(&self) -> usize {

@@ -1,4 +1,4 @@
-use Rattle.asn1_schema_presented.specs.Tables.{scope, components_at, sequence_type}
+use Rattle.asn1_schema_laws.specs.Tables.{scope, components_at, sequence_type}
 use Rattle.asn1_relay_command.proofs.program.send_all.Goals as goal
 
 pub returns-in-Plain : goal.returns-in-Plain

@@ -1,5 +1,5 @@
 use Rattle.std.proofs.Common.{◌+◌, ◌≤◌, length, Some, refl, arith}
-use Rattle.asn1_schema_presented.proofs.Joined.{raised}
+use Rattle.asn1_schema_laws.proofs.Joined.{raised}
 use Rattle.asn1_relay_core.specs.Coding.{rules_of}
 use Rattle.asn1_relay_core.specs.Routing.{hops_of, arrived, outcome_of}
 use Rattle.asn1_relay_core.proofs.Outcomes.{some_hop, some_model_hop, nothing_passed, all_passed, next_passed, refused_there, is_reached, only_outcome}

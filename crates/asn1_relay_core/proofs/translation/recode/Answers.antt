@@ -44,7 +44,7 @@ returns-in_err-value-clause-fresh g c =
 pub returns-in_err-encode-clause-fresh : goal.returns-in_err-encode-clause-fresh
 returns-in_err-encode-clause-fresh g c =
     let p = err_from_is_err_and c.from_residual-in_err-encode.result c.from_residual-in_err-encode.ensures.1 in
-    rw p.1 (target_names_none _ p.0 p.2 c.in_err-encode.ensures.fresh)
+    rw p.1 (target_names_none _ p.0 p.2 c.in_err-encode.ensures.kinds.fresh)
 
 pub returns-in_err-value-clause-in_place : goal.returns-in_err-value-clause-in_place
 returns-in_err-value-clause-in_place g c =
@@ -54,7 +54,7 @@ returns-in_err-value-clause-in_place g c =
 pub returns-in_err-encode-clause-in_place : goal.returns-in_err-encode-clause-in_place
 returns-in_err-encode-clause-in_place g c =
     let p = err_from_is_err_and c.from_residual-in_err-encode.result c.from_residual-in_err-encode.ensures.1 in
-    rw p.1 (target_names_no_call _ p.0 p.2 c.in_err-encode.ensures.in_place)
+    rw p.1 (target_names_no_call _ p.0 p.2 c.in_err-encode.ensures.kinds.in_place)
 
 pub returns-in_err-value-clause-fits : goal.returns-in_err-value-clause-fits
 returns-in_err-value-clause-fits g c =
@@ -64,4 +64,4 @@ returns-in_err-value-clause-fits g c =
 pub returns-in_err-encode-clause-fits : goal.returns-in_err-encode-clause-fits
 returns-in_err-encode-clause-fits g c =
     let p = err_from_is_err_and c.from_residual-in_err-encode.result c.from_residual-in_err-encode.ensures.1 in
-    rw p.1 (target_names_no_size _ p.0 p.2 c.in_err-encode.ensures.fits)
+    rw p.1 (target_names_no_size _ p.0 p.2 c.in_err-encode.ensures.kinds.fits)

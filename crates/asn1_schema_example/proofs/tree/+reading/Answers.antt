@@ -1,3 +1,4 @@
+use Rattle.std.proofs.Common.{rules}
 use Rattle.std.proofs.Common.{refl, ◌∙◌, arith, ap, Err}
 use Rattle.asn1_schema.proofs.Author.{count_presence_bits, failed_reads, from_close, from_end, from_further, from_next}
 use Rattle.asn1_schema.proofs.Author.{from_start, from_stuck, passed_on, raised, reads_as, reads_end, reads_field}
@@ -69,15 +70,23 @@ read_branches-returns-clause-ok g t c = reads_as _ _ branches_are (reads_list _ 
 pub read_branches-returns-clause-level : goal.read_branches-returns-clause-level
 read_branches-returns-clause-level g t c = omega (arith, c.in_ok-end.ensures.level, c.in_ok-get_further.ensures.level, c.loop-branches.invariant.1, c.in_ok-begin_list.ensures.level)
 
-pub TreeConstructed::read_fields-returns-in_err-branches-clause-after : goal.TreeConstructed::read_fields-returns-in_err-branches-clause-after
-TreeConstructed::read_fields-returns-in_err-branches-clause-after g t c =
-    let law = g.met.D.Decoder.goes_on in
-    passed_on _ c.from_residual-in_err-branches.ensures.1 (λ h. failed_reads law c.in_ok-value.ensures.ok (c.in_err-branches.ensures.after (ap (λ z. Err z) h)))
+pub TreeConstructed::read_fields-returns-in_err-branches-clause-call : goal.TreeConstructed::read_fields-returns-in_err-branches-clause-call
+TreeConstructed::read_fields-returns-in_err-branches-clause-call g t c =
+    record {
+      failed = search rules;
+      already = search rules;
+      after = let law = g.met.D.Decoder.goes_on in
+          passed_on _ c.from_residual-in_err-branches.ensures.1 (λ h. failed_reads law c.in_ok-value.ensures.ok (c.in_err-branches.ensures.after (ap (λ z. Err z) h)));
+    }
 
-pub TreeConstructed::read_fields-returns-in_err-end-clause-after : goal.TreeConstructed::read_fields-returns-in_err-end-clause-after
-TreeConstructed::read_fields-returns-in_err-end-clause-after g t c =
-    let law = g.met.D.Decoder.goes_on in
-    passed_on _ c.from_residual-in_err-end.ensures.1 (λ h. failed_reads law c.in_ok-value.ensures.ok (failed_reads law c.in_ok-branches.ensures.ok (c.in_err-end.ensures.after (ap (λ z. Err z) h))))
+pub TreeConstructed::read_fields-returns-in_err-end-clause-call : goal.TreeConstructed::read_fields-returns-in_err-end-clause-call
+TreeConstructed::read_fields-returns-in_err-end-clause-call g t c =
+    record {
+      failed = search rules;
+      already = search rules;
+      after = let law = g.met.D.Decoder.goes_on in
+          passed_on _ c.from_residual-in_err-end.ensures.1 (λ h. failed_reads law c.in_ok-value.ensures.ok (failed_reads law c.in_ok-branches.ensures.ok (c.in_err-end.ensures.call.after (ap (λ z. Err z) h))));
+    }
 
 pub read_branches-returns-in_err-get_further-clause-after : goal.read_branches-returns-in_err-get_further-clause-after
-read_branches-returns-in_err-get_further-clause-after g t c = passed_on _ c.from_residual-in_err-get_further.ensures.1 (λ h. absurd (c.loop-branches.invariant.2 (c.in_err-get_further.ensures.after (ap (λ z. Err z) h))))
+read_branches-returns-in_err-get_further-clause-after g t c = passed_on _ c.from_residual-in_err-get_further.ensures.1 (λ h. absurd (c.loop-branches.invariant.2 (c.in_err-get_further.ensures.call.after (ap (λ z. Err z) h))))

@@ -10,7 +10,7 @@ pub returns-clause-needed : goal.returns-clause-needed
 returns-clause-needed g c = more_needed_from c.args.rules g.T.Described.schema c.args.input.now c.new-decoder.result _ _ c.in-Err.error (g.T.Described.typed.lawful 128) c.new-decoder.ensures c.needed-needed.ensures c.in-Err.ensures.only
 
 pub returns-clause-fresh : goal.returns-clause-fresh
-returns-clause-fresh g c = λ h. not_failed c.args.rules c.args.input.now c.new-decoder.ensures (c.in-Err.ensures.after (ap Err h))
+returns-clause-fresh g c = λ h. not_failed c.args.rules c.args.input.now c.new-decoder.ensures (c.in-Err.ensures.call.after (ap Err h))
 
 pub overflow_sub-taken : goal.overflow_sub-taken
 overflow_sub-taken g c =

@@ -1,3 +1,4 @@
+use Rattle.std.proofs.Common.{rules}
 use Rattle.std.proofs.Common.{ℕ, List, ◌++◌, length, drop, Err, ap, ◌∙◌}
 use Rattle.oer_codec.proofs.Encoding.{not_failed, written_behind, refused_behind, buffer_written, buffer_refused, buffer_same}
 use Rattle.oer_codec.proofs.writing.encode_buf.Goals as goal
@@ -35,8 +36,9 @@ returns-in-Ok-clause-same g c =
 pub returns-clause-only : goal.returns-clause-only
 returns-clause-only g c = refused_behind g.T.Described.schema (g.T.Described.meaning c.args.value.now) c.from_buffer-encoder.result _ c.from_buffer-encoder.ensures (g.T.Described.valued c.args.value.now) c.in-Err.error c.refusal.result c.in-Err.ensures.only (record { length = c.refusal.ensures.length; platform = c.refusal.ensures.platform; place = c.refusal.ensures.place; others = c.refusal.ensures.others })
 
-pub returns-clause-fresh : goal.returns-clause-fresh
-returns-clause-fresh g c h = c.refusal.ensures.fresh (λ k. not_failed c.from_buffer-encoder.ensures (c.in-Err.ensures.after (ap Err k))) h
+pub returns-clause-kinds : goal.returns-clause-kinds
+returns-clause-kinds g c =
+    record { fresh = c.refusal.ensures.fresh (λ k. not_failed c.from_buffer-encoder.ensures (c.in-Err.ensures.call.after (ap Err k))); in_place = search rules; fits = search rules }
 
 pub returns-clause-same : goal.returns-clause-same
-returns-clause-same g c = c.into_front.ensures ∙ c.in-Err.ensures.front ∙ ap (λ w. w.front) c.from_buffer-encoder.ensures ∙ c.make_room.ensures
+returns-clause-same g c = c.into_front.ensures ∙ c.in-Err.ensures.call.front ∙ ap (λ w. w.front) c.from_buffer-encoder.ensures ∙ c.make_room.ensures

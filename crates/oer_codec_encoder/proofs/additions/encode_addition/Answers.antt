@@ -1,5 +1,5 @@
 use Rattle.std.proofs.Common.{◌≡◌, ◌∷◌, subst, sym, arith, ◌/◌, refl, ◌∙◌}
-use Rattle.asn1_schema_presented.specs.Records.{addition}
+use Rattle.asn1_schema_laws.specs.Records.{addition}
 use Rattle.oer_codec_encoder.specs.declared.frame.Frame.TheVariants.{Added}
 use Rattle.oer_codec_encoder.specs.Frames.{with_next}
 use Rattle.oer_codec_encoder.specs.Holding.{Does}

@@ -2,7 +2,7 @@ use Rattle.std.proofs.Common.{ap, ◌∙◌, refl}
 use Rattle.asn1_schema_constraints.specs.Bounds.{members_of}
 use Rattle.asn1_schema_constraints.specs.Terms.{sizes_of}
 use Rattle.oer_codec_encoder.specs.declared.frame.Bag.{Bag}
-use Rattle.asn1_schema_presented.specs.Records.{bag_begins}
+use Rattle.asn1_schema_laws.specs.Records.{bag_begins}
 use Rattle.oer_codec_encoder.specs.Holding.{Cannot}
 use Rattle.oer_codec_encoder.proofs.Refusals.{no_text, passed_on}
 use Rattle.oer_codec_encoder.proofs.BagScopes.{does_begin_bag, no_begin_bag}

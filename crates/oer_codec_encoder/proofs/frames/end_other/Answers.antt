@@ -1,5 +1,5 @@
 use Rattle.std.proofs.Common.{◌≡◌, ◌∷◌, ap, reverse, subst, sym}
-use Rattle.asn1_schema_presented.specs.Records.{ends}
+use Rattle.asn1_schema_laws.specs.Records.{ends}
 use Rattle.oer_codec_encoder.specs.Frames.{others_of}
 use Rattle.oer_codec_encoder.specs.Holding.{Cannot}
 use Rattle.oer_codec_encoder.proofs.Refusals.{passed_on}

@@ -1,7 +1,7 @@
 use Rattle.std.proofs.Common.{refl}
 use Rattle.asn1_schema_constraints.specs.Bounds.{members_of}
 use Rattle.asn1_schema_constraints.specs.Terms.{sizes_of}
-use Rattle.asn1_schema_presented.specs.Records.{list_begins}
+use Rattle.asn1_schema_laws.specs.Records.{list_begins}
 use Rattle.oer_codec_encoder.specs.Holding.{Cannot}
 use Rattle.oer_codec_encoder.proofs.Refusals.{no_text, passed_on}
 use Rattle.oer_codec_encoder.proofs.Scopes.{does_begin_members, no_begin_members}

@@ -1,5 +1,5 @@
 use Rattle.std.proofs.Common.{◌+◌, arith, subst, sym, refl}
-use Rattle.asn1_schema_presented.specs.Records.{presence_bit}
+use Rattle.asn1_schema_laws.specs.Records.{presence_bit}
 use Rattle.oer_codec_encoder.specs.Holding.{Does}
 use Rattle.oer_codec_encoder.proofs.Refusals.{no_presence_bit_due}
 use Rattle.oer_codec_encoder.proofs.Scopes.{presence_bit_within, does_presence_bit_absent, does_presence_bit_present, with_extension_byte, presence_bits_fit}

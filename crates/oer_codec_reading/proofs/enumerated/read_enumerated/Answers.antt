@@ -1,4 +1,4 @@
-use Rattle.asn1_schema_presented.proofs.Joined.{raised}
+use Rattle.asn1_schema_laws.proofs.Joined.{raised}
 use Rattle.oer_codec_reading.specs.Fronts.{freedoms}
 use Rattle.oer_codec_reading.proofs.Fronts.{misses_also}
 use Rattle.oer_codec_reading.proofs.Enumerations.{no_item, item_stands, no_such_item}

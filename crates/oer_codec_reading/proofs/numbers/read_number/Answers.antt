@@ -1,9 +1,9 @@
 use Rattle.std.proofs.Common.{sym}
 use Rattle.std.proofs.lemmas.Result.{err_from_is_err_and}
-use Rattle.oer_codec_reading_lengths.specs.Fronts.{freedoms}
+use Rattle.oer_codec_reading.specs.Fronts.{freedoms}
 use Rattle.oer_codec_reading.specs.Sized.{sized}
 use Rattle.oer_codec_reading.specs.Whole.{number_in}
-use Rattle.oer_codec_reading_lengths.proofs.Fronts.{misses_also}
+use Rattle.oer_codec_reading.proofs.Fronts.{misses_also}
 use Rattle.oer_codec_reading.proofs.WholeFronts.{no_octets, empty_octets, not_taken, number_read, some_octets}
 use Rattle.oer_codec_reading.proofs.numbers.read_number.Goals as goal
 

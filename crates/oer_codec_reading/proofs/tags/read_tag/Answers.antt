@@ -1,5 +1,5 @@
 use Rattle.std.proofs.Common.{inl, inr}
-use Rattle.asn1_schema_presented.proofs.Joined.{raised}
+use Rattle.asn1_schema_laws.proofs.Joined.{raised}
 use Rattle.oer_codec_reading.specs.Fronts.{freedoms}
 use Rattle.oer_codec_reading.proofs.Freedoms.{not_is, is_not}
 use Rattle.oer_codec_reading.proofs.Fronts.{none_misses}

@@ -20,10 +20,10 @@ pub overflow_sub-taken : goal.overflow_sub-taken
 overflow_sub-taken g c = subst (λ n. c.len.result ≤ n) (sym (c.len-looked_at.ensures ∙ ap length c.input.ensures)) (subst (λ m. m ≤ length c.new-decoder.result.place.1) (sym (c.len.ensures ∙ ap length c.input-2.ensures)) (left_within c.args.rules g.T.Described.schema _ c.args.input.now c.new-decoder.result c.decode.new.decoder c.finish.new.self.place c.new-decoder.ensures c.in-Ok.ensures.ok c.in-Ok-finish.ensures.ok.1).0)
 
 pub returns-in-Err-clause-fresh : goal.returns-in-Err-clause-fresh
-returns-in-Err-clause-fresh g c = (λ q. begun_ready c.args.rules c.args.input.now c.new-decoder.result c.new-decoder.ensures (c.in-Err.ensures.after (ap Err q)))
+returns-in-Err-clause-fresh g c = (λ q. begun_ready c.args.rules c.args.input.now c.new-decoder.result c.new-decoder.ensures (c.in-Err.ensures.call.after (ap Err q)))
 
 pub returns-in-Err-finish-clause-fresh : goal.returns-in-Err-finish-clause-fresh
-returns-in-Err-finish-clause-fresh g c = (λ q. not_failed c.args.rules g.T.Described.schema c.args.input.now _ c.new-decoder.result c.decode.new.decoder c.new-decoder.ensures c.in-Ok.ensures.ok (c.in-Err-finish.ensures.after (ap Err q)))
+returns-in-Err-finish-clause-fresh g c = (λ q. not_failed c.args.rules g.T.Described.schema c.args.input.now _ c.new-decoder.result c.decode.new.decoder c.new-decoder.ensures c.in-Ok.ensures.ok (c.in-Err-finish.ensures.call.after (ap Err q)))
 
 pub returns-in-Err-clause-needed : goal.returns-in-Err-clause-needed
 returns-in-Err-clause-needed g c = more_needed_from c.args.rules g.T.Described.schema c.args.input.now c.new-decoder.result c.decode.new.decoder c.needed-needed.result c.in-Err.error (g.T.Described.typed.lawful 128) c.new-decoder.ensures c.needed-needed.ensures c.in-Err.ensures.only

@@ -2,7 +2,7 @@ use Rattle.asn1_schema_constraints.specs.Terms.{meant}
 use Rattle.asn1_schema_encode.proofs.Written.{encoded, not_encoded}
 use Rattle.per_codec_encoder.specs.Stepping.{variant_of}
 use Rattle.per_codec_encoder.specs.Written.{packed_rules}
-use Rattle.per_codec_limits.specs.Variants.{is_aligned}
+use Rattle.per_codec_rules.specs.Variants.{is_aligned}
 use Rattle.per_codec.proofs.Encoding.{written_all, refused_all}
 use Rattle.per_codec.proofs.writing.encode_with_constraints.Goals as goal
 

@@ -1,7 +1,7 @@
 use Rattle.std.proofs.Common.{ap, ◌∙◌}
 use Rattle.per_codec_additions.specs.Slots.{all_bits}
 use Rattle.per_codec_additions.proofs.KeptSlots.{adds_kept}
-use Rattle.per_codec_limits.specs.Variants.{is_aligned}
+use Rattle.per_codec_rules.specs.Variants.{is_aligned}
 use Rattle.per_codec_additions.proofs.additions.push_additions.Goals as goal
 
 pub returns : goal.returns

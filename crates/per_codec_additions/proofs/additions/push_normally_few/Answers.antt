@@ -1,6 +1,6 @@
 use Rattle.std.proofs.Common.{◌≤◌, ◌<◌, arith}
-use Rattle.per_codec_additions.proofs.AdditionTexts.{adds_few, adds_many}
-use Rattle.per_codec_limits.specs.Variants.{is_aligned}
+use Rattle.per_codec_additions.proofs.AdditionFieldLists.{adds_few, adds_many}
+use Rattle.per_codec_rules.specs.Variants.{is_aligned}
 use Rattle.per_codec_additions.proofs.additions.push_normally_few.Goals as goal
 use Rattle.per_codec_additions.proofs.additions.push_normally_few.Goals.{else-count-ge1-via-then-count-ge1+else-count-le64, else-count-ge1-via-else-count-ge1}
 

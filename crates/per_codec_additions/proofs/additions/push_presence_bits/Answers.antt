@@ -3,7 +3,7 @@ use Rattle.std.proofs.lemmas.List.{take_all, take-append-drop, length-drop, leng
 use Rattle.asn1_model.specs.Numbers.{binary}
 use Rattle.per_codec_additions.specs.Slots.{is_there}
 use Rattle.per_codec_additions.specs.declared.slots.Slot.{Slot}
-use Rattle.per_codec_additions.proofs.AdditionTexts.{presence_moved, no_presence}
+use Rattle.per_codec_additions.proofs.AdditionFieldLists.{presence_moved, no_presence}
 use Rattle.per_codec_additions.proofs.additions.push_presence_bits.Goals as goal
 
 pub loop-rest-preserved : goal.loop-rest-preserved

@@ -1,6 +1,6 @@
 use Rattle.std.proofs.Common.{refl}
 use Rattle.per_codec_additions.proofs.KeptSlots.{kept_at, slot_next, slots_passed}
-use Rattle.per_codec_limits.specs.Variants.{is_aligned}
+use Rattle.per_codec_rules.specs.Variants.{is_aligned}
 use Rattle.per_codec_additions.proofs.additions.push_present.Goals as goal
 
 pub push-requires : goal.push-requires

@@ -1,8 +1,8 @@
 use Rattle.std.proofs.Common.{drop}
 use Rattle.per_codec_packing.specs.Packed.{Packed}
 use Rattle.per_codec_additions.specs.Slots.{all_bits}
-use Rattle.per_codec_additions.proofs.AdditionTexts.{Present}
-use Rattle.per_codec_limits.specs.Variants.{is_aligned}
+use Rattle.per_codec_additions.proofs.AdditionFieldLists.{Present}
+use Rattle.per_codec_rules.specs.Variants.{is_aligned}
 use Rattle.per_codec_additions.proofs.additions.push_present.Given as goal
 
 abbrev pub invariant-loop-slot : goal.invariant-loop-slot

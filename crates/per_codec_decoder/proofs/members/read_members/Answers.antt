@@ -1,5 +1,5 @@
 use Rattle.std.proofs.Common.{sym}
-use Rattle.asn1_schema_presented.proofs.Joined.{raised}
+use Rattle.asn1_schema_laws.proofs.Joined.{raised}
 use Rattle.per_codec_reading.specs.Fronts.{freedoms, is_aligned}
 use Rattle.asn1_schema_constraints.specs.Bounds.{members_of}
 use Rattle.asn1_schema_constraints.specs.Terms.{size_of}

@@ -1,9 +1,9 @@
-use Rattle.asn1_schema_presented.proofs.Joined.{raised}
+use Rattle.asn1_schema_laws.proofs.Joined.{raised}
 use Rattle.per_codec_reading.specs.Fronts.{freedoms}
 use Rattle.per_codec_reading_values.specs.Fields.{bits_form}
 use Rattle.per_codec_reading_values.proofs.FieldFronts.{bits_told}
 use Rattle.per_codec_decoder.proofs.Leading.{preamble, no_presence, missing_bit}
-use Rattle.per_codec_decoder.proofs.Counting.{missed}
+use Rattle.per_codec_reading.proofs.Fronts.{missed}
 use Rattle.per_codec_decoder.proofs.preamble.read_preamble.Goals as goal
 
 pub returns-in_err-extension_bit-clause-only : goal.returns-in_err-extension_bit-clause-only

@@ -1,8 +1,8 @@
 use Rattle.std.proofs.Common.{Bool, refl}
-use Rattle.asn1_schema_presented.specs.Records.{addition}
+use Rattle.asn1_schema_laws.specs.Records.{addition}
 use Rattle.per_codec_encoder.specs.Holding.{Cannot}
 use Rattle.per_codec_encoder.proofs.Added.{does_no_addition, does_addition}
-use Rattle.per_codec_writing.proofs.HeadingTexts.{raised_on}
+use Rattle.per_codec_writing.proofs.HeadingFieldLists.{raised_on}
 use Rattle.per_codec_encoder.proofs.additions.encode_addition.Goals as goal
 
 pub returns-in_err-next_addition : goal.returns-in_err-next_addition

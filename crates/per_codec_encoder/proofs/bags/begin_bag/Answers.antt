@@ -1,7 +1,7 @@
 use Rattle.std.proofs.Common.{◌∙◌}
 use Rattle.asn1_schema_constraints.specs.Bounds.{members_of}
 use Rattle.asn1_schema_constraints.specs.Terms.{size_of}
-use Rattle.asn1_schema_faults.specs.declared.EncodeError.TheVariants.{SizeConstraintNotSatisfied}
+use Rattle.asn1_schema_errors.specs.declared.EncodeError.TheVariants.{SizeConstraintNotSatisfied}
 use Rattle.per_codec_packing.specs.Packed.{place}
 use Rattle.per_codec_encoder.proofs.Judged.{heading_there, no_heading, admitted}
 use Rattle.per_codec_encoder.proofs.Bagging.{does_begin_bag, cannot_begin_bag}

@@ -2,14 +2,14 @@ use Rattle.std.proofs.Common.{◌++◌, ◌∷◌, [], take, refl, arith}
 use Rattle.per_codec_encoder.specs.declared.frame.Frame.TheVariants.{Added}
 use Rattle.per_codec_encoder.specs.Holding.{at, instead}
 use Rattle.per_codec_encoder.proofs.Ending.{does_end_added, cannot_end_added, bit_within, root_ends}
-use Rattle.per_codec_limits.specs.Variants.{is_aligned}
+use Rattle.per_codec_rules.specs.Variants.{is_aligned}
 use Rattle.per_codec_encoder.proofs.ends.end_additions.Goals as goal
 
 pub returns-then-additions-gt0 : goal.returns-then-additions-gt0
 returns-then-additions-gt0 c = λ around.
     let ad = c.args.additions in
     let o = c.args.output.now in
-    cannot_end_added (is_aligned c.args.variant) (around ++ Added ad ∷ []) around (Added ad) ad o (instead (take (at ad.end) o.text) o) refl refl refl c.if-additions-gt0.true
+    cannot_end_added (is_aligned c.args.variant) (around ++ Added ad ∷ []) around (Added ad) ad o (instead (take (at ad.end) o.field_list) o) refl refl refl c.if-additions-gt0.true
 
 pub returns : goal.returns
 returns c = λ around.

@@ -1,7 +1,7 @@
 use Rattle.std.proofs.Common.{subst, sym, MatchResult}
-use Rattle.asn1_schema_presented.specs.Records.{ends}
+use Rattle.asn1_schema_laws.specs.Records.{ends}
 use Rattle.per_codec_encoder.specs.Holding.{AreSound, Does, Cannot}
-use Rattle.per_codec_limits.specs.Variants.{is_aligned}
+use Rattle.per_codec_rules.specs.Variants.{is_aligned}
 use Rattle.per_codec_encoder.proofs.ends.end_scope.Goals as goal
 
 pub end_taken-requires : goal.end_taken-requires

@@ -1,10 +1,10 @@
 use Rattle.std.proofs.Common.{subst, arith}
 use Rattle.per_codec_encoder.specs.declared.frame.Frame.TheVariants.{Added, OpenType}
 use Rattle.per_codec_encoder.specs.Holding.{AreSound}
-use Rattle.per_codec_writing.proofs.HeadingTexts.{raised_on}
+use Rattle.per_codec_writing.proofs.HeadingFieldLists.{raised_on}
 use Rattle.per_codec_encoder.proofs.Innermost.{around_is, ended_within, ended_unless_full}
 use Rattle.per_codec_encoder.proofs.Bagging.{does_end_bag, cannot_end_bag}
-use Rattle.per_codec_limits.specs.Variants.{is_aligned}
+use Rattle.per_codec_rules.specs.Variants.{is_aligned}
 use Rattle.per_codec_encoder.proofs.ends.end_taken.Goals as goal
 
 pub returns-in-Some-Added : goal.returns-in-Some-Added

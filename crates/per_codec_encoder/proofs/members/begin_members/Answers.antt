@@ -1,10 +1,10 @@
 use Rattle.std.proofs.Common.{sym, ◌∙◌}
 use Rattle.asn1_schema_constraints.specs.Bounds.{members_of}
 use Rattle.asn1_schema_constraints.specs.Terms.{size_of}
-use Rattle.asn1_schema_faults.specs.declared.EncodeError.TheVariants.{SizeConstraintNotSatisfied}
-use Rattle.per_codec_writing.proofs.HeadingTexts.{raised_on}
+use Rattle.asn1_schema_errors.specs.declared.EncodeError.TheVariants.{SizeConstraintNotSatisfied}
+use Rattle.per_codec_writing.proofs.HeadingFieldLists.{raised_on}
 use Rattle.per_codec_encoder.proofs.Opening.{held_heads, held_none, not_held, does_begin_members, cannot_begin}
-use Rattle.per_codec_limits.specs.Variants.{is_aligned}
+use Rattle.per_codec_rules.specs.Variants.{is_aligned}
 use Rattle.per_codec_encoder.proofs.members.begin_members.Goals as goal
 
 pub returns-then-not-holds : goal.returns-then-not-holds

@@ -1,6 +1,6 @@
 use Rattle.std.proofs.Common.{refl}
 use Rattle.per_codec_encoder.proofs.Opening.{due_comes, comes_next, none_next}
-use Rattle.per_codec_limits.specs.Variants.{is_aligned}
+use Rattle.per_codec_rules.specs.Variants.{is_aligned}
 use Rattle.per_codec_encoder.proofs.members.next_of_list.Goals as goal
 
 pub returns-then-due-gt0 : goal.returns-then-due-gt0

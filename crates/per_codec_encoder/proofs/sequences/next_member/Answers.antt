@@ -1,9 +1,9 @@
 use Rattle.std.proofs.Common.{ap, subst, sym, MatchResult}
-use Rattle.asn1_schema_presented.specs.Records.{further}
+use Rattle.asn1_schema_laws.specs.Records.{further}
 use Rattle.per_codec_encoder.specs.Holding.{Does, Cannot}
 use Rattle.per_codec_encoder.specs.contracts.nested.Nested.{the_view}
 use Rattle.per_codec_encoder.proofs.Innermost.{innermost_is, done_within, no_member}
-use Rattle.per_codec_limits.specs.Variants.{is_aligned}
+use Rattle.per_codec_rules.specs.Variants.{is_aligned}
 use Rattle.per_codec_encoder.proofs.sequences.next_member.Goals as goal
 use Rattle.per_codec_encoder.proofs.sequences.next_member.Goals.{in-Some, in-None}
 

@@ -4,7 +4,7 @@ use Rattle.per_codec_encoder.specs.declared.frame.Bag.{Bag}
 use Rattle.per_codec_encoder.specs.Bags.{GoesOnInBag, NoFurther}
 use Rattle.per_codec_encoder.proofs.Bagging.{member_of_bag_asked}
 use Rattle.per_codec_encoder.proofs.Opening.{member_asked}
-use Rattle.per_codec_limits.specs.Variants.{is_aligned}
+use Rattle.per_codec_rules.specs.Variants.{is_aligned}
 use Rattle.per_codec_encoder.proofs.sequences.next_of_frame.Goals as goal
 
 pub returns-in-Members : goal.returns-in-Members

@@ -1,6 +1,6 @@
 use Rattle.std.proofs.Common.{◌≡◌, ◌⊎◌, inl, inr, ◌<◌, false, IfErr, sym, subst, arith}
 use Rattle.asn1_model.specs.Per
-use Rattle.per_codec_fronts.specs.Takes.{Front}
+use Rattle.per_codec_laws.specs.Takes.{Front}
 use Rattle.per_codec_reading.specs.Fronts.{freedoms, is_aligned, NoneStands, Misses}
 use Rattle.per_codec_reading.specs.Lengths.{number_within, aligned_within}
 use Rattle.per_codec_reading.proofs.Fronts.{misses_also, ok_also, err_also}

@@ -1,7 +1,7 @@
 use Rattle.std.proofs.Common.{subst, []}
 use Rattle.std.proofs.lemmas.Result.{err_from_is_err_and}
 use Rattle.asn1_model.specs.Per
-use Rattle.per_codec_fronts.specs.Takes.{Front}
+use Rattle.per_codec_laws.specs.Takes.{Front}
 use Rattle.per_codec_reading.specs.Fronts.{freedoms, NoneStands, is_aligned, to_octet}
 use Rattle.per_codec_reading.proofs.Fronts.{misses_also, none_behind, aligned_padding, unaligned_padding}
 use Rattle.per_codec_reading.proofs.padding.read_padding.Goals as goal

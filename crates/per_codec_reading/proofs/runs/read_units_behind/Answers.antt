@@ -2,7 +2,7 @@ use Rattle.std.proofs.Common.{◌*◌, ◌<◌, length, ap, ◌∙◌, subst}
 use Rattle.std.proofs.lemmas.Result.{err_from_is_err_and}
 use Rattle.asn1_model.specs.Per
 use Rattle.asn1_values_bits.specs.BitStr.{bits_of}
-use Rattle.per_codec_fronts.specs.Takes.{Front}
+use Rattle.per_codec_laws.specs.Takes.{Front}
 use Rattle.per_codec_reading.specs.Fronts.{freedoms, is_aligned}
 use Rattle.per_codec_reading.proofs.Fronts.{misses_also}
 use Rattle.per_codec_reading.specs.Units.{counted_units, piece_form, units_after}

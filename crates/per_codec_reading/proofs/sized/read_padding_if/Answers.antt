@@ -1,7 +1,7 @@
 use Rattle.std.proofs.Common.{◌&&◌, sym, subst, []}
 use Rattle.std.proofs.lemmas.Result.{err_from_is_err_and}
 use Rattle.asn1_model.specs.Per
-use Rattle.per_codec_fronts.specs.Takes.{Front}
+use Rattle.per_codec_laws.specs.Takes.{Front}
 use Rattle.per_codec_reading.specs.Fronts.{freedoms, is_aligned}
 use Rattle.per_codec_reading.proofs.Fronts.{misses_also, unaligned_padding}
 use Rattle.per_codec_reading.proofs.ToldFronts.{padded_true, padded_false}

@@ -2,8 +2,8 @@ use Rattle.std.proofs.Common.{sym, subst}
 use Rattle.std.proofs.lemmas.Result.{err_from_is_err_and}
 use Rattle.asn1_schema_constraints.specs.Bounds.{counts_of}
 use Rattle.asn1_schema_constraints.specs.Terms.{size_of}
-use Rattle.per_codec_fronts.specs.Sizes.{extension_bit, told_highest}
-use Rattle.per_codec_fronts.proofs.Fronts.{split}
+use Rattle.per_codec_laws.specs.Sizes.{extension_bit, told_highest}
+use Rattle.per_codec_laws.proofs.Fronts.{split}
 use Rattle.per_codec_reading.specs.Fronts.{freedoms, is_aligned}
 use Rattle.per_codec_reading.proofs.Fronts.{misses_also}
 use Rattle.per_codec_reading.specs.Runs.{units_in, InOneRun}

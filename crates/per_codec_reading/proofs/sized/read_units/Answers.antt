@@ -3,7 +3,7 @@ use Rattle.std.proofs.lemmas.Result.{err_from_is_err_and}
 use Rattle.asn1_model.specs.Per
 use Rattle.asn1_schema_constraints.specs.Bounds.{counts_of}
 use Rattle.asn1_values_bits.specs.BitStr.{bits_of}
-use Rattle.per_codec_fronts.specs.Takes.{Front}
+use Rattle.per_codec_laws.specs.Takes.{Front}
 use Rattle.per_codec_reading.specs.Fronts.{freedoms, is_aligned, Completes}
 use Rattle.per_codec_reading.specs.Runs.{units_in}
 use Rattle.per_codec_reading.specs.Sizes.{contents_have_padding, determinant_form, units_told}

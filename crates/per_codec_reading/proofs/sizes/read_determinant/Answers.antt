@@ -1,8 +1,8 @@
 use Rattle.std.proofs.Common.{sym, ◌∙◌, subst}
 use Rattle.std.proofs.lemmas.Result.{err_from_is_err_and}
 use Rattle.asn1_schema_constraints.specs.Bounds.{counts_of}
-use Rattle.per_codec_fronts.specs.Sizes.{told_highest}
-use Rattle.per_codec_fronts.specs.Takes.{Front}
+use Rattle.per_codec_laws.specs.Sizes.{told_highest}
+use Rattle.per_codec_laws.specs.Takes.{Front}
 use Rattle.per_codec_reading.specs.Fronts.{freedoms, is_aligned, NoneStands}
 use Rattle.per_codec_reading.specs.Lengths.{length_form}
 use Rattle.per_codec_reading.specs.Sizes.{determinant_form, told_count}

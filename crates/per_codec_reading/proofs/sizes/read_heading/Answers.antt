@@ -1,7 +1,7 @@
 use Rattle.std.proofs.lemmas.Result.{err_from_is_err_and}
 use Rattle.asn1_schema_constraints.specs.Terms.{size_of}
-use Rattle.per_codec_fronts.specs.Sizes.{extension_bit, told_highest}
-use Rattle.per_codec_fronts.proofs.Fronts.{join}
+use Rattle.per_codec_laws.specs.Sizes.{extension_bit, told_highest}
+use Rattle.per_codec_laws.proofs.Fronts.{join}
 use Rattle.per_codec_reading.specs.Fronts.{freedoms, is_aligned}
 use Rattle.per_codec_reading.specs.Sizes.{determinant_form, heading_form}
 use Rattle.per_codec_reading.proofs.Fronts.{misses_also}

@@ -5,7 +5,7 @@ use Rattle.asn1_model.specs.Numbers.{is_within}
 use Rattle.std.proofs.lemmas.Result.{err_from_is_err_and}
 use Rattle.asn1_model.specs.Per
 use Rattle.asn1_schema_constraints.specs.Bounds.{lower, range_of, upper}
-use Rattle.per_codec_fronts.specs.Takes.{Front}
+use Rattle.per_codec_laws.specs.Takes.{Front}
 use Rattle.per_codec_reading.specs.Fronts.{freedoms, is_aligned}
 use Rattle.per_codec_reading.specs.Lengths.{one_bit}
 use Rattle.per_codec_reading.specs.Sizes.{may_be_outside}

@@ -4,7 +4,7 @@ use Rattle.std.proofs.Common.{None, Some, sym, subst, arith}
 use Rattle.std.proofs.lemmas.Int.{ints, to_z-of_z}
 use Rattle.std.proofs.lemmas.Result.{err_from_is_err_and}
 use Rattle.asn1_model.specs.Per
-use Rattle.per_codec_fronts.specs.Takes.{Front}
+use Rattle.per_codec_laws.specs.Takes.{Front}
 use Rattle.per_codec_reading.specs.Fronts.{freedoms, is_aligned}
 use Rattle.per_codec_reading.proofs.Fronts.{misses_also}
 use Rattle.per_codec_reading_values.specs.Whole.{in_128_bits}

@@ -1,6 +1,6 @@
 use Rattle.std.proofs.Common.{◌≡◌, ◌≤◌, ◌-◌, ◌*◌, length, inr, refl, sym, subst, ◌∙◌, arith}
 use Rattle.asn1_values_bits.specs.BitStr.{bits_of}
-use Rattle.per_codec_reading_values.specs.Unread.{code_bits}
+use Rattle.per_codec_reading.specs.Unread.{code_bits}
 use Rattle.per_codec_reading_values.proofs.Steps.{Begun, begins, ends_without, goes_on}
 use Rattle.per_codec_reading_values.proofs.codes.string_in_run.Goals as goal
 

@@ -1,5 +1,5 @@
 use Rattle.std.proofs.Common.{◌≡◌, length, IfOk, IfErr, ◌⊎◌, sym, ◌∙◌, subst}
-use Rattle.asn1_schema_faults.specs.declared.DecodeError.TheVariants.{OutOfMemory}
+use Rattle.asn1_schema_errors.specs.declared.DecodeError.TheVariants.{OutOfMemory}
 use Rattle.asn1_values_bits.specs.BitStr.{bits_of}
 use Rattle.per_codec_reading_values.specs.Spelled.{Stuck, IsFitting}
 use Rattle.per_codec_reading_values.proofs.Steps.{octets_many}

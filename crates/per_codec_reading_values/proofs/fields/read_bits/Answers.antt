@@ -1,4 +1,4 @@
-use Rattle.asn1_schema_presented.proofs.Joined.{raised}
+use Rattle.asn1_schema_laws.proofs.Joined.{raised}
 use Rattle.per_codec_reading.specs.Fronts.{freedoms}
 use Rattle.per_codec_reading.proofs.Fronts.{none_misses, ends_early}
 use Rattle.asn1_values_bits.specs.BitStr.{bits_of}

@@ -1,4 +1,4 @@
-use Rattle.asn1_schema_presented.proofs.Joined.{raised}
+use Rattle.asn1_schema_laws.proofs.Joined.{raised}
 use Rattle.per_codec_reading.specs.Fronts.{freedoms, is_aligned}
 use Rattle.per_codec_reading.proofs.Fronts.{misses_also}
 use Rattle.per_codec_reading.specs.Units.{counted_units}

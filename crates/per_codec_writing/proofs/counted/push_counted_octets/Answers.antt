@@ -1,5 +1,5 @@
 use Rattle.per_codec_writing.proofs.Fragments.{adds_octets, all_octets}
-use Rattle.per_codec_limits.specs.Variants.{is_aligned}
+use Rattle.per_codec_rules.specs.Variants.{is_aligned}
 use Rattle.per_codec_writing.proofs.counted.push_counted_octets.Goals as goal
 
 pub returns : goal.returns

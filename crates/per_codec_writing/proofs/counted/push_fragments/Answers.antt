@@ -1,7 +1,7 @@
 use Rattle.std.proofs.Common.{◌≡◌, ◌+◌, ◌-◌, length, ap, ◌∙◌, arith}
 use Rattle.per_codec_writing.specs.Headings.{count_behind}
 use Rattle.per_codec_writing.proofs.HeadingForms.{fragment_added, last_added}
-use Rattle.per_codec_limits.specs.Variants.{is_aligned}
+use Rattle.per_codec_rules.specs.Variants.{is_aligned}
 use Rattle.per_codec_writing.proofs.counted.push_fragments.Goals as goal
 
 pub loop-due-preserved : goal.loop-due-preserved

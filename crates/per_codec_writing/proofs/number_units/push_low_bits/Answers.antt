@@ -1,17 +1,17 @@
 use Rattle.std.proofs.Common.{◌≡◌, ◌-◌, ℕ, List, ◌++◌, length, take, drop, flat_map, ap, sym, ◌∙◌, arith}
 use Rattle.std.proofs.lemmas.List.{take_all, take-append-drop, length-drop}
 use Rattle.per_codec_writing.specs.Characters.{low_bits}
-use Rattle.per_codec_packing.specs.Texts.{as_text}
+use Rattle.per_codec_packing.specs.FieldLists.{as_field_list}
 use Rattle.per_codec_writing.specs.Writing.{plus}
-use Rattle.per_codec_writing.proofs.UnitTexts.{low_bits_moved, low_octets, no_low_bits}
+use Rattle.per_codec_writing.proofs.UnitFieldLists.{low_bits_moved, low_octets, no_low_bits}
 use Rattle.per_codec_writing.proofs.number_units.push_low_bits.Goals as goal
 
 pub returns-then-base-eq0 : goal.returns-then-base-eq0
 returns-then-base-eq0 c =
     let os : List ℕ = c.args.octets.now in
-    c.in_ok-extend_from_bytes.ensures.ok ∙ ap (λ bs. plus c.args.output.now (as_text bs)) (low_octets os)
-    ∙ ap (λ w. plus c.args.output.now (as_text (flat_map (low_bits 0 w) os))) (sym c.if-width-eq8.true)
-    ∙ ap (λ b. plus c.args.output.now (as_text (flat_map (low_bits b c.args.width) os))) (sym c.if-base-eq0.true)
+    c.in_ok-extend_from_bytes.ensures.ok ∙ ap (λ bs. plus c.args.output.now (as_field_list bs)) (low_octets os)
+    ∙ ap (λ w. plus c.args.output.now (as_field_list (flat_map (low_bits 0 w) os))) (sym c.if-width-eq8.true)
+    ∙ ap (λ b. plus c.args.output.now (as_field_list (flat_map (low_bits b c.args.width) os))) (sym c.if-base-eq0.true)
 
 pub loop-rest-preserved : goal.loop-rest-preserved
 loop-rest-preserved c =

@@ -3,9 +3,9 @@ use Rattle.asn1_model.specs.Numbers.{is_count_within}
 use Rattle.asn1_schema_constraints.specs.Bounds.{counts_of}
 use Rattle.asn1_schema_constraints.specs.Terms.{size_of}
 use Rattle.per_codec_writing.specs.Writing.{place}
-use Rattle.per_codec_writing.proofs.HeadingTexts.{no_text, raised_on}
+use Rattle.per_codec_writing.proofs.HeadingFieldLists.{no_field_list, raised_on}
 use Rattle.per_codec_writing.proofs.HeadingForms.{held_added, held_none, members_counted, not_held, size_added, size_none}
-use Rattle.per_codec_limits.specs.Variants.{is_aligned}
+use Rattle.per_codec_rules.specs.Variants.{is_aligned}
 use Rattle.per_codec_writing.proofs.sized.push_sized.Goals as goal
 
 pub returns-then-not-holds : goal.returns-then-not-holds
@@ -20,7 +20,7 @@ returns-in_err-due g c =
     let z = size_of c.args.sizes in
     let us = g.U.Units.forms c.args.units.now in
     let p = place c.args.output.now in
-    raised_on _ _ _ e.result e.ensures.0 e.ensures.1 (no_text _ _ (λ n. held_none al z (counts_of c.args.held) c.args.has_padding us p (size_none al z c.args.has_padding us c.count-count.result p c.count-count.ensures n)) _ c.in_err-due.ensures.heads)
+    raised_on _ _ _ e.result e.ensures.0 e.ensures.1 (no_field_list _ _ (λ n. held_none al z (counts_of c.args.held) c.args.has_padding us p (size_none al z c.args.has_padding us c.count-count.result p c.count-count.ensures n)) _ c.in_err-due.ensures.heads)
 
 pub returns : goal.returns
 returns g c =

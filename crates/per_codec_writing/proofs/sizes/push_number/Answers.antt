@@ -1,7 +1,7 @@
 use Rattle.per_codec_writing.specs.Writing.{place}
 use Rattle.per_codec_writing.proofs.Adding.{raised}
-use Rattle.per_codec_writing.proofs.HeadingTexts.{count_added, count_none}
-use Rattle.per_codec_limits.specs.Variants.{is_aligned}
+use Rattle.per_codec_writing.proofs.HeadingFieldLists.{count_added, count_none}
+use Rattle.per_codec_rules.specs.Variants.{is_aligned}
 use Rattle.per_codec_writing.proofs.sizes.push_number.Goals as goal
 
 pub returns-in_err-push_constrained : goal.returns-in_err-push_constrained

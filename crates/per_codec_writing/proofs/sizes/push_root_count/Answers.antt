@@ -1,7 +1,7 @@
 use Rattle.std.proofs.Common.{sym, refl, ◌∙◌}
 use Rattle.asn1_schema_constraints.specs.Bounds.{counts_of, upper}
-use Rattle.per_codec_writing.proofs.HeadingTexts.{narrow_heads, narrow_none, raised_on}
-use Rattle.per_codec_limits.specs.Variants.{is_aligned}
+use Rattle.per_codec_writing.proofs.HeadingFieldLists.{narrow_heads, narrow_none, raised_on}
+use Rattle.per_codec_rules.specs.Variants.{is_aligned}
 use Rattle.per_codec_writing.proofs.sizes.push_root_count.Goals as goal
 
 pub returns-in_err-push_number-clause-heads : goal.returns-in_err-push_number-clause-heads

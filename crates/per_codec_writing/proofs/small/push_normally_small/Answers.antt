@@ -1,6 +1,6 @@
 use Rattle.std.proofs.Common.{arith}
-use Rattle.per_codec_writing.proofs.NumberTexts.{adds_small, adds_not_small}
-use Rattle.per_codec_limits.specs.Variants.{is_aligned}
+use Rattle.per_codec_writing.proofs.NumberFieldLists.{adds_small, adds_not_small}
+use Rattle.per_codec_rules.specs.Variants.{is_aligned}
 use Rattle.per_codec_writing.proofs.small.push_normally_small.Goals as goal
 
 pub returns-then-number-lt64 : goal.returns-then-number-lt64

@@ -1,3 +1,4 @@
+use Rattle.std.proofs.Common.{rules}
 use Rattle.std.proofs.Common.{refl, false, ap, Err}
 use Rattle.asn1_schema.proofs.Author.{failed_reads, passed_on, raised, reads_begun, unread_begun, unread_begun_end}
 use Rattle.asn1_schema.proofs.Author.{unread_begun_here}
@@ -25,12 +26,20 @@ returns-in_err-end-2-clause-only g t c = let one = g.met.D.Decoder.one_record in
 pub returns-clause-ok : goal.returns-clause-ok
 returns-clause-ok g t c = reads_begun (nest_table nest_schema) nest_is (record { added = false; place = 1 }) refl c.in_ok-chosen.ensures.level (rw (nest_second _ c.in_ok-chosen.ensures.within c.if-chosen-eq0.false) at c.in_ok-chosen.ensures.ok) (rw c.in-Ok.ensures.ok c.in_ok-inner.ensures.ok) c.in_ok-end-2.ensures.ok
 
-pub returns-in_err-end-clause-after : goal.returns-in_err-end-clause-after
-returns-in_err-end-clause-after g t c =
-    let law = g.met.D.Decoder.goes_on in
-    passed_on _ c.from_residual-in_err-end.ensures.1 (λ h. absurd (law _ _ _ c.in_ok-chosen.ensures.ok (failed_reads law c.in_ok-decode_with_tag.ensures.ok (c.in_err-end.ensures.after (ap (λ z. Err z) h)))))
+pub returns-in_err-end-clause-call : goal.returns-in_err-end-clause-call
+returns-in_err-end-clause-call g t c =
+    record {
+      failed = search rules;
+      already = search rules;
+      after = let law = g.met.D.Decoder.goes_on in
+          passed_on _ c.from_residual-in_err-end.ensures.1 (λ h. absurd (law _ _ _ c.in_ok-chosen.ensures.ok (failed_reads law c.in_ok-decode_with_tag.ensures.ok (c.in_err-end.ensures.call.after (ap (λ z. Err z) h)))));
+    }
 
-pub returns-in_err-end-2-clause-after : goal.returns-in_err-end-2-clause-after
-returns-in_err-end-2-clause-after g t c =
-    let law = g.met.D.Decoder.goes_on in
-    passed_on _ c.from_residual-in_err-end-2.ensures.1 (λ h. absurd (law _ _ _ c.in_ok-chosen.ensures.ok (failed_reads law c.in_ok-inner.ensures.ok (c.in_err-end-2.ensures.after (ap (λ z. Err z) h)))))
+pub returns-in_err-end-2-clause-call : goal.returns-in_err-end-2-clause-call
+returns-in_err-end-2-clause-call g t c =
+    record {
+      failed = search rules;
+      already = search rules;
+      after = let law = g.met.D.Decoder.goes_on in
+          passed_on _ c.from_residual-in_err-end-2.ensures.1 (λ h. absurd (law _ _ _ c.in_ok-chosen.ensures.ok (failed_reads law c.in_ok-inner.ensures.ok (c.in_err-end-2.ensures.call.after (ap (λ z. Err z) h)))));
+    }

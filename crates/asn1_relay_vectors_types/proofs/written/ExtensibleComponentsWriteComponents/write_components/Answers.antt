@@ -1,6 +1,6 @@
 use Rattle.std.proofs.Common.{◌≡◌, ℕ, ◌≤◌, arith}
 use Rattle.std.specs.Prelude.{min}
-use Rattle.asn1_schema_presented.proofs.Joined.{raised}
+use Rattle.asn1_schema_laws.proofs.Joined.{raised}
 use Rattle.asn1_schema_authored.proofs.Writing.{writes_additions, cannot_additions, cannot_additions_here}
 use Rattle.asn1_relay_vectors_types.proofs.written.ExtensibleComponentsWriteComponents.write_components.Goals as goal
 

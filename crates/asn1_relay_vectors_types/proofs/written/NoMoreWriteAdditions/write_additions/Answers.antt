@@ -1,4 +1,4 @@
-use Rattle.asn1_schema_presented.proofs.Joined.{raised}
+use Rattle.asn1_schema_laws.proofs.Joined.{raised}
 use Rattle.asn1_schema_authored.proofs.Writing.{writes_no_more, cannot_no_more}
 use Rattle.asn1_relay_vectors_types.proofs.written.NoMoreWriteAdditions.write_additions.Goals as goal
 

@@ -1,4 +1,4 @@
-use Rattle.asn1_schema_presented.proofs.Joined.{raised}
+use Rattle.asn1_schema_laws.proofs.Joined.{raised}
 use Rattle.asn1_schema_authored.proofs.Composing.{reads_composite, unread_composite, unread_composite_here}
 use Rattle.asn1_schema_authored.proofs.composites.CompositeDecode.decode_with_tag_and_constraints.Goals as goal
 

@@ -1,4 +1,4 @@
-use Rattle.asn1_schema_presented.proofs.Joined.{raised}
+use Rattle.asn1_schema_laws.proofs.Joined.{raised}
 use Rattle.asn1_schema_decode.proofs.Reading.{reads_sequence, unread_sequence, unread_sequence_here}
 use Rattle.asn1_schema_authored.proofs.decode.DecodeExtension.decode_extensible_components.Goals as goal
 

@@ -1,6 +1,7 @@
+use Rattle.std.proofs.Common.{rules}
 use Rattle.std.proofs.Common.{refl, sym, ◌∙◌, ap, Err}
 use Rattle.asn1_model.specs.Schema.{optional}
-use Rattle.asn1_schema_presented.proofs.Joined.{raised}
+use Rattle.asn1_schema_laws.proofs.Joined.{raised}
 use Rattle.asn1_schema_authored.proofs.Reading.{reads_enclosed, reads_no_addition, unread_addition_here, unread_inner, unread_end}
 use Rattle.asn1_schema_authored.proofs.GroupReading.{reads_kept, reads_left, unread_left}
 use Rattle.asn1_schema_decode.proofs.Failing.{passed_on, failed_reads}
@@ -27,7 +28,11 @@ returns-then-is_empty-clause-ok g c = reads_left g.G.Group.components (sym c.is_
 pub returns-clause-ok : goal.returns-clause-ok
 returns-clause-ok g c = reads_kept g.G.Group.components (sym c.is_empty.ensures ∙ c.if-is_empty.false) (reads_enclosed (rw c.if-not-present.false at c.in_ok-present.ensures.ok) (rw c.in_ok-present.ensures.level at c.in_ok-group.ensures.ok) c.in_ok-end_addition.ensures.ok)
 
-pub returns-in_err-end_addition-clause-after : goal.returns-in_err-end_addition-clause-after
-returns-in_err-end_addition-clause-after g c =
-    let law = g.met.Self.Decoder.goes_on in
-    passed_on _ c.from_residual-in_err-end_addition.ensures.1 (λ h. absurd (law _ _ _ c.in_ok-present.ensures.ok (failed_reads law c.in_ok-group.ensures.ok (c.in_err-end_addition.ensures.after (ap (λ z. Err z) h)))))
+pub returns-in_err-end_addition-clause-call : goal.returns-in_err-end_addition-clause-call
+returns-in_err-end_addition-clause-call g c =
+    record {
+      failed = search rules;
+      already = search rules;
+      after = let law = g.met.Self.Decoder.goes_on in
+          passed_on _ c.from_residual-in_err-end_addition.ensures.1 (λ h. absurd (law _ _ _ c.in_ok-present.ensures.ok (failed_reads law c.in_ok-group.ensures.ok (c.in_err-end_addition.ensures.call.after (ap (λ z. Err z) h)))));
+    }

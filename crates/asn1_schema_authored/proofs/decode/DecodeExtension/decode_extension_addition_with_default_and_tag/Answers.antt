@@ -1,4 +1,4 @@
-use Rattle.asn1_schema_presented.proofs.Joined.{raised}
+use Rattle.asn1_schema_laws.proofs.Joined.{raised}
 use Rattle.asn1_schema_authored.proofs.Reading.{extension_default_read, extension_default_unread}
 use Rattle.asn1_schema_authored.proofs.decode.DecodeExtension.decode_extension_addition_with_default_and_tag.Goals as goal
 

@@ -1,5 +1,6 @@
+use Rattle.std.proofs.Common.{rules}
 use Rattle.std.proofs.Common.{sym, ◌∙◌, ap, Err}
-use Rattle.asn1_schema_presented.proofs.Joined.{raised}
+use Rattle.asn1_schema_laws.proofs.Joined.{raised}
 use Rattle.asn1_schema_authored.specs.Reads.{omitted, spelled_out, other_value}
 use Rattle.asn1_schema_authored.proofs.Reading.{reads_enclosed, unread_extension_default_here, unread_extension_default, unread_extension_default_end, unread_extension_noted}
 use Rattle.asn1_schema_decode.proofs.Failing.{passed_on, failed_reads}
@@ -31,7 +32,11 @@ returns-clause-ok g c =
       | else-is_default w ↦ rw w.self-is (other_value (sym c.is_default-is_default.ensures ∙ w.if-is_default.false) read)
     ]
 
-pub returns-in_err-end_addition-clause-after : goal.returns-in_err-end_addition-clause-after
-returns-in_err-end_addition-clause-after g c =
-    let law = g.met.Self.Decoder.goes_on in
-    passed_on _ c.from_residual-in_err-end_addition.ensures.1 (λ h. absurd (law _ _ _ c.in_ok-present.ensures.ok (failed_reads law c.in_ok-value.ensures.ok (c.in_err-end_addition.ensures.after (ap (λ z. Err z) h)))))
+pub returns-in_err-end_addition-clause-call : goal.returns-in_err-end_addition-clause-call
+returns-in_err-end_addition-clause-call g c =
+    record {
+      failed = search rules;
+      already = search rules;
+      after = let law = g.met.Self.Decoder.goes_on in
+          passed_on _ c.from_residual-in_err-end_addition.ensures.1 (λ h. absurd (law _ _ _ c.in_ok-present.ensures.ok (failed_reads law c.in_ok-value.ensures.ok (c.in_err-end_addition.ensures.call.after (ap (λ z. Err z) h)))));
+    }

@@ -1,4 +1,4 @@
-use Rattle.asn1_schema_presented.proofs.Joined.{raised}
+use Rattle.asn1_schema_laws.proofs.Joined.{raised}
 use Rattle.asn1_schema_authored.proofs.Reading.{extension_read, extension_unread}
 use Rattle.asn1_schema_authored.proofs.decode.DecodeExtension.decode_extension_addition_with_tag.Goals as goal
 

@@ -1,4 +1,5 @@
-use Rattle.asn1_schema_presented.proofs.Joined.{raised}
+use Rattle.std.proofs.Common.{rules}
+use Rattle.asn1_schema_laws.proofs.Joined.{raised}
 use Rattle.asn1_schema_authored.proofs.Reading.{reads_enclosed, unread_extension_here, unread_extension, unread_extension_end}
 use Rattle.std.proofs.Common.{ap, Err}
 use Rattle.asn1_schema_decode.proofs.Failing.{passed_on, failed_reads}
@@ -19,7 +20,11 @@ returns-in_err-end_addition-clause-only g c = let one = g.met.Self.Decoder.one_r
 pub returns-clause-ok : goal.returns-clause-ok
 returns-clause-ok g c = reads_enclosed (rw c.if-not-present.false at c.in_ok-present.ensures.ok) (rw c.in_ok-present.ensures.level at c.in_ok-value.ensures.ok) c.in_ok-end_addition.ensures.ok
 
-pub returns-in_err-end_addition-clause-after : goal.returns-in_err-end_addition-clause-after
-returns-in_err-end_addition-clause-after g c =
-    let law = g.met.Self.Decoder.goes_on in
-    passed_on _ c.from_residual-in_err-end_addition.ensures.1 (λ h. absurd (law _ _ _ c.in_ok-present.ensures.ok (failed_reads law c.in_ok-value.ensures.ok (c.in_err-end_addition.ensures.after (ap (λ z. Err z) h)))))
+pub returns-in_err-end_addition-clause-call : goal.returns-in_err-end_addition-clause-call
+returns-in_err-end_addition-clause-call g c =
+    record {
+      failed = search rules;
+      already = search rules;
+      after = let law = g.met.Self.Decoder.goes_on in
+          passed_on _ c.from_residual-in_err-end_addition.ensures.1 (λ h. absurd (law _ _ _ c.in_ok-present.ensures.ok (failed_reads law c.in_ok-value.ensures.ok (c.in_err-end_addition.ensures.call.after (ap (λ z. Err z) h)))));
+    }

@@ -1,5 +1,5 @@
 use Rattle.std.proofs.Common.{◌∙◌}
-use Rattle.asn1_schema_presented.proofs.Joined.{raised}
+use Rattle.asn1_schema_laws.proofs.Joined.{raised}
 use Rattle.asn1_schema_constructed.proofs.Counting.{count_presence_bits}
 use Rattle.asn1_schema_authored.proofs.GroupReading.{reads_group, unread_group, unread_group_here}
 use Rattle.asn1_schema_authored.proofs.decode.DecodeExtension.decode_group.Goals as goal

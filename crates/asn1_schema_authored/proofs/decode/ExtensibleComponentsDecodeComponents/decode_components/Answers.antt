@@ -1,6 +1,6 @@
 use Rattle.std.proofs.Common.{◌≡◌, ℕ, ◌≤◌, arith}
 use Rattle.std.specs.Prelude.{min}
-use Rattle.asn1_schema_presented.proofs.Joined.{raised}
+use Rattle.asn1_schema_laws.proofs.Joined.{raised}
 use Rattle.asn1_schema_authored.proofs.Reading.{reads_additions, unread_additions, unread_additions_here}
 use Rattle.asn1_schema_authored.proofs.decode.ExtensibleComponentsDecodeComponents.decode_components.Goals as goal
 

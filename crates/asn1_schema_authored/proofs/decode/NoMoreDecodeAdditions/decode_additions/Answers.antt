@@ -1,4 +1,4 @@
-use Rattle.asn1_schema_presented.proofs.Joined.{raised}
+use Rattle.asn1_schema_laws.proofs.Joined.{raised}
 use Rattle.asn1_schema_authored.proofs.Reading.{reads_no_more, unread_no_more}
 use Rattle.asn1_schema_authored.proofs.decode.NoMoreDecodeAdditions.decode_additions.Goals as goal
 

@@ -1,4 +1,4 @@
-use Rattle.asn1_schema_presented.proofs.Joined.{raised}
+use Rattle.asn1_schema_laws.proofs.Joined.{raised}
 use Rattle.asn1_schema_encode.proofs.Writing.{writes_this, cannot_this, cannot_this_here}
 use Rattle.asn1_schema_authored.proofs.encode.EncodeExtension.encode_extensible_components.Goals as goal
 

@@ -1,6 +1,6 @@
 use Rattle.std.proofs.Common.{refl}
 use Rattle.asn1_model.specs.Schema.{optional}
-use Rattle.asn1_schema_presented.proofs.Joined.{raised}
+use Rattle.asn1_schema_laws.proofs.Joined.{raised}
 use Rattle.asn1_schema_authored.proofs.Writing.{writes_addition, cannot_addition, plain_noted}
 use Rattle.asn1_schema_authored.proofs.encode.EncodeExtension.encode_extension_addition.Goals as goal
 

@@ -1,6 +1,6 @@
 use Rattle.std.proofs.Common.{refl, sym, ◌∙◌}
-use Rattle.asn1_schema_presented.proofs.Joined.{raised}
-use Rattle.asn1_schema_presented.proofs.Groups.{group_kept}
+use Rattle.asn1_schema_laws.proofs.Joined.{raised}
+use Rattle.asn1_schema_laws.proofs.Groups.{group_kept}
 use Rattle.asn1_schema_authored.proofs.GroupWriting.{writes_kept, cannot_kept}
 use Rattle.asn1_schema_authored.proofs.encode.EncodeExtension.encode_extension_addition_group.Goals as goal
 

@@ -1,5 +1,5 @@
 use Rattle.std.proofs.Common.{sym, ◌∙◌}
-use Rattle.asn1_schema_presented.proofs.Joined.{raised}
+use Rattle.asn1_schema_laws.proofs.Joined.{raised}
 use Rattle.asn1_schema_authored.proofs.Writing.{writes_default_there, cannot_default_there}
 use Rattle.asn1_schema_authored.proofs.encode.EncodeExtension.encode_extension_addition_with_default.Goals as goal
 

@@ -1,5 +1,5 @@
 use Rattle.std.proofs.Common.{◌∙◌, refl}
-use Rattle.asn1_schema_presented.proofs.Joined.{raised}
+use Rattle.asn1_schema_laws.proofs.Joined.{raised}
 use Rattle.asn1_schema_constructed.proofs.Counting.{count_presence_bits}
 use Rattle.asn1_schema_authored.proofs.GroupWriting.{writes_group, cannot_group, cannot_group_here}
 use Rattle.asn1_schema_authored.proofs.encode.EncodeExtension.encode_group.Goals as goal

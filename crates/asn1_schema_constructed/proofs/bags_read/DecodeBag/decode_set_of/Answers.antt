@@ -1,4 +1,4 @@
-use Rattle.asn1_schema_presented.proofs.Joined.{raised}
+use Rattle.asn1_schema_laws.proofs.Joined.{raised}
 use Rattle.asn1_schema_constructed.proofs.BagReading.{unread_bag_here, unread_bag, reads_bag}
 use Rattle.asn1_schema_constructed.proofs.bags_read.DecodeBag.decode_set_of.Goals as goal
 

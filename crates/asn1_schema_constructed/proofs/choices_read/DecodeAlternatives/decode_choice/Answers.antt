@@ -1,5 +1,6 @@
+use Rattle.std.proofs.Common.{rules}
 use Rattle.std.proofs.Common.{◌∙◌, ap, Err}
-use Rattle.asn1_schema_presented.proofs.Joined.{raised}
+use Rattle.asn1_schema_laws.proofs.Joined.{raised}
 use Rattle.asn1_schema_decode.proofs.Failing.{passed_on, failed_reads}
 use Rattle.asn1_schema_constructed.specs.Chosen.{chosen_value}
 use Rattle.asn1_schema_constructed.proofs.ChoiceReading.{reads_begun, unread_begun, unread_begun_here, unread_begun_end}
@@ -17,7 +18,11 @@ returns-in_err-end-clause-only g c = let one = g.met.Self.Decoder.one_record in 
 pub returns-clause-ok : goal.returns-clause-ok
 returns-clause-ok g c = let t = g.T.Choice in reads_begun _ (g.met.T.Alternatives.is_of _) _ (g.met.T.Choice.means _ ∙ ap (λ p. chosen_value p (t.inner c.in_ok-value.value)) c.in_ok-value.ensures.place) c.in_ok-chosen.ensures.level c.in_ok-chosen.ensures.ok c.in_ok-value.ensures.ok c.in_ok-end.ensures.ok
 
-pub returns-in_err-end-clause-after : goal.returns-in_err-end-clause-after
-returns-in_err-end-clause-after g c =
-    let law = g.met.Self.Decoder.goes_on in
-    passed_on _ c.from_residual-in_err-end.ensures.1 (λ h. absurd (law _ _ _ c.in_ok-chosen.ensures.ok (failed_reads law c.in_ok-value.ensures.ok (c.in_err-end.ensures.after (ap (λ z. Err z) h)))))
+pub returns-in_err-end-clause-call : goal.returns-in_err-end-clause-call
+returns-in_err-end-clause-call g c =
+    record {
+      failed = search rules;
+      already = search rules;
+      after = let law = g.met.Self.Decoder.goes_on in
+          passed_on _ c.from_residual-in_err-end.ensures.1 (λ h. absurd (law _ _ _ c.in_ok-chosen.ensures.ok (failed_reads law c.in_ok-value.ensures.ok (c.in_err-end.ensures.call.after (ap (λ z. Err z) h)))));
+    }

@@ -1,5 +1,5 @@
 use Rattle.std.proofs.Common.{◌∙◌, sym}
-use Rattle.asn1_schema_presented.proofs.Joined.{raised}
+use Rattle.asn1_schema_laws.proofs.Joined.{raised}
 use Rattle.asn1_schema_decode.proofs.Reading.{reads_sequence, unread_sequence, unread_sequence_here}
 use Rattle.asn1_schema_constructed.proofs.Counting.{count_presence_bits}
 use Rattle.asn1_schema_constructed.proofs.constructed.DecodeConstructed.decode_sequence.Goals as goal

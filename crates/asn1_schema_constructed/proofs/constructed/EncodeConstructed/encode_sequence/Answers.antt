@@ -1,5 +1,5 @@
 use Rattle.std.proofs.Common.{◌∙◌, sym}
-use Rattle.asn1_schema_presented.proofs.Joined.{raised}
+use Rattle.asn1_schema_laws.proofs.Joined.{raised}
 use Rattle.asn1_schema_encode.proofs.Writing.{writes_this, cannot_this, cannot_this_here}
 use Rattle.asn1_schema_constructed.proofs.Counting.{count_presence_bits}
 use Rattle.asn1_schema_constructed.proofs.constructed.EncodeConstructed.encode_sequence.Goals as goal

@@ -1,4 +1,4 @@
-use Rattle.asn1_schema_presented.proofs.Joined.{raised}
+use Rattle.asn1_schema_laws.proofs.Joined.{raised}
 use Rattle.asn1_schema_constructed.proofs.ItemRecords.{reads_item, unread_item}
 use Rattle.asn1_schema_constructed.proofs.items.DecodeItems.decode_item.Goals as goal
 

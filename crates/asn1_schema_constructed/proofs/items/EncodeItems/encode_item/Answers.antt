@@ -1,4 +1,4 @@
-use Rattle.asn1_schema_presented.proofs.Joined.{raised}
+use Rattle.asn1_schema_laws.proofs.Joined.{raised}
 use Rattle.asn1_schema_constructed.proofs.ItemRecords.{writes_item, cannot_item}
 use Rattle.asn1_schema_constructed.proofs.items.EncodeItems.encode_item.Goals as goal
 

@@ -1,5 +1,5 @@
 use Rattle.std.proofs.Common.{◌∙◌, sym}
-use Rattle.asn1_schema_presented.proofs.Joined.{raised}
+use Rattle.asn1_schema_laws.proofs.Joined.{raised}
 use Rattle.asn1_schema_constructed.proofs.SetReading.{reads_set, unread_set, unread_set_here}
 use Rattle.asn1_schema_constructed.proofs.Counting.{count_presence_bits}
 use Rattle.asn1_schema_constructed.proofs.sets_read.DecodeSet.decode_set.Goals as goal

@@ -1,4 +1,4 @@
-use Rattle.asn1_schema_presented.proofs.Joined.{raised}
+use Rattle.asn1_schema_laws.proofs.Joined.{raised}
 use Rattle.asn1_schema_constructed.proofs.SetReading.{reads_set, unread_set, unread_set_here}
 use Rattle.asn1_schema_constructed.proofs.sets_read.DecodeSet.decode_set_components.Goals as goal
 

@@ -1,4 +1,4 @@
-use Rattle.asn1_schema_presented.proofs.Joined.{raised}
+use Rattle.asn1_schema_laws.proofs.Joined.{raised}
 use Rattle.asn1_schema_constructed.proofs.SetWriting.{writes_set, cannot_set, cannot_set_here}
 use Rattle.asn1_schema_constructed.proofs.sets_written.EncodeSet.encode_set_components.Goals as goal
 

@@ -1,4 +1,4 @@
-use Rattle.asn1_schema_presented.proofs.Joined.{raised}
+use Rattle.asn1_schema_laws.proofs.Joined.{raised}
 use Rattle.asn1_schema_decode.proofs.SingleRecords.{reads_character_string, unread_character_string}
 use Rattle.asn1_schema_decode.proofs.characters.RestrictedStringDecode.decode_with_tag_and_constraints.Goals as goal
 

@@ -1,4 +1,4 @@
-use Rattle.asn1_schema_presented.proofs.Joined.{raised}
+use Rattle.asn1_schema_laws.proofs.Joined.{raised}
 use Rattle.asn1_schema_decode.proofs.PresenceBits.{part_default_read, part_default_unread}
 use Rattle.asn1_schema_decode.proofs.components.DecodeSequence.decode_default_with_tag.Goals as goal
 

@@ -1,4 +1,4 @@
-use Rattle.asn1_schema_presented.proofs.Joined.{raised}
+use Rattle.asn1_schema_laws.proofs.Joined.{raised}
 use Rattle.asn1_schema_decode.proofs.Reading.{reads_end, unread_end}
 use Rattle.asn1_schema_decode.proofs.components.EndDecodeComponents.decode_components.Goals as goal
 

@@ -1,4 +1,4 @@
-use Rattle.asn1_schema_presented.proofs.Joined.{raised}
+use Rattle.asn1_schema_laws.proofs.Joined.{raised}
 use Rattle.asn1_schema_decode.proofs.Reading.{reads_as, unread_as}
 use Rattle.asn1_schema_decode.proofs.decode.Decode.decode_with_tag.Goals as goal
 

@@ -1,4 +1,4 @@
-use Rattle.asn1_schema_presented.proofs.Joined.{raised}
+use Rattle.asn1_schema_laws.proofs.Joined.{raised}
 use Rattle.asn1_schema_decode.proofs.SingleRecords.{reads_boolean, unread_boolean}
 use Rattle.asn1_schema_decode.proofs.scalars.BoolDecode.decode_with_tag_and_constraints.Goals as goal
 

@@ -2,7 +2,7 @@ use Rattle.std.proofs.Common.{rules}
 use Rattle.std.proofs.lemmas.Int.{to_z-of_z}
 use mir.Syntax.{w16}
 use mir.Val.{SFits}
-use Rattle.asn1_schema_presented.proofs.Joined.{raised}
+use Rattle.asn1_schema_laws.proofs.Joined.{raised}
 use Rattle.asn1_schema_decode.proofs.SingleRecords.{reads_integer, unread_integer}
 use Rattle.asn1_schema_decode.proofs.signed.I16Decode.decode_with_tag_and_constraints.Goals as goal
 

@@ -1,4 +1,4 @@
-use Rattle.asn1_schema_presented.proofs.Joined.{raised}
+use Rattle.asn1_schema_laws.proofs.Joined.{raised}
 use Rattle.asn1_schema_encode.proofs.Writing.{writes_left_out, cannot_presence_bit}
 use Rattle.std.proofs.Common.{refl}
 use Rattle.asn1_model.specs.Schema.{optional}

@@ -1,4 +1,4 @@
-use Rattle.asn1_schema_presented.proofs.Joined.{raised}
+use Rattle.asn1_schema_laws.proofs.Joined.{raised}
 use Rattle.asn1_schema_encode.proofs.Writing.{writes_end, cannot_end}
 use Rattle.asn1_schema_encode.proofs.components.EndEncodeComponents.encode_components.Goals as goal
 

@@ -1,4 +1,4 @@
-use Rattle.asn1_schema_presented.proofs.Joined.{raised}
+use Rattle.asn1_schema_laws.proofs.Joined.{raised}
 use Rattle.asn1_schema_encode.proofs.SingleRecords.{writes_null, cannot_null}
 use Rattle.asn1_schema_encode.proofs.markers.PhantomDataEncode.encode_with_tag_and_constraints.Goals as goal
 

@@ -1,4 +1,4 @@
-use Rattle.asn1_schema_presented.proofs.Joined.{raised}
+use Rattle.asn1_schema_laws.proofs.Joined.{raised}
 use Rattle.asn1_schema_encode.proofs.SingleRecords.{writes_integer, cannot_integer}
 use Rattle.asn1_schema_encode.proofs.natives.U64Encode.encode_with_tag_and_constraints.Goals as goal
 

@@ -1,4 +1,4 @@
-use Rattle.asn1_schema_presented.proofs.Joined.{raised}
+use Rattle.asn1_schema_laws.proofs.Joined.{raised}
 use Rattle.asn1_schema_encode.proofs.SingleRecords.{writes_octet_string, cannot_octet_string}
 use Rattle.asn1_schema_encode.proofs.strings.OctetStringEncode.encode_with_tag_and_constraints.Goals as goal
 

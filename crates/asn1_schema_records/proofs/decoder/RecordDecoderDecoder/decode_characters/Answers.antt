@@ -1,7 +1,7 @@
 use Rattle.asn1_model.specs.Schema.{any_alphabet}
 use Rattle.std.proofs.Common.{◌≡◌, ◌∙◌, ℕ, true, List, rules}
 use Rattle.asn1_model.specs.Schema.{Size, visible, any_count}
-use Rattle.asn1_schema_presented.specs.Records.{characters}
+use Rattle.asn1_schema_laws.specs.Records.{characters}
 use Rattle.asn1_schema_records.proofs.Taking.{takes_characters, no_characters}
 use Rattle.asn1_schema_records.specs.Kept.{record_of, sizes_in}
 use Rattle.asn1_values_alphabets.specs.Permitted.{permits_all}

@@ -1,6 +1,6 @@
 use Rattle.asn1_model.specs.Schema.{any_number}
 use Rattle.std.proofs.Common.{◌≡◌, rules}
-use Rattle.asn1_schema_presented.specs.Records.{whole}
+use Rattle.asn1_schema_laws.specs.Records.{whole}
 use Rattle.asn1_schema_constraints.proofs.Held.{admitted_held, admitted_within}
 use Rattle.asn1_schema_records.proofs.Taking.{takes_whole, no_number}
 use Rattle.asn1_schema_records.specs.Kept.{record_of, bounds_in}

@@ -1,4 +1,4 @@
-use Rattle.asn1_schema_presented.proofs.Joined.{raised}
+use Rattle.asn1_schema_laws.proofs.Joined.{raised}
 use Rattle.asn1_schema_wrapped.proofs.Renamed.{reads_by, unread_by}
 use Rattle.asn1_schema_wrapped.proofs.constrained.ConstrainedDecode.decode_with_tag_and_constraints.Goals as goal
 

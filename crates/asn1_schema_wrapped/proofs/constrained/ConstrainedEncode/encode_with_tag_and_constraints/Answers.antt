@@ -1,4 +1,4 @@
-use Rattle.asn1_schema_presented.proofs.Joined.{raised}
+use Rattle.asn1_schema_laws.proofs.Joined.{raised}
 use Rattle.asn1_schema_wrapped.proofs.Renamed.{writes_by, cannot_by}
 use Rattle.asn1_schema_wrapped.proofs.constrained.ConstrainedEncode.encode_with_tag_and_constraints.Goals as goal
 

@@ -1,4 +1,4 @@
-use Rattle.per_codec_additions.proofs.AdditionTexts.{presence_added}
+use Rattle.per_codec_additions.proofs.AdditionFieldLists.{presence_added}
 use Rattle.per_codec_additions.proofs.additions.PresenceBitsUnits.push_range.Goals as goal
 
 pub returns : goal.returns

@@ -1,7 +1,7 @@
 use Rattle.std.proofs.Common.{◌≡◌, Some, ap, sym, ◌∙◌}
 use Rattle.per_codec_additions.specs.Slots.{complete_octets}
 use Rattle.per_codec_additions.proofs.KeptSlots.{adds_complete}
-use Rattle.per_codec_limits.specs.Variants.{is_aligned}
+use Rattle.per_codec_rules.specs.Variants.{is_aligned}
 use Rattle.per_codec_additions.proofs.slots.Slot.push.Goals as goal
 
 pub returns-clause-present : goal.returns-clause-present

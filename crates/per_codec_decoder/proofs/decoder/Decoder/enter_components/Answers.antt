@@ -1,5 +1,5 @@
 use Rattle.std.proofs.Common.{◌∙◌, ◌∷◌, ap, sym}
-use Rattle.asn1_schema_presented.proofs.Joined.{raised}
+use Rattle.asn1_schema_laws.proofs.Joined.{raised}
 use Rattle.per_codec_decoder.specs.Scopes.{scope_of, stands_in}
 use Rattle.per_codec_decoder.proofs.Settling.{components_enter, not_ready, now_ready}
 use Rattle.per_codec_decoder.proofs.decoder.Decoder.enter_components.Goals as goal

@@ -1,9 +1,9 @@
 use Rattle.std.proofs.Common.{◌∙◌, ap, subst, refl, sym}
-use Rattle.asn1_schema_presented.proofs.Joined.{raised}
+use Rattle.asn1_schema_laws.proofs.Joined.{raised}
 use Rattle.asn1_schema_constraints.specs.Bounds.{members_of}
 use Rattle.asn1_schema_constraints.specs.Terms.{size_of}
 use Rattle.per_codec_reading.specs.Fronts.{freedoms, is_aligned}
-use Rattle.per_codec_held.specs.Held.{Held}
+use Rattle.per_codec_held_laws.specs.Held.{Held}
 use Rattle.per_codec_decoder.specs.Members.{Due, HasMembers}
 use Rattle.per_codec_decoder.proofs.Settling.{members_settle, ok_of, not_ready, now_ready}
 use Rattle.per_codec_decoder.proofs.decoder.Decoder.enter_members.Goals as goal

@@ -3,12 +3,12 @@ use Rattle.std.specs.Cow.{cow_slice_items}
 use Rattle.asn1_model.specs.Schema.{octet_string}
 use Rattle.asn1_schema_constraints.specs.Bounds.{counts_of}
 use Rattle.asn1_schema_constraints.specs.Terms.{size_of}
-use Rattle.asn1_schema_presented.specs.Records.{octets}
+use Rattle.asn1_schema_laws.specs.Records.{octets}
 use Rattle.per_codec_reading.specs.Fronts.{freedoms, is_aligned}
 use Rattle.per_codec_decoder.proofs.Finding.{asked_octets, octets_within}
 use Rattle.per_codec_decoder.proofs.Settling.{now_ready, steps}
 use Rattle.asn1_model.specs.Per
-use Rattle.per_codec_fronts.specs.Takes.{Place}
+use Rattle.per_codec_laws.specs.Takes.{Position}
 use Rattle.per_codec_reading.specs.Sizes.{contents_have_padding, sized_units}
 use Rattle.per_codec_reading.specs.declared.sized.Contents.TheVariants.{Strings}
 use Rattle.per_codec_decoder.specs.Missing.{StillTooShort}
@@ -28,5 +28,5 @@ returns-in-Err-clause-only c =
     let h = counts_of c.args.held in
     let v = c.self.inside.rules in
     let missing = λ (n : _). string_still_short (freedoms v) (is_aligned v) z h c.self.inside.place.place n in
-    let short = subst (λ (p : Place). StillTooShort (freedoms v) (sized_units (is_aligned v) z h 8 (contents_have_padding Strings 8)) p c.missing_of_string-missing.result) (c.cursor.ensures ∙ c.in-Err.ensures.stays) (c.missing_of_string-missing.ensures h) in
-    none_lacking _ _ _ (octet_string z h) c.in-Err.error c.self.view_is c.lack_bits.ensures.refused c.lack_bits.ensures.kept c.in-Err.ensures.only (subst (λ n. StillTooShort (freedoms v) (Per.form (is_aligned v) (octet_string z h)) c.self.inside.place.place n) (sym c.lack_bits.ensures.told) (missing c.missing_of_string-missing.result short)) (λ al free a b. asked_octets al free a b z h)
+    let short = subst (λ (p : Position). StillTooShort (freedoms v) (sized_units (is_aligned v) z h 8 (contents_have_padding Strings 8)) p c.missing_of_string_at-missing.result) c.in-Err.ensures.stays (c.missing_of_string_at-missing.ensures h) in
+    none_lacking _ _ _ (octet_string z h) c.in-Err.error c.self.view_is c.lack_bits.ensures.refused c.lack_bits.ensures.kept c.in-Err.ensures.only (subst (λ n. StillTooShort (freedoms v) (Per.form (is_aligned v) (octet_string z h)) c.self.inside.place.place n) (sym c.lack_bits.ensures.told) (missing c.missing_of_string_at-missing.result short)) (λ al free a b. asked_octets al free a b z h)

@@ -1,8 +1,8 @@
 use Rattle.std.proofs.Common.{◌∙◌, ap, refl, subst, sym}
 use Rattle.std.specs.Prelude.{OnOk}
-use Rattle.per_codec_fronts.specs.Takes.{Front, completion}
+use Rattle.per_codec_laws.specs.Takes.{Front, completion}
 use Rattle.per_codec_reading.specs.Fronts.{freedoms}
-use Rattle.per_codec_held.specs.Held.{Held}
+use Rattle.per_codec_held_laws.specs.Held.{Held}
 use Rattle.per_codec_decoder.proofs.Settling.{finished, finished_there, unless, unfinished_at, now_ready}
 use Rattle.per_codec_decoder.proofs.decoder.Decoder.finish.Goals as goal
 

@@ -1,5 +1,5 @@
 use Rattle.std.proofs.Common.{◌≡◌, ◌∙◌, ◌∷◌, length, ap, sym, subst, refl}
-use Rattle.per_codec_fronts.specs.Takes.{Front}
+use Rattle.per_codec_laws.specs.Takes.{Front}
 use Rattle.per_codec_reading.specs.Fronts.{freedoms, is_aligned, IsFresh}
 use Rattle.per_codec_reading.specs.Runs.{storage_inside}
 use Rattle.per_codec_reading.proofs.Fronts.{misses_fresh}

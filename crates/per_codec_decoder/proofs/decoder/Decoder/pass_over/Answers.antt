@@ -1,5 +1,5 @@
 use Rattle.std.proofs.Common.{refl, sym, ap, ◌∙◌, ◌∷◌}
-use Rattle.asn1_schema_presented.proofs.Joined.{raised}
+use Rattle.asn1_schema_laws.proofs.Joined.{raised}
 use Rattle.per_codec_reading.specs.Fronts.{freedoms, is_aligned}
 use Rattle.per_codec_decoder.specs.Held.{stands_behind}
 use Rattle.per_codec_decoder.proofs.Opening.{passed_on, not_passed_on, passed_unknown, not_passed_unknown, passed_open, not_passed_open}

@@ -1,5 +1,5 @@
 use Rattle.std.proofs.Common.{ap, ◌∙◌}
-use Rattle.per_codec_held.specs.Held.{Held}
+use Rattle.per_codec_held_laws.specs.Held.{Held}
 use Rattle.per_codec_decoder.proofs.Opening.{no_bitmap, none_come}
 use Rattle.per_codec_decoder.proofs.Refused.{still_none, kept_owes, emptied_owes}
 use Rattle.per_codec_decoder.proofs.decoder.DecoderDecoder.begin_additions.Goals as goal

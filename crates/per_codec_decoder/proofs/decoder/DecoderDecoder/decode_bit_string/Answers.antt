@@ -1,7 +1,7 @@
 use Rattle.asn1_schema_constraints.specs.Bounds.{counts_of}
 use Rattle.asn1_schema_constraints.specs.Terms.{size_of}
 use Rattle.asn1_model.specs.Schema.{bit_string}
-use Rattle.asn1_schema_presented.specs.Records.{asks_bits}
+use Rattle.asn1_schema_laws.specs.Records.{asks_bits}
 use Rattle.per_codec_reading.specs.Fronts.{freedoms, is_aligned}
 use Rattle.per_codec_reading.proofs.Fronts.{err_also}
 use Rattle.per_codec_decoder.proofs.Settling.{unfound, also, none_as}

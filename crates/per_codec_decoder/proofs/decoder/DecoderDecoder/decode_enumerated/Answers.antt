@@ -1,6 +1,6 @@
 use Rattle.per_codec_decoder.proofs.Settling.{unfound}
 use Rattle.asn1_model.specs.Schema.{enumerated}
-use Rattle.asn1_schema_presented.specs.Records.{asks_one_of}
+use Rattle.asn1_schema_laws.specs.Records.{asks_one_of}
 use Rattle.per_codec_decoder.proofs.Finding.{asked_one_of}
 use Rattle.per_codec_decoder.proofs.decoder.DecoderDecoder.decode_enumerated.Goals as goal
 

@@ -2,7 +2,7 @@ use Rattle.asn1_schema_constraints.specs.Terms.{bounds_of, held_of}
 use Rattle.per_codec_reading.specs.Fronts.{freedoms, is_aligned}
 use Rattle.per_codec_decoder.proofs.Settling.{unfound, also}
 use Rattle.asn1_model.specs.Schema.{integer}
-use Rattle.asn1_schema_presented.specs.Records.{asks_whole}
+use Rattle.asn1_schema_laws.specs.Records.{asks_whole}
 use Rattle.per_codec_decoder.proofs.Finding.{asked_whole, number_within}
 use Rattle.per_codec_decoder.proofs.decoder.DecoderDecoder.decode_integer.Goals as goal
 

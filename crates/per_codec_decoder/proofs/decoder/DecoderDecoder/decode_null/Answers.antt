@@ -1,6 +1,6 @@
 use Rattle.per_codec_decoder.proofs.Settling.{unfound}
 use Rattle.asn1_model.specs.Schema.{null}
-use Rattle.asn1_schema_presented.specs.Records.{asks_nil}
+use Rattle.asn1_schema_laws.specs.Records.{asks_nil}
 use Rattle.per_codec_decoder.proofs.Finding.{asked_nil}
 use Rattle.per_codec_decoder.proofs.decoder.DecoderDecoder.decode_null.Goals as goal
 

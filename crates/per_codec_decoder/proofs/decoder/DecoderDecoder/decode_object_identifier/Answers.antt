@@ -1,6 +1,6 @@
 use Rattle.per_codec_decoder.proofs.Settling.{unfound}
 use Rattle.asn1_model.specs.Schema.{object_identifier}
-use Rattle.asn1_schema_presented.specs.Records.{asks_identifier}
+use Rattle.asn1_schema_laws.specs.Records.{asks_identifier}
 use Rattle.per_codec_decoder.proofs.Finding.{asked_identifier}
 use Rattle.per_codec_decoder.proofs.decoder.DecoderDecoder.decode_object_identifier.Goals as goal
 

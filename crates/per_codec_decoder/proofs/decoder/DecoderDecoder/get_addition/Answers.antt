@@ -1,5 +1,5 @@
 use Rattle.std.proofs.Common.{refl}
-use Rattle.asn1_schema_presented.proofs.Joined.{raised}
+use Rattle.asn1_schema_laws.proofs.Joined.{raised}
 use Rattle.per_codec_decoder.proofs.Opening.{no_addition_due}
 use Rattle.per_codec_decoder.proofs.Lacking.{addition_lacking}
 use Rattle.per_codec_decoder.proofs.Refused.{still_none, emptied_owes}

@@ -1,6 +1,6 @@
 use Rattle.std.proofs.Common.{◌∙◌, ◌∷◌, sym, subst, arith}
-use Rattle.asn1_schema_presented.proofs.Joined.{raised}
-use Rattle.per_codec_fronts.specs.Takes.{NextDeterminant, NextMember, members}
+use Rattle.asn1_schema_laws.proofs.Joined.{raised}
+use Rattle.per_codec_laws.specs.Takes.{NextDeterminant, NextMember, members}
 use Rattle.per_codec_reading.specs.Fronts.{freedoms, is_aligned}
 use Rattle.per_codec_decoder.specs.Members.{Due, NoFurther, tally_in}
 use Rattle.per_codec_decoder.proofs.Counting.{headed, held_tally, no_determinant, no_further}

@@ -1,6 +1,6 @@
 use Rattle.std.proofs.Common.{◌<◌, sym, subst}
 use Rattle.per_codec_reading.specs.Fronts.{freedoms, is_aligned}
-use Rattle.per_codec_fronts.specs.Takes.{Front}
+use Rattle.per_codec_laws.specs.Takes.{Front}
 use Rattle.per_codec_reading.specs.Lengths.{length_form, IsLength}
 use Rattle.per_codec_decoder.proofs.Counting.{last_determinant, other_last, not_accepted}
 use Rattle.per_codec_decoder.proofs.members.Tally.behind.Goals as goal

@@ -1,5 +1,5 @@
 use Rattle.per_codec_encoder.proofs.Stepped.{taken_out, none_taken_out}
-use Rattle.per_codec_limits.specs.Variants.{is_aligned}
+use Rattle.per_codec_rules.specs.Variants.{is_aligned}
 use Rattle.per_codec_encoder.proofs.encoder.Encoder.output_into_vec.Goals as goal
 
 pub returns-clause-octets : goal.returns-clause-octets

@@ -1,7 +1,7 @@
 use Rattle.per_codec_encoder.proofs.Stepped.{as_group}
-use Rattle.asn1_schema_presented.specs.Records.{group_begins}
+use Rattle.asn1_schema_laws.specs.Records.{group_begins}
 use Rattle.per_codec_encoder.proofs.Stepped.{stays_sound, puts}
-use Rattle.per_codec_limits.specs.Variants.{is_aligned}
+use Rattle.per_codec_rules.specs.Variants.{is_aligned}
 use Rattle.per_codec_encoder.proofs.encoder.EncoderEncoder.begin_group.Goals as goal
 
 pub invariant_of-self-2 : goal.invariant_of-self-2

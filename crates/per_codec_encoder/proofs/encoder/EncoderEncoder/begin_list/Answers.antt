@@ -1,11 +1,11 @@
 use Rattle.std.proofs.Common.{subst}
 use Rattle.asn1_schema_constraints.specs.Bounds.{members_of}
 use Rattle.asn1_schema_constraints.specs.Terms.{sizes_of}
-use Rattle.asn1_schema_presented.proofs.Joined.{raised}
-use Rattle.asn1_schema_presented.specs.Records.{list_begins}
+use Rattle.asn1_schema_laws.proofs.Joined.{raised}
+use Rattle.asn1_schema_laws.specs.Records.{list_begins}
 use Rattle.per_codec_encoder.specs.Holding.{Does, Cannot}
 use Rattle.per_codec_encoder.proofs.Stepped.{stays_sound, puts, is_refused}
-use Rattle.per_codec_limits.specs.Variants.{is_aligned}
+use Rattle.per_codec_rules.specs.Variants.{is_aligned}
 use Rattle.per_codec_encoder.proofs.encoder.EncoderEncoder.begin_list.Goals as goal
 
 pub invariant_of-self-2 : goal.invariant_of-self-2

@@ -1,5 +1,5 @@
 use Rattle.per_codec_encoder.proofs.Stepped.{stays_sound, puts}
-use Rattle.per_codec_limits.specs.Variants.{is_aligned}
+use Rattle.per_codec_rules.specs.Variants.{is_aligned}
 use Rattle.per_codec_encoder.proofs.encoder.EncoderEncoder.begin_sequence.Goals as goal
 
 pub invariant_of-self-2 : goal.invariant_of-self-2

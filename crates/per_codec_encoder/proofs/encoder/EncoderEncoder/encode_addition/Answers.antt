@@ -1,7 +1,8 @@
-use Rattle.asn1_schema_presented.proofs.Joined.{raised}
-use Rattle.asn1_schema_presented.specs.Records.{addition}
+use Rattle.std.proofs.Common.{rules}
+use Rattle.asn1_schema_laws.proofs.Joined.{raised}
+use Rattle.asn1_schema_laws.specs.Records.{addition}
 use Rattle.per_codec_encoder.proofs.Stepped.{stays_sound, puts, is_refused, never_after}
-use Rattle.per_codec_limits.specs.Variants.{is_aligned}
+use Rattle.per_codec_rules.specs.Variants.{is_aligned}
 use Rattle.per_codec_encoder.proofs.encoder.EncoderEncoder.encode_addition.Goals as goal
 
 pub invariant_of-self-2 : goal.invariant_of-self-2
@@ -13,5 +14,6 @@ returns-clause-ok c = puts (is_aligned c.self.inside.variant) (addition c.args.p
 pub returns-in_err-encode_addition-clause-only : goal.returns-in_err-encode_addition-clause-only
 returns-in_err-encode_addition-clause-only c = raised _ _ _ c.from_residual-in_err-encode_addition.ensures.1 (is_refused (is_aligned c.self.inside.variant) (addition c.args.present) c.self.inside.frames c.self.inside.output c.self.inside.failed c.args.self.now _ c.self.view_is (c.self.invariant c.in_ok-begin_record.ensures.ok) (c.in_err-encode_addition.ensures (is_aligned c.self.inside.variant)))
 
-pub returns-in_err-encode_addition-clause-after : goal.returns-in_err-encode_addition-clause-after
-returns-in_err-encode_addition-clause-after c = never_after (is_aligned c.self.inside.variant) (addition c.args.present) c.self.inside.frames c.self.inside.output _ c.from_residual-in_err-encode_addition.result c.from_residual-in_err-encode_addition.ensures.1 (c.in_err-encode_addition.ensures (is_aligned c.self.inside.variant))
+pub returns-in_err-encode_addition-clause-call : goal.returns-in_err-encode_addition-clause-call
+returns-in_err-encode_addition-clause-call c =
+    record { failed = search rules; front = search rules; already = search rules; after = never_after (is_aligned c.self.inside.variant) (addition c.args.present) c.self.inside.frames c.self.inside.output _ c.from_residual-in_err-encode_addition.result c.from_residual-in_err-encode_addition.ensures.1 (c.in_err-encode_addition.ensures (is_aligned c.self.inside.variant)) }

@@ -1,7 +1,7 @@
 use Rattle.std.proofs.Common.{refl}
-use Rattle.asn1_schema_presented.specs.Records.{flag}
+use Rattle.asn1_schema_laws.specs.Records.{flag}
 use Rattle.per_codec_encoder.proofs.Stepped.{adds_sound, adds_puts}
-use Rattle.per_codec_limits.specs.Variants.{is_aligned}
+use Rattle.per_codec_rules.specs.Variants.{is_aligned}
 use Rattle.per_codec_encoder.proofs.encoder.EncoderEncoder.encode_bool.Goals as goal
 
 pub invariant_of-self-2 : goal.invariant_of-self-2

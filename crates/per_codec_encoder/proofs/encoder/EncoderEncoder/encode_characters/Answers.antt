@@ -1,10 +1,10 @@
 use Rattle.std.proofs.Common.{refl}
 use Rattle.asn1_model.specs.Schema.{any_count}
 use Rattle.asn1_schema_constraints.specs.Terms.{sizes_of, alphabet_of}
-use Rattle.asn1_schema_presented.specs.Records.{characters}
-use Rattle.asn1_schema_presented.proofs.Joined.{raised}
+use Rattle.asn1_schema_laws.specs.Records.{characters}
+use Rattle.asn1_schema_laws.proofs.Joined.{raised}
 use Rattle.per_codec_encoder.proofs.Stepped.{adds_sound, adds_puts, form_refused}
-use Rattle.per_codec_limits.specs.Variants.{is_aligned}
+use Rattle.per_codec_rules.specs.Variants.{is_aligned}
 use Rattle.per_codec_encoder.proofs.encoder.EncoderEncoder.encode_characters.Goals as goal
 
 pub invariant_of-self-2 : goal.invariant_of-self-2

@@ -1,7 +1,7 @@
 use Rattle.std.proofs.lemmas.Result.{err_from_is_err_and}
-use Rattle.asn1_schema_presented.specs.Records.{further}
+use Rattle.asn1_schema_laws.specs.Records.{further}
 use Rattle.per_codec_encoder.proofs.Stepped.{stays_sound, puts, is_refused}
-use Rattle.per_codec_limits.specs.Variants.{is_aligned}
+use Rattle.per_codec_rules.specs.Variants.{is_aligned}
 use Rattle.per_codec_encoder.proofs.encoder.EncoderEncoder.encode_further.Goals as goal
 
 pub invariant_of-self-2 : goal.invariant_of-self-2

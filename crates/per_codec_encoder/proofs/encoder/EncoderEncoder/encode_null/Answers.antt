@@ -1,5 +1,5 @@
 use Rattle.per_codec_encoder.proofs.Stepped.{made, nothing_added}
-use Rattle.per_codec_limits.specs.Variants.{is_aligned}
+use Rattle.per_codec_rules.specs.Variants.{is_aligned}
 use Rattle.per_codec_encoder.proofs.encoder.EncoderEncoder.encode_null.Goals as goal
 
 pub returns-clause-ok : goal.returns-clause-ok

@@ -1,8 +1,8 @@
 use Rattle.std.proofs.Common.{refl}
-use Rattle.asn1_schema_presented.specs.Records.{identifier}
-use Rattle.asn1_schema_presented.proofs.Joined.{raised}
+use Rattle.asn1_schema_laws.specs.Records.{identifier}
+use Rattle.asn1_schema_laws.proofs.Joined.{raised}
 use Rattle.per_codec_encoder.proofs.Stepped.{adds_sound, adds_puts, form_refused}
-use Rattle.per_codec_limits.specs.Variants.{is_aligned}
+use Rattle.per_codec_rules.specs.Variants.{is_aligned}
 use Rattle.per_codec_encoder.proofs.encoder.EncoderEncoder.encode_object_identifier.Goals as goal
 
 pub invariant_of-self-2 : goal.invariant_of-self-2

@@ -1,7 +1,7 @@
-use Rattle.asn1_schema_presented.proofs.Joined.{raised}
-use Rattle.asn1_schema_presented.specs.Records.{ends}
+use Rattle.asn1_schema_laws.proofs.Joined.{raised}
+use Rattle.asn1_schema_laws.specs.Records.{ends}
 use Rattle.per_codec_encoder.proofs.Stepped.{stays_sound, puts, is_refused}
-use Rattle.per_codec_limits.specs.Variants.{is_aligned}
+use Rattle.per_codec_rules.specs.Variants.{is_aligned}
 use Rattle.per_codec_encoder.proofs.encoder.EncoderEncoder.end.Goals as goal
 
 pub invariant_of-self-2 : goal.invariant_of-self-2

@@ -1,5 +1,5 @@
 use Rattle.std.proofs.Common.{◌++◌, ◌∷◌, [], subst, sym}
-use Rattle.asn1_schema_presented.specs.Records.{ends}
+use Rattle.asn1_schema_laws.specs.Records.{ends}
 use Rattle.per_codec_encoder.specs.Holding.{Does}
 use Rattle.per_codec_encoder.proofs.Innermost.{innermost_is}
 use Rattle.per_codec_encoder.proofs.nested.Nested.end_complete.Goals as goal

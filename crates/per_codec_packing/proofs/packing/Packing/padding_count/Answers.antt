@@ -11,4 +11,4 @@ returns c =
     let p = c.self.inside.is_placed in
     let v = c.args.self.now in
     let n : c.len.result ≡ length f = omega (arith, c.len.ensures, c.self.inside.paddings.ok) in
-    subst (λ k. length (solid v.text) + k ≡ length v.text) (sym n) (counted b f p c.self.invariant v c.self.view_is (ap length (bits_alone b f p c.self.invariant v c.self.view_is)))
+    subst (λ k. length (solid v.field_list) + k ≡ length v.field_list) (sym n) (counted b f p c.self.invariant v c.self.view_is (ap length (bits_alone b f p c.self.invariant v c.self.view_is)))

@@ -1,6 +1,6 @@
 use Rattle.std.proofs.Common.{◌≡◌, ◌^◌, ltb, true, sym, ◌∙◌}
 use Rattle.asn1_model.specs.Strings.{largest}
-use Rattle.per_codec_writing.proofs.CharacterTexts.{number_codes, run_codes}
+use Rattle.per_codec_writing.proofs.CharacterFieldLists.{number_codes, run_codes}
 use Rattle.per_codec_writing.proofs.character_units.CharacterUnits.base.Goals as goal
 
 pub returns-then-is_by_number : goal.returns-then-is_by_number

@@ -1,5 +1,5 @@
 use Rattle.per_codec_writing.specs.Characters.{low_bits}
-use Rattle.per_codec_writing.proofs.UnitTexts.{numbers_added}
+use Rattle.per_codec_writing.proofs.UnitFieldLists.{numbers_added}
 use Rattle.per_codec_writing.proofs.number_units.NumberUnitsUnits.push_range.Goals as goal
 
 pub returns : goal.returns

@@ -1,4 +1,4 @@
-use Rattle.per_codec_writing.proofs.UnitTexts.{octets_added}
+use Rattle.per_codec_writing.proofs.UnitFieldLists.{octets_added}
 use Rattle.per_codec_writing.proofs.units.RefSliceU8Units.push_range.Goals as goal
 
 pub returns : goal.returns

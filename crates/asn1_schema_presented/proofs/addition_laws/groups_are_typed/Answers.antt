@@ -1,5 +1,0 @@
-use Rattle.asn1_schema_presented.proofs.Groups.{group_addition}
-use Rattle.asn1_schema_presented.proofs.addition_laws.groups_are_typed.Goals as goal
-
-pub returns : goal.returns
-returns c = λ t g h k. group_addition g h k

@@ -1,6 +1,0 @@
-use Rattle.std.proofs.Common.{◌∙◌}
-use Rattle.asn1_schema_variants.proofs.Places.{copied_is, in_others}
-use Rattle.asn1_schema_variants.proofs.enumerated.Enumerated.from_extended_enumeration_index.Goals as goal
-
-pub returns : goal.returns
-returns g c = in_others _ _ _ _ _ _ _ c.in_ok-extended_variants.ensures g.met.Self.Enumerated.distinct (c.copied.ensures ∙ copied_is _ _ _ c.get.ensures.lookup.1 c.get.ensures.lookup.3)

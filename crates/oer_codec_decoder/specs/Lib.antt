@@ -1,0 +1,5 @@
+pub mod Scopes
+pub mod Refusals
+pub mod Preamble
+pub mod Members
+pub mod Missing

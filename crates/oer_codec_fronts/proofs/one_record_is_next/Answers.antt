@@ -1,5 +1,0 @@
-use Rattle.oer_codec_fronts.proofs.Next as Next
-use Rattle.oer_codec_fronts.proofs.one_record_is_next.Goals as goal
-
-pub returns : goal.returns
-returns c = Next.one_taken

@@ -1,5 +1,0 @@
-use Rattle.oer_codec_fronts.proofs.Whole as Whole
-use Rattle.oer_codec_fronts.proofs.records_are_read.Goals as goal
-
-pub returns : goal.returns
-returns c = Whole.records_read

@@ -1,5 +1,0 @@
-use Rattle.asn1_schema_finding.proofs.Fitting as Fitting
-use Rattle.oer_codec_fronts.proofs.records_fit.Goals as goal
-
-pub returns : goal.returns
-returns c free s v a b t = Fitting.records_fit _ _ (λ x y m. m) s v a b t

@@ -1,5 +1,0 @@
-use Rattle.oer_codec_held.proofs.Carried as Carried
-use Rattle.oer_codec_held.proofs.few_more_are_found.Goals as goal
-
-pub returns : goal.returns
-returns c = Carried.few_carried

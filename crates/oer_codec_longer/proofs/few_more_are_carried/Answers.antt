@@ -1,6 +1,0 @@
-use Rattle.oer_codec_longer.proofs.Levelled as Levelled
-use Rattle.oer_codec_longer.proofs.Few as Few
-use Rattle.oer_codec_longer.proofs.few_more_are_carried.Goals as goal
-
-pub returns : goal.returns
-returns c = Few.few_carried

@@ -1,5 +1,0 @@
-use Rattle.oer_codec_longer.proofs.Chained as Chained
-use Rattle.oer_codec_longer.proofs.what_is_left_is_not_needed.Goals as goal
-
-pub returns : goal.returns
-returns c = Chained.chain_back

@@ -1,4 +1,0 @@
-pub mod Freedoms
-pub mod Fronts
-pub mod Rooms
-pub mod LengthFronts

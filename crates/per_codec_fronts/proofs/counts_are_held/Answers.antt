@@ -1,4 +1,0 @@
-use Rattle.per_codec_fronts.proofs.counts_are_held.Goals as goal
-
-pub returns : goal.returns
-returns c al free a z h n b t = t.0

@@ -1,5 +1,0 @@
-use Rattle.per_codec_fronts.proofs.Whole as Whole
-use Rattle.per_codec_fronts.proofs.records_are_the_form.Goals as goal
-
-pub returns : goal.returns
-returns c = Whole.each_bridges

@@ -1,5 +1,0 @@
-use Rattle.per_codec_longer.proofs.Empty as Empty
-use Rattle.per_codec_longer.proofs.empty_everywhere.Goals as goal
-
-pub returns : goal.returns
-returns c = Empty.empty

@@ -1,5 +1,0 @@
-use Rattle.per_codec_longer.proofs.Lengths as Lengths
-use Rattle.per_codec_longer.proofs.lengths_are_lacking.Goals as goal
-
-pub returns : goal.returns
-returns c = Lengths.lengths

@@ -1,5 +1,0 @@
-use Rattle.per_codec_longer.proofs.Chained as Chained
-use Rattle.per_codec_longer.proofs.more_changes_nothing.Goals as goal
-
-pub returns : goal.returns
-returns c = Chained.chain_more

@@ -1,0 +1,5 @@
+use Rattle.per_codec_longer_laws.proofs.Few as Few
+use Rattle.per_codec_longer_laws.proofs.few_more_are_carried.Goals as goal
+
+pub returns : goal.returns
+returns c = Few.few_carried

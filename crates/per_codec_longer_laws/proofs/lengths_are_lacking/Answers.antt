@@ -1,0 +1,5 @@
+use Rattle.per_codec_longer_laws.proofs.Lengths as Lengths
+use Rattle.per_codec_longer_laws.proofs.lengths_are_lacking.Goals as goal
+
+pub returns : goal.returns
+returns c = Lengths.lengths

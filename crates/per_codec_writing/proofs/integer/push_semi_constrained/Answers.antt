@@ -1,0 +1,15 @@
+use Rattle.std.proofs.Common.{subst, ◌∙◌}
+use Rattle.asn1_model.specs.Per
+use Rattle.per_codec_packing.specs.FieldLists.{field_list_at}
+use Rattle.per_codec_writing.specs.Writing.{Adds, place}
+use Rattle.per_codec_writing.proofs.PaddingFieldLists.{adds_same}
+use Rattle.per_codec_writing.proofs.NumberFieldLists.{semi_constrained_field_list}
+use Rattle.per_codec_rules.specs.Variants.{is_aligned}
+use Rattle.per_codec_writing.proofs.integer.push_semi_constrained.Goals as goal
+
+pub returns : goal.returns
+returns c =
+    let old = c.args.output.now in
+    let new = c.push_counted_octets.new.output in
+    adds_same _ _ old new (semi_constrained_field_list (is_aligned c.args.variant) c.args.offset (place old))
+    (subst (λ l. Adds (field_list_at (Per.counted_octets (is_aligned c.args.variant) l) (place old)) old new) (c.as_slice.ensures ∙ c.to_unsigned_bytes_be-octets.ensures.octets) c.in_ok-push_counted_octets.ensures)
