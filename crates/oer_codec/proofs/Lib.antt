@@ -1,5 +1,5 @@
-mod Encoding
-mod Messages
+pub mod Encoding
+pub mod Messages
 mod Once
 pub mod Preambles
 pub mod Finding

@@ -1,3 +1,3 @@
-mod Encoding
-mod Messages
+pub mod Encoding
+pub mod Messages
 mod Once

@@ -1,0 +1,4 @@
+pub mod Frames
+pub mod Replays
+pub mod Fronts
+pub mod Texts
