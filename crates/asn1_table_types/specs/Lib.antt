@@ -1,3 +1,6 @@
+pub mod Tapes
 pub mod Meaning
+pub mod Defaults
+pub mod Orders
 pub mod Flaws
 pub mod Tables

@@ -3,6 +3,7 @@ use Rattle.std.specs.Prelude.{◌≡◌, ◌<◌, ℕ, Bool, true, false, List, 
 use Rattle.asn1_model.specs.Lawful.{is_lawful}
 use Rattle.asn1_table_types.specs.Meaning.{type_at}
 use Rattle.asn1_table_types.specs.Flaws.{lacks}
+use Rattle.asn1_table_types.specs.Defaults.{AtSome}
 use Rattle.asn1_table_types.specs.declared.faults.Flaw.{Flaw}
 use Rattle.asn1_table_types.specs.declared.faults.Refusal.{Refusal}
 use Rattle.asn1_table_types.specs.declared.faults.Refusal.TheVariants.{Flawed, NoMemory}
@@ -14,11 +15,12 @@ use Rattle.asn1_table_types.specs.declared.nodes.TypeNode.{TypeNode}
 abbrev pub AreLawful : List TypeNode → Type 0
 AreLawful ns = (n i : ℕ) → is_lawful (type_at ns n i) ≡ true
 
--- There is a type at this place that is not lawful: unfolded to two levels it lacks this.
+-- There is a type at this place that is not lawful: unfolded to some number of levels it lacks this.
 pub record IsUnlawful (ns : List TypeNode) (i : ℕ) (f : Flaw) : Type 0 where
+  pub levels : ℕ
   pub there : i < length ns
-  pub lacking : lacks (type_at ns 2 i) f ≡ true
-  pub unlawful : is_lawful (type_at ns 2 i) ≡ false
+  pub lacking : lacks (type_at ns levels i) f ≡ true
+  pub unlawful : is_lawful (type_at ns levels i) ≡ false
 
 -- A refusal is right: the type at its place lacks what it says.
 abbrev pub IsRefused : List TypeNode → TableError → Type 0
@@ -29,3 +31,13 @@ IsRefused ns OutOfMemory = Unit {0}
 abbrev pub IsDue : (Flaw → Bool) → Refusal → Type 0
 IsDue lacking (Flawed f) = lacking f ≡ true
 IsDue lacking NoMemory = Unit {0}
+
+-- The same of one type, at some number of levels.
+abbrev pub IsDueAt : (ℕ → Flaw → Bool) → Refusal → Type 0
+IsDueAt lacking (Flawed f) = AtSome (λ n. lacking n f) true
+IsDueAt lacking NoMemory = Unit {0}
+
+-- The refusal of the type at a place.
+abbrev pub error_of : ℕ → Refusal → TableError
+error_of i (Flawed f) = Unlawful i f
+error_of i NoMemory = OutOfMemory

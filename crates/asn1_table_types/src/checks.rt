@@ -1,15 +1,18 @@
 //! Whether a type of a table meets what is asked of it, apart from the types that it leads to.
 #![tactic(auto, using(std::proofs::lemmas::Grind::common_steps))]
 
-ghost use Rattle.std.specs.Prelude.{◌≡◌, true, false, IfErr, OnOk, Some};
-ghost use Rattle.asn1_model.specs.Lawful.{is_range, are_counts, is_group};
+ghost use Rattle.std.specs.Prelude.{◌≡◌, true, IfErr, OnOk, Some};
+ghost use Rattle.asn1_model.specs.Lawful.{is_range, are_counts};
 ghost use Rattle.asn1_schema_constraints.specs.Bounds.{range_of, counts_of};
-ghost use Rattle.asn1_table_types.specs.Flaws.{is_sound, lacks, bounds_lack, sizes_lack, members_lack};
-ghost use Rattle.asn1_table_types.specs.Meaning.{type_of, type_at};
+ghost use Rattle.asn1_table_types.specs.Flaws.{is_sound, lacks, bounds_lack, sizes_lack};
+ghost use Rattle.asn1_table_types.specs.Meaning.{type_of};
 ghost use Rattle.asn1_table_types.specs.Tables.{IsDue};
 
-use crate::components::{check_sequence, is_group_at};
+use crate::choices::check_choice;
+use crate::components::{check_group, check_sequence, check_set};
 use crate::faults::Refusal;
+use crate::groups::check_members;
+use crate::items::check_items;
 use crate::{Flaw, TypeNode};
 use asn1_schema_constraints::{Bounded, Sizes};
 use std::alloc::Global;
@@ -21,9 +24,27 @@ pub fn check_node(alloc: Global, nodes: &[TypeNode], node: &TypeNode) -> Result<
 {
     match node {
         TypeNode::Boolean => Ok(()),
+        TypeNode::Null => Ok(()),
+        TypeNode::ObjectIdentifier => Ok(()),
         TypeNode::Integer(None) => Ok(()),
         TypeNode::Integer(Some(limits)) => {
             check_numbers(limits.root)?;
+            Ok(())
+        }
+        TypeNode::Enumerated(table) => {
+            check_items(alloc, table)?;
+            Ok(())
+        }
+        TypeNode::BitString(sizes) => {
+            check_sizes(*sizes)?;
+            Ok(())
+        }
+        TypeNode::OctetString(sizes) => {
+            check_sizes(*sizes)?;
+            Ok(())
+        }
+        TypeNode::CharacterString(table) => {
+            check_sizes(table.sizes)?;
             Ok(())
         }
         TypeNode::SequenceOf(sizes, place) => {
@@ -31,8 +52,25 @@ pub fn check_node(alloc: Global, nodes: &[TypeNode], node: &TypeNode) -> Result<
             check_members(nodes, *place)?;
             Ok(())
         }
+        TypeNode::SetOf(sizes, place) => {
+            check_sizes(*sizes)?;
+            check_members(nodes, *place)?;
+            Ok(())
+        }
         TypeNode::Sequence(table) => {
             check_sequence(alloc, nodes, table)?;
+            Ok(())
+        }
+        TypeNode::Set(table) => {
+            check_set(alloc, nodes, table)?;
+            Ok(())
+        }
+        TypeNode::Group(components) => {
+            check_group(alloc, nodes, components.as_slice())?;
+            Ok(())
+        }
+        TypeNode::Choice(table) => {
+            check_choice(alloc, nodes, table)?;
             Ok(())
         }
     }
@@ -64,15 +102,4 @@ fn check_sizes(sizes: Sizes) -> Result<(), Flaw>
         } if low > high => Err(Flaw::SizesOutOfOrder),
         _ => Ok(()),
     }
-}
-
-/// The members of a list are no group of additions.
-fn check_members(nodes: &[TypeNode], place: usize) -> Result<(), Flaw>
-    ensures sound { OnOk result (is_group (type_at nodes.now 1 place) ≡ false) }
-    ensures lacking { IfErr result (λ f. members_lack f (type_at nodes.now 1 place) ≡ true) }
-{
-    if is_group_at(nodes, place) {
-        return Err(Flaw::GroupOutOfPlace);
-    }
-    Ok(())
 }

@@ -5,7 +5,7 @@ ghost use Rattle.asn1_table_types.specs.declared.faults.Refusal.TheVariants.{Fla
 use std::alloc::AllocError;
 use thiserror::Error;
 
-/// What is wrong with a type.
+/// What is wrong with a type (X.680 19 to 29, 51).
 #[derive(Clone, Copy, Debug, PartialEq, Eq, Hash, Error)]
 pub enum Flaw {
     /// The lower bound of an INTEGER is above the upper one.
@@ -17,16 +17,37 @@ pub enum Flaw {
     /// There are additions and no extension marker.
     #[error("there are additions without an extension marker")]
     MarkerMissing,
-    /// Two components have one tag.
+    /// An ENUMERATED has no root item.
+    #[error("there is no root item")]
+    ItemMissing,
+    /// The numbers of the root items, or those of the added ones, do not ascend.
+    #[error("the items do not stand in ascending order")]
+    ItemsOutOfOrder,
+    /// Two items have one number.
+    #[error("an item occurs twice")]
+    ItemTwice,
+    /// A group of additions has no component.
+    #[error("there is no component")]
+    ComponentMissing,
+    /// A CHOICE has no root alternative.
+    #[error("there is no root alternative")]
+    AlternativeMissing,
+    /// Two components, or two alternatives, have one tag.
     #[error("a tag occurs twice")]
     TagTwice,
+    /// The root components of a SET, or the root alternatives of a CHOICE, do not stand in the order of their tags.
+    #[error("the tags do not stand in ascending order")]
+    TagsOutOfOrder,
     /// A component has no tag.
     #[error("a component has no tag")]
     TagMissing,
     /// The type of a component does not begin with the component's tags.
     #[error("a component has the tags of another type")]
     TagsOfOtherType,
-    /// A group of additions is no optional component among additions.
+    /// A default is no value of its component's type.
+    #[error("a default is of another type")]
+    DefaultOfOtherType,
+    /// A group of additions stands where none may: elsewhere than among additions, or there and not as OPTIONAL.
     #[error("a group of additions stands where none may")]
     GroupOutOfPlace,
 }

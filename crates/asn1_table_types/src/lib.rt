@@ -2,12 +2,21 @@
 #![tactic(auto)]
 
 mod checks;
+mod choices;
 mod components;
+mod defaults;
+mod events;
 mod faults;
+mod groups;
+mod items;
 mod nodes;
 mod tables;
 mod tags;
 
+pub use events::Event;
 pub use faults::{Flaw, TableError};
-pub use nodes::{Component, ComponentTable, NumberLimits, Presence, TypeNode};
+pub use nodes::{
+    Alternative, AlternativeTable, CharacterTable, Component, ComponentTable, ItemTable,
+    NumberLimits, Presence, StringKind, StringTable, TypeNode,
+};
 pub use tables::Types;

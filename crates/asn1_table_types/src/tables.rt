@@ -1,11 +1,12 @@
 //! Tables of types that are lawful.
-ghost use Rattle.std.specs.Prelude.{◌≡◌, ℕ, true, IfOk, IfErr, OnOk, slice_get};
+ghost use Rattle.std.specs.Prelude.{◌≡◌, ℕ, true, IfOk, IfErr, OnOk, Some, slice_get};
 ghost use Rattle.std.specs.Option.{option_copied};
-ghost use Rattle.asn1_table_types.specs.Flaws.{is_sound};
-ghost use Rattle.asn1_table_types.specs.Meaning.{type_at};
-ghost use Rattle.asn1_table_types.specs.Tables.{AreLawful, IsRefused};
+ghost use Rattle.asn1_table_types.specs.Flaws.{is_sound, has_defaults, lacks};
+ghost use Rattle.asn1_table_types.specs.Meaning.{type_of, type_at};
+ghost use Rattle.asn1_table_types.specs.Tables.{AreLawful, IsRefused, IsDueAt, error_of};
 
 use crate::checks::check_node;
+use crate::defaults::check_defaults;
 use crate::faults::Refusal;
 use crate::{TableError, TypeNode};
 use std::alloc::Global;
@@ -45,6 +46,7 @@ impl Types {
 /// Each type of a table meets what is asked of it.
 fn check_all(alloc: Global, nodes: &[TypeNode]) -> Result<(), TableError>
     ensures sound { OnOk result ((i : ℕ) → is_sound (type_at nodes.now 2 i) ≡ true) }
+    ensures typed { OnOk result ((n i : ℕ) → has_defaults (type_at nodes.now n i) ≡ true) }
     ensures refused { IfErr result (λ e. IsRefused nodes.now e) }
 {
     for place in 0..nodes.len() {
@@ -56,14 +58,35 @@ fn check_all(alloc: Global, nodes: &[TypeNode]) -> Result<(), TableError>
 /// The type at a place meets what is asked of it.
 fn check_place(alloc: Global, nodes: &[TypeNode], place: usize) -> Result<(), TableError>
     ensures sound { OnOk result (is_sound (type_at nodes.now 2 place) ≡ true) }
+    ensures typed { OnOk result ((n : ℕ) → has_defaults (type_at nodes.now n place) ≡ true) }
     ensures refused { IfErr result (λ e. IsRefused nodes.now e) }
 {
     match nodes.get(place) {
         None => Ok(()),
-        Some(node) => match check_node(alloc, nodes, node) {
+        Some(node) => match check_whole(alloc, nodes, node) {
             Ok(()) => Ok(()),
-            Err(Refusal::Flawed(flaw)) => Err(TableError::Unlawful { place, flaw }),
-            Err(Refusal::NoMemory) => Err(TableError::OutOfMemory),
+            Err(refusal) => Err(refused_at(place, refusal)),
         },
+    }
+}
+
+/// A node of a table meets what is asked of it, and so do its defaults.
+fn check_whole(alloc: Global, nodes: &[TypeNode], node: &TypeNode) -> Result<(), Refusal>
+    ensures sound { OnOk result (is_sound (type_of nodes.now 2 (Some node.now)) ≡ true) }
+    ensures typed { OnOk result ((n : ℕ) → has_defaults (type_of nodes.now n (Some node.now)) ≡ true) }
+    ensures lacking { IfErr result (λ r. IsDueAt (λ n. lacks (type_of nodes.now n (Some node.now))) r) }
+{
+    check_node(alloc, nodes, node)?;
+    check_defaults(nodes, node)?;
+    Ok(())
+}
+
+/// The refusal of the type at a place.
+fn refused_at(place: usize, refusal: Refusal) -> TableError
+    ensures { result ≡ error_of place refusal }
+{
+    match refusal {
+        Refusal::Flawed(flaw) => TableError::Unlawful { place, flaw },
+        Refusal::NoMemory => TableError::OutOfMemory,
     }
 }

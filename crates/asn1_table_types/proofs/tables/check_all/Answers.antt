@@ -1,6 +1,17 @@
-use Rattle.std.proofs.Common.{below_more, ◌≤◌, length, arith}
-use Rattle.asn1_table_types.proofs.Sound.{everywhere}
+use Rattle.std.proofs.Common.{◌≡◌, ℕ, true, below_more, arith}
+use Rattle.asn1_table_types.specs.Flaws.{is_sound, has_defaults}
+use Rattle.asn1_table_types.specs.Meaning.{type_at}
+use Rattle.asn1_table_types.proofs.Sound.{everywhere, typed_everywhere}
 use Rattle.asn1_table_types.proofs.tables.check_all.Goals as goal
 
+pub loop-place-preserved : goal.loop-place-preserved
+loop-place-preserved c = (
+  below_more (λ i. is_sound (type_at c.args.nodes.now 2 i) ≡ true) c.loop-place.place c.loop-place.invariant.0 c.in_ok-check_place.ensures.sound,
+  below_more (λ i. (n : ℕ) → has_defaults (type_at c.args.nodes.now n i) ≡ true) c.loop-place.place c.loop-place.invariant.1 c.in_ok-check_place.ensures.typed,
+)
+
 pub returns-clause-sound : goal.returns-clause-sound
-returns-clause-sound c = everywhere c.args.nodes.now c.loop-place.place (omega arith) c.loop-place.invariant
+returns-clause-sound c = everywhere c.args.nodes.now c.loop-place.place (omega arith) c.loop-place.invariant.0
+
+pub returns-clause-typed : goal.returns-clause-typed
+returns-clause-typed c = typed_everywhere c.args.nodes.now c.loop-place.place (omega arith) c.loop-place.invariant.1

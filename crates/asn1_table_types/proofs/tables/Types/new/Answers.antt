@@ -7,4 +7,4 @@ use Rattle.asn1_table_types.proofs.tables.Types.new.Goals as goal
 pub invariant_of-result : goal.invariant_of-result
 invariant_of-result c =
     let P : List TypeNode → Type 0 = λ ns. AreLawful ns in
-    record { lawful = subst P c.as_slice.ensures.value (all_lawful c.as_slice.result.now c.in_ok-check_all.ensures.sound) }
+    record { lawful = subst P c.as_slice.ensures.value (all_lawful c.as_slice.result.now c.in_ok-check_all.ensures.sound c.in_ok-check_all.ensures.typed) }
