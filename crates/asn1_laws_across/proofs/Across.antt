@@ -15,13 +15,15 @@ use Rattle.asn1_laws_across.proofs.Canonical.{canonical_same, same_written}
 read_same : (r : Rules) (s : Schema) (v u : Value) (w : List ℕ) → is_lawful s ≡ true → IsEncoding r s v w → IsEncoding r s u w → same v u ≡ true
 read_same r s v u w l f g = (one_front r s v u w w [] [] l f g refl).1
 
-pub one_meaning : (q r : Rules) (s : Schema) (v u : Value) (w : List ℕ) → is_lawful s ≡ true → IsEncoding q s v w → IsEncoding q s u w → (same v u ≡ true) × (same (normal s v) (normal s u) ≡ true) × (canonical r s v ≡ canonical r s u)
+pub one_meaning : (q r : Rules) (s : Schema) (v u : Value) (w : List ℕ) → is_lawful s ≡ true → IsEncoding q s v w →
+    IsEncoding q s u w → (same v u ≡ true) × (same (normal s v) (normal s u) ≡ true) × (canonical r s v ≡ canonical r s u)
 one_meaning q r s v u w l f g = let e = read_same q s v u w l f g in (e, normal_same s v u e, same_written r s v u l e)
 
 some_same : {x y : List ℕ} → Some x ≡ Some y → x ≡ y
 some_same e = cc
 
-pub tell_normal : (r : Rules) (s : Schema) (v u : Value) (a b : List ℕ) → is_lawful s ≡ true → canonical r s v ≡ Some a → canonical r s u ≡ Some b → (a ≡ b → same (normal s v) (normal s u) ≡ true) × (same (normal s v) (normal s u) ≡ true → a ≡ b)
+pub tell_normal : (r : Rules) (s : Schema) (v u : Value) (a b : List ℕ) → is_lawful s ≡ true → canonical r s v ≡ Some a →
+    canonical r s u ≡ Some b → (a ≡ b → same (normal s v) (normal s u) ≡ true) × (same (normal s v) (normal s u) ≡ true → a ≡ b)
 tell_normal r s v u a b l e f = (
   λ g. read_same r s (normal s v) (normal s u) a l (canonical_is_read r s v a e) (canonical_is_read r s u a (f ∙ ap Some (sym g))),
   λ n. some_same (sym e ∙ canonical_same r s v u l n ∙ f),

@@ -26,7 +26,8 @@ module _ (A : Type 0) (less : A → A → Bool) (o : IsTotalOrder less) (X : Typ
       let b : y ∷ q.0.1 ≡ rest = ap (λ (p : X × List X). p.1) q.2 in
       go q.0.1 q.0.0 q.1 (ap key a ∙ f) ks (subst (λ l. Keys l ks) (sym b) h) (λ ms g. picked_keys i xs q.0.1 q.0.0 k ms q.1 (ap key a ∙ f) g)
     where
-      go : (us : List X) (u : X) → pick i xs ≡ Some (u, us) → key u ≡ Some k → (ks : List A) → Keys (y ∷ us) ks → ((ms : List A) → Keys us ms → (ls : List A) × Keys xs ls × (pick i ls ≡ Some (k, ms))) → (ls : List A) × Keys (y ∷ xs) ls × (pick (suc i) ls ≡ Some (k, ks))
+      go : (us : List X) (u : X) → pick i xs ≡ Some (u, us) → key u ≡ Some k → (ks : List A) → Keys (y ∷ us) ks →
+          ((ms : List A) → Keys us ms → (ls : List A) × Keys xs ls × (pick i ls ≡ Some (k, ms))) → (ls : List A) × Keys (y ∷ xs) ls × (pick (suc i) ls ≡ Some (k, ks))
       go us u e f [] h r = absurd h
       go us u e f (m ∷ ms) h r = let s = r ms h.1 in (m ∷ s.0, (h.0, s.1), ap (λ o. option_map (λ (p : A × List A). (p.0, m ∷ p.1)) o) s.2)
 
@@ -45,7 +46,8 @@ module _ (A : Type 0) (less : A → A → Bool) (o : IsTotalOrder less) (X : Typ
       let q = arranged_parts i is xs us e in
       more q.0 q.1 q.2 q.3 ks (subst (λ l. Keys l ks) (sym q.5) h) (λ ms g. arranged_keys is q.1 q.2 ms q.4 g)
     where
-      more : (x : X) (rest ys : List X) → pick i xs ≡ Some (x, rest) → (ks : List A) → Keys (x ∷ ys) ks → ((ms : List A) → Keys ys ms → (ls : List A) × Keys rest ls × (arranged is ls ≡ Some ms)) → (ls : List A) × Keys xs ls × (arranged (i ∷ is) ls ≡ Some ks)
+      more : (x : X) (rest ys : List X) → pick i xs ≡ Some (x, rest) → (ks : List A) → Keys (x ∷ ys) ks →
+          ((ms : List A) → Keys ys ms → (ls : List A) × Keys rest ls × (arranged is ls ≡ Some ms)) → (ls : List A) × Keys xs ls × (arranged (i ∷ is) ls ≡ Some ks)
       more x rest ys e [] h r = absurd h
       more x rest ys e (k ∷ ks) h r =
           let s = r ks h.1 in

@@ -12,7 +12,7 @@ use Rattle.asn1_model.specs.Oer
 use Rattle.asn1_laws_values.proofs.Same.{same_turned}
 use Rattle.asn1_laws_values.proofs.Normal.{normal_same}
 use Rattle.asn1_laws_across.proofs.PerGives.{messages_same}
-use Rattle.asn1_laws_across.proofs.OerGives.{one_text}
+use Rattle.asn1_laws_across.proofs.OerGives.{form_same}
 
 -- equal, if each gives what the other does
 both_ways : {X : Type 0} (o q : Option X) → ((x : X) → o ≡ Some x → q ≡ Some x) → ((x : X) → q ≡ Some x → o ≡ Some x) → o ≡ q
@@ -24,7 +24,7 @@ bits_same : (al : Bool) (s : Schema) (v w : Value) → is_lawful s ≡ true → 
 bits_same al s v w l e = both_ways _ _ (λ x f. (messages_same al s v w l e).texts 0 x f) (λ x f. (messages_same al s w v l (same_turned v w e)).texts 0 x f)
 
 octets_same : (s : Schema) (v w : Value) → is_lawful s ≡ true → same v w ≡ true → written (Oer.form s v) 0 ≡ written (Oer.form s w) 0
-octets_same s v w l e = both_ways _ _ (λ x f. (one_text s l v w e).texts 0 x f) (λ x f. (one_text s l w v (same_turned v w e)).texts 0 x f)
+octets_same s v w l e = both_ways _ _ (λ x f. (form_same s v w l e).texts 0 x f) (λ x f. (form_same s w v l (same_turned v w e)).texts 0 x f)
 
 encodings_same : (r : Rules) (s : Schema) (v w : Value) → is_lawful s ≡ true → same v w ≡ true → encoding r s v ≡ encoding r s w
 unfolding encoding per octet_encoding

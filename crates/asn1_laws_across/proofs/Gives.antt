@@ -1,15 +1,14 @@
 -- If one form has a canonical encoding, another has the same: the rules by which such facts are derived.
-use Rattle.std.proofs.Common.{◌≡◌, ℕ, zero, suc, ◌+◌, ◌==◌, ltb, not, Bool, true, false, cond, ◌&&◌, ◌||◌, List, [], ◌∷◌, ◌++◌, length, take, drop, map, Option, Some, None, option_map, refl, ap, sym, ◌∙◌, subst}
+use Rattle.std.proofs.Common.{◌≡◌, ℕ, zero, suc, ◌+◌, ◌==◌, ltb, not, Bool, true, false, cond, ◌&&◌, ◌||◌, List, []}
+use Rattle.std.proofs.Common.{◌∷◌, ◌++◌, length, take, drop, map, Option, Some, None, option_map, refl, ap, sym, ◌∙◌}
+use Rattle.std.proofs.Common.{subst}
 use Rattle.std.proofs.lemmas.Bool.{and_parts}
-use Rattle.asn1_model.specs.Value.{Value, Parts, end, absent, present, same, same_parts}
-use Rattle.asn1_model.specs.Schema.{Presence, Schema, Components, no_component, component}
+use Rattle.asn1_model.specs.Value.{Parts, end, absent, present, same_parts}
+use Rattle.asn1_model.specs.Schema.{Components, no_component, component}
 use Rattle.asn1_model.specs.Form.{Form, exactly, refused, both, placed, varied, within, written, only_if, given, joined, Bitmap, is_any_present, present_ones, covered_by, own_bitmap}
 use Rattle.std.specs.Prelude.{is_some}
 use Rattle.asn1_model.specs.Normal.{presence_bits, is_required, presence_bit_unless}
 use Rattle.asn1_model.proofs.Forms.{chain_parts, map_parts}
-use Rattle.asn1_laws_values.proofs.Listed.{EachComponent}
-use Rattle.asn1_laws_fronts.proofs.Fronts.{Agree}
-use Rattle.asn1_laws_fronts.proofs.Additions as adding
 
 pub record Gives {F : Type 0} {D : F → Type 0} {A : Type 0} (x y : Form F D A) : Type 0 where
   pub texts : (p : ℕ) (w : List A) → written x p ≡ Some w → written y p ≡ Some w
@@ -69,7 +68,8 @@ module _ {F : Type 0} {D : F → Type 0} {A : Type 0} where
   gives_cond true x x' y y' h k = h
   gives_cond false x x' y y' h k = k
 
-  pub gives_given : {X Y : Type 0} (o : Option X) (q : Option Y) (f : X → Form F D A) (g : Y → Form F D A) → ((x : X) → o ≡ Some x → (y : Y) × (q ≡ Some y) × Gives (f x) (g y)) → Gives (given o f) (given q g)
+  pub gives_given : {X Y : Type 0} (o : Option X) (q : Option Y) (f : X → Form F D A) (g : Y → Form F D A) →
+      ((x : X) → o ≡ Some x → (y : Y) × (q ≡ Some y) × Gives (f x) (g y)) → Gives (given o f) (given q g)
   gives_given None q f g h = gives_refused (given q g)
   gives_given (Some x) q f g h = let r = h x refl in let e = r.1 in rw e r.2
 
@@ -122,7 +122,7 @@ module _ {F : Type 0} {D : F → Type 0} {A : Type 0} where
   slots_flags (Some x ∷ xs) (None ∷ ys) h = absurd h
   slots_flags (Some x ∷ xs) (Some y ∷ ys) h = ap (λ l. true ∷ l) (slots_flags xs ys h.1)
 
-  slots_any : (xs ys : List (Option (Form F D A))) → EachSlot xs ys → is_any_present xs ≡ is_any_present ys
+  pub slots_any : (xs ys : List (Option (Form F D A))) → EachSlot xs ys → is_any_present xs ≡ is_any_present ys
   slots_any [] [] h = refl
   slots_any [] (y ∷ ys) h = absurd h
   slots_any (None ∷ xs) [] h = absurd h
@@ -145,7 +145,7 @@ module _ {F : Type 0} {D : F → Type 0} {A : Type 0} where
   pub slots_own : (xs ys : List (Option (Form F D A))) → EachSlot xs ys → own_bitmap xs ≡ own_bitmap ys
   slots_own xs ys h = let a = slots_any xs ys h in let b = slots_length xs ys h in cc
 
-  slots_present : (xs ys : List (Option (Form F D A))) → EachSlot xs ys → EachGives (present_ones xs) (present_ones ys)
+  pub slots_present : (xs ys : List (Option (Form F D A))) → EachSlot xs ys → EachGives (present_ones xs) (present_ones ys)
   slots_present [] [] h = tt
   slots_present [] (y ∷ ys) h = absurd h
   slots_present (None ∷ xs) [] h = absurd h
@@ -182,14 +182,20 @@ module _ {F : Type 0} {D : F → Type 0} {A : Type 0} where
   slots_taken (suc n) (Some x ∷ xs) (None ∷ ys) us h = absurd h
   slots_taken (suc n) (Some x ∷ xs) (Some y ∷ ys) us h = (h.0, slots_taken n xs ys us h.1)
 
-  covered_slots : (u : List ℕ → Form F D A) (b : Bitmap) (xs ys all : List (Option (Form F D A))) → EachSlot xs ys → covered_by u b xs ≡ Some all → (others : List (Option (Form F D A))) × (covered_by u b ys ≡ Some others) × EachSlot all others
+  pub covered_slots : (u : List ℕ → Form F D A) (b : Bitmap) (xs ys all : List (Option (Form F D A))) → EachSlot xs ys →
+      covered_by u b xs ≡ Some all → (others : List (Option (Form F D A))) × (covered_by u b ys ≡ Some others) × EachSlot all others
   covered_slots u b xs ys all h e =
       let us : List (Option (Form F D A)) = map (option_map u) b.further in
       let q = cond_some (not (is_any_present (drop b.covered xs)) && (ltb (length xs) (b.covered + 1) || length b.further == 0)) (take b.covered xs ++ map (option_map u) b.further) all e in
       let n = slots_any (drop b.covered xs) (drop b.covered ys) (slots_drop b.covered xs ys h) in
       let l = slots_length xs ys h in
-      let t : (not (is_any_present (drop b.covered ys)) && (ltb (length ys) (b.covered + 1) || length b.further == 0)) ≡ true = ap (λ x. not x && (ltb (length ys) (b.covered + 1) || length b.further == 0)) (sym n) ∙ ap (λ x. not (is_any_present (drop b.covered xs)) && (ltb x (b.covered + 1) || length b.further == 0)) (sym l) ∙ q.0 in
-      (take b.covered ys ++ map (option_map u) b.further, if_true _ _ t, subst (λ z. EachSlot z (take b.covered ys ++ map (option_map u) b.further)) q.1 (slots_taken b.covered xs ys (map (option_map u) b.further) h))
+      let t : (not (is_any_present (drop b.covered ys)) && (ltb (length ys) (b.covered + 1) || length b.further == 0)) ≡ true =
+      ap (λ x. not x && (ltb (length ys) (b.covered + 1) || length b.further == 0)) (sym n)
+      ∙ ap (λ x. not (is_any_present (drop b.covered xs)) && (ltb x (b.covered + 1) || length b.further == 0)) (sym l) ∙ q.0 in (
+        take b.covered ys ++ map (option_map u) b.further,
+        if_true _ _ t,
+        subst (λ z. EachSlot z (take b.covered ys ++ map (option_map u) b.further)) q.1 (slots_taken b.covered xs ys (map (option_map u) b.further) h),
+      )
 
 -- ---- presence bits
 pub presence_bits_same : (cs : Components) (ps qs : Parts) → same_parts ps qs ≡ true → presence_bits cs ps ≡ presence_bits cs qs
@@ -204,87 +210,3 @@ presence_bits_same (component t o s cs) (absent ps) (present w qs) e = cc
 presence_bits_same (component t o s cs) (present v ps) end e = cc
 presence_bits_same (component t o s cs) (present v ps) (absent qs) e = cc
 presence_bits_same (component t o s cs) (present v ps) (present w qs) e = ap (λ m. presence_bit_unless (is_required o) true m) (presence_bits_same cs ps qs ((and_parts _ _ e).1))
-
--- ---- components and additions
-module _ (F : Type 0) (D : F → Type 0) (A : Type 0) (free : F → Bool) where
-  module _ (shown : Presence → Schema → Value → Form F D A) where
-    abbrev pub GivesShown : Presence → Schema → Type 0
-    GivesShown o s = (v w : Value) → same v w ≡ true → Gives (shown o s v) (shown o s w)
-
-    pub components_give : (cs : Components) (ps qs : Parts) → EachComponent GivesShown cs → same_parts ps qs ≡ true → Gives (adding.components_of F D A free shown cs ps) (adding.components_of F D A free shown cs qs)
-    unfolding same_parts
-    components_give no_component end end h e = gives_same (exactly [])
-    components_give no_component end (absent qs) h e = cc
-    components_give no_component end (present w qs) h e = cc
-    components_give no_component (absent ps) qs h e = gives_refused _
-    components_give no_component (present v ps) qs h e = gives_refused _
-    components_give (component t o s cs) end qs h e = gives_refused _
-    components_give (component t o s cs) (absent ps) end h e = cc
-    components_give (component t o s cs) (absent ps) (absent qs) h e = gives_cond (is_required o) refused refused _ _ (gives_same refused) (components_give cs ps qs h.1 e)
-    components_give (component t o s cs) (absent ps) (present w qs) h e = cc
-    components_give (component t o s cs) (present v ps) end h e = cc
-    components_give (component t o s cs) (present v ps) (absent qs) h e = cc
-    components_give (component t o s cs) (present v ps) (present w qs) h e = let p = and_parts _ _ e in gives_both (h.0 v w p.0) (components_give cs ps qs h.1 p.1)
-
-  module _ (unknown : List ℕ → Form F D A) (unknown_alike : (os ps : List ℕ) → Agree {F = F} {D = D} {A = A} free (unknown os) (unknown ps) (os ≡ ps)) (added : Presence → Schema → Value → Form F D A) where
-    abbrev pub GivesAdded : Presence → Schema → Type 0
-    GivesAdded o s = (v w : Value) → same v w ≡ true → Gives (added o s v) (added o s w)
-
-    abbrev Added : Components → Parts → Option (List (Option (Form F D A)))
-    Added cs ps = adding.additions_of F D A free unknown unknown_alike added cs ps
-
-    unless : (r : Bool) (o : Option (List (Option (Form F D A)))) (xs : List (Option (Form F D A))) → cond r None o ≡ Some xs → (r ≡ false) × (o ≡ Some xs)
-    unless true o xs e = cc
-    unless false o xs e = (refl, e)
-
-    unless_not : (r : Bool) (o : Option (List (Option (Form F D A)))) → r ≡ false → cond r None o ≡ o
-    unless_not true o e = cc
-    unless_not false o e = refl
-
-    some_same : {X : Type 0} {x y : X} → Some x ≡ Some y → x ≡ y
-    some_same e = cc
-
-    pub additions_give : (cs : Components) (ps qs : Parts) (xs : List (Option (Form F D A))) → EachComponent GivesAdded cs → same_parts ps qs ≡ true → Added cs ps ≡ Some xs → (ys : List (Option (Form F D A))) × (Added cs qs ≡ Some ys) × EachSlot xs ys
-    unfolding same_parts
-    additions_give no_component end end xs h e f = ([], refl, subst (λ l. EachSlot l []) (some_same f) tt)
-    additions_give no_component end (absent qs) xs h e f = cc
-    additions_give no_component end (present w qs) xs h e f = cc
-    additions_give no_component (absent ps) qs xs h e f = cc
-    additions_give no_component (present v ps) qs xs h e f = cc
-    additions_give (component t o s cs) end qs xs h e f = cc
-    additions_give (component t o s cs) (absent ps) end xs h e f = cc
-    additions_give (component t o s cs) (absent ps) (absent qs) xs h e f =
-        let u = unless (is_required o) _ _ f in
-        let a = map_parts (Added cs ps) (λ zs. None ∷ zs) xs u.1 in
-        let i = additions_give cs ps qs a.0 h.1 e a.1 in
-        (None ∷ i.0, unless_not (is_required o) _ u.0 ∙ ap (λ z. option_map (λ zs. None ∷ zs) z) i.1, subst (λ l. EachSlot l (None ∷ i.0)) a.2 i.2)
-    additions_give (component t o s cs) (absent ps) (present w qs) xs h e f = cc
-    additions_give (component t o s cs) (present v ps) end xs h e f = cc
-    additions_give (component t o s cs) (present v ps) (absent qs) xs h e f = cc
-    additions_give (component t o s cs) (present v ps) (present w qs) xs h e f =
-        let p = and_parts _ _ e in
-        let a = map_parts (Added cs ps) (λ zs. Some (added o s v) ∷ zs) xs f in
-        let i = additions_give cs ps qs a.0 h.1 p.1 a.1 in
-        (Some (added o s w) ∷ i.0, ap (λ z. option_map (λ zs. Some (added o s w) ∷ zs) z) i.1, subst (λ l. EachSlot l (Some (added o s w) ∷ i.0)) a.2 (h.0 v w p.0, i.2))
-
-  -- with or without a bitmap
-  module _ (unknown : List ℕ → Form F D A) (preamble : List Bool → Form F D A) (bits : List (Option (Form F D A)) → Form F D A) (bits_give : (xs ys : List (Option (Form F D A))) → EachSlot xs ys → Gives (bits xs) (bits ys)) (hidden : Form F D A → Form F D A) (hidden_gives : (x y : Form F D A) → Gives x y → Gives (hidden x) (hidden y)) where
-    abbrev pub with_all : List Bool → Form F D A → List (Option (Form F D A)) → Form F D A
-    with_all ms root all = both (preamble (true ∷ ms)) (both root (both (bits all) (joined (present_ones all))))
-
-    abbrev pub bitmapped : List Bool → Form F D A → List (Option (Form F D A)) → Option Bitmap → Form F D A
-    bitmapped ms root xs None = only_if (not (is_any_present xs)) (both (preamble (false ∷ ms)) root)
-    bitmapped ms root xs (Some b) = given (covered_by unknown b xs) (λ all. cond (is_any_present all) (with_all ms root all) (hidden (with_all ms root all)))
-
-    all_give : (ms : List Bool) (x y : Form F D A) (xs ys : List (Option (Form F D A))) → Gives x y → EachSlot xs ys → Gives (with_all ms x xs) (with_all ms y ys)
-    all_give ms x y xs ys h k = gives_both (gives_same (preamble (true ∷ ms))) (gives_both h (gives_both (bits_give xs ys k) (gives_joined _ _ (slots_present xs ys k))))
-
-    pub bitmapped_gives : (ms : List Bool) (x y : Form F D A) (xs ys : List (Option (Form F D A))) (b : Option Bitmap) → Gives x y → EachSlot xs ys → Gives (bitmapped ms x xs b) (bitmapped ms y ys b)
-    bitmapped_gives ms x y xs ys None h k =
-        let e = slots_any xs ys k in
-        rw e (gives_if (not (is_any_present ys)) _ _ (gives_both (gives_same (preamble (false ∷ ms))) h))
-    bitmapped_gives ms x y xs ys (Some b) h k = gives_given (covered_by unknown b xs) (covered_by unknown b ys) _ _ (λ all e.
-        let q = covered_slots unknown b xs ys all k e in
-        let f = slots_any all q.0 q.2 in
-        let g = all_give ms x y all q.0 h q.2 in
-        (q.0, q.1, subst (λ t. Gives (cond (is_any_present all) (with_all ms x all) (hidden (with_all ms x all))) (cond t (with_all ms y q.0) (hidden (with_all ms y q.0)))) f (gives_cond (is_any_present all) _ _ _ _ g (hidden_gives _ _ g))))

@@ -11,6 +11,7 @@ pub mod Orders
 pub mod Sorted
 pub mod Gives
 pub mod Bags
+pub mod OneText
 pub mod PerGives
 pub mod OerGives
 pub mod Canonical

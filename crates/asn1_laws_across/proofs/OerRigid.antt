@@ -4,7 +4,10 @@ use Rattle.std.proofs.Common.{◌≡◌, ℕ, zero, suc, ◌+◌, ◌/◌, ◌^�
 use Rattle.std.proofs.lemmas.Bool.{and_parts}
 use Rattle.asn1_model.specs.Numbers.{admits}
 use Rattle.asn1_model.specs.Value.{Value, Values, no_more, member, truth, nothing, number, item, bit_list, octet_list, text, arcs, members, fields, chosen, Parts, end, absent, present, each}
-use Rattle.asn1_model.specs.Schema.{Tag, Range, Bounds, Counts, Presence, Schema, boolean, null, integer, enumerated, bit_string, octet_string, character_string, object_identifier, sequence_of, set_of, sequence, set, group, choice, Components, no_component, component, Alternatives, no_alternative, alternative}
+use Rattle.asn1_model.specs.Schema.{Tag, Range, Bounds, Counts, Presence, Schema, boolean, null, integer, enumerated}
+use Rattle.asn1_model.specs.Schema.{bit_string, octet_string, character_string, object_identifier, sequence_of, set_of}
+use Rattle.asn1_model.specs.Schema.{sequence, set, group, choice, Components, no_component, component, Alternatives}
+use Rattle.asn1_model.specs.Schema.{no_alternative, alternative}
 use Rattle.asn1_model.specs.Numbers.{digits, octet_width, least_octets, signed_octets, complement, is_within, is_count_within, fits_128}
 use Rattle.asn1_model.specs.Normal.{is_at_default, is_group_left_out}
 use Rattle.asn1_model.specs.Form.{exactly, refused, only_if}
@@ -71,7 +74,8 @@ bounded_rigid None high v = signed_rigid v
 
 integer_rigid : (b : Bounds) (held : Range) (v : ℤ) → RigidOctets (Oer.integer_form b held v)
 unfolding Oer.integer_form
-integer_rigid b held v = rigid_if strict_oer (is_within held v && (not (is_bounded b) || fits_128 v)) (rigid_cond strict_oer b.extensible (signed_rigid v) (rigid_if strict_oer (is_within b.range v) (bounded_rigid b.range.low b.range.high v)))
+integer_rigid b held v = rigid_if strict_oer (is_within held v && (not (is_bounded b) || fits_128 v))
+    (rigid_cond strict_oer b.extensible (signed_rigid v) (rigid_if strict_oer (is_within b.range v) (bounded_rigid b.range.low b.range.high v)))
 
 -- ---- items, strings and tags
 item_rigid : (v : ℤ) → RigidOctets (Oer.item_form v)
@@ -112,7 +116,8 @@ open_rigid x h = rigid_within strict_oer h (λ w. rigid_varied strict_oer refl (
 
 spelled_rigid : (o : Presence) (s : Schema) (v : Value) (x : Oer.OctetForm) → RigidOctets x → RigidOctets (Oer.spelled o s v x)
 unfolding Oer.spelled
-spelled_rigid o s v x h = rigid_cond strict_oer (is_at_default o s v) (rigid_varied strict_oer refl no_octets) (rigid_cond strict_oer (is_group_left_out s v) (rigid_varied strict_oer refl no_octets) h)
+spelled_rigid o s v x h = rigid_cond strict_oer (is_at_default o s v) (rigid_varied strict_oer refl no_octets)
+    (rigid_cond strict_oer (is_group_left_out s v) (rigid_varied strict_oer refl no_octets) h)
 
 sequence_rigid : (e : Bool) (ms : List Bool) (root : Oer.OctetForm) (xs : List (Option Oer.OctetForm)) → not e ≡ true → RigidOctets root → RigidOctets (Oer.sequence_form e ms root xs)
 unfolding Oer.sequence_form
@@ -144,8 +149,10 @@ mutual
   form_rigid object_identifier (arcs ns) h = rigid_if strict_oer (is_identifier ns) (counted_rigid _)
   form_rigid (sequence_of z held s) (members vs) h = members_rigid held _ (each_rigid (λ v. Oer.form s v) (λ v. form_rigid s v h) vs)
   form_rigid (set_of z held s) v h = cc
-  form_rigid (sequence cs e adds) (fields ps qs) h = let p = and_parts _ _ h in rigid_given strict_oer (Oer.addition_forms adds qs) (λ xs. sequence_rigid e (presence_bits cs ps) _ xs p.0 (components_rigid cs ps p.1))
-  form_rigid (set cs e adds) (fields ps qs) h = let p = and_parts _ _ h in rigid_given strict_oer (Oer.addition_forms adds qs) (λ xs. sequence_rigid e (presence_bits cs ps) _ xs p.0 (components_rigid cs ps p.1))
+  form_rigid (sequence cs e adds) (fields ps qs) h = let p = and_parts _ _ h in
+      rigid_given strict_oer (Oer.addition_forms adds qs) (λ xs. sequence_rigid e (presence_bits cs ps) _ xs p.0 (components_rigid cs ps p.1))
+  form_rigid (set cs e adds) (fields ps qs) h = let p = and_parts _ _ h in
+      rigid_given strict_oer (Oer.addition_forms adds qs) (λ xs. sequence_rigid e (presence_bits cs ps) _ xs p.0 (components_rigid cs ps p.1))
   form_rigid (group cs) (fields ps end) h = rigid_both strict_oer (octets _) (components_rigid cs ps h)
   form_rigid (choice roots e adds) (chosen false i v) h = alternative_rigid false roots i v (and_parts _ _ h).0
   form_rigid (choice roots true adds) (chosen true i v) h = alternative_rigid true adds i v (and_parts _ _ h).1

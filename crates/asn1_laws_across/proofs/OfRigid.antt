@@ -15,7 +15,8 @@ use Rattle.asn1_laws_across.proofs.PerRigid.{message_rigid}
 use Rattle.asn1_laws_across.proofs.OerRigid.{form_rigid}
 use Rattle.asn1_laws_across.proofs.Strictly.{strictly, written_as}
 
-packed_text : (al : Bool) (s : Schema) (v : Value) (w : List ℕ) → is_rigid s ≡ true → Reads strict_per (Per.message al s v) 0 (octet_bits w) → ReadsAsWritten strict_per (Per.message al s v) 0 (octet_bits w)
+packed_text : (al : Bool) (s : Schema) (v : Value) (w : List ℕ) → is_rigid s ≡ true →
+    Reads strict_per (Per.message al s v) 0 (octet_bits w) → ReadsAsWritten strict_per (Per.message al s v) 0 (octet_bits w)
 packed_text al s v w h r = written_as strict_per (Per.message al s v) 0 (octet_bits w) (reads_written (Per.message al s v) 0 (octet_bits w) ((message_rigid al s v h).only 0 (octet_bits w) r))
 
 octet_text : (s : Schema) (v : Value) (w : List ℕ) → is_rigid s ≡ true → Reads strict_oer (Oer.form s v) 0 w → ReadsAsWritten strict_oer (Oer.form s v) 0 w

@@ -25,7 +25,8 @@ module _ (A : Type 0) (less : A → A → Bool) (o : IsTotalOrder less) where
   equal_lists (x ∷ xs) [] e f = cc
   equal_lists (x ∷ xs) (y ∷ ys) e f = go (less x y) (less y x) refl refl e f (λ g h. equal_lists xs ys g h)
     where
-      go : (s t : Bool) → less x y ≡ s → less y x ≡ t → cond s true (cond t false (stands_before less xs ys)) ≡ false → cond t true (cond s false (stands_before less ys xs)) ≡ false → (stands_before less xs ys ≡ false → stands_before less ys xs ≡ false → xs ≡ ys) → x ∷ xs ≡ y ∷ ys
+      go : (s t : Bool) → less x y ≡ s → less y x ≡ t → cond s true (cond t false (stands_before less xs ys)) ≡ false →
+          cond t true (cond s false (stands_before less ys xs)) ≡ false → (stands_before less xs ys ≡ false → stands_before less ys xs ≡ false → xs ≡ ys) → x ∷ xs ≡ y ∷ ys
       go true t p q g h k = cc
       go false true p q g h k = cc
       go false false p q g h k = let a = o.2 x y p q in let b = k g h in cc
@@ -38,7 +39,10 @@ module _ (A : Type 0) (less : A → A → Bool) (o : IsTotalOrder less) where
   chained_lists (x ∷ xs) (y ∷ ys) [] e f = cc
   chained_lists (x ∷ xs) (y ∷ ys) (z ∷ zs) e f = go (less x y) (less y x) (less y z) (less z y) refl refl refl refl e f (λ g h. chained_lists xs ys zs g h)
     where
-      go : (a b c d : Bool) → less x y ≡ a → less y x ≡ b → less y z ≡ c → less z y ≡ d → cond a true (cond b false (stands_before less xs ys)) ≡ true → cond c true (cond d false (stands_before less ys zs)) ≡ true → (stands_before less xs ys ≡ true → stands_before less ys zs ≡ true → stands_before less xs zs ≡ true) → cond (less x z) true (cond (less z x) false (stands_before less xs zs)) ≡ true
+      go : (a b c d : Bool) → less x y ≡ a → less y x ≡ b → less y z ≡ c → less z y ≡ d →
+          cond a true (cond b false (stands_before less xs ys)) ≡ true → cond c true (cond d false (stands_before less ys zs))
+          ≡ true → (stands_before less xs ys ≡ true → stands_before less ys zs ≡ true → stands_before less xs zs ≡ true) →
+          cond (less x z) true (cond (less z x) false (stands_before less xs zs)) ≡ true
       go true b true d p q r s g h k = let i = o.1 x y z p r in rw i refl
       go true b false true p q r s g h k = cc
       go true b false false p q r s g h k = let l : y ≡ z = o.2 y z r s in let i : less x z ≡ true = subst (λ u. less x u ≡ true) l p in rw i refl
@@ -93,9 +97,13 @@ module _ (A : Type 0) (less : A → A → Bool) (o : IsTotalOrder less) where
     where
       go : (s t : Bool) → less f b ≡ s → less f a ≡ t → insert a (insert b fs) ≡ insert b (insert a fs) → insert a (insert b (f ∷ fs)) ≡ insert b (insert a (f ∷ fs))
       go true true p q i = ap (insert a) (behind b f fs p) ∙ behind a f (insert b fs) q ∙ ap (λ l. f ∷ l) i ∙ sym (behind b f (insert a fs) p) ∙ ap (insert b) (sym (behind a f fs q))
-      go true false p q i = ap (insert a) (behind b f fs p) ∙ in_front a f (insert b fs) q ∙ ap (λ l. a ∷ l) (sym (behind b f fs p)) ∙ sym (behind b a (f ∷ fs) (before_third a f b q p)) ∙ ap (insert b) (sym (in_front a f fs q))
-      go false true p q i = ap (insert a) (in_front b f fs p) ∙ behind a b (f ∷ fs) (before_third b f a p q) ∙ ap (λ l. b ∷ l) (behind a f fs q) ∙ sym (in_front b f (insert a fs) p) ∙ ap (insert b) (sym (behind a f fs q))
-      go false false p q i = ap (insert a) (in_front b f fs p) ∙ ap (λ l. cond (less b a) (b ∷ l) (a ∷ b ∷ f ∷ fs)) (in_front a f fs q) ∙ two_firsts a b (f ∷ fs) ∙ ap (λ l. cond (less a b) (a ∷ l) (b ∷ a ∷ f ∷ fs)) (sym (in_front b f fs p)) ∙ ap (insert b) (sym (in_front a f fs q))
+      go true false p q i = ap (insert a) (behind b f fs p) ∙ in_front a f (insert b fs) q ∙ ap (λ l. a ∷ l) (sym (behind b f fs p))
+          ∙ sym (behind b a (f ∷ fs) (before_third a f b q p)) ∙ ap (insert b) (sym (in_front a f fs q))
+      go false true p q i = ap (insert a) (in_front b f fs p) ∙ behind a b (f ∷ fs) (before_third b f a p q)
+          ∙ ap (λ l. b ∷ l) (behind a f fs q) ∙ sym (in_front b f (insert a fs) p) ∙ ap (insert b) (sym (behind a f fs q))
+      go false false p q i = ap (insert a) (in_front b f fs p)
+          ∙ ap (λ l. cond (less b a) (b ∷ l) (a ∷ b ∷ f ∷ fs)) (in_front a f fs q) ∙ two_firsts a b (f ∷ fs)
+          ∙ ap (λ l. cond (less a b) (a ∷ l) (b ∷ a ∷ f ∷ fs)) (sym (in_front b f fs p)) ∙ ap (insert b) (sym (in_front a f fs q))
 
   some_same : {X : Type 0} {x y : X} → Some x ≡ Some y → x ≡ y
   some_same e = cc
@@ -136,7 +144,8 @@ module _ (A : Type 0) (less : A → A → Bool) (o : IsTotalOrder less) where
     put_keys k x [] = refl
     put_keys k x (f ∷ fs) = go (less (f.0) k) (put_keys k x fs)
       where
-        go : (t : Bool) → map (λ e. e.0) (put_in_place less (k, x) fs) ≡ insert k (map (λ e. e.0) fs) → map (λ e. e.0) (cond t (f ∷ put_in_place less (k, x) fs) ((k, x) ∷ f ∷ fs)) ≡ cond t (f.0 ∷ insert k (map (λ e. e.0) fs)) (k ∷ f.0 ∷ map (λ e. e.0) fs)
+        go : (t : Bool) → map (λ e. e.0) (put_in_place less (k, x) fs) ≡ insert k (map (λ e. e.0) fs) →
+            map (λ e. e.0) (cond t (f ∷ put_in_place less (k, x) fs) ((k, x) ∷ f ∷ fs)) ≡ cond t (f.0 ∷ insert k (map (λ e. e.0) fs)) (k ∷ f.0 ∷ map (λ e. e.0) fs)
         go true i = ap (λ l. f.0 ∷ l) i
         go false i = refl
 
@@ -164,7 +173,8 @@ module _ (A : Type 0) (less : A → A → Bool) (o : IsTotalOrder less) where
         let i = keys_there xs ks h.1 in
         (put_in_place less (k, x) i.0, again (key x) (with_keys key less xs) h.0 i.1, put_keys k x i.0 ∙ ap (insert k) i.2, put_keyed k x i.0 h.0 i.3)
       where
-        again : (o : Option A) (w : Option (List (A × X))) {es : List (A × X)} → o ≡ Some k → w ≡ Some es → option_and_then (λ k. option_map (λ es. put_in_place less (k, x) es) w) o ≡ Some (put_in_place less (k, x) es)
+        again : (o : Option A) (w : Option (List (A × X))) {es : List (A × X)} → o ≡ Some k → w ≡ Some es →
+            option_and_then (λ k. option_map (λ es. put_in_place less (k, x) es) w) o ≡ Some (put_in_place less (k, x) es)
         again o w e f = rw (e, f) refl
 
     -- elements in pairs that have the same key
@@ -183,7 +193,8 @@ module _ (A : Type 0) (less : A → A → Bool) (o : IsTotalOrder less) where
         ((e.0, h.0, i.0 ∙ ap Some (sym a)), alike_of es fs h.1 i.1 b)
 
     -- elements that have the same keys in some order are sorted into pairs that have the same key
-    pub sorted_alike : (xs ys us : List X) (ks : (zs : List A) → HaveKeys xs zs → (ls : List A) × HaveKeys ys ls × (sorted zs ≡ sorted ls)) → ascending key less xs ≡ Some us → (zs : List X) × (ascending key less ys ≡ Some zs) × EachAlike us zs
+    pub sorted_alike : (xs ys us : List X) (ks : (zs : List A) → HaveKeys xs zs →
+        (ls : List A) × HaveKeys ys ls × (sorted zs ≡ sorted ls)) → ascending key less xs ≡ Some us → (zs : List X) × (ascending key less ys ≡ Some zs) × EachAlike us zs
     sorted_alike xs ys us ks e =
         let q = map_parts (with_keys key less xs) (λ (es : List (A × X)). map (λ e. e.1) es) us e in
         let r = keyed xs q.0 q.1 in
@@ -194,7 +205,12 @@ module _ (A : Type 0) (less : A → A → Bool) (o : IsTotalOrder less) where
 
 -- ---- numbers and bits
 pub numbers_ordered : IsTotalOrder ltb
-numbers_ordered = (λ x. le-ltb x x (omega arith), λ x y z e f. let a = ltb-true x y e in let b = ltb-true y z f in lt-ltb x z (omega arith), λ x y e f. let a = ltb-false x y e in let b = ltb-false y x f in omega arith)
+numbers_ordered = (
+  λ x. le-ltb x x (omega arith),
+  λ x y z e f. let a = ltb-true x y e in let b = ltb-true y z f in
+      lt-ltb x z (omega arith),
+  λ x y e f. let a = ltb-false x y e in let b = ltb-false y x f in omega arith,
+)
 
 bit_irreflexive : (a : Bool) → bit_less a a ≡ false
 bit_irreflexive true = refl

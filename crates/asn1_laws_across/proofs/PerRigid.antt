@@ -3,7 +3,10 @@ use Rattle.std.specs.Prelude.{ℤ}
 use Rattle.std.proofs.Common.{◌≡◌, ℕ, zero, suc, ◌-◌, ◌*◌, ◌==◌, leb, ltb, not, Bool, true, false, ◌&&◌, ◌||◌, List, [], ◌∷◌, length, drop, replicate, Option, Some, None, refl}
 use Rattle.std.proofs.lemmas.Bool.{and_parts}
 use Rattle.asn1_model.specs.Value.{Value, Values, no_more, member, truth, nothing, number, item, bit_list, octet_list, text, arcs, members, fields, chosen, Parts, end, absent, present, each}
-use Rattle.asn1_model.specs.Schema.{Range, Bounds, Counts, Size, Alphabet, StringKind, Presence, Schema, boolean, null, integer, enumerated, bit_string, octet_string, character_string, object_identifier, sequence_of, set_of, sequence, set, group, choice, Components, no_component, component, Alternatives, no_alternative, alternative}
+use Rattle.asn1_model.specs.Schema.{Range, Bounds, Counts, Size, Alphabet, StringKind, Presence, Schema, boolean, null}
+use Rattle.asn1_model.specs.Schema.{integer, enumerated, bit_string, octet_string, character_string, object_identifier}
+use Rattle.asn1_model.specs.Schema.{sequence_of, set_of, sequence, set, group, choice, Components, no_component}
+use Rattle.asn1_model.specs.Schema.{component, Alternatives, no_alternative, alternative}
 use Rattle.asn1_model.specs.Numbers.{binary, octet_width, least_octets, signed_octets, above, is_at_most, is_within, is_count_within, fits_128}
 use Rattle.asn1_model.specs.Normal.{is_at_default, is_group_left_out}
 use Rattle.asn1_model.specs.Form.{exactly, refused}
@@ -13,7 +16,9 @@ use Rattle.asn1_model.specs.Normal.{is_bounded, item_place, is_required, presenc
 use Rattle.asn1_model.specs.Rules.{strict_per}
 use Rattle.asn1_model.specs.Per
 use Rattle.asn1_laws_across.specs.Rigid.{is_rigid, are_rigid, are_rigid_alternatives}
-use Rattle.asn1_laws_across.proofs.Rigid.{Rigid, rigid_exactly, rigid_refused, rigid_both, rigid_placed, rigid_varied, rigid_within, rigid_cond, rigid_if, rigid_given, AllRigid, none, more, rigid_joined, rigid_take, rigid_drop, rigid_map}
+use Rattle.asn1_laws_across.proofs.Rigid.{Rigid, rigid_exactly, rigid_refused, rigid_both, rigid_placed, rigid_varied}
+use Rattle.asn1_laws_across.proofs.Rigid.{rigid_within, rigid_cond, rigid_if, rigid_given, AllRigid, none, more}
+use Rattle.asn1_laws_across.proofs.Rigid.{rigid_joined, rigid_take, rigid_drop, rigid_map}
 
 abbrev RigidBits : Per.BitForm → Type 0
 RigidBits x = Rigid {F = Per.Freedom} {D = Per.Detail} {A = Bool} strict_per x
@@ -45,7 +50,10 @@ constrained_in_rigid : (most : ℕ) (al : Bool) (span d : ℕ) → RigidBits (Pe
 unfolding Per.constrained_in
 constrained_in_rigid zero al span d = no_bits
 constrained_in_rigid (suc most) al span d =
-    rigid_if strict_per (leb d span) (rigid_cond strict_per (not al || ltb span 255) (bits _) (rigid_cond strict_per (span == 255) (at_octet_rigid al _ (bits _)) (rigid_cond strict_per (ltb span 65536) (at_octet_rigid al _ (bits _)) (rigid_varied strict_per refl (in_octets_rigid (λ s c. Per.constrained_in most al s c) al span d (least_octets d) (λ s c. constrained_in_rigid most al s c))))))
+    rigid_if strict_per (leb d span) (rigid_cond strict_per (not al || ltb span 255) (bits _)
+    (rigid_cond strict_per (span == 255) (at_octet_rigid al _ (bits _))
+    (rigid_cond strict_per (ltb span 65536) (at_octet_rigid al _ (bits _))
+    (rigid_varied strict_per refl (in_octets_rigid (λ s c. Per.constrained_in most al s c) al span d (least_octets d) (λ s c. constrained_in_rigid most al s c))))))
 
 constrained_rigid : (al : Bool) (span d : ℕ) → RigidBits (Per.constrained al span d)
 unfolding Per.constrained
@@ -58,7 +66,9 @@ short_length_rigid al n = at_octet_rigid al _ (rigid_varied strict_per refl (rig
 fragments_rigid : (al : Bool) (ms : List ℕ) (us : List Per.BitForm) → AllBits us → RigidBits (Per.fragments al ms us)
 unfolding Per.fragments
 fragments_rigid al [] us h = rigid_both strict_per (short_length_rigid al (length us)) (rigid_joined strict_per h)
-fragments_rigid al (m ∷ ms) us h = rigid_if strict_per (leb 1 m && leb m 4 && leb (m * 16384) (length us)) (rigid_both strict_per (at_octet_rigid al _ (bits _)) (rigid_both strict_per (rigid_joined strict_per (rigid_take strict_per (m * 16384) h)) (fragments_rigid al ms (drop (m * 16384) us) (rigid_drop strict_per (m * 16384) h))))
+fragments_rigid al (m ∷ ms) us h = rigid_if strict_per (leb 1 m && leb m 4 && leb (m * 16384) (length us))
+    (rigid_both strict_per (at_octet_rigid al _ (bits _))
+    (rigid_both strict_per (rigid_joined strict_per (rigid_take strict_per (m * 16384) h)) (fragments_rigid al ms (drop (m * 16384) us) (rigid_drop strict_per (m * 16384) h))))
 
 counted_rigid : (al : Bool) (us : List Per.BitForm) → AllBits us → RigidBits (Per.counted al us)
 unfolding Per.counted
@@ -96,21 +106,27 @@ whole_rigid al None None v = unconstrained_rigid al v
 with_extension_bit_rigid : (e inside : Bool) (x y : Per.BitForm) → RigidBits x → RigidBits y → RigidBits (Per.with_extension_bit e inside x y)
 unfolding Per.with_extension_bit
 with_extension_bit_rigid false inside x y h k = rigid_if strict_per inside h
-with_extension_bit_rigid true inside x y h k = rigid_varied strict_per refl (rigid_cond strict_per (not inside) (rigid_both strict_per (bits _) k) (rigid_if strict_per inside (rigid_both strict_per (bits _) h)))
+with_extension_bit_rigid true inside x y h k =
+    rigid_varied strict_per refl (rigid_cond strict_per (not inside) (rigid_both strict_per (bits _) k) (rigid_if strict_per inside (rigid_both strict_per (bits _) h)))
 
 integer_rigid : (al : Bool) (b : Bounds) (held : Range) (v : ℤ) → RigidBits (Per.integer_form al b held v)
 unfolding Per.integer_form
-integer_rigid al b held v = rigid_if strict_per (is_within held v && (not (is_bounded b) || fits_128 v)) (with_extension_bit_rigid b.extensible (is_within b.range v) _ _ (whole_rigid al b.range.low b.range.high v) (unconstrained_rigid al v))
+integer_rigid al b held v = rigid_if strict_per (is_within held v && (not (is_bounded b) || fits_128 v))
+    (with_extension_bit_rigid b.extensible (is_within b.range v) _ _ (whole_rigid al b.range.low b.range.high v) (unconstrained_rigid al v))
 
 -- ---- units of a size, strings and items
 root_rigid : (al : Bool) (c : Counts) (high : Option ℕ) (has_padding : Counts → Bool) (us : List Per.BitForm) → AllBits us → RigidBits (Per.sized_root al c high has_padding us)
 unfolding Per.sized_root
 root_rigid al c None has_padding us h = counted_rigid al us h
-root_rigid al c (Some high) has_padding us h = rigid_cond strict_per (ltb high 65536) (rigid_both strict_per (constrained_rigid al (high - c.low) (length us - c.low)) (at_octet_rigid (al && has_padding c) _ (rigid_joined strict_per h))) (counted_rigid al us h)
+root_rigid al c (Some high) has_padding us h =
+    rigid_cond strict_per (ltb high 65536) (rigid_both strict_per (constrained_rigid al (high - c.low) (length us - c.low))
+    (at_octet_rigid (al && has_padding c) _ (rigid_joined strict_per h))) (counted_rigid al us h)
 
 sized_rigid : (al : Bool) (z : Size) (held : Counts) (has_padding : Counts → Bool) (us : List Per.BitForm) → AllBits us → RigidBits (Per.sized al z held has_padding us)
 unfolding Per.sized
-sized_rigid al z held has_padding us h = rigid_if strict_per (is_count_within held (length us)) (with_extension_bit_rigid z.extensible (is_count_within z.counts (length us)) _ _ (root_rigid al z.counts z.counts.high has_padding us h) (counted_rigid al us h))
+sized_rigid al z held has_padding us h =
+    rigid_if strict_per (is_count_within held (length us))
+    (with_extension_bit_rigid z.extensible (is_count_within z.counts (length us)) _ _ (root_rigid al z.counts z.counts.high has_padding us h) (counted_rigid al us h))
 
 character_rigid : (b : ℕ) (rs : List Run) (c : ℕ) → RigidBits (Per.character b rs c)
 unfolding Per.character
@@ -118,7 +134,9 @@ character_rigid b rs c = rigid_given strict_per (place_of c rs) (λ i. bits _)
 
 string_rigid : (al : Bool) (k : StringKind) (z : Size) (a : Alphabet) (held : Counts) (cs : List ℕ) → RigidBits (Per.string_form al k z a held cs)
 unfolding Per.string_form Per.characters
-string_rigid al k z a held cs = rigid_if strict_per (may_hold k cs) (rigid_cond strict_per (is_of_octets k) (rigid_if strict_per (is_count_within held (length cs)) (counted_octets_rigid al cs)) (sized_rigid al z held _ _ (rigid_map strict_per _ (character_rigid (Per.character_bits al (permitted k a)) (permitted k a)) cs)))
+string_rigid al k z a held cs = rigid_if strict_per (may_hold k cs)
+    (rigid_cond strict_per (is_of_octets k) (rigid_if strict_per (is_count_within held (length cs)) (counted_octets_rigid al cs))
+    (sized_rigid al z held _ _ (rigid_map strict_per _ (character_rigid (Per.character_bits al (permitted k a)) (permitted k a)) cs)))
 
 extension_bit_rigid : (e m : Bool) → RigidBits (Per.extension_bit_of e m)
 extension_bit_rigid false m = bits _
@@ -174,11 +192,15 @@ mutual
   form_rigid al object_identifier (arcs ns) h = rigid_if strict_per (is_identifier ns) (counted_octets_rigid al _)
   form_rigid al (sequence_of z held s) (members vs) h = sized_rigid al z held _ _ (each_rigid (λ v. Per.form al s v) (λ v. form_rigid al s v h) vs)
   form_rigid al (set_of z held s) v h = cc
-  form_rigid al (sequence cs e adds) (fields ps qs) h = let p = and_parts _ _ h in rigid_given strict_per (Per.addition_forms al adds qs) (λ xs. sequence_rigid al e (presence_bits cs ps) _ xs p.0 (components_rigid al cs ps p.1))
-  form_rigid al (set cs e adds) (fields ps qs) h = let p = and_parts _ _ h in rigid_given strict_per (Per.addition_forms al adds qs) (λ xs. sequence_rigid al e (presence_bits cs ps) _ xs p.0 (components_rigid al cs ps p.1))
+  form_rigid al (sequence cs e adds) (fields ps qs) h = let p = and_parts _ _ h in
+      rigid_given strict_per (Per.addition_forms al adds qs) (λ xs. sequence_rigid al e (presence_bits cs ps) _ xs p.0 (components_rigid al cs ps p.1))
+  form_rigid al (set cs e adds) (fields ps qs) h = let p = and_parts _ _ h in
+      rigid_given strict_per (Per.addition_forms al adds qs) (λ xs. sequence_rigid al e (presence_bits cs ps) _ xs p.0 (components_rigid al cs ps p.1))
   form_rigid al (group cs) (fields ps end) h = rigid_both strict_per (bits _) (components_rigid al cs ps h)
-  form_rigid al (choice roots e adds) (chosen false i v) h = let p = and_parts _ _ h in rigid_both strict_per (extension_bit_rigid e false) (rigid_both strict_per (constrained_rigid al (alternative_count roots - 1) i) (alternative_rigid al roots i v p.0))
-  form_rigid al (choice roots true adds) (chosen true i v) h = let p = and_parts _ _ h in rigid_both strict_per (bits _) (rigid_both strict_per (small_rigid al i) (open_rigid al _ (alternative_rigid al adds i v p.1)))
+  form_rigid al (choice roots e adds) (chosen false i v) h = let p = and_parts _ _ h in
+      rigid_both strict_per (extension_bit_rigid e false) (rigid_both strict_per (constrained_rigid al (alternative_count roots - 1) i) (alternative_rigid al roots i v p.0))
+  form_rigid al (choice roots true adds) (chosen true i v) h = let p = and_parts _ _ h in
+      rigid_both strict_per (bits _) (rigid_both strict_per (small_rigid al i) (open_rigid al _ (alternative_rigid al adds i v p.1)))
   form_rigid al s v h = no_bits
 
   components_rigid : (al : Bool) (cs : Components) (ps : Parts) → are_rigid cs ≡ true → RigidBits (Per.component_forms al cs ps)

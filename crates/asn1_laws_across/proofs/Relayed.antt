@@ -50,12 +50,19 @@ module _ (source target : Rules) (s : Schema) (limit : ℕ) where
   joins (m ∷ ms) ns o q rest other w h k =
       (h.0, h.1, h.2, h.3, h.4, h.5, h.6 ++ q, sym (append_assoc h.3 h.6 q) ∙ ap (λ l. l ++ q) h.7, joins ms ns h.6 q rest other h.1 h.8 k)
 
-  pub goes_on : (w x : List ℕ) (n k : ℕ) (o q rest other : List ℕ) (why : Option Stop) → Relays source target s limit w n o rest None → Relays source target s limit (rest ++ x) k q other why → Relays source target s limit (w ++ x) (n + k) (o ++ q) other why
+  pub goes_on : (w x : List ℕ) (n k : ℕ) (o q rest other : List ℕ) (why : Option Stop) →
+      Relays source target s limit w n o rest None → Relays source target s limit (rest ++ x) k q other why → Relays source target s limit (w ++ x) (n + k) (o ++ q) other why
   goes_on w x n k o q rest other why h g =
       let l = length-append h.messages g.messages in
       let a = h.counted in
       let b = g.counted in
-      record { messages = h.messages ++ g.messages; counted = l ∙ (ap (λ i. i + length g.messages) a ∙ ap (λ i. n + i) b); front = joins h.messages g.messages o q (rest ++ x) other (w ++ x) (longer h.messages o rest w x h.front) g.front; stops = g.stops }
+      record {
+        messages = h.messages ++ g.messages;
+        counted = l ∙ (ap (λ i. i + length g.messages) a ∙ ap (λ i. n + i) b);
+        front =
+            joins h.messages g.messages o q (rest ++ x) other (w ++ x) (longer h.messages o rest w x h.front) g.front;
+        stops = g.stops;
+      }
 
   -- ---- a stop
 
@@ -83,7 +90,8 @@ module _ (source target : Rules) (s : Schema) (limit : ℕ) where
 
   -- ---- pieces
 
-  pub pieces_joined : (unread : List ℕ) (ps : List (List ℕ)) (n : ℕ) (o rest : List ℕ) (why : Option Stop) → StopsAt source target s limit unread None → RelaysPieces source target s limit unread ps n o rest why
+  pub pieces_joined : (unread : List ℕ) (ps : List (List ℕ)) (n : ℕ) (o rest : List ℕ) (why : Option Stop) →
+      StopsAt source target s limit unread None → RelaysPieces source target s limit unread ps n o rest why
       → (other : List ℕ) × Relays source target s limit (unread ++ concat ps) n o other why × (why ≡ None → other ≡ rest)
   pieces_joined unread [] n o rest why w h =
       let a : Relays source target s limit (unread ++ []) 0 [] unread None = record { messages = []; counted = refl; front = (refl, sym (append-nil unread)); stops = w } in
@@ -97,7 +105,8 @@ module _ (source target : Rules) (s : Schema) (limit : ℕ) where
   pieces_joined unread (p ∷ ps) n o rest why w (inr h) =
       let i = pieces_joined h.2 ps h.4 h.5 rest why h.3.stops h.6 in
       let a = goes_on (unread ++ p) (concat ps) h.0 h.4 h.1 h.5 h.2 i.0 why h.3 i.1 in
-      let b : Relays source target s limit (unread ++ (p ++ concat ps)) (h.0 + h.4) (h.1 ++ h.5) i.0 why = subst (λ l. Relays source target s limit l (h.0 + h.4) (h.1 ++ h.5) i.0 why) (append_assoc unread p (concat ps)) a in
+      let b : Relays source target s limit (unread ++ (p ++ concat ps)) (h.0 + h.4) (h.1 ++ h.5) i.0 why =
+      subst (λ l. Relays source target s limit l (h.0 + h.4) (h.1 ++ h.5) i.0 why) (append_assoc unread p (concat ps)) a in
       let c : Relays source target s limit (unread ++ (p ++ concat ps)) n (h.1 ++ h.5) i.0 why = subst (λ j. Relays source target s limit (unread ++ (p ++ concat ps)) j (h.1 ++ h.5) i.0 why) h.7 b in
       (i.0, subst (λ l. Relays source target s limit (unread ++ (p ++ concat ps)) n l i.0 why) h.8 c, i.2)
 
@@ -170,7 +179,8 @@ module _ (source target : Rules) (s : Schema) (limit : ℕ) where
     relayed_on t w (Some empty_message) n b (inr h) = no_empty (Some t) w h.1 b
     relayed_on t w (Some none_within_limit) n b h = none_begins (Some t) w h.0 b
 
-    once_fronts : (ms ns : List Message) (o q rest other w : List ℕ) (why cause : Option Stop) → Front ms o rest w → StopsAt source target s limit rest why → Front ns q other w → StopsAt source target s limit other cause
+    once_fronts : (ms ns : List Message) (o q rest other w : List ℕ) (why cause : Option Stop) → Front ms o rest w →
+        StopsAt source target s limit rest why → Front ns q other w → StopsAt source target s limit other cause
         → (length ms ≡ length ns) × (o ≡ q) × (rest ≡ other) × (why ≡ cause)
     once_fronts [] [] o q rest other w why cause h y k z =
         let e : rest ≡ other = h.1 ∙ sym k.1 in
@@ -184,7 +194,8 @@ module _ (source target : Rules) (s : Schema) (limit : ℕ) where
         let i = once_fronts ms ns h.6 k.6 rest other h.1 why cause h.8 y (subst (λ l. Front ns k.6 other l) (sym f.2) k.8) z in
         (ap suc i.0, sym h.7 ∙ (ap (λ l. l ++ h.6) u ∙ (ap (λ l. k.3 ++ l) i.1 ∙ k.7)), i.2, i.3)
 
-    pub relayed_once : (w : List ℕ) (n k : ℕ) (o q rest other : List ℕ) (why cause : Option Stop) → Relays source target s limit w n o rest why → Relays source target s limit w k q other cause → (n ≡ k) × (o ≡ q) × (rest ≡ other) × (why ≡ cause)
+    pub relayed_once : (w : List ℕ) (n k : ℕ) (o q rest other : List ℕ) (why cause : Option Stop) →
+        Relays source target s limit w n o rest why → Relays source target s limit w k q other cause → (n ≡ k) × (o ≡ q) × (rest ≡ other) × (why ≡ cause)
     relayed_once w n k o q rest other why cause h g =
         let f = once_fronts h.messages g.messages o q rest other w why cause h.front h.stops g.front g.stops in
         (sym h.counted ∙ (f.0 ∙ g.counted), f.1, f.2, f.3)
@@ -192,7 +203,8 @@ module _ (source target : Rules) (s : Schema) (limit : ℕ) where
     -- ---- the messages into which octets divide
 
     -- what stops a relay at a message is that it has no translation
-    stopped_for : (m : Message) (ms : List Message) (x w rest unread : List ℕ) (why : Option Stop) → m.octets ++ x ≡ w → IsMessageWithin source s limit m → StopsAt source target s limit w why → EndsBefore target s (m ∷ ms) rest unread why
+    stopped_for : (m : Message) (ms : List Message) (x w rest unread : List ℕ) (why : Option Stop) → m.octets ++ x ≡ w →
+        IsMessageWithin source s limit m → StopsAt source target s limit w why → EndsBefore target s (m ∷ ms) rest unread why
     stopped_for m ms x w rest unread None e i h = absurd (h.0 m x e i)
     stopped_for m ms x w rest unread (Some no_target) e i h = inl (targets_agree (canonical target s m.value) None w (m, x, e, i, refl) h, refl)
     stopped_for m ms x w rest unread (Some empty_message) e i (inl h) = inr (targets_agree (canonical target s m.value) (Some []) w (m, x, e, i, refl) h, refl)
@@ -210,7 +222,8 @@ module _ (source target : Rules) (s : Schema) (limit : ℕ) where
         let i = first_of ls ms h.6 unread rest h.1 why h.8 y (subst (λ x. Divides source s limit ms rest x) (sym f.2) k.3) in
         (m ∷ i.0, i.1, ap (λ x. m ∷ x) i.2, (f.0, f.1, i.3), i.4)
 
-    pub all_of : (ls ms : List Message) (o joined unread rest w : List ℕ) (why : Option Stop) → Front ls o unread w → StopsAt source target s limit unread why → Divides source s limit ms rest w → Translates target s ms joined
+    pub all_of : (ls ms : List Message) (o joined unread rest w : List ℕ) (why : Option Stop) → Front ls o unread w →
+        StopsAt source target s limit unread why → Divides source s limit ms rest w → Translates target s ms joined
         → AreSame ls ms × (length ls ≡ length ms) × (o ≡ joined) × (unread ≡ rest)
     all_of [] [] o joined unread rest w why h y k t = (tt, refl, h.0 ∙ sym t, h.1 ∙ sym k.0)
     all_of [] (m ∷ ms) o joined unread rest w why h y k t =

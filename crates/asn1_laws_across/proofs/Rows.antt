@@ -56,7 +56,8 @@ none_left r s limit = λ m x e i.
     omega arith
 
 -- canonical octets of a value, as a message
-pub message_of : (r : Rules) (s : Schema) (limit : ℕ) (v : Value) (w : List ℕ) → canonical r s v ≡ Some w → normal s v ≡ v → leb (depth v) 128 ≡ true → leb 1 (length w) ≡ true → leb (length w) limit ≡ true → IsMessageWithin r s limit (record { octets = w; value = v })
+pub message_of : (r : Rules) (s : Schema) (limit : ℕ) (v : Value) (w : List ℕ) → canonical r s v ≡ Some w → normal s v ≡ v →
+    leb (depth v) 128 ≡ true → leb 1 (length w) ≡ true → leb (length w) limit ≡ true → IsMessageWithin r s limit (record { octets = w; value = v })
 message_of r s limit v w c n d a b = record {
   is_encoding = subst (λ u. IsEncoding r s u w) n (canonical_is_read r s v w c);
   is_shallow = leb-true _ _ d;

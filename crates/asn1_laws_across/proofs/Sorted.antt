@@ -88,7 +88,8 @@ module _ (K : Type 0) (before : K → K → Bool) (o : IsTotalOrder before) wher
         let r = map_parts (with_keys key before xs) (λ es. put_in_place before (q.0, x) es) es q.2 in
         let i = sorted xs r.0 r.1 in
         let put = put_in_place before (q.0, x) r.0 in
-        let p = IsPermutation-trans (x ∷ xs) (x ∷ elements r.0) (elements put) (IsPermutation-cons x xs (elements r.0) i.0) (IsPermutation-map (λ (e : K × X). e.1) ((q.0, x) ∷ r.0) put (put_permutes (q.0, x) r.0)) in
+        let p = IsPermutation-trans (x ∷ xs) (x ∷ elements r.0) (elements put) (IsPermutation-cons x xs (elements r.0) i.0)
+        (IsPermutation-map (λ (e : K × X). e.1) ((q.0, x) ∷ r.0) put (put_permutes (q.0, x) r.0)) in
         subst (λ l. IsPermutation (x ∷ xs) (elements l) × Keyed l × Rises l) r.2 (p, put_keyed (q.0, x) r.0 q.1 i.1, put_rises (q.0, x) r.0 i.2)
 
     all_keyed : (es : List (K × X)) → Keyed es → All (λ y. key y ≢ None) (elements es)
@@ -144,14 +145,16 @@ unfolding written
 in_that_order None f p w e = cc
 in_that_order (Some x) f p w e = (x, refl, e)
 
-pub octets_in_order : (xs : List OctetForm) (f : List OctetForm → OctetForm) (p : ℕ) (w : List ℕ) → written (Oer.in_any_order xs f) p ≡ Some w → (ys : List OctetForm) × IsPermutation xs ys × Ascends (λ (x : OctetForm). written x 0) (stands_before ltb) ys × (written (f ys) p ≡ Some w)
+pub octets_in_order : (xs : List OctetForm) (f : List OctetForm → OctetForm) (p : ℕ) (w : List ℕ) →
+    written (Oer.in_any_order xs f) p ≡ Some w → (ys : List OctetForm) × IsPermutation xs ys × Ascends (λ (x : OctetForm). written x 0) (stands_before ltb) ys × (written (f ys) p ≡ Some w)
 unfolding written Oer.in_any_order
 octets_in_order xs f p w e =
     let q = in_that_order (ascending (λ (x : OctetForm). written x 0) (stands_before ltb) xs) f p w e in
     let o = (puts_in_order (List ℕ) (stands_before ltb) (lists_ordered ℕ ltb numbers_ordered) OctetForm (λ x. written x 0) xs).0 q.0 q.1 in
     (q.0, o.0, o.2, q.2)
 
-pub bits_in_order : (xs : List BitForm) (f : List BitForm → BitForm) (p : ℕ) (w : List Bool) → written (Per.in_any_order xs f) p ≡ Some w → (ys : List BitForm) × IsPermutation xs ys × Ascends (λ (x : BitForm). written (complete x) 0) (stands_before bit_less) ys × (written (f ys) p ≡ Some w)
+pub bits_in_order : (xs : List BitForm) (f : List BitForm → BitForm) (p : ℕ) (w : List Bool) → written (Per.in_any_order xs f) p
+    ≡ Some w → (ys : List BitForm) × IsPermutation xs ys × Ascends (λ (x : BitForm). written (complete x) 0) (stands_before bit_less) ys × (written (f ys) p ≡ Some w)
 unfolding written Per.in_any_order
 bits_in_order xs f p w e =
     let q = in_that_order (ascending (λ (x : BitForm). written (complete x) 0) (stands_before bit_less) xs) f p w e in

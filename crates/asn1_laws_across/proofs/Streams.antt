@@ -15,12 +15,14 @@ module _ (r : Rules) (s : Schema) (limit : ℕ) where
 
   module _ (lawful : IsLawful s) where
     -- the first messages of equal octets
-    pub first_same : (m n : Message) (x y : List ℕ) → IsMessageWithin r s limit m → IsMessageWithin r s limit n → m.octets ++ x ≡ n.octets ++ y → (m.octets ≡ n.octets) × (same m.value n.value ≡ true) × (x ≡ y)
+    pub first_same : (m n : Message) (x y : List ℕ) → IsMessageWithin r s limit m → IsMessageWithin r s limit n → m.octets ++ x
+        ≡ n.octets ++ y → (m.octets ≡ n.octets) × (same m.value n.value ≡ true) × (x ≡ y)
     first_same m n x y h k e =
         let q = one_front r s m.value n.value m.octets n.octets x y lawful h.is_encoding k.is_encoding e in
         (q.0, q.1, append_cancel_left m.octets x y (e ∙ ap (λ l. l ++ y) (sym q.0)))
 
-    pub begins : (ms all : List Message) (rest other w x : List ℕ) → Divides r s limit ms rest w → Divides r s limit all other (w ++ x) → (ls : List Message) × (ns : List Message) × (ls ++ ns ≡ all) × AreSame ms ls × Divides r s limit ns other (rest ++ x)
+    pub begins : (ms all : List Message) (rest other w x : List ℕ) → Divides r s limit ms rest w →
+        Divides r s limit all other (w ++ x) → (ls : List Message) × (ns : List Message) × (ls ++ ns ≡ all) × AreSame ms ls × Divides r s limit ns other (rest ++ x)
     begins [] all rest other w x h k = ([], all, refl, tt, subst (λ l. Divides r s limit all other (l ++ x)) (sym h.0) k)
     begins (m ∷ ms) [] rest other w x h k = absurd (k.1 m (h.1 ++ x) (sym (append_assoc m.octets h.1 x) ∙ ap (λ l. l ++ x) h.2 ∙ sym k.0) h.0)
     begins (m ∷ ms) (n ∷ all) rest other w x h k =

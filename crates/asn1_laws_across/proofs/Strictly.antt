@@ -6,14 +6,16 @@ use Rattle.asn1_model.specs.Schema.{Schema}
 use Rattle.asn1_model.specs.Normal.{normal}
 use Rattle.asn1_model.specs.Form.{Form, exactly, refused, both, placed, varied, within, Reads, written}
 use Rattle.asn1_model.specs.Numbers.{packed, binary}
-use Rattle.asn1_model.specs.Rules.{Rules, uper, aper, uper_strict, aper_strict, oer, coer, octet_bits, strict_per, strict_oer, canonical, encoding, per, octet_encoding, of_moderate_length, lenient, IsEncoding}
+use Rattle.asn1_model.specs.Rules.{Rules, uper, aper, uper_strict, aper_strict, oer, coer, octet_bits, strict_per}
+use Rattle.asn1_model.specs.Rules.{strict_oer, canonical, encoding, per, octet_encoding, of_moderate_length, lenient}
+use Rattle.asn1_model.specs.Rules.{IsEncoding}
 use Rattle.asn1_model.specs.Strings.{is_octet}
 use Rattle.std.specs.List.{list_all}
 use Rattle.asn1_model.specs.Per
 use Rattle.asn1_model.specs.Oer
 use Rattle.asn1_model.proofs.Forms.{widens}
-use Rattle.asn1_laws_values.proofs.PerStrict.{message_normal}
-use Rattle.asn1_laws_values.proofs.OerStrict.{octets_normal}
+use Rattle.asn1_laws_values.proofs.PerRead.{message_normal}
+use Rattle.asn1_laws_values.proofs.OerRead.{octets_normal}
 use Rattle.asn1_laws_values.proofs.Octets.{packed_back, packed_octets}
 use Rattle.asn1_laws_values.proofs.Normal.{normal_stays}
 use Rattle.asn1_laws_fronts.proofs.PerNumbers.{binary_equal}
@@ -86,7 +88,8 @@ packed_bits os h =
 moderate : (w : List ℕ) → length w < 2 ^ 60 → of_moderate_length w ≡ Some w
 moderate w h = let e = lt-ltb (length w) (2 ^ 60) h in rw e refl
 
-packed_strictly : (al : Bool) (s : Schema) (v : Value) (w : List ℕ) → list_all is_octet w ≡ true → length w < 2 ^ 60 → ReadsAsWritten strict_per (Per.message al s v) 0 (octet_bits w) → option_and_then of_moderate_length (per al s (normal s v)) ≡ Some w
+packed_strictly : (al : Bool) (s : Schema) (v : Value) (w : List ℕ) → list_all is_octet w ≡ true → length w < 2 ^ 60 →
+    ReadsAsWritten strict_per (Per.message al s v) 0 (octet_bits w) → option_and_then of_moderate_length (per al s (normal s v)) ≡ Some w
 unfolding per
 packed_strictly al s v w o h r =
     let n = normal_stays s v (message_normal al s v (octet_bits w) (as_read strict_per (Per.message al s v) 0 (octet_bits w) r)) in

@@ -41,7 +41,8 @@ module _ (free : Oer.Freedom → Bool) where
   tags_apart t u x y P h = agree_both_apart free (agree_map free (λ e. not_both (tag_same t u) h e) (tags_alike free t u))
 
   -- an alternative whose tag differs from those of the others
-  pub apart_from : (t : Tag) (x : Oer.OctetForm) (b : Bool) (others : Alternatives) (j : ℕ) (w : Value) (P : Type 0) → list_all (λ u. not (tag_same t u)) (alternative_tags others) ≡ true → OctetsAlike free (both (Oer.tag_form t) x) (Oer.alternative_form b others j w) P
+  pub apart_from : (t : Tag) (x : Oer.OctetForm) (b : Bool) (others : Alternatives) (j : ℕ) (w : Value) (P : Type 0) →
+      list_all (λ u. not (tag_same t u)) (alternative_tags others) ≡ true → OctetsAlike free (both (Oer.tag_form t) x) (Oer.alternative_form b others j w) P
   unfolding Oer.alternative_form
   apart_from t x true no_alternative j w P h = agree_with_refused free _ _
   apart_from t x false no_alternative j w P h = agree_with_refused free _ _
@@ -50,7 +51,8 @@ module _ (free : Oer.Freedom → Bool) where
   apart_from t x true (alternative u s others) (suc j) w P h = apart_from t x true others j w P ((and_parts _ _ h).1)
   apart_from t x false (alternative u s others) (suc j) w P h = apart_from t x false others j w P ((and_parts _ _ h).1)
 
-  pub one_table : (b : Bool) (others : Alternatives) (i j : ℕ) (v w : Value) → are_distinct tag_same (alternative_tags others) ≡ true → EachAlternative OneWay others → OctetsAlike free (Oer.alternative_form b others i v) (Oer.alternative_form b others j w) ((i ≡ j) × (same v w ≡ true))
+  pub one_table : (b : Bool) (others : Alternatives) (i j : ℕ) (v w : Value) → are_distinct tag_same (alternative_tags others)
+      ≡ true → EachAlternative OneWay others → OctetsAlike free (Oer.alternative_form b others i v) (Oer.alternative_form b others j w) ((i ≡ j) × (same v w ≡ true))
   unfolding Oer.alternative_form
   one_table true no_alternative i j v w d h = agree_refused free _ _
   one_table false no_alternative i j v w d h = agree_refused free _ _
@@ -63,7 +65,8 @@ module _ (free : Oer.Freedom → Bool) where
   one_table true (alternative t s others) (suc i) (suc j) v w d h = agree_map free (λ q. (ap suc q.0, q.1)) (one_table true others i j v w ((and_parts _ _ d).1) h.1)
   one_table false (alternative t s others) (suc i) (suc j) v w d h = agree_map free (λ q. (ap suc q.0, q.1)) (one_table false others i j v w ((and_parts _ _ d).1) h.1)
 
-  pub two_tables : (roots adds : Alternatives) (i j : ℕ) (v w : Value) (P : Type 0) → are_distinct tag_same (alternative_tags roots ++ alternative_tags adds) ≡ true → OctetsAlike free (Oer.alternative_form false roots i v) (Oer.alternative_form true adds j w) P
+  pub two_tables : (roots adds : Alternatives) (i j : ℕ) (v w : Value) (P : Type 0) →
+      are_distinct tag_same (alternative_tags roots ++ alternative_tags adds) ≡ true → OctetsAlike free (Oer.alternative_form false roots i v) (Oer.alternative_form true adds j w) P
   unfolding Oer.alternative_form
   two_tables no_alternative adds i j v w P d = agree_refused free _ _
   two_tables (alternative t s roots) adds zero j v w P d = apart_from t _ true adds j w P (each_behind (λ u. not (tag_same t u)) (alternative_tags roots) (alternative_tags adds) ((and_parts _ _ d).0))

@@ -20,7 +20,8 @@ module _ (free : Per.Freedom → Bool) where
   padded_same (c ∷ w) = agree_map free (λ e. tt) (agree_both free (agree_exactly free (c ∷ w) (c ∷ w) refl) (λ e. padding_alike free (Per.missing (length (c ∷ w)))))
 
   -- two padded encodings of forms that agree are of one value
-  padded_values : (x y : Per.BitForm) (P : Type 0) (v w : List Bool) (p : ℕ) (a b r s : List Bool) → Alike free x y P → Reads free x 0 v → Reads free y 0 w → Reads free (Per.padded v) p a → Reads free (Per.padded w) p b → a ++ r ≡ b ++ s → (v ≡ w) × P
+  padded_values : (x y : Per.BitForm) (P : Type 0) (v w : List Bool) (p : ℕ) (a b r s : List Bool) → Alike free x y P →
+      Reads free x 0 v → Reads free y 0 w → Reads free (Per.padded v) p a → Reads free (Per.padded w) p b → a ++ r ≡ b ++ s → (v ≡ w) × P
   padded_values x y P [] [] p a b r s h f g i j e = h.fronts 0 [] [] [] [] f g refl
   padded_values x y P [] (d ∷ w) p a b r s h f g i j e = h.fronts 0 [] (d ∷ w) (d ∷ w) [] f g (sym (append-nil (d ∷ w)))
   padded_values x y P (c ∷ v) [] p a b r s h f g i j e = h.fronts 0 (c ∷ v) [] [] (c ∷ v) f g (append-nil (c ∷ v))
@@ -48,7 +49,8 @@ bits_length [] = refl
 bits_length (o ∷ a) = let i = bits_length a in length-append (binary 8 o) (octet_bits a) ∙ omega arith
 
 -- prefixes of octets, from what is known of prefixes of their bits
-pub octet_fronts : (free : Per.Freedom → Bool) (x y : Per.BitForm) (P : Type 0) (a b r s : List ℕ) → Alike free x y P → Reads free x 0 (octet_bits a) → Reads free y 0 (octet_bits b) → a ++ r ≡ b ++ s → (a ≡ b) × P
+pub octet_fronts : (free : Per.Freedom → Bool) (x y : Per.BitForm) (P : Type 0) (a b r s : List ℕ) → Alike free x y P →
+    Reads free x 0 (octet_bits a) → Reads free y 0 (octet_bits b) → a ++ r ≡ b ++ s → (a ≡ b) × P
 octet_fronts free x y P a b r s h f g e =
     let q = h.fronts 0 (octet_bits a) (octet_bits b) (octet_bits r) (octet_bits s) f g (sym (bits_joined a r) ∙ ap octet_bits e ∙ bits_joined b s) in
     let l : length a ≡ length b = let m = bits_length a in let n = bits_length b in let k = ap length q.0 in omega arith in

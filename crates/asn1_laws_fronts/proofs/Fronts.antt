@@ -56,7 +56,8 @@ module _ {F : Type 0} {D : F → Type 0} {A : Type 0} (free : F → Bool) where
   agree_placed h = record { fronts = λ p a b r s x y e. (h p).fronts p a b r s x y e }
 
   -- whatever the details are
-  pub agree_varied : {c c' : F} {d : D c} {d' : D c'} {f : D c → Form F D A} {f' : D c' → Form F D A} {P : Type 0} → ((e : D c) (e' : D c') → Agree free (f e) (f' e') P) → Agree free (varied c d f) (varied c' d' f') P
+  pub agree_varied : {c c' : F} {d : D c} {d' : D c'} {f : D c → Form F D A} {f' : D c' → Form F D A} {P : Type 0} →
+      ((e : D c) (e' : D c') → Agree free (f e) (f' e') P) → Agree free (varied c d f) (varied c' d' f') P
   unfolding Reads
   agree_varied h = record { fronts = λ p a b r s x y e. (h x.0 y.0).fronts p a b r s x.2 y.2 e }
 
@@ -81,7 +82,8 @@ module _ {F : Type 0} {D : F → Type 0} {A : Type 0} (free : F → Bool) where
   agree_if true false x y {P} h = agree_with_refused x P
   agree_if false c x y {P} h = agree_refused (only_if c y) P
 
-  pub agree_given : {X Y : Type 0} (o : Option X) (q : Option Y) (f : X → Form F D A) (g : Y → Form F D A) {P : Type 0} → ((x : X) (y : Y) → o ≡ Some x → q ≡ Some y → Agree free (f x) (g y) P) → Agree free (given o f) (given q g) P
+  pub agree_given : {X Y : Type 0} (o : Option X) (q : Option Y) (f : X → Form F D A) (g : Y → Form F D A) {P : Type 0} →
+      ((x : X) (y : Y) → o ≡ Some x → q ≡ Some y → Agree free (f x) (g y) P) → Agree free (given o f) (given q g) P
   agree_given None q f g {P} h = agree_refused (given q g) P
   agree_given (Some x) None f g {P} h = agree_with_refused (f x) P
   agree_given (Some x) (Some y) f g h = h x y refl refl

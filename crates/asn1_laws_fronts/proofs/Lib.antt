@@ -9,6 +9,7 @@ pub mod Members
 pub mod Additions
 pub mod Units
 pub mod Strings
+pub mod Whole
 pub mod Forms
 pub mod OctetUnits
 pub mod Tags

@@ -1,6 +1,8 @@
 -- Prefixes of enumeration values, strings, elements and open types of the octet rules.
 use Rattle.std.specs.Prelude.{ℤ, pos, negsuc}
-use Rattle.std.proofs.Common.{◌≡◌, ℕ, suc, ◌+◌, ◌/◌, ◌<◌, ◌≤◌, ◌==◌, ltb, leb, not, lit<, Bool, true, false, cond, ◌&&◌, ◌||◌, List, [], ◌∷◌, ◌++◌, length, drop, map, flat_map, Option, Some, None, refl, ap, sym, ◌∙◌, append_assoc, inl, inr, ◌⊎◌, arith}
+use Rattle.std.proofs.Common.{◌≡◌, ℕ, suc, ◌+◌, ◌/◌, ◌<◌, ◌≤◌, ◌==◌, ltb, leb, not, lit<, Bool, true, false, cond, ◌&&◌}
+use Rattle.std.proofs.Common.{◌||◌, List, [], ◌∷◌, ◌++◌, length, drop, map, flat_map, Option, Some, None, refl, ap, sym}
+use Rattle.std.proofs.Common.{◌∙◌, append_assoc, inl, inr, ◌⊎◌, arith}
 use Rattle.std.proofs.lemmas.Bool.{ltb-true, leb-true, eqb-true, and_parts, or_cases}
 use Rattle.asn1_model.specs.Numbers.{admits, is_fixed_at}
 use Rattle.asn1_model.specs.Schema.{Counts, Size, StringKind, numeric, printable, visible, ia5, bmp, general, graphic, teletex, utf8}
@@ -10,7 +12,9 @@ use Rattle.asn1_model.specs.Strings.{is_octet, may_hold, characters_of, is_among
 use Rattle.std.specs.List.{list_all}
 use Rattle.asn1_model.specs.Oer
 use Rattle.asn1_laws_values.proofs.Numbers.{length-complement, digits_equal}
-use Rattle.asn1_laws_fronts.proofs.Fronts.{Pairwise, fronts_equal, agree_exactly, agree_refused, agree_with_refused, agree_map, agree_both, agree_apart, agree_varied, agree_if, agree_if_left, agree_if_right, agree_first, agree_nothing}
+use Rattle.asn1_laws_fronts.proofs.Fronts.{Pairwise, fronts_equal, agree_exactly, agree_refused, agree_with_refused}
+use Rattle.asn1_laws_fronts.proofs.Fronts.{agree_map, agree_both, agree_apart, agree_varied, agree_if, agree_if_left}
+use Rattle.asn1_laws_fronts.proofs.Fronts.{agree_if_right, agree_first, agree_nothing}
 use Rattle.asn1_laws_fronts.proofs.PerNumbers.{length_of_map}
 use Rattle.asn1_laws_fronts.proofs.OerNumbers.{OctetsAlike, complements_same, length_alike, counted_alike, unsigned_alike}
 use Rattle.asn1_laws_fronts.proofs.OerBits.{bits_alike, counted_bits_alike}
@@ -96,7 +100,8 @@ module _ (free : Oer.Freedom → Bool) where
   octets_alike false os ps h = counted_alike free os ps
 
 -- a fixed size is one length
-at_one : (c : Counts) (high : Option ℕ) (n m : ℕ) → is_fixed_at c high ≡ true → (leb c.low n && (option_map_or (λ x. leb n x) high true)) ≡ true → (leb c.low m && (option_map_or (λ x. leb m x) high true)) ≡ true → n ≡ m
+at_one : (c : Counts) (high : Option ℕ) (n m : ℕ) → is_fixed_at c high ≡ true →
+    (leb c.low n && (option_map_or (λ x. leb n x) high true)) ≡ true → (leb c.low m && (option_map_or (λ x. leb m x) high true)) ≡ true → n ≡ m
 at_one c None n m e f g = cc
 at_one c (Some top) n m e f g =
     let a : top ≡ c.low = eqb-true _ _ e in
@@ -121,7 +126,8 @@ two_octets c d r s h i e =
     let q : digits 256 2 c ≡ digits 256 2 d = fronts_equal (digits 256 2 c) (digits 256 2 d) r s refl e in
     (digits_equal 256 2 c d (lit< tt) h i q, ap (drop 2) e)
 
-wide_equal : (cs ds : List ℕ) → list_all (is_among (characters_of bmp)) cs ≡ true → list_all (is_among (characters_of bmp)) ds ≡ true → flat_map (digits 256 2) cs ≡ flat_map (digits 256 2) ds → cs ≡ ds
+wide_equal : (cs ds : List ℕ) → list_all (is_among (characters_of bmp)) cs ≡ true → list_all (is_among (characters_of bmp)) ds
+    ≡ true → flat_map (digits 256 2) cs ≡ flat_map (digits 256 2) ds → cs ≡ ds
 wide_equal [] [] h i e = refl
 wide_equal [] (d ∷ ds) h i e = cc
 wide_equal (c ∷ cs) [] h i e = cc
@@ -178,7 +184,8 @@ module _ (free : Oer.Freedom → Bool) (X : Type 0) (R : X → X → Type 0) (f 
 
   pub members_alike : (held : Counts) (xs ys : List X) → OctetsAlike free (Oer.members_form held (map f xs)) (Oer.members_form held (map f ys)) (Pairwise R xs ys)
   unfolding Oer.members_form
-  members_alike held xs ys = agree_if free (is_count_within held (length (map f xs))) (is_count_within held (length (map f ys))) _ _ (λ h i. agree_map free (λ q. q.1) (agree_both free (unsigned_alike free (length (map f xs)) (length (map f ys))) (λ e. joined_alike xs ys (sym (length_of_map f xs) ∙ e ∙ length_of_map f ys))))
+  members_alike held xs ys = agree_if free (is_count_within held (length (map f xs))) (is_count_within held (length (map f ys))) _ _
+      (λ h i. agree_map free (λ q. q.1) (agree_both free (unsigned_alike free (length (map f xs)) (length (map f ys))) (λ e. joined_alike xs ys (sym (length_of_map f xs) ∙ e ∙ length_of_map f ys))))
 
 -- ---- open types
 module _ (free : Oer.Freedom → Bool) where

@@ -10,7 +10,9 @@ use Rattle.asn1_model.specs.Strings.{is_octet}
 use Rattle.std.specs.List.{list_all}
 use Rattle.asn1_model.specs.Oer
 use Rattle.asn1_laws_values.proofs.Numbers.{FitsIn, length-digits, length-complement, digits_equal, complement_equal, octets_hold, signed_hold, at_most_pos, at_most_negsuc, not_below}
-use Rattle.asn1_laws_fronts.proofs.Fronts.{Agree, agree_exactly, agree_refused, agree_with_refused, agree_map, agree_both, agree_varied, agree_if, agree_if_left, agree_if_right, agree_first, agree_nothing}
+use Rattle.asn1_laws_fronts.proofs.Fronts.{Agree, agree_exactly, agree_refused, agree_with_refused, agree_map}
+use Rattle.asn1_laws_fronts.proofs.Fronts.{agree_both, agree_varied, agree_if, agree_if_left, agree_if_right}
+use Rattle.asn1_laws_fronts.proofs.Fronts.{agree_first, agree_nothing}
 use Rattle.std.specs.Option.{option_map_or}
 
 abbrev pub OctetsAlike : (Oer.Freedom → Bool) → Oer.OctetForm → Oer.OctetForm → Type 0 → Type 0
@@ -35,7 +37,8 @@ same_count : (k j : ℕ) → 128 + k ≡ 128 + j → k ≡ j
 same_count k j e = omega arith
 
 -- the octets of a fixed form
-some_octets : (k j : ℕ) (a b c d : Bool) → cond a (Some 1) (cond b (Some 2) (cond c (Some 4) (cond d (Some 8) None))) ≡ Some j → (a ≡ true → k ≤ 1) → (b ≡ true → k ≤ 2) → (c ≡ true → k ≤ 4) → (d ≡ true → k ≤ 8) → k ≤ j
+some_octets : (k j : ℕ) (a b c d : Bool) → cond a (Some 1) (cond b (Some 2) (cond c (Some 4) (cond d (Some 8) None))) ≡ Some j →
+    (a ≡ true → k ≤ 1) → (b ≡ true → k ≤ 2) → (c ≡ true → k ≤ 4) → (d ≡ true → k ≤ 8) → k ≤ j
 some_octets k j true b c d e f g h i = let q : 1 ≡ j = cc in subst (λ x. k ≤ x) q (f refl)
 some_octets k j false true c d e f g h i = let q : 2 ≡ j = cc in subst (λ x. k ≤ x) q (g refl)
 some_octets k j false false true d e f g h i = let q : 4 ≡ j = cc in subst (λ x. k ≤ x) q (h refl)
@@ -59,10 +62,12 @@ module _ (free : Oer.Freedom → Bool) where
   some_length n o = elim o [ None ↦ only_if (ltb n 128) (exactly (n ∷ [])) | Some k ↦ Oer.long_length n k ]
 
   short_and_long : (n m k : ℕ) → n < 128 → OctetsAlike free (exactly (n ∷ [])) (Oer.long_length m k) (n ≡ m)
-  short_and_long n m k h = agree_if_right free (leb 1 k && leb k 127 && leb (octet_width m) k) {x = exactly (n ∷ [])} {y = exactly ((128 + k) ∷ digits 256 k m)} (λ i. agree_first free (λ e. absurd (omega arith)))
+  short_and_long n m k h = agree_if_right free
+      (leb 1 k && leb k 127 && leb (octet_width m) k) {x = exactly (n ∷ [])} {y = exactly ((128 + k) ∷ digits 256 k m)} (λ i. agree_first free (λ e. absurd (omega arith)))
 
   long_and_short : (n m k : ℕ) → m < 128 → OctetsAlike free (Oer.long_length n k) (exactly (m ∷ [])) (n ≡ m)
-  long_and_short n m k h = agree_if_left free (leb 1 k && leb k 127 && leb (octet_width n) k) {x = exactly ((128 + k) ∷ digits 256 k n)} {y = exactly (m ∷ [])} (λ i. agree_first free (λ e. absurd (omega arith)))
+  long_and_short n m k h = agree_if_left free
+      (leb 1 k && leb k 127 && leb (octet_width n) k) {x = exactly ((128 + k) ∷ digits 256 k n)} {y = exactly (m ∷ [])} (λ i. agree_first free (λ e. absurd (omega arith)))
 
   some_lengths_alike : (n m : ℕ) (o q : Option ℕ) → OctetsAlike free (some_length n o) (some_length m q) (n ≡ m)
   some_lengths_alike n m None None = agree_if free (ltb n 128) (ltb m 128) _ _ (λ h i. agree_first free (λ e. agree_map free (λ u. e) (agree_nothing free)))
@@ -76,12 +81,14 @@ module _ (free : Oer.Freedom → Bool) where
 
   pub counted_alike : (os ps : List ℕ) → OctetsAlike free (Oer.counted os) (Oer.counted ps) (os ≡ ps)
   unfolding Oer.counted
-  counted_alike os ps = agree_if free (list_all is_octet os) (list_all is_octet ps) _ _ (λ h i. agree_map free (λ q. q.1) (agree_both free (length_alike (length os) (length ps)) (λ e. agree_exactly free os ps e)))
+  counted_alike os ps = agree_if free (list_all is_octet os) (list_all is_octet ps) _ _
+      (λ h i. agree_map free (λ q. q.1) (agree_both free (length_alike (length os) (length ps)) (λ e. agree_exactly free os ps e)))
 
   -- ---- numbers
   pub signed_alike : (v w : ℤ) → OctetsAlike free (Oer.signed v) (Oer.signed w) (v ≡ w)
   unfolding Oer.signed
-  signed_alike v w = agree_varied free (λ k j. agree_if free (leb (signed_octets v) k) (leb (signed_octets w) j) _ _ (λ h i. agree_map free (λ e. complements_same k j v w (leb-true _ _ h) (leb-true _ _ i) e) (counted_alike (complement k v) (complement j w))))
+  signed_alike v w = agree_varied free (λ k j. agree_if free (leb (signed_octets v) k) (leb (signed_octets w) j) _ _
+      (λ h i. agree_map free (λ e. complements_same k j v w (leb-true _ _ h) (leb-true _ _ i) e) (counted_alike (complement k v) (complement j w))))
 
   pub unsigned_alike : (n m : ℕ) → OctetsAlike free (Oer.unsigned n) (Oer.unsigned m) (n ≡ m)
   unfolding Oer.unsigned
@@ -93,7 +100,8 @@ module _ (free : Oer.Freedom → Bool) where
   fixed_natural : (k n m : ℕ) → n < 256 ^ k → m < 256 ^ k → OctetsAlike free (exactly (digits 256 k n)) (exactly (digits 256 k m)) (pos n ≡ pos m)
   fixed_natural k n m h i = agree_map free (λ e. ap pos (digits_equal 256 k n m (lit< tt) h i e)) (agree_exactly free _ _ (length-digits 256 k n ∙ sym (length-digits 256 k m)))
 
-  natural_alike : (high : ℕ) (o : Option ℕ) (v w : ℤ) → ((k : ℕ) → o ≡ Some k → octet_width high ≤ k) → is_at_most v (pos high) ≡ true → is_at_most w (pos high) ≡ true → OctetsAlike free (Oer.natural_form o v) (Oer.natural_form o w) (v ≡ w)
+  natural_alike : (high : ℕ) (o : Option ℕ) (v w : ℤ) → ((k : ℕ) → o ≡ Some k → octet_width high ≤ k) → is_at_most v (pos high)
+      ≡ true → is_at_most w (pos high) ≡ true → OctetsAlike free (Oer.natural_form o v) (Oer.natural_form o w) (v ≡ w)
   natural_alike high (Some k) (pos n) (pos m) h i j =
       let f = h k refl in
       let a = at_most_pos n high i in
@@ -117,26 +125,35 @@ module _ (free : Oer.Freedom → Bool) where
   between_fits k low (negsuc h) (pos n) f g i j = absurd (not_below n h j)
   between_fits k low high (negsuc n) f g i j = let a = at_most_negsuc low n i in omega arith
 
-  fixed_signed : (k low : ℕ) (high v w : ℤ) → max (signed_octets (negsuc low)) (signed_octets high) ≤ k → is_at_most (negsuc low) v ≡ true → is_at_most v high ≡ true → is_at_most (negsuc low) w ≡ true → is_at_most w high ≡ true → OctetsAlike free (exactly (complement k v)) (exactly (complement k w)) (v ≡ w)
+  fixed_signed : (k low : ℕ) (high v w : ℤ) → max (signed_octets (negsuc low)) (signed_octets high) ≤ k → is_at_most (negsuc low) v
+      ≡ true → is_at_most v high ≡ true → is_at_most (negsuc low) w ≡ true → is_at_most w high ≡ true → OctetsAlike free (exactly (complement k v)) (exactly (complement k w)) (v ≡ w)
   fixed_signed k low high v w h i j l m =
       let a = signed_hold k (negsuc low) (omega arith) in
       let b = signed_hold k high (omega arith) in
-      agree_map free (λ e. complement_equal k v w a.0 (between_fits k low high v a.1 b.1 i j) (between_fits k low high w a.1 b.1 l m) e) (agree_exactly free _ _ (length-complement k v ∙ sym (length-complement k w)))
+      agree_map free (λ e. complement_equal k v w a.0 (between_fits k low high v a.1 b.1 i j)
+      (between_fits k low high w a.1 b.1 l m) e) (agree_exactly free _ _ (length-complement k v ∙ sym (length-complement k w)))
 
-  signed_form_alike : (o : Option ℕ) (low : ℕ) (high v w : ℤ) → ((k : ℕ) → o ≡ Some k → max (signed_octets (negsuc low)) (signed_octets high) ≤ k) → is_at_most (negsuc low) v ≡ true → is_at_most v high ≡ true → is_at_most (negsuc low) w ≡ true → is_at_most w high ≡ true → OctetsAlike free (Oer.signed_form o v) (Oer.signed_form o w) (v ≡ w)
+  signed_form_alike : (o : Option ℕ) (low : ℕ) (high v w : ℤ) →
+      ((k : ℕ) → o ≡ Some k → max (signed_octets (negsuc low)) (signed_octets high) ≤ k) → is_at_most (negsuc low) v ≡ true →
+      is_at_most v high ≡ true → is_at_most (negsuc low) w ≡ true → is_at_most w high ≡ true → OctetsAlike free (Oer.signed_form o v) (Oer.signed_form o w) (v ≡ w)
   signed_form_alike (Some k) low high v w h i j l m = fixed_signed k low high v w (h k refl) i j l m
   signed_form_alike None low high v w h i j l m = signed_alike v w
 
-  bounded_alike : (low high : Option ℤ) (v w : ℤ) → option_map_or (λ x. is_at_most x v) low true ≡ true → option_map_or (λ x. is_at_most v x) high true ≡ true → option_map_or (λ x. is_at_most x w) low true ≡ true → option_map_or (λ x. is_at_most w x) high true ≡ true → OctetsAlike free (Oer.bounded low high v) (Oer.bounded low high w) (v ≡ w)
+  bounded_alike : (low high : Option ℤ) (v w : ℤ) → option_map_or (λ x. is_at_most x v) low true ≡ true →
+      option_map_or (λ x. is_at_most v x) high true ≡ true → option_map_or (λ x. is_at_most x w) low true ≡ true →
+      option_map_or (λ x. is_at_most w x) high true ≡ true → OctetsAlike free (Oer.bounded low high v) (Oer.bounded low high w) (v ≡ w)
   unfolding Oer.bounded
   bounded_alike (Some (pos low)) (Some (pos high)) v w h i j k = natural_alike high (Oer.fixed_octets (octet_width high)) v w (λ n e. fixed_hold _ n e) i k
   bounded_alike (Some (pos low)) (Some (negsuc high)) v w h i j k = unbounded_alike v w
   bounded_alike (Some (pos low)) None v w h i j k = unbounded_alike v w
-  bounded_alike (Some (negsuc low)) (Some high) v w h i j k = signed_form_alike (Oer.fixed_octets (max (signed_octets (negsuc low)) (signed_octets high))) low high v w (λ n e. fixed_hold _ n e) h i j k
+  bounded_alike (Some (negsuc low)) (Some high) v w h i j k =
+      signed_form_alike (Oer.fixed_octets (max (signed_octets (negsuc low)) (signed_octets high))) low high v w (λ n e. fixed_hold _ n e) h i j k
   bounded_alike (Some (negsuc low)) None v w h i j k = signed_alike v w
   bounded_alike None high v w h i j k = signed_alike v w
 
-  either_alike : (e : Bool) (b : Bounds) (v w : ℤ) → OctetsAlike free (cond e (Oer.signed v) (only_if (is_within b.range v) (Oer.bounded b.range.low b.range.high v))) (cond e (Oer.signed w) (only_if (is_within b.range w) (Oer.bounded b.range.low b.range.high w))) (v ≡ w)
+  either_alike : (e : Bool) (b : Bounds) (v w : ℤ) →
+      OctetsAlike free (cond e (Oer.signed v) (only_if (is_within b.range v) (Oer.bounded b.range.low b.range.high v)))
+      (cond e (Oer.signed w) (only_if (is_within b.range w) (Oer.bounded b.range.low b.range.high w))) (v ≡ w)
   either_alike true b v w = signed_alike v w
   either_alike false b v w = agree_if free (is_within b.range v) (is_within b.range w) _ _ (λ h i.
       let h' = and_parts _ _ h in
@@ -145,4 +162,5 @@ module _ (free : Oer.Freedom → Bool) where
 
   pub integer_alike : (b : Bounds) (held : Range) (v w : ℤ) → OctetsAlike free (Oer.integer_form b held v) (Oer.integer_form b held w) (v ≡ w)
   unfolding Oer.integer_form
-  integer_alike b held v w = agree_if free (is_within held v && (not (is_bounded b) || fits_128 v)) (is_within held w && (not (is_bounded b) || fits_128 w)) _ _ (λ h i. either_alike b.extensible b v w)
+  integer_alike b held v w = agree_if free (is_within held v && (not (is_bounded b) || fits_128 v))
+      (is_within held w && (not (is_bounded b) || fits_128 w)) _ _ (λ h i. either_alike b.extensible b v w)

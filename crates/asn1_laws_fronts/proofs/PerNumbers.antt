@@ -1,6 +1,8 @@
 -- Prefixes of numbers, length determinants and units of the packed rules.
 use Rattle.std.specs.Prelude.{ℤ}
-use Rattle.std.proofs.Common.{◌≡◌, ℕ, zero, suc, ◌+◌, ◌-◌, ◌*◌, ◌/◌, ◌%◌, ◌^◌, ◌<◌, ◌≤◌, ◌==◌, leb, ltb, not, lit<, Bool, true, false, cond, ◌&&◌, ◌||◌, List, [], ◌∷◌, length, take, drop, map, flat_map, Option, Some, None, refl, ap, sym, ◌∙◌, subst, length-append, arith}
+use Rattle.std.proofs.Common.{◌≡◌, ℕ, zero, suc, ◌+◌, ◌-◌, ◌*◌, ◌/◌, ◌%◌, ◌^◌, ◌<◌, ◌≤◌, ◌==◌, leb, ltb, not, lit<}
+use Rattle.std.proofs.Common.{Bool, true, false, cond, ◌&&◌, ◌||◌, List, [], ◌∷◌, length, take, drop, map, flat_map}
+use Rattle.std.proofs.Common.{Option, Some, None, refl, ap, sym, ◌∙◌, subst, length-append, arith}
 use Rattle.std.proofs.lemmas.List.{take-map, drop-map, length-take-le}
 use Rattle.std.proofs.lemmas.Nat.{mod-pow-add}
 use Rattle.std.proofs.Math.Nat.{mod-eq_of_lt}
@@ -14,7 +16,10 @@ use Rattle.std.specs.List.{list_all}
 use Rattle.asn1_model.specs.Per
 use Rattle.asn1_laws_values.proofs.Places.{places_hold}
 use Rattle.asn1_laws_values.proofs.Numbers.{length-digits, length-complement, digits_equal, complement_equal, least_hold, signed_hold, above_equal}
-use Rattle.asn1_laws_fronts.proofs.Fronts.{Agree, Pairwise, fronts_equal, agree_exactly, agree_refused, agree_map, agree_both, agree_both_apart, agree_placed, agree_varied, agree_varied_left, agree_varied_right, agree_if, agree_if_left, agree_if_right, agree_given, agree_first, agree_nothing}
+use Rattle.asn1_laws_fronts.proofs.Fronts.{Agree, Pairwise, fronts_equal, agree_exactly, agree_refused, agree_map}
+use Rattle.asn1_laws_fronts.proofs.Fronts.{agree_both, agree_both_apart, agree_placed, agree_varied, agree_varied_left}
+use Rattle.asn1_laws_fronts.proofs.Fronts.{agree_varied_right, agree_if, agree_if_left, agree_if_right, agree_given}
+use Rattle.asn1_laws_fronts.proofs.Fronts.{agree_first, agree_nothing}
 
 -- ---- numbers of a given count of bits
 bit_equal : (a b : ℕ) → a < 2 → b < 2 → (a == 1) ≡ (b == 1) → a ≡ b
@@ -82,7 +87,8 @@ module _ (free : Per.Freedom → Bool) where
   -- ---- padding
   pub padding_alike : (n : ℕ) → Alike free (Per.padding n) (Per.padding n) (Unit {0})
   unfolding Per.padding
-  padding_alike n = agree_varied free (λ a b. agree_if free (length a == n) (length b == n) (exactly a) (exactly b) (λ h k. agree_map free (λ e. tt) (agree_exactly free a b (eqb-true _ _ h ∙ sym (eqb-true _ _ k)))))
+  padding_alike n = agree_varied free (λ a b. agree_if free (length a == n) (length b == n) (exactly a) (exactly b)
+      (λ h k. agree_map free (λ e. tt) (agree_exactly free a b (eqb-true _ _ h ∙ sym (eqb-true _ _ k)))))
 
   pub at_octet_alike : (al : Bool) {x y : Per.BitForm} {P : Type 0} → Alike free x y P → Alike free (Per.at_octet al x) (Per.at_octet al y) P
   unfolding Per.at_octet
@@ -175,33 +181,44 @@ module _ (free : Per.Freedom → Bool) (X : Type 0) (R : X → X → Type 0) (f 
   took : (k : ℕ) (xs ys : List X) → k ≤ length xs → k ≤ length ys → Alike free (joined (take k (map f xs))) (joined (take k (map f ys))) (Pairwise R (take k xs) (take k ys))
   took k xs ys h i = rw (take-map f k xs, take-map f k ys) (joined_alike (take k xs) (take k ys) (length-take-le k xs h ∙ sym (length-take-le k ys i)))
 
-  took_at : (m n : ℕ) (xs ys : List X) → m ≡ n → m * 16384 ≤ length (map f xs) → n * 16384 ≤ length (map f ys) → Alike free (joined (take (m * 16384) (map f xs))) (joined (take (n * 16384) (map f ys))) (Pairwise R (take (m * 16384) xs) (take (n * 16384) ys))
+  took_at : (m n : ℕ) (xs ys : List X) → m ≡ n → m * 16384 ≤ length (map f xs) → n * 16384 ≤ length (map f ys) →
+      Alike free (joined (take (m * 16384) (map f xs))) (joined (take (n * 16384) (map f ys))) (Pairwise R (take (m * 16384) xs) (take (n * 16384) ys))
   took_at m n xs ys e h k =
       let P : ℕ → Type 0 = λ i. Alike free (joined (take (m * 16384) (map f xs))) (joined (take (i * 16384) (map f ys))) (Pairwise R (take (m * 16384) xs) (take (i * 16384) ys)) in
       let i : m * 16384 ≤ length xs = omega (arith, length_of_map f xs) in
       let j : m * 16384 ≤ length ys = omega (arith, length_of_map f ys) in
       subst P e (took (m * 16384) xs ys i j)
 
-  rest_alike : (al : Bool) (m n : ℕ) (ms ns : List ℕ) (xs ys : List X) → ((us vs : List X) → Alike free (Per.fragments al ms (map f us)) (Per.fragments al ns (map f vs)) (Pairwise R us vs)) → Alike free (Per.fragments al ms (drop (m * 16384) (map f xs))) (Per.fragments al ns (drop (n * 16384) (map f ys))) (Pairwise R (drop (m * 16384) xs) (drop (n * 16384) ys))
+  rest_alike : (al : Bool) (m n : ℕ) (ms ns : List ℕ) (xs ys : List X) →
+      ((us vs : List X) → Alike free (Per.fragments al ms (map f us)) (Per.fragments al ns (map f vs)) (Pairwise R us vs)) →
+      Alike free (Per.fragments al ms (drop (m * 16384) (map f xs))) (Per.fragments al ns (drop (n * 16384) (map f ys))) (Pairwise R (drop (m * 16384) xs) (drop (n * 16384) ys))
   rest_alike al m n ms ns xs ys r = rw (drop-map f (m * 16384) xs, drop-map f (n * 16384) ys) (r (drop (m * 16384) xs) (drop (n * 16384) ys))
 
   all_again : (m n : ℕ) (xs ys : List X) → m ≡ n → Pairwise R (take (m * 16384) xs) (take (n * 16384) ys) → Pairwise R (drop (m * 16384) xs) (drop (n * 16384) ys) → Pairwise R xs ys
-  all_again m n xs ys e h k = pairs_again R (m * 16384) xs ys (subst (λ i. Pairwise R (take (m * 16384) xs) (take (i * 16384) ys)) (sym e) h) (subst (λ i. Pairwise R (drop (m * 16384) xs) (drop (i * 16384) ys)) (sym e) k)
+  all_again m n xs ys e h k = pairs_again R (m * 16384) xs ys
+      (subst (λ i. Pairwise R (take (m * 16384) xs) (take (i * 16384) ys)) (sym e) h) (subst (λ i. Pairwise R (drop (m * 16384) xs) (drop (i * 16384) ys)) (sym e) k)
 
-  both_heads : (al : Bool) (m n : ℕ) (ms ns : List ℕ) (xs ys : List X) → fits m xs ≡ true → fits n ys ≡ true → ((us vs : List X) → Alike free (Per.fragments al ms (map f us)) (Per.fragments al ns (map f vs)) (Pairwise R us vs)) → Alike free (next al m ms xs) (next al n ns ys) (Pairwise R xs ys)
+  both_heads : (al : Bool) (m n : ℕ) (ms ns : List ℕ) (xs ys : List X) → fits m xs ≡ true → fits n ys ≡ true →
+      ((us vs : List X) → Alike free (Per.fragments al ms (map f us)) (Per.fragments al ns (map f vs)) (Pairwise R us vs)) → Alike free (next al m ms xs) (next al n ns ys) (Pairwise R xs ys)
   both_heads al m n ms ns xs ys h k r =
       let h' = and_parts _ _ h in
       let h'' = and_parts _ _ h'.0 in
       let k' = and_parts _ _ k in
       let k'' = and_parts _ _ k'.0 in
-      agree_map free (λ q. all_again m n xs ys q.0 q.1.0 q.1.1) (agree_both free (heads_alike free al m n (leb-true _ _ h''.1) (leb-true _ _ k''.1)) (λ e. agree_both free (took_at m n xs ys e (leb-true _ _ h'.1) (leb-true _ _ k'.1)) (λ u. rest_alike al m n ms ns xs ys r)))
+      agree_map free (λ q. all_again m n xs ys q.0 q.1.0 q.1.1)
+      (agree_both free (heads_alike free al m n (leb-true _ _ h''.1) (leb-true _ _ k''.1))
+      (λ e. agree_both free (took_at m n xs ys e (leb-true _ _ h'.1) (leb-true _ _ k'.1)) (λ u. rest_alike al m n ms ns xs ys r)))
 
   fragments_alike : (al : Bool) (ms ns : List ℕ) (xs ys : List X) → Alike free (Per.fragments al ms (map f xs)) (Per.fragments al ns (map f ys)) (Pairwise R xs ys)
   unfolding Per.fragments
-  fragments_alike al [] [] xs ys = agree_map free (λ q. q.1) (agree_both free (short_length_alike free al (length (map f xs)) (length (map f ys))) (λ e. joined_alike xs ys (sym (length_of_map f xs) ∙ e ∙ length_of_map f ys)))
-  fragments_alike al [] (n ∷ ns) xs ys = agree_if_right free (fits n ys) {x = both (Per.short_length al (length (map f xs))) (joined (map f xs))} {y = next al n ns ys} (λ h. agree_both_apart free (last_or_head free al n (length (map f xs))))
-  fragments_alike al (m ∷ ms) [] xs ys = agree_if_left free (fits m xs) {x = next al m ms xs} {y = both (Per.short_length al (length (map f ys))) (joined (map f ys))} (λ h. agree_both_apart free (head_or_last free al m (length (map f ys))))
-  fragments_alike al (m ∷ ms) (n ∷ ns) xs ys = agree_if free (fits m xs) (fits n ys) (next al m ms xs) (next al n ns ys) (λ h k. both_heads al m n ms ns xs ys h k (λ us vs. fragments_alike al ms ns us vs))
+  fragments_alike al [] [] xs ys = agree_map free (λ q. q.1)
+      (agree_both free (short_length_alike free al (length (map f xs)) (length (map f ys))) (λ e. joined_alike xs ys (sym (length_of_map f xs) ∙ e ∙ length_of_map f ys)))
+  fragments_alike al [] (n ∷ ns) xs ys = agree_if_right free
+      (fits n ys) {x = both (Per.short_length al (length (map f xs))) (joined (map f xs))} {y = next al n ns ys} (λ h. agree_both_apart free (last_or_head free al n (length (map f xs))))
+  fragments_alike al (m ∷ ms) [] xs ys = agree_if_left free
+      (fits m xs) {x = next al m ms xs} {y = both (Per.short_length al (length (map f ys))) (joined (map f ys))} (λ h. agree_both_apart free (head_or_last free al m (length (map f ys))))
+  fragments_alike al (m ∷ ms) (n ∷ ns) xs ys =
+      agree_if free (fits m xs) (fits n ys) (next al m ms xs) (next al n ns ys) (λ h k. both_heads al m n ms ns xs ys h k (λ us vs. fragments_alike al ms ns us vs))
 
   pub counted_alike : (al : Bool) (xs ys : List X) → Alike free (Per.counted al (map f xs)) (Per.counted al (map f ys)) (Pairwise R xs ys)
   unfolding Per.counted
@@ -252,20 +269,25 @@ module _ (free : Per.Freedom → Bool) where
 
   pub semi_alike : (al : Bool) (n m : ℕ) → Alike free (Per.semi_constrained al n) (Per.semi_constrained al m) (n ≡ m)
   unfolding Per.semi_constrained
-  semi_alike al n m = agree_varied free (λ k j. agree_if free (leb (least_octets n) k) (leb (least_octets m) j) _ _ (λ h i. agree_map free (λ e. digits_same k j n m (leb-true _ _ h) (leb-true _ _ i) e) (counted_octets_alike al (digits 256 k n) (digits 256 j m))))
+  semi_alike al n m = agree_varied free (λ k j. agree_if free (leb (least_octets n) k) (leb (least_octets m) j) _ _
+      (λ h i. agree_map free (λ e. digits_same k j n m (leb-true _ _ h) (leb-true _ _ i) e) (counted_octets_alike al (digits 256 k n) (digits 256 j m))))
 
   pub unconstrained_alike : (al : Bool) (v w : ℤ) → Alike free (Per.unconstrained al v) (Per.unconstrained al w) (v ≡ w)
   unfolding Per.unconstrained
-  unconstrained_alike al v w = agree_varied free (λ k j. agree_if free (leb (signed_octets v) k) (leb (signed_octets w) j) _ _ (λ h i. agree_map free (λ e. complements_same k j v w (leb-true _ _ h) (leb-true _ _ i) e) (counted_octets_alike al (complement k v) (complement j w))))
+  unconstrained_alike al v w = agree_varied free
+      (λ k j. agree_if free (leb (signed_octets v) k) (leb (signed_octets w) j) _ _
+      (λ h i. agree_map free (λ e. complements_same k j v w (leb-true _ _ h) (leb-true _ _ i) e) (counted_octets_alike al (complement k v) (complement j w))))
 
   -- a number in as many octets as its length says
-  octets_at : (al : Bool) (k n m : ℕ) → n < 256 ^ k → m < 256 ^ k → Alike free (Per.at_octet al (exactly (flat_map (binary 8) (digits 256 k n)))) (Per.at_octet al (exactly (flat_map (binary 8) (digits 256 k m)))) (n ≡ m)
+  octets_at : (al : Bool) (k n m : ℕ) → n < 256 ^ k → m < 256 ^ k →
+      Alike free (Per.at_octet al (exactly (flat_map (binary 8) (digits 256 k n)))) (Per.at_octet al (exactly (flat_map (binary 8) (digits 256 k m)))) (n ≡ m)
   octets_at al k n m h i =
       let a : length (flat_map (binary 8) (digits 256 k n)) ≡ 8 * k = length-octets (digits 256 k n) ∙ ap (λ x. 8 * x) (length-digits 256 k n) in
       let b : length (flat_map (binary 8) (digits 256 k m)) ≡ 8 * k = length-octets (digits 256 k m) ∙ ap (λ x. 8 * x) (length-digits 256 k m) in
       at_octet_alike free al (agree_map free (λ e. digits_equal 256 k n m (lit< tt) h i (bits_of_digits k n m e)) (agree_exactly free _ _ (a ∙ sym b)))
 
-  in_octets_alike : (whole : ℕ → ℕ → Per.BitForm) (al : Bool) (span n m k j : ℕ) → ((s x y : ℕ) → Alike free (whole s x) (whole s y) (x ≡ y)) → Alike free (Per.in_octets_of whole al span n k) (Per.in_octets_of whole al span m j) (n ≡ m)
+  in_octets_alike : (whole : ℕ → ℕ → Per.BitForm) (al : Bool) (span n m k j : ℕ) →
+      ((s x y : ℕ) → Alike free (whole s x) (whole s y) (x ≡ y)) → Alike free (Per.in_octets_of whole al span n k) (Per.in_octets_of whole al span m j) (n ≡ m)
   unfolding Per.in_octets_of
   in_octets_alike whole al span n m k j f = agree_if free (leb (least_octets n) k && leb k (octet_width span)) (leb (least_octets m) j && leb j (octet_width span)) _ _ (λ h i.
       let h' = and_parts _ _ h in
@@ -276,12 +298,16 @@ module _ (free : Per.Freedom → Bool) where
       let d : j ≤ octet_width span = leb-true _ _ i'.1 in
       agree_map free (λ q. q.1) (agree_both free (f (octet_width span - 1) (k - 1) (j - 1)) (λ e.
       let l : j ≡ k = omega arith in
-      subst (λ x. Alike free (Per.at_octet al (exactly (flat_map (binary 8) (digits 256 k n)))) (Per.at_octet al (exactly (flat_map (binary 8) (digits 256 x m)))) (n ≡ m)) (sym l) (octets_at al k n m (least_hold k n a) (least_hold k m (omega arith))))))
+      subst (λ x. Alike free (Per.at_octet al (exactly (flat_map (binary 8) (digits 256 k n))))
+      (Per.at_octet al (exactly (flat_map (binary 8) (digits 256 x m)))) (n ≡ m)) (sym l) (octets_at al k n m (least_hold k n a) (least_hold k m (omega arith))))))
 
   abbrev by_span : (ℕ → ℕ → Per.BitForm) → Bool → Bool → Bool → Bool → ℕ → ℕ → Per.BitForm
-  by_span whole al a b c span n = cond a (exactly (binary (width span) n)) (cond b (Per.at_octet al (exactly (binary 8 n))) (cond c (Per.at_octet al (exactly (binary 16 n))) (varied Per.longer_number (least_octets n) (λ k. Per.in_octets_of whole al span n k))))
+  by_span whole al a b c span n = cond a (exactly (binary (width span) n))
+      (cond b (Per.at_octet al (exactly (binary 8 n))) (cond c (Per.at_octet al (exactly (binary 16 n))) (varied Per.longer_number (least_octets n) (λ k. Per.in_octets_of whole al span n k))))
 
-  span_cases : (whole : ℕ → ℕ → Per.BitForm) (al : Bool) (span n m : ℕ) (a b c : Bool) → ((s x y : ℕ) → Alike free (whole s x) (whole s y) (x ≡ y)) → (span == 255) ≡ b → ltb span 65536 ≡ c → n ≤ span → m ≤ span → Alike free (by_span whole al a b c span n) (by_span whole al a b c span m) (n ≡ m)
+  span_cases : (whole : ℕ → ℕ → Per.BitForm) (al : Bool) (span n m : ℕ) (a b c : Bool) →
+      ((s x y : ℕ) → Alike free (whole s x) (whole s y) (x ≡ y)) → (span == 255) ≡ b → ltb span 65536 ≡ c → n ≤ span → m ≤ span →
+      Alike free (by_span whole al a b c span n) (by_span whole al a b c span m) (n ≡ m)
   span_cases whole al span n m true b c w e f h k = binary_alike free (width span) n m (span_holds span n h) (span_holds span m k)
   span_cases whole al span n m false true c w e f h k = let s = eqb-true span 255 e in at_octet_alike free al (binary_alike free 8 n m (omega arith) (omega arith))
   span_cases whole al span n m false false true w e f h k = let s = ltb-true span 65536 f in at_octet_alike free al (binary_alike free 16 n m (omega arith) (omega arith))
@@ -290,7 +316,10 @@ module _ (free : Per.Freedom → Bool) where
   constrained_in_alike : (most : ℕ) (al : Bool) (span n m : ℕ) → Alike free (Per.constrained_in most al span n) (Per.constrained_in most al span m) (n ≡ m)
   unfolding Per.constrained_in
   constrained_in_alike zero al span n m = agree_refused free _ _
-  constrained_in_alike (suc most) al span n m = agree_if free (leb n span) (leb m span) _ _ (λ h k. span_cases (λ s c. Per.constrained_in most al s c) al span n m (not al || ltb span 255) (span == 255) (ltb span 65536) (λ s x y. constrained_in_alike most al s x y) refl refl (leb-true _ _ h) (leb-true _ _ k))
+  constrained_in_alike (suc most) al span n m =
+      agree_if free (leb n span) (leb m span) _ _
+      (λ h k. span_cases (λ s c. Per.constrained_in most al s c) al span n m (not al || ltb span 255) (span == 255) (ltb span 65536)
+      (λ s x y. constrained_in_alike most al s x y) refl refl (leb-true _ _ h) (leb-true _ _ k))
 
   pub constrained_alike : (al : Bool) (span n m : ℕ) → Alike free (Per.constrained al span n) (Per.constrained al span m) (n ≡ m)
   unfolding Per.constrained
@@ -300,7 +329,9 @@ module _ (free : Per.Freedom → Bool) where
   unfolding Per.whole_number
   whole_alike al (Some low) (Some high) v w = agree_given free (above low high) (above low high) _ _ (λ s t e f.
       let r : s ≡ t = some_same e f in
-      agree_given free (above low v) (above low w) _ _ (λ n m g h. subst (λ x. Alike free (Per.constrained al s n) (Per.constrained al x m) (v ≡ w)) r (agree_map free (λ q. above_equal low v w n g (h ∙ ap Some (sym q))) (constrained_alike al s n m))))
+      agree_given free (above low v) (above low w) _ _
+      (λ n m g h. subst (λ x. Alike free (Per.constrained al s n) (Per.constrained al x m) (v ≡ w)) r
+      (agree_map free (λ q. above_equal low v w n g (h ∙ ap Some (sym q))) (constrained_alike al s n m))))
     where
       some_same : {o : Option ℕ} {s t : ℕ} → o ≡ Some s → o ≡ Some t → s ≡ t
       some_same e f = cc
@@ -315,17 +346,21 @@ module _ (free : Per.Freedom → Bool) where
   abbrev outside : Per.BitForm → Per.BitForm
   outside x = both (exactly (true ∷ [])) x
 
-  extension_bit_cases : (s t b c : Bool) (x y u v : Per.BitForm) (P : Type 0) → (b ≡ true → c ≡ true → Alike free x y P) → Alike free u v P → Alike free (cond s (outside u) (inside b x)) (cond t (outside v) (inside c y)) P
+  extension_bit_cases : (s t b c : Bool) (x y u v : Per.BitForm) (P : Type 0) → (b ≡ true → c ≡ true → Alike free x y P) →
+      Alike free u v P → Alike free (cond s (outside u) (inside b x)) (cond t (outside v) (inside c y)) P
   extension_bit_cases true true b c x y u v P h k = agree_map free (λ q. q.1) (agree_both free (agree_exactly free _ _ refl) (λ e. k))
   extension_bit_cases true false b c x y u v P h k = agree_if_right free c {x = outside u} {y = both (exactly (false ∷ [])) y} (λ j. agree_both_apart free (bits_apart free))
   extension_bit_cases false true b c x y u v P h k = agree_if_left free b {x = both (exactly (false ∷ [])) x} {y = outside v} (λ i. agree_both_apart free (bits_apart' free))
   extension_bit_cases false false b c x y u v P h k = agree_if free b c _ _ (λ i j. agree_map free (λ q. q.1) (agree_both free (agree_exactly free _ _ refl) (λ e. h i j)))
 
-  pub with_extension_bit_alike : (e b c : Bool) (x y u v : Per.BitForm) (P : Type 0) → (b ≡ true → c ≡ true → Alike free x y P) → Alike free u v P → Alike free (Per.with_extension_bit e b x u) (Per.with_extension_bit e c y v) P
+  pub with_extension_bit_alike : (e b c : Bool) (x y u v : Per.BitForm) (P : Type 0) → (b ≡ true → c ≡ true → Alike free x y P) →
+      Alike free u v P → Alike free (Per.with_extension_bit e b x u) (Per.with_extension_bit e c y v) P
   unfolding Per.with_extension_bit
   with_extension_bit_alike false b c x y u v P h k = agree_if free b c x y h
   with_extension_bit_alike true b c x y u v P h k = agree_varied free (λ s t. extension_bit_cases s t b c x y u v P h k)
 
   pub integer_alike : (al : Bool) (b : Bounds) (held : Range) (v w : ℤ) → Alike free (Per.integer_form al b held v) (Per.integer_form al b held w) (v ≡ w)
   unfolding Per.integer_form
-  integer_alike al b held v w = agree_if free (is_within held v && (not (is_bounded b) || fits_128 v)) (is_within held w && (not (is_bounded b) || fits_128 w)) _ _ (λ h k. with_extension_bit_alike b.extensible (is_within b.range v) (is_within b.range w) _ _ _ _ (v ≡ w) (λ i j. whole_alike al b.range.low b.range.high v w) (unconstrained_alike al v w))
+  integer_alike al b held v w = agree_if free (is_within held v && (not (is_bounded b) || fits_128 v))
+      (is_within held w && (not (is_bounded b) || fits_128 w)) _ _
+      (λ h k. with_extension_bit_alike b.extensible (is_within b.range v) (is_within b.range w) _ _ _ _ (v ≡ w) (λ i j. whole_alike al b.range.low b.range.high v w) (unconstrained_alike al v w))

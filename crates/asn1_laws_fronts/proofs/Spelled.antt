@@ -2,14 +2,9 @@
 use Rattle.std.proofs.Common.{◌≡◌, suc, Bool, true, false, cond, List, length, refl, ap}
 use Rattle.asn1_model.specs.Value.{Value, Parts, end, absent, present}
 use Rattle.asn1_model.specs.Schema.{Presence, Schema, Components, no_component, component}
-use Rattle.asn1_model.specs.Form.{varied, only_if}
-use Rattle.asn1_model.specs.Normal.{is_at_default, is_group_left_out}
-use Rattle.asn1_model.specs.Normal.{presence_bits, is_required, presence_bit_unless}
-use Rattle.asn1_model.specs.Per
-use Rattle.asn1_model.specs.Oer
-use Rattle.asn1_laws_fronts.proofs.Fronts.{agree_varied_left, agree_varied_right, agree_if_left, agree_if_right}
-use Rattle.asn1_laws_fronts.proofs.PerNumbers.{Alike}
-use Rattle.asn1_laws_fronts.proofs.OerNumbers.{OctetsAlike}
+use Rattle.asn1_model.specs.Form.{Form, varied, only_if, Freedom, Detail, default_spelled_out, empty_group}
+use Rattle.asn1_model.specs.Normal.{is_at_default, is_group_left_out, spelled, presence_bits, is_required, presence_bit_unless}
+use Rattle.asn1_laws_fronts.proofs.Fronts.{Agree, agree_varied_left, agree_varied_right, agree_if_left, agree_if_right}
 
 -- ---- presence bits
 unless_long : (b m n : Bool) (ms ns : List Bool) → length ms ≡ length ns → length (presence_bit_unless b m ms) ≡ length (presence_bit_unless b n ns)
@@ -30,38 +25,24 @@ presence_bits_long (component t o s cs) (present v ps) (absent qs) = unless_long
 presence_bits_long (component t o s cs) (present v ps) (present w qs) = unless_long (is_required o) _ _ _ _ (presence_bits_long cs ps qs)
 
 -- ---- components that are encoded
-module _ (free : Per.Freedom → Bool) where
-  abbrev packed_tests : Bool → Bool → Per.BitForm → Per.BitForm
-  packed_tests a b x = cond a (varied Per.default_spelled_out false (λ t. only_if t x)) (cond b (varied Per.empty_group false (λ t. only_if t x)) x)
+module _ {A : Type 0} (free : Freedom → Bool) where
+  abbrev tests : Bool → Bool → Form Freedom Detail A → Form Freedom Detail A
+  tests a b x =
+      cond a (varied default_spelled_out false (λ t. only_if t x)) (cond b (varied empty_group false (λ t. only_if t x)) x)
 
-  packed_left : (a b : Bool) (x y : Per.BitForm) (P : Type 0) → Alike free x y P → Alike free (packed_tests a b x) y P
-  packed_left true b x y P h = agree_varied_left free (λ t. agree_if_left free t {x = x} {y = y} (λ e. h))
-  packed_left false true x y P h = agree_varied_left free (λ t. agree_if_left free t {x = x} {y = y} (λ e. h))
-  packed_left false false x y P h = h
+  tests_left : (a b : Bool) (x y : Form Freedom Detail A) (P : Type 0) → Agree free x y P → Agree free (tests a b x) y P
+  tests_left true b x y P h = agree_varied_left free (λ t. agree_if_left free t {x = x} {y = y} (λ e. h))
+  tests_left false true x y P h = agree_varied_left free (λ t. agree_if_left free t {x = x} {y = y} (λ e. h))
+  tests_left false false x y P h = h
 
-  packed_right : (a b : Bool) (x y : Per.BitForm) (P : Type 0) → Alike free x y P → Alike free x (packed_tests a b y) P
-  packed_right true b x y P h = agree_varied_right free (λ t. agree_if_right free t {x = x} {y = y} (λ e. h))
-  packed_right false true x y P h = agree_varied_right free (λ t. agree_if_right free t {x = x} {y = y} (λ e. h))
-  packed_right false false x y P h = h
+  pub tests_right : (a b : Bool) (x y : Form Freedom Detail A) (P : Type 0) → Agree free x y P → Agree free x (tests a b y) P
+  tests_right true b x y P h = agree_varied_right free (λ t. agree_if_right free t {x = x} {y = y} (λ e. h))
+  tests_right false true x y P h = agree_varied_right free (λ t. agree_if_right free t {x = x} {y = y} (λ e. h))
+  tests_right false false x y P h = h
 
-  pub packed_spelled_alike : (o : Presence) (s : Schema) (v w : Value) (x y : Per.BitForm) (P : Type 0) → Alike free x y P → Alike free (Per.spelled o s v x) (Per.spelled o s w y) P
-  unfolding Per.spelled
-  packed_spelled_alike o s v w x y P h = packed_left (is_at_default o s v) (is_group_left_out s v) x _ P (packed_right (is_at_default o s w) (is_group_left_out s w) x y P h)
-
-module _ (free : Oer.Freedom → Bool) where
-  abbrev octets_tests : Bool → Bool → Oer.OctetForm → Oer.OctetForm
-  octets_tests a b x = cond a (varied Oer.default_spelled_out false (λ t. only_if t x)) (cond b (varied Oer.empty_group false (λ t. only_if t x)) x)
-
-  octets_left : (a b : Bool) (x y : Oer.OctetForm) (P : Type 0) → OctetsAlike free x y P → OctetsAlike free (octets_tests a b x) y P
-  octets_left true b x y P h = agree_varied_left free (λ t. agree_if_left free t {x = x} {y = y} (λ e. h))
-  octets_left false true x y P h = agree_varied_left free (λ t. agree_if_left free t {x = x} {y = y} (λ e. h))
-  octets_left false false x y P h = h
-
-  octets_right : (a b : Bool) (x y : Oer.OctetForm) (P : Type 0) → OctetsAlike free x y P → OctetsAlike free x (octets_tests a b y) P
-  octets_right true b x y P h = agree_varied_right free (λ t. agree_if_right free t {x = x} {y = y} (λ e. h))
-  octets_right false true x y P h = agree_varied_right free (λ t. agree_if_right free t {x = x} {y = y} (λ e. h))
-  octets_right false false x y P h = h
-
-  pub octets_spelled_alike : (o : Presence) (s : Schema) (v w : Value) (x y : Oer.OctetForm) (P : Type 0) → OctetsAlike free x y P → OctetsAlike free (Oer.spelled o s v x) (Oer.spelled o s w y) P
-  unfolding Oer.spelled
-  octets_spelled_alike o s v w x y P h = octets_left (is_at_default o s v) (is_group_left_out s v) x _ P (octets_right (is_at_default o s w) (is_group_left_out s w) x y P h)
+  pub spelled_alike : (o : Presence) (s : Schema) (v w : Value) (x y : Form Freedom Detail A) (P : Type 0) → Agree free x y P →
+      Agree free (spelled o s v x) (spelled o s w y) P
+  unfolding spelled
+  spelled_alike o s v w x y P h =
+      let k = tests_right (is_at_default o s w) (is_group_left_out s w) x y P h in
+      tests_left (is_at_default o s v) (is_group_left_out s v) x _ P k

@@ -1,6 +1,8 @@
 -- Prefixes of character strings of the packed rules: a character is determined by its value, or by its index among
 -- those permitted.
-use Rattle.std.proofs.Common.{◌≡◌, ℕ, ◌+◌, ◌-◌, ◌^◌, ◌<◌, ◌≤◌, leb, ltb, ◌==◌, lit<, Bool, true, false, cond, ◌&&◌, List, [], ◌∷◌, length, map, Option, Some, None, option_map, filter, refl, ap, sym, ◌∙◌, inl, inr, ◌⊎◌, arith}
+use Rattle.std.proofs.Common.{◌≡◌, ℕ, ◌+◌, ◌-◌, ◌^◌, ◌<◌, ◌≤◌, leb, ltb, ◌==◌, lit<, Bool, true, false, cond, ◌&&◌}
+use Rattle.std.proofs.Common.{List, [], ◌∷◌, length, map, Option, Some, None, option_map, filter, refl, ap, sym, ◌∙◌}
+use Rattle.std.proofs.Common.{inl, inr, ◌⊎◌, arith}
 use Rattle.std.proofs.lemmas.Bool.{ltb-true, leb-true, le-leb, and_parts, and_from, or_cases}
 use Rattle.std.proofs.Math.Nat.{pow-le-pow_right}
 use Rattle.asn1_model.specs.Schema.{Alphabet, Counts, Size, StringKind, numeric, printable, visible, ia5, bmp, general, graphic, teletex, utf8}
@@ -214,13 +216,15 @@ place_fits al rs c i h e =
     omega arith
 
 module _ (free : Per.Freedom → Bool) where
-  code_cases : (al : Bool) (rs : List Run) (c d i j : ℕ) (t : Bool) → Orderly rs → place_of c rs ≡ Some i → place_of d rs ≡ Some j → ltb (largest rs) (2 ^ Per.character_bits al rs) ≡ t → Alike free (exactly (binary (Per.character_bits al rs) (cond t c i))) (exactly (binary (Per.character_bits al rs) (cond t d j))) (c ≡ d)
+  code_cases : (al : Bool) (rs : List Run) (c d i j : ℕ) (t : Bool) → Orderly rs → place_of c rs ≡ Some i → place_of d rs ≡ Some j →
+      ltb (largest rs) (2 ^ Per.character_bits al rs) ≡ t → Alike free (exactly (binary (Per.character_bits al rs) (cond t c i))) (exactly (binary (Per.character_bits al rs) (cond t d j))) (c ≡ d)
   code_cases al rs c d i j true o e f g =
       let top = ltb-true _ _ g in
       let a = place_top c rs i o.0 e in
       let b = place_top d rs j o.0 f in
       binary_alike free (Per.character_bits al rs) c d (omega arith) (omega arith)
-  code_cases al rs c d i j false o e f g = agree_map free (λ q. place_equal c d rs i e (f ∙ ap Some (sym q))) (binary_alike free (Per.character_bits al rs) i j (place_fits al rs c i o.1 e) (place_fits al rs d j o.1 f))
+  code_cases al rs c d i j false o e f g =
+      agree_map free (λ q. place_equal c d rs i e (f ∙ ap Some (sym q))) (binary_alike free (Per.character_bits al rs) i j (place_fits al rs c i o.1 e) (place_fits al rs d j o.1 f))
 
   character_alike : (al : Bool) (rs : List Run) → Orderly rs → (c d : ℕ) → Alike free (Per.character (Per.character_bits al rs) rs c) (Per.character (Per.character_bits al rs) rs d) (c ≡ d)
   unfolding Per.character
@@ -228,12 +232,18 @@ module _ (free : Per.Freedom → Bool) where
 
   characters_alike : (al : Bool) (z : Size) (held : Counts) (rs : List Run) (cs ds : List ℕ) → Orderly rs → Alike free (Per.characters al z held rs cs) (Per.characters al z held rs ds) (cs ≡ ds)
   unfolding Per.characters
-  characters_alike al z held rs cs ds o = agree_map free (λ h. pairs_equal cs ds h) (sized_alike free ℕ (λ c d. c ≡ d) (Per.character (Per.character_bits al rs) rs) (character_alike al rs o) al z held (Per.characters_have_padding (Per.character_bits al rs) (length cs)) (Per.characters_have_padding (Per.character_bits al rs) (length ds)) cs ds (λ l. ap (λ n. Per.characters_have_padding (Per.character_bits al rs) n z.counts) l))
+  characters_alike al z held rs cs ds o = agree_map free (λ h. pairs_equal cs ds h)
+      (sized_alike free ℕ (λ c d. c ≡ d) (Per.character (Per.character_bits al rs) rs) (character_alike al rs o) al z held
+      (Per.characters_have_padding (Per.character_bits al rs) (length cs))
+      (Per.characters_have_padding (Per.character_bits al rs) (length ds)) cs ds (λ l. ap (λ n. Per.characters_have_padding (Per.character_bits al rs) n z.counts) l))
 
-  kind_cases : (t : Bool) (al : Bool) (k : StringKind) (z : Size) (a : Alphabet) (held : Counts) (cs ds : List ℕ) → is_of_octets k ≡ t → Alike free (cond t (only_if (is_count_within held (length cs)) (Per.counted_octets al cs)) (Per.characters al z held (permitted k a) cs)) (cond t (only_if (is_count_within held (length ds)) (Per.counted_octets al ds)) (Per.characters al z held (permitted k a) ds)) (cs ≡ ds)
+  kind_cases : (t : Bool) (al : Bool) (k : StringKind) (z : Size) (a : Alphabet) (held : Counts) (cs ds : List ℕ) → is_of_octets k
+      ≡ t → Alike free (cond t (only_if (is_count_within held (length cs)) (Per.counted_octets al cs))
+      (Per.characters al z held (permitted k a) cs)) (cond t (only_if (is_count_within held (length ds)) (Per.counted_octets al ds)) (Per.characters al z held (permitted k a) ds)) (cs ≡ ds)
   kind_cases true al k z a held cs ds e = agree_if free (is_count_within held (length cs)) (is_count_within held (length ds)) _ _ (λ i j. counted_octets_alike free al cs ds)
   kind_cases false al k z a held cs ds e = characters_alike al z held (permitted k a) cs ds (permitted_orderly k a.extensible a.characters e)
 
-  pub string_alike : (al : Bool) (k : StringKind) (z : Size) (a : Alphabet) (held : Counts) (cs ds : List ℕ) → Alike free (Per.string_form al k z a held cs) (Per.string_form al k z a held ds) (cs ≡ ds)
+  pub string_alike : (al : Bool) (k : StringKind) (z : Size) (a : Alphabet) (held : Counts) (cs ds : List ℕ) →
+      Alike free (Per.string_form al k z a held cs) (Per.string_form al k z a held ds) (cs ≡ ds)
   unfolding Per.string_form
   string_alike al k z a held cs ds = agree_if free (may_hold k cs) (may_hold k ds) _ _ (λ i j. kind_cases (is_of_octets k) al k z a held cs ds refl)

@@ -26,7 +26,8 @@ module _ (free : Oer.Freedom → Bool) where
   low_tag t = only_if (ltb t.number 63) (exactly ((t.class * 64 + t.number) ∷ []))
 
   low_low : (t u : Tag) → OctetsAlike free (low_tag t) (low_tag u) (tag_same t u ≡ true)
-  low_low t u = agree_if free (ltb t.number 63) (ltb u.number 63) _ _ (λ h i. agree_first free (λ e. agree_map free (λ x. let q = low_tags t.class u.class t.number u.number (ltb-true _ _ h) (ltb-true _ _ i) e in same_tag t u q.0 q.1) (agree_nothing free)))
+  low_low t u = agree_if free (ltb t.number 63) (ltb u.number 63) _ _
+      (λ h i. agree_first free (λ e. agree_map free (λ x. let q = low_tags t.class u.class t.number u.number (ltb-true _ _ h) (ltb-true _ _ i) e in same_tag t u q.0 q.1) (agree_nothing free)))
 
   low_high : (t u : Tag) → OctetsAlike free (low_tag t) (Oer.long_tag_octets u) (tag_same t u ≡ true)
   low_high t u = agree_if free (ltb t.number 63) (leb 1 u.number) _ _ (λ h i. agree_first free (λ e. absurd (low_and_high t.class u.class t.number (ltb-true _ _ h) e)))
@@ -35,7 +36,8 @@ module _ (free : Oer.Freedom → Bool) where
   high_low t u = agree_if free (leb 1 t.number) (ltb u.number 63) _ _ (λ h i. agree_first free (λ e. absurd (low_and_high u.class t.class u.number (ltb-true _ _ i) (sym e))))
 
   high_high : (t u : Tag) → OctetsAlike free (Oer.long_tag_octets t) (Oer.long_tag_octets u) (tag_same t u ≡ true)
-  high_high t u = agree_if free (leb 1 t.number) (leb 1 u.number) _ _ (λ h i. agree_first free (λ e. agree_map free (λ f. same_tag t u (high_tags t.class u.class e) f) (agree_code free (λ r s f. groups_fronts t.number u.number r s f))))
+  high_high t u = agree_if free (leb 1 t.number) (leb 1 u.number) _ _
+      (λ h i. agree_first free (λ e. agree_map free (λ f. same_tag t u (high_tags t.class u.class e) f) (agree_code free (λ r s f. groups_fronts t.number u.number r s f))))
 
   tag_cases : (t u : Tag) (a b : Bool) → OctetsAlike free (cond a (Oer.long_tag_octets t) (low_tag t)) (cond b (Oer.long_tag_octets u) (low_tag u)) (tag_same t u ≡ true)
   tag_cases t u true true = high_high t u

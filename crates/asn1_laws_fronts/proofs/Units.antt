@@ -1,6 +1,8 @@
 -- Prefixes of sized units, small numbers, items, bitmaps and open types of the packed rules.
 use Rattle.std.specs.Prelude.{ℤ}
-use Rattle.std.proofs.Common.{◌≡◌, ℕ, zero, suc, ◌+◌, ◌-◌, ◌*◌, ◌/◌, ◌≤◌, ◌==◌, ltb, Bool, true, false, cond, ◌&&◌, List, [], ◌∷◌, ◌++◌, length, map, flat_map, Option, Some, None, option_map, refl, ap, sym, ◌∙◌, subst, length-append, arith}
+use Rattle.std.proofs.Common.{◌≡◌, ℕ, zero, suc, ◌+◌, ◌-◌, ◌*◌, ◌/◌, ◌≤◌, ◌==◌, ltb, Bool, true, false, cond, ◌&&◌}
+use Rattle.std.proofs.Common.{List, [], ◌∷◌, ◌++◌, length, map, flat_map, Option, Some, None, option_map, refl, ap, sym}
+use Rattle.std.proofs.Common.{◌∙◌, subst, length-append, arith}
 use Rattle.std.proofs.lemmas.Bool.{ltb-true, leb-true, eqb-true, and_parts}
 use Rattle.asn1_model.specs.Value.{same_number}
 use Rattle.asn1_model.specs.Schema.{Counts, Size}
@@ -16,25 +18,40 @@ use Rattle.asn1_model.specs.Per
 use Rattle.asn1_model.proofs.Forms.{map_parts}
 use Rattle.asn1_laws_values.proofs.Octets.{packed_back, packed_octets, eights_units}
 use Rattle.asn1_laws_values.proofs.Leaves.{numbers_equal}
-use Rattle.asn1_laws_fronts.proofs.Fronts.{Pairwise, agree_exactly, agree_refused, agree_with_refused, agree_map, agree_both, agree_both_apart, agree_varied, agree_if, agree_if_left, agree_if_right, agree_first, agree_nothing}
-use Rattle.asn1_laws_fronts.proofs.PerNumbers.{Alike, at_octet_alike, binary_alike, bits_apart, bits_apart', length_of_map, joined_alike, counted_alike, octet_units_alike, octets_again, semi_alike, constrained_alike, with_extension_bit_alike}
+use Rattle.asn1_laws_fronts.proofs.Fronts.{Pairwise, agree_exactly, agree_refused, agree_with_refused, agree_map}
+use Rattle.asn1_laws_fronts.proofs.Fronts.{agree_both, agree_both_apart, agree_varied, agree_if, agree_if_left}
+use Rattle.asn1_laws_fronts.proofs.Fronts.{agree_if_right, agree_first, agree_nothing}
+use Rattle.asn1_laws_fronts.proofs.PerNumbers.{Alike, at_octet_alike, binary_alike, bits_apart, bits_apart'}
+use Rattle.asn1_laws_fronts.proofs.PerNumbers.{length_of_map, joined_alike, counted_alike, octet_units_alike}
+use Rattle.asn1_laws_fronts.proofs.PerNumbers.{octets_again, semi_alike, constrained_alike, with_extension_bit_alike}
 use Rattle.asn1_laws_fronts.proofs.Complete.{complete_alike}
 
 -- ---- units of a size
 module _ (free : Per.Freedom → Bool) (X : Type 0) (R : X → X → Type 0) (f : X → Per.BitForm) (one : (x y : X) → Alike free (f x) (f y) (R x y)) where
-  by_count : (al : Bool) (c : Counts) (high : ℕ) (has_padding has_padding' : Counts → Bool) (xs ys : List X) → (length xs ≡ length ys → has_padding c ≡ has_padding' c) → c.low ≤ length xs → c.low ≤ length ys → Alike free (both (Per.constrained al (high - c.low) (length (map f xs) - c.low)) (Per.at_octet (al && has_padding c) (joined (map f xs)))) (both (Per.constrained al (high - c.low) (length (map f ys) - c.low)) (Per.at_octet (al && has_padding' c) (joined (map f ys)))) (Pairwise R xs ys)
+  by_count : (al : Bool) (c : Counts) (high : ℕ) (has_padding has_padding' : Counts → Bool) (xs ys : List X) →
+      (length xs ≡ length ys → has_padding c ≡ has_padding' c) → c.low ≤ length xs → c.low ≤ length ys →
+      Alike free (both (Per.constrained al (high - c.low) (length (map f xs) - c.low))
+      (Per.at_octet (al && has_padding c) (joined (map f xs))))
+      (both (Per.constrained al (high - c.low) (length (map f ys) - c.low)) (Per.at_octet (al && has_padding' c) (joined (map f ys)))) (Pairwise R xs ys)
   by_count al c high has_padding has_padding' xs ys w h k =
       let n = length_of_map f xs in
       let m = length_of_map f ys in
       agree_map free (λ q. q.1) (agree_both free (constrained_alike free al (high - c.low) (length (map f xs) - c.low) (length (map f ys) - c.low)) (λ q.
       let l : length xs ≡ length ys = omega arith in
-      subst (λ t. Alike free (Per.at_octet (al && has_padding c) (joined (map f xs))) (Per.at_octet (al && t) (joined (map f ys))) (Pairwise R xs ys)) (w l) (at_octet_alike free (al && has_padding c) (joined_alike free X R f one xs ys l))))
+      subst (λ t. Alike free (Per.at_octet (al && has_padding c) (joined (map f xs))) (Per.at_octet (al && t) (joined (map f ys)))
+      (Pairwise R xs ys)) (w l) (at_octet_alike free (al && has_padding c) (joined_alike free X R f one xs ys l))))
 
-  root_cases : (t : Bool) (al : Bool) (c : Counts) (high : ℕ) (has_padding has_padding' : Counts → Bool) (xs ys : List X) → (length xs ≡ length ys → has_padding c ≡ has_padding' c) → c.low ≤ length xs → c.low ≤ length ys → Alike free (cond t (both (Per.constrained al (high - c.low) (length (map f xs) - c.low)) (Per.at_octet (al && has_padding c) (joined (map f xs)))) (Per.counted al (map f xs))) (cond t (both (Per.constrained al (high - c.low) (length (map f ys) - c.low)) (Per.at_octet (al && has_padding' c) (joined (map f ys)))) (Per.counted al (map f ys))) (Pairwise R xs ys)
+  root_cases : (t : Bool) (al : Bool) (c : Counts) (high : ℕ) (has_padding has_padding' : Counts → Bool) (xs ys : List X) →
+      (length xs ≡ length ys → has_padding c ≡ has_padding' c) → c.low ≤ length xs → c.low ≤ length ys →
+      Alike free (cond t (both (Per.constrained al (high - c.low) (length (map f xs) - c.low))
+      (Per.at_octet (al && has_padding c) (joined (map f xs)))) (Per.counted al (map f xs)))
+      (cond t (both (Per.constrained al (high - c.low) (length (map f ys) - c.low)) (Per.at_octet (al && has_padding' c) (joined (map f ys)))) (Per.counted al (map f ys))) (Pairwise R xs ys)
   root_cases true al c high has_padding has_padding' xs ys w h k = by_count al c high has_padding has_padding' xs ys w h k
   root_cases false al c high has_padding has_padding' xs ys w h k = counted_alike free X R f one al xs ys
 
-  root_alike : (al : Bool) (c : Counts) (high : Option ℕ) (has_padding has_padding' : Counts → Bool) (xs ys : List X) → (length xs ≡ length ys → has_padding c ≡ has_padding' c) → c.low ≤ length xs → c.low ≤ length ys → Alike free (Per.sized_root al c high has_padding (map f xs)) (Per.sized_root al c high has_padding' (map f ys)) (Pairwise R xs ys)
+  root_alike : (al : Bool) (c : Counts) (high : Option ℕ) (has_padding has_padding' : Counts → Bool) (xs ys : List X) →
+      (length xs ≡ length ys → has_padding c ≡ has_padding' c) → c.low ≤ length xs → c.low ≤ length ys →
+      Alike free (Per.sized_root al c high has_padding (map f xs)) (Per.sized_root al c high has_padding' (map f ys)) (Pairwise R xs ys)
   unfolding Per.sized_root
   root_alike al c None has_padding has_padding' xs ys w h k = counted_alike free X R f one al xs ys
   root_alike al c (Some high) has_padding has_padding' xs ys w h k = root_cases (ltb high 65536) al c high has_padding has_padding' xs ys w h k
@@ -42,9 +59,14 @@ module _ (free : Per.Freedom → Bool) (X : Type 0) (R : X → X → Type 0) (f 
   at_least_low : (c : Counts) (xs : List X) → is_count_within c (length (map f xs)) ≡ true → c.low ≤ length xs
   at_least_low c xs e = let b = leb-true c.low (length (map f xs)) ((and_parts _ _ e).0) in let n = length_of_map f xs in omega arith
 
-  pub sized_alike : (al : Bool) (z : Size) (held : Counts) (has_padding has_padding' : Counts → Bool) (xs ys : List X) → (length xs ≡ length ys → has_padding z.counts ≡ has_padding' z.counts) → Alike free (Per.sized al z held has_padding (map f xs)) (Per.sized al z held has_padding' (map f ys)) (Pairwise R xs ys)
+  pub sized_alike : (al : Bool) (z : Size) (held : Counts) (has_padding has_padding' : Counts → Bool) (xs ys : List X) →
+      (length xs ≡ length ys → has_padding z.counts ≡ has_padding' z.counts) → Alike free (Per.sized al z held has_padding (map f xs)) (Per.sized al z held has_padding' (map f ys)) (Pairwise R xs ys)
   unfolding Per.sized
-  sized_alike al z held has_padding has_padding' xs ys w = agree_if free (is_count_within held (length (map f xs))) (is_count_within held (length (map f ys))) _ _ (λ i j. with_extension_bit_alike free z.extensible (is_count_within z.counts (length (map f xs))) (is_count_within z.counts (length (map f ys))) _ _ _ _ (Pairwise R xs ys) (λ h k. root_alike al z.counts z.counts.high has_padding has_padding' xs ys w (at_least_low z.counts xs h) (at_least_low z.counts ys k)) (counted_alike free X R f one al xs ys))
+  sized_alike al z held has_padding has_padding' xs ys w =
+      agree_if free (is_count_within held (length (map f xs))) (is_count_within held (length (map f ys))) _ _
+      (λ i j. with_extension_bit_alike free z.extensible (is_count_within z.counts (length (map f xs)))
+      (is_count_within z.counts (length (map f ys))) _ _ _ _ (Pairwise R xs ys)
+      (λ h k. root_alike al z.counts z.counts.high has_padding has_padding' xs ys w (at_least_low z.counts xs h) (at_least_low z.counts ys k)) (counted_alike free X R f one al xs ys))
 
 -- ---- small numbers, items and bitmaps
 bits_then : (free : Per.Freedom → Bool) (x : Per.BitForm) (m : List Bool) (P : Type 0) → Alike free (both (exactly (true ∷ [])) x) (exactly (false ∷ m)) P
@@ -67,7 +89,8 @@ pub items_equal : (ds : List ℤ) (v w : ℤ) (i : ℕ) → item_place v ds ≡ 
 items_equal [] v w i e f = cc
 items_equal (d ∷ ds) v w i e f = go (same_number v d) (same_number w d) refl refl e f i (λ j g h. items_equal ds v w j g h)
   where
-    go : (s t : Bool) → same_number v d ≡ s → same_number w d ≡ t → cond s (Some zero) (option_map suc (item_place v ds)) ≡ Some i → cond t (Some zero) (option_map suc (item_place w ds)) ≡ Some i → ℕ → ((j : ℕ) → item_place v ds ≡ Some j → item_place w ds ≡ Some j → v ≡ w) → v ≡ w
+    go : (s t : Bool) → same_number v d ≡ s → same_number w d ≡ t → cond s (Some zero) (option_map suc (item_place v ds)) ≡ Some i →
+        cond t (Some zero) (option_map suc (item_place w ds)) ≡ Some i → ℕ → ((j : ℕ) → item_place v ds ≡ Some j → item_place w ds ≡ Some j → v ≡ w) → v ≡ w
     go true true p q e f n k = numbers_equal v d p ∙ sym (numbers_equal w d q)
     go true false p q e f n k = let a = map_parts (item_place w ds) suc i f in let b : zero ≡ i = cc in let c = a.2 in absurd (omega arith)
     go false true p q e f n k = let a = map_parts (item_place v ds) suc i e in let b : zero ≡ i = cc in let c = a.2 in absurd (omega arith)
@@ -78,7 +101,9 @@ items_equal (d ∷ ds) v w i e f = go (same_number v d) (same_number w d) refl r
         k a.0 a.1 (b.1 ∙ ap Some (sym c))
 
 module _ (free : Per.Freedom → Bool) where
-  small_cases : (al : Bool) (n m : ℕ) (s t : Bool) → Alike free (cond s (both (exactly (true ∷ [])) (Per.semi_constrained al n)) (only_if (ltb n 64) (exactly (false ∷ binary 6 n)))) (cond t (both (exactly (true ∷ [])) (Per.semi_constrained al m)) (only_if (ltb m 64) (exactly (false ∷ binary 6 m)))) (n ≡ m)
+  small_cases : (al : Bool) (n m : ℕ) (s t : Bool) →
+      Alike free (cond s (both (exactly (true ∷ [])) (Per.semi_constrained al n))
+      (only_if (ltb n 64) (exactly (false ∷ binary 6 n)))) (cond t (both (exactly (true ∷ [])) (Per.semi_constrained al m)) (only_if (ltb m 64) (exactly (false ∷ binary 6 m)))) (n ≡ m)
   small_cases al n m true true = agree_map free (λ q. q.1) (agree_both free (agree_exactly free _ _ refl) (λ e. semi_alike free al n m))
   small_cases al n m true false = agree_if_right free (ltb m 64) {x = both (exactly (true ∷ [])) (Per.semi_constrained al n)} {y = exactly (false ∷ binary 6 m)} (λ h. bits_then free _ _ _)
   small_cases al n m false true = agree_if_left free (ltb n 64) {x = exactly (false ∷ binary 6 n)} {y = both (exactly (true ∷ [])) (Per.semi_constrained al m)} (λ h. then_bits free _ _ _)
@@ -120,21 +145,30 @@ module _ (free : Per.Freedom → Bool) where
       let b : length (map Per.flag xs) ≤ 64 = leb-true _ _ h'.1 in
       let c : 1 ≤ length (map Per.flag ys) = leb-true _ _ k'.0 in
       let d : length (map Per.flag ys) ≤ 64 = leb-true _ _ k'.1 in
-      agree_map free (λ q. q.1) (agree_both free (agree_first free (λ e. binary_alike free 6 (length (map Per.flag xs) - 1) (length (map Per.flag ys) - 1) (omega arith) (omega arith))) (λ e. joined_alike free (Option Per.BitForm) same_flag Per.flag flag_alike xs ys (let f = e in omega arith))))
+      agree_map free (λ q. q.1) (agree_both free
+      (agree_first free (λ e. binary_alike free 6 (length (map Per.flag xs) - 1) (length (map Per.flag ys) - 1) (omega arith)
+      (omega arith))) (λ e. joined_alike free (Option Per.BitForm) same_flag Per.flag flag_alike xs ys (let f = e in omega arith))))
 
   few_cases : (al : Bool) (xs ys : List (Option Per.BitForm)) (s t : Bool) → Alike free (cond s (few_long al xs) (few_short xs)) (cond t (few_long al ys) (few_short ys)) (Pairwise same_flag xs ys)
   few_cases al xs ys true true = agree_map free (λ q. q.1) (agree_both free (agree_exactly free _ _ refl) (λ e. counted_alike free (Option Per.BitForm) same_flag Per.flag flag_alike al xs ys))
-  few_cases al xs ys true false = agree_if_right free (Per.is_from_1_to_64 (length (map Per.flag ys))) {x = few_long al xs} {y = both (exactly (false ∷ binary 6 (length (map Per.flag ys) - 1))) (joined (map Per.flag ys))} (λ h. agree_both_apart free (agree_first free (λ e. absurd (bit_differs e))))
+  few_cases al xs ys true false = agree_if_right free
+      (Per.is_from_1_to_64 (length (map Per.flag
+      ys))) {x = few_long al xs} {y = both (exactly (false ∷ binary 6 (length (map Per.flag ys) - 1))) (joined (map Per.flag ys))}
+      (λ h. agree_both_apart free (agree_first free (λ e. absurd (bit_differs e))))
     where
       bit_differs : true ≡ false → ⊥
       bit_differs e = cc
-  few_cases al xs ys false true = agree_if_left free (Per.is_from_1_to_64 (length (map Per.flag xs))) {x = both (exactly (false ∷ binary 6 (length (map Per.flag xs) - 1))) (joined (map Per.flag xs))} {y = few_long al ys} (λ h. agree_both_apart free (agree_first free (λ e. absurd (bit_differs e))))
+  few_cases al xs ys false true = agree_if_left free
+      (Per.is_from_1_to_64 (length (map Per.flag
+      xs))) {x = both (exactly (false ∷ binary 6 (length (map Per.flag xs) - 1))) (joined (map Per.flag xs))} {y = few_long al ys}
+      (λ h. agree_both_apart free (agree_first free (λ e. absurd (bit_differs e))))
     where
       bit_differs : false ≡ true → ⊥
       bit_differs e = cc
   few_cases al xs ys false false = shorts_alike xs ys
 
-  pub bitmap_alike : (al : Bool) (xs ys : List (Option Per.BitForm)) → Alike free (Per.normally_few al (map Per.flag xs)) (Per.normally_few al (map Per.flag ys)) (map (λ a. is_some a) xs ≡ map (λ a. is_some a) ys)
+  pub bitmap_alike : (al : Bool) (xs ys : List (Option Per.BitForm)) →
+      Alike free (Per.normally_few al (map Per.flag xs)) (Per.normally_few al (map Per.flag ys)) (map (λ a. is_some a) xs ≡ map (λ a. is_some a) ys)
   unfolding Per.normally_few
   bitmap_alike al xs ys = agree_map free (λ h. flags_equal xs ys h) (agree_varied free (λ s t. few_cases al xs ys s t))
 
@@ -155,9 +189,11 @@ module _ (free : Per.Freedom → Bool) where
   abbrev Place : List ℤ → ℤ → Option ℕ → Type 0
   Place ds v o = item_place v ds ≡ o
 
-  item_cases : (al : Bool) (roots adds : List ℤ) (v w : ℤ) (e : Bool) (i j k l : Option ℕ) → Place roots v i → Place adds v j → Place roots w k → Place adds w l → Alike free (Per.item_form al (length roots) e i j) (Per.item_form al (length roots) e k l) (v ≡ w)
+  item_cases : (al : Bool) (roots adds : List ℤ) (v w : ℤ) (e : Bool) (i j k l : Option ℕ) → Place roots v i → Place adds v j →
+      Place roots w k → Place adds w l → Alike free (Per.item_form al (length roots) e i j) (Per.item_form al (length roots) e k l) (v ≡ w)
   unfolding Per.item_form
-  item_cases al roots adds v w e (Some i) j (Some k) l p q r s = agree_map free (λ h. items_equal roots v w i p (r ∙ ap Some (sym h))) (behind_extension_bit e false _ _ _ (constrained_alike free al (length roots - 1) i k))
+  item_cases al roots adds v w e (Some i) j (Some k) l p q r s =
+      agree_map free (λ h. items_equal roots v w i p (r ∙ ap Some (sym h))) (behind_extension_bit e false _ _ _ (constrained_alike free al (length roots - 1) i k))
   item_cases al roots adds v w false (Some i) j None l p q r s = agree_with_refused free _ _
   item_cases al roots adds v w true (Some i) j None None p q r s = agree_with_refused free _ _
   item_cases al roots adds v w true (Some i) j None (Some l) p q r s = root_or_added _ _ _
@@ -165,9 +201,11 @@ module _ (free : Per.Freedom → Bool) where
   item_cases al roots adds v w true None None k l p q r s = agree_refused free _ _
   item_cases al roots adds v w true None (Some j) (Some k) l p q r s = added_or_root _ _ _
   item_cases al roots adds v w true None (Some j) None None p q r s = agree_with_refused free _ _
-  item_cases al roots adds v w true None (Some j) None (Some l) p q r s = agree_map free (λ u. items_equal adds v w j q (s ∙ ap Some (sym u.1))) (agree_both free (agree_exactly free _ _ refl) (λ u. small_alike al j l))
+  item_cases al roots adds v w true None (Some j) None (Some l) p q r s =
+      agree_map free (λ u. items_equal adds v w j q (s ∙ ap Some (sym u.1))) (agree_both free (agree_exactly free _ _ refl) (λ u. small_alike al j l))
 
-  pub items_alike : (al : Bool) (roots adds : List ℤ) (e : Bool) (v w : ℤ) → Alike free (Per.item_form al (length roots) e (item_place v roots) (item_place v adds)) (Per.item_form al (length roots) e (item_place w roots) (item_place w adds)) (v ≡ w)
+  pub items_alike : (al : Bool) (roots adds : List ℤ) (e : Bool) (v w : ℤ) →
+      Alike free (Per.item_form al (length roots) e (item_place v roots) (item_place v adds)) (Per.item_form al (length roots) e (item_place w roots) (item_place w adds)) (v ≡ w)
   items_alike al roots adds e v w = item_cases al roots adds v w e _ _ _ _ refl refl refl refl
 
 -- ---- open types
@@ -197,13 +235,15 @@ module _ (free : Per.Freedom → Bool) where
   unfolding Per.complete Reads
   complete_whole x a p r = padded_whole r.0 a p r.2
 
-  eights_alike : (al : Bool) (v w : List Bool) (k j : ℕ) → length v ≡ 8 * k → length w ≡ 8 * j → Alike free (Per.counted al (map (λ o. exactly o) (by_eights v))) (Per.counted al (map (λ o. exactly o) (by_eights w))) (v ≡ w)
+  eights_alike : (al : Bool) (v w : List Bool) (k j : ℕ) → length v ≡ 8 * k → length w ≡ 8 * j →
+      Alike free (Per.counted al (map (λ o. exactly o) (by_eights v))) (Per.counted al (map (λ o. exactly o) (by_eights w))) (v ≡ w)
   eights_alike al v w k j h i =
       let e : map (λ o. exactly o) (by_eights v) ≡ Per.octet_units (packed v) = eights_units k v h in
       let f : map (λ o. exactly o) (by_eights w) ≡ Per.octet_units (packed w) = eights_units j w i in
       let P : List Per.BitForm → List Per.BitForm → Type 0 = λ us vs. Alike free (Per.counted al us) (Per.counted al vs) (v ≡ w) in
       let back : packed v ≡ packed w → v ≡ w = λ q. sym (packed_back k v h) ∙ ap octet_bits q ∙ packed_back j w i in
-      let base : P (Per.octet_units (packed v)) (Per.octet_units (packed w)) = agree_map free (λ q. back (octets_again _ _ (packed_octets k v h) (packed_octets j w i) q)) (octet_units_alike free al (packed v) (packed w)) in
+      let base : P (Per.octet_units (packed v)) (Per.octet_units (packed w)) =
+      agree_map free (λ q. back (octets_again _ _ (packed_octets k v h) (packed_octets j w i) q)) (octet_units_alike free al (packed v) (packed w)) in
       subst (λ us. P us (map (λ o. exactly o) (by_eights w))) (sym e) (subst (λ vs. P (Per.octet_units (packed v)) vs) (sym f) base)
 
   octets_long : (os : List ℕ) → length (flat_map (binary 8) os) ≡ 8 * length os

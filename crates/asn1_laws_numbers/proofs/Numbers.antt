@@ -18,7 +18,8 @@ digits_small : (base w n : ℕ) → 0 < base → list_all (λ d. ltb d base) (di
 digits_small base zero n h = refl
 digits_small base (suc w) n h = and_from _ _ (lt-ltb _ _ (mod_below (n / base ^ w) base h)) (digits_small base w n h)
 
-pub digits_sum : (base w n : ℕ) → 0 < base → n < base ^ w → (number_from_digits_after base 0 (digits base w n) ≡ n) × (length (digits base w n) ≡ w) × (list_all (λ d. ltb d base) (digits base w n) ≡ true)
+pub digits_sum : (base w n : ℕ) → 0 < base → n < base ^ w → (number_from_digits_after base 0 (digits base w n) ≡ n)
+    × (length (digits base w n) ≡ w) × (list_all (λ d. ltb d base) (digits base w n) ≡ true)
 digits_sum base w n h k =
     let a = number_of_digits base w 0 n h in
     let b : n % base ^ w ≡ n = mod-eq_of_lt k in
@@ -32,7 +33,8 @@ half k h =
     let s : 8 * k ≡ suc (8 * k - 1) = omega arith in
     octets_are_bits k ∙ ap (λ x. 2 ^ x) s ∙ pow-suc 2 (8 * k - 1) ∙ omega arith
 
-pub complement_sum : (k n : ℕ) → 0 < k → n < 2 ^ (8 * k - 1) → (number_from_digits_after 256 0 (complement k (pos n)) ≡ n) × (number_from_digits_after 256 0 (complement k (negsuc n)) + (n + 1) ≡ 256 ^ k) × (length (complement k (pos n)) ≡ k) × (length (complement k (negsuc n)) ≡ k)
+pub complement_sum : (k n : ℕ) → 0 < k → n < 2 ^ (8 * k - 1) → (number_from_digits_after 256 0 (complement k (pos n)) ≡ n)
+    × (number_from_digits_after 256 0 (complement k (negsuc n)) + (n + 1) ≡ 256 ^ k) × (length (complement k (pos n)) ≡ k) × (length (complement k (negsuc n)) ≡ k)
 complement_sum k n h l =
     let e = half k h in
     let a = digits_sum 256 k n (lit< tt) (omega arith) in
@@ -46,7 +48,9 @@ few_octets n k h l = let a : octet_width n ≤ k = places_fewest n 256 n k (lit<
 few_signed : (n k : ℕ) → 0 < k → n < 2 ^ (8 * k - 1) → width n / 8 + 1 ≤ k
 few_signed n k h l = let a : width n ≤ 8 * k - 1 = places_fewest n 2 n (8 * k - 1) (lit< tt) l in omega arith
 
-pub fewest_octets : (n k : ℕ) → 0 < k → ((least_octets n ≤ k → n < 256 ^ k) × (n < 256 ^ k → least_octets n ≤ k)) × ((signed_octets (pos n) ≤ k → n < 2 ^ (8 * k - 1)) × (n < 2 ^ (8 * k - 1) → signed_octets (pos n) ≤ k)) × ((signed_octets (negsuc n) ≤ k → n < 2 ^ (8 * k - 1)) × (n < 2 ^ (8 * k - 1) → signed_octets (negsuc n) ≤ k))
+pub fewest_octets : (n k : ℕ) → 0 < k → ((least_octets n ≤ k → n < 256 ^ k) × (n < 256 ^ k → least_octets n ≤ k))
+    × ((signed_octets (pos n) ≤ k → n < 2 ^ (8 * k - 1)) × (n < 2 ^ (8 * k - 1) → signed_octets (pos n) ≤ k))
+    × ((signed_octets (negsuc n) ≤ k → n < 2 ^ (8 * k - 1)) × (n < 2 ^ (8 * k - 1) → signed_octets (negsuc n) ≤ k))
 fewest_octets n k h = ((λ l. least_hold k n l, λ l. few_octets n k h l), (λ l. (signed_hold k (pos n) l).1, λ l. few_signed n k h l), (λ l. (signed_hold k (negsuc n) l).1, λ l. few_signed n k h l))
 
 pub bits_are_digits : (w n : ℕ) → binary w n ≡ map (λ d. d == 1) (digits 2 w n)
@@ -77,5 +81,6 @@ packed_whole k bs h =
     let m : length (octet_bits (packed bs)) ≡ length bs = ap length b in
     (b, omega arith, packed_octets k bs h)
 
-pub octets_and_bits : ((os : List ℕ) → list_all is_octet os ≡ true → packed (octet_bits os) ≡ os) × ((k : ℕ) (bs : List Bool) → length bs ≡ 8 * k → (octet_bits (packed bs) ≡ bs) × (length (packed bs) ≡ k) × (list_all is_octet (packed bs) ≡ true))
+pub octets_and_bits : ((os : List ℕ) → list_all is_octet os ≡ true → packed (octet_bits os) ≡ os)
+    × ((k : ℕ) (bs : List Bool) → length bs ≡ 8 * k → (octet_bits (packed bs) ≡ bs) × (length (packed bs) ≡ k) × (list_all is_octet (packed bs) ≡ true))
 octets_and_bits = (packed_bits, packed_whole)

@@ -1,18 +1,25 @@
 -- What is read of a value of a well-formed type in OER are octets.
 use Rattle.std.specs.Prelude.{ℤ, pos, negsuc}
-use Rattle.std.proofs.Common.{◌≡◌, ℕ, zero, suc, ◌+◌, ◌-◌, ◌*◌, ◌/◌, ◌^◌, ◌<◌, ◌≤◌, ◌==◌, max, leb, ltb, lit<, not, Bool, true, false, cond, ◌&&◌, ◌||◌, List, [], ◌∷◌, ◌++◌, length, take, drop, map, replicate, Option, Some, None, option_map, refl, ap, subst, arith}
+use Rattle.std.proofs.Common.{◌≡◌, ℕ, zero, suc, ◌+◌, ◌-◌, ◌*◌, ◌/◌, ◌^◌, ◌<◌, ◌≤◌, ◌==◌, max, leb, ltb, lit<, not}
+use Rattle.std.proofs.Common.{Bool, true, false, cond, ◌&&◌, ◌||◌, List, [], ◌∷◌, ◌++◌, length, take, drop, map}
+use Rattle.std.proofs.Common.{replicate, Option, Some, None, option_map, refl, ap, subst, arith}
 use Rattle.std.proofs.lemmas.Bool.{and_parts, and_from, lt-ltb, ltb-true, leb-true, eqb-true}
 use Rattle.std.proofs.lemmas.List.{length-append, length-replicate}
 use Rattle.std.proofs.lemmas.Nat.{mod_below}
 use Rattle.asn1_model.specs.Numbers.{admits}
 use Rattle.asn1_model.specs.Value.{Value, truth, nothing, number, item, bit_list, octet_list, text, arcs, members, bag, fields, chosen, Values, no_more, member, Parts, end, absent, present, each}
-use Rattle.asn1_model.specs.Schema.{Tag, Range, Bounds, Counts, Presence, Schema, boolean, null, integer, enumerated, bit_string, octet_string, character_string, object_identifier, sequence_of, set_of, sequence, set, group, choice, Components, no_component, component, Alternatives, no_alternative, alternative}
+use Rattle.asn1_model.specs.Schema.{Tag, Range, Bounds, Counts, Presence, Schema, boolean, null, integer, enumerated}
+use Rattle.asn1_model.specs.Schema.{bit_string, octet_string, character_string, object_identifier, sequence_of, set_of}
+use Rattle.asn1_model.specs.Schema.{sequence, set, group, choice, Components, no_component, component, Alternatives}
+use Rattle.asn1_model.specs.Schema.{no_alternative, alternative}
 use Rattle.asn1_model.specs.Normal.{is_at_default, is_group_left_out}
 use Rattle.asn1_model.specs.Numbers.{missing, digits, octet_width, least_octets, signed_octets, complement, packed, is_within, is_count_within, fits_128, places}
 use Rattle.asn1_model.specs.Strings.{is_octet, may_hold, is_identifier, identifier_octets, groups_of_seven, with_top_bits}
 use Rattle.std.specs.List.{list_all}
 use Rattle.asn1_model.specs.Normal.{is_required, presence_bits, item_place, is_bounded}
-use Rattle.asn1_model.specs.Form.{Form, exactly, refused, both, varied, within, Reads, only_if, given, joined, written, stands_before, pick, arranged, in_order, ascending, Bitmap, is_any_present, present_ones, covered_by}
+use Rattle.asn1_model.specs.Form.{Form, exactly, refused, both, varied, within, Reads, only_if, given, joined, written}
+use Rattle.asn1_model.specs.Form.{stands_before, pick, arranged, in_order, ascending, Bitmap, is_any_present}
+use Rattle.asn1_model.specs.Form.{present_ones, covered_by}
 use Rattle.std.specs.Prelude.{is_some}
 use Rattle.asn1_model.specs.Lawful.{is_tag, is_lawful, are_lawful, are_lawful_alternatives}
 use Rattle.asn1_model.specs.Oer
@@ -52,7 +59,8 @@ sevens_small (suc k) n = and_from _ _ (lt-ltb _ _ (mod_below (n / 128 ^ k) 128 (
 top_octets : (os : List ℕ) → list_all (λ d. ltb d 128) os ≡ true → AreOctets (with_top_bits os)
 top_octets [] h = refl
 top_octets (o ∷ []) h = let p = and_parts (ltb o 128) true h in let a : o < 128 = ltb-true o 128 p.0 in and_from _ _ (lt-ltb o 256 (omega arith)) refl
-top_octets (o ∷ p ∷ os) h = let q = and_parts (ltb o 128) (list_all (λ d. ltb d 128) (p ∷ os)) h in let a : o < 128 = ltb-true o 128 q.0 in and_from _ _ (lt-ltb (o + 128) 256 (omega arith)) (top_octets (p ∷ os) q.1)
+top_octets (o ∷ p ∷ os) h = let q = and_parts (ltb o 128) (list_all (λ d. ltb d 128) (p ∷ os)) h in let a : o < 128 =
+    ltb-true o 128 q.0 in and_from _ _ (lt-ltb (o + 128) 256 (omega arith)) (top_octets (p ∷ os) q.1)
 
 groups_octets : (n : ℕ) → AreOctets (groups_of_seven n)
 groups_octets n = top_octets (digits 128 (max 1 (places 128 n)) n) (sevens_small (max 1 (places 128 n)) n)
@@ -110,7 +118,9 @@ module _ (free : Oer.Freedom → Bool) where
   -- ---- numbers and lengths
   o_length_in : (n : ℕ) (o : Option ℕ) → Octal free (elim o as (λ x. OerForm) [ None ↦ only_if (ltb n 128) (exactly (n ∷ [])) | Some k ↦ Oer.long_length n k ])
   o_length_in n None = o_if (ltb n 128) (λ h. let a : n < 128 = ltb-true n 128 h in o_exactly (n ∷ []) (one_octet n (omega arith)))
-  o_length_in n (Some k) = o_if (leb 1 k && leb k 127 && leb (octet_width n) k) (λ h. let a : k ≤ 127 = leb-true k 127 ((and_parts (leb 1 k) (leb k 127) ((and_parts (leb 1 k && leb k 127) (leb (octet_width n) k) h).0)).1) in o_exactly ((128 + k) ∷ digits 256 k n) (first_octet (128 + k) (digits 256 k n) (omega arith) (digits_octets k n)))
+  o_length_in n (Some k) = o_if (leb 1 k && leb k 127 && leb (octet_width n) k)
+      (λ h. let a : k ≤ 127 = leb-true k 127 ((and_parts (leb 1 k) (leb k 127)
+      ((and_parts (leb 1 k && leb k 127) (leb (octet_width n) k) h).0)).1) in o_exactly ((128 + k) ∷ digits 256 k n) (first_octet (128 + k) (digits 256 k n) (omega arith) (digits_octets k n)))
 
   o_length : (n : ℕ) → Octal free (Oer.length_form n)
   unfolding Oer.length_form
@@ -157,7 +167,9 @@ module _ (free : Oer.Freedom → Bool) where
   o_short_item (negsuc n) = o_refused
 
   o_long_item : (k : ℕ) (v : ℤ) → Octal free (Oer.long_item k v)
-  o_long_item k v = o_if (leb (signed_octets v) k && leb k 127) (λ h. let a : k ≤ 127 = leb-true k 127 ((and_parts (leb (signed_octets v) k) (leb k 127) h).1) in o_exactly ((128 + k) ∷ complement k v) (first_octet (128 + k) (complement k v) (omega arith) (complement_octets k v)))
+  o_long_item k v = o_if (leb (signed_octets v) k && leb k 127)
+      (λ h. let a : k ≤ 127 = leb-true k 127 ((and_parts (leb (signed_octets v) k) (leb k 127) h).1) in
+      o_exactly ((128 + k) ∷ complement k v) (first_octet (128 + k) (complement k v) (omega arith) (complement_octets k v)))
 
   o_item_in : (v : ℤ) (o : Option ℕ) → Octal free (elim o as (λ x. OerForm) [ None ↦ Oer.short_item v | Some k ↦ Oer.long_item k v ])
   o_item_in v None = o_short_item v
@@ -278,13 +290,15 @@ module _ (free : Oer.Freedom → Bool) where
       let p = o_picked i xs q.0 q.1 q.3 h in
       subst (λ l. OctalEach l) q.5 (p.0, o_arranged is q.1 q.2 q.4 p.1)
 
-  o_ordered : {K : Type 0} (key : OerForm → Option K) (before : K → K → Bool) (o : Option (List ℕ)) (xs zs : List OerForm) → in_order (ascending key before xs) o xs ≡ Some zs → OctalEach xs → OctalEach zs
+  o_ordered : {K : Type 0} (key : OerForm → Option K) (before : K → K → Bool) (o : Option (List ℕ)) (xs zs : List OerForm) →
+      in_order (ascending key before xs) o xs ≡ Some zs → OctalEach xs → OctalEach zs
   o_ordered key before None xs zs e h = let c = ascending_code key before xs zs e in o_arranged c.0 xs zs c.1 h
   o_ordered key before (Some is) xs zs e h = o_arranged is xs zs e h
 
   o_bag : (held : Counts) (xs : List OerForm) → OctalEach xs → Octal free (Oer.in_any_order xs (Oer.members_form held))
   unfolding Oer.in_any_order
-  o_bag held xs h = o_varied (λ o. o_given (in_order (ascending (λ x. written x 0) (stands_before ltb) xs) o xs) (λ zs e. o_members held zs (o_ordered (λ x. written x 0) (stands_before ltb) o xs zs e h)))
+  o_bag held xs h = o_varied (λ o. o_given (in_order (ascending (λ x. written x 0) (stands_before ltb) xs) o xs)
+      (λ zs e. o_members held zs (o_ordered (λ x. written x 0) (stands_before ltb) o xs zs e h)))
 
   o_each : (f : Value → OerForm) (vs : Values) → ((v : Value) → Octal free (f v)) → OctalEach (each f vs)
   o_each f no_more h = tt
@@ -310,8 +324,12 @@ module _ (free : Oer.Freedom → Bool) where
     o_form object_identifier (arcs ns) l = o_if (is_identifier ns) (λ h. o_counted (identifier_octets ns))
     o_form (sequence_of z held s) (members vs) l = o_members held _ (o_each (λ v. Oer.form s v) vs (λ v. o_form s v ((and_parts _ _ l).1)))
     o_form (set_of z held s) (bag vs) l = o_bag held _ (o_each (λ v. Oer.form s v) vs (λ v. o_form s v ((and_parts _ _ l).1)))
-    o_form (sequence cs e adds) (fields ps qs) l = o_given (Oer.addition_forms adds qs) (λ xs h. o_sequence e (presence_bits cs ps) _ xs (o_components cs ps ((and_parts _ _ ((and_parts _ _ l).0)).1)) (o_added adds qs xs ((and_parts _ _ l).1) h))
-    o_form (set cs e adds) (fields ps qs) l = o_given (Oer.addition_forms adds qs) (λ xs h. o_sequence e (presence_bits cs ps) _ xs (o_components cs ps ((and_parts _ _ ((and_parts _ _ l).0)).1)) (o_added adds qs xs ((and_parts _ _ l).1) h))
+    o_form (sequence cs e adds) (fields ps qs) l =
+        o_given (Oer.addition_forms adds qs) (λ xs h. o_sequence e (presence_bits cs ps) _ xs
+        (o_components cs ps ((and_parts _ _ ((and_parts _ _ l).0)).1)) (o_added adds qs xs ((and_parts _ _ l).1) h))
+    o_form (set cs e adds) (fields ps qs) l =
+        o_given (Oer.addition_forms adds qs) (λ xs h. o_sequence e (presence_bits cs ps) _ xs
+        (o_components cs ps ((and_parts _ _ ((and_parts _ _ l).0)).1)) (o_added adds qs xs ((and_parts _ _ l).1) h))
     o_form (group cs) (fields ps end) l = o_both (o_preamble (presence_bits cs ps)) (o_components cs ps ((and_parts _ _ l).1))
     o_form (choice roots e adds) (chosen false i v) l = o_alternative false roots i v ((and_parts _ _ ((and_parts _ _ l).0)).1)
     o_form (choice roots true adds) (chosen true i v) l = o_alternative true adds i v ((and_parts _ _ l).1)

@@ -67,12 +67,14 @@ numbers_before (suc w) m n xs ys =
     let vs = binary w n ++ ys in
     elim (bit p (mod_below (m / 2 ^ w) 2 (lit< tt))) [
       | inl a ↦ elim (bit q (mod_below (n / 2 ^ w) 2 (lit< tt))) [
-        | inl b ↦ before_by (p == 1) (q == 1) false false us vs (ap (λ x. x == 1) a) (ap (λ x. x == 1) b) ∙ i ∙ three_moved (m % 2 ^ w) (n % 2 ^ w) (m % 2 ^ suc w) (n % 2 ^ suc w) z (λ h. higher w m n p q a b s0 t0 h) (λ h. higher w n m q p b a t0 s0 h) (λ h. level w m n p q 0 a b s0 t0 h)
+        | inl b ↦ before_by (p == 1) (q == 1) false false us vs (ap (λ x. x == 1) a) (ap (λ x. x == 1) b) ∙ i
+            ∙ three_moved (m % 2 ^ w) (n % 2 ^ w) (m % 2 ^ suc w) (n % 2 ^ suc w) z (λ h. higher w m n p q a b s0 t0 h) (λ h. higher w n m q p b a t0 s0 h) (λ h. level w m n p q 0 a b s0 t0 h)
         | inr b ↦ before_by (p == 1) (q == 1) false true us vs (ap (λ x. x == 1) a) (ap (λ x. x == 1) b) ∙ sym (three_less (m % 2 ^ suc w) (n % 2 ^ suc w) z (apart w m n p q a b s0 t0 s1))
       ]
       | inr a ↦ elim (bit q (mod_below (n / 2 ^ w) 2 (lit< tt))) [
         | inl b ↦ before_by (p == 1) (q == 1) true false us vs (ap (λ x. x == 1) a) (ap (λ x. x == 1) b) ∙ sym (three_more (m % 2 ^ suc w) (n % 2 ^ suc w) z (apart w n m q p b a t0 s0 t1))
-        | inr b ↦ before_by (p == 1) (q == 1) true true us vs (ap (λ x. x == 1) a) (ap (λ x. x == 1) b) ∙ i ∙ three_moved (m % 2 ^ w) (n % 2 ^ w) (m % 2 ^ suc w) (n % 2 ^ suc w) z (λ h. higher_one w m n p q a b s0 t0 h) (λ h. higher_one w n m q p b a t0 s0 h) (λ h. level w m n p q 1 a b s0 t0 h)
+        | inr b ↦ before_by (p == 1) (q == 1) true true us vs (ap (λ x. x == 1) a) (ap (λ x. x == 1) b) ∙ i
+            ∙ three_moved (m % 2 ^ w) (n % 2 ^ w) (m % 2 ^ suc w) (n % 2 ^ suc w) z (λ h. higher_one w m n p q a b s0 t0 h) (λ h. higher_one w n m q p b a t0 s0 h) (λ h. level w m n p q 1 a b s0 t0 h)
       ]
     ]
   where

@@ -25,7 +25,8 @@ number_below m (o ∷ os) h =
     let e : 256 ^ suc (length os) ≡ 256 * 256 ^ length os = pow-succ' 256 (length os) in
     rw e (omega arith)
 
-same_octets : (m n : ℕ) (os ps : List ℕ) → list_all is_octet os ≡ true → list_all is_octet ps ≡ true → length os ≡ length ps → number_from_digits_after 256 m os ≡ number_from_digits_after 256 n ps → (m ≡ n) × (os ≡ ps)
+same_octets : (m n : ℕ) (os ps : List ℕ) → list_all is_octet os ≡ true → list_all is_octet ps ≡ true → length os ≡ length ps →
+    number_from_digits_after 256 m os ≡ number_from_digits_after 256 n ps → (m ≡ n) × (os ≡ ps)
 same_octets m n [] [] h i l e = (e, refl)
 same_octets m n [] (p ∷ ps) h i l e = absurd (omega arith)
 same_octets m n (o ∷ os) [] h i l e = absurd (omega arith)
@@ -114,7 +115,8 @@ module _ (free : Oer.Freedom → Bool) (longer : free Oer.longer_number ≡ true
       let b = complement_back v os (octets_counted os r) h s in
       (length os, inr longer, if_read free p w _ (Oer.counted (complement (length os) v)) (le-leb _ _ b.0) (subst (λ x. Reads free (Oer.counted x) p w) (sym b.1) r))
 
-pub oer_numbers : (free : Oer.Freedom → Bool) → free Oer.longer_number ≡ true → ((n : ℕ) → IsReadAsAny free (Oer.unsigned n) Oer.counted (λ os. number_from_digits_after 256 0 os ≡ n)) × ((v : ℤ) → IsReadAsAny free (Oer.signed v) Oer.counted (λ os. StandsFor os v))
+pub oer_numbers : (free : Oer.Freedom → Bool) → free Oer.longer_number ≡ true →
+    ((n : ℕ) → IsReadAsAny free (Oer.unsigned n) Oer.counted (λ os. number_from_digits_after 256 0 os ≡ n)) × ((v : ℤ) → IsReadAsAny free (Oer.signed v) Oer.counted (λ os. StandsFor os v))
 oer_numbers free h = (λ n p w. (unsigned_sum free h p w n, sum_unsigned free h p w n), λ v p w. (signed_sum free h p w v, sum_signed free h p w v))
 
 module _ (free : Per.Freedom → Bool) (al : Bool) (longer : free Per.longer_number ≡ true) (p : ℕ) (w : List Bool) where
@@ -155,5 +157,7 @@ module _ (free : Per.Freedom → Bool) (al : Bool) (longer : free Per.longer_num
       let b = complement_back v os (bits_counted os r) h s in
       (length os, inr longer, if_read free p w _ (Per.counted_octets al (complement (length os) v)) (le-leb _ _ b.0) (subst (λ x. Reads free (Per.counted_octets al x) p w) (sym b.1) r))
 
-pub per_numbers : (free : Per.Freedom → Bool) (al : Bool) → free Per.longer_number ≡ true → ((n : ℕ) → IsReadAsAny free (Per.semi_constrained al n) (Per.counted_octets al) (λ os. number_from_digits_after 256 0 os ≡ n)) × ((v : ℤ) → IsReadAsAny free (Per.unconstrained al v) (Per.counted_octets al) (λ os. StandsFor os v))
+pub per_numbers : (free : Per.Freedom → Bool) (al : Bool) → free Per.longer_number ≡ true →
+    ((n : ℕ) → IsReadAsAny free (Per.semi_constrained al n) (Per.counted_octets al) (λ os. number_from_digits_after 256 0 os ≡ n))
+    × ((v : ℤ) → IsReadAsAny free (Per.unconstrained al v) (Per.counted_octets al) (λ os. StandsFor os v))
 per_numbers free al h = (λ n p w. (above_sum free al h p w n, sum_above free al h p w n), λ v p w. (free_sum free al h p w v, sum_free free al h p w v))

@@ -27,13 +27,16 @@ fewer_octets n = places_fewest n 256 n n (lit< tt) (below_power n)
 
 -- ---- the limit on nested lengths makes no difference
 abbrev by_span : (ℕ → ℕ → Per.BitForm) → Bool → Bool → Bool → Bool → ℕ → ℕ → Per.BitForm
-by_span whole al a b c span n = cond a (exactly (binary (width span) n)) (cond b (Per.at_octet al (exactly (binary 8 n))) (cond c (Per.at_octet al (exactly (binary 16 n))) (varied Per.longer_number (least_octets n) (λ k. Per.in_octets_of whole al span n k))))
+by_span whole al a b c span n = cond a (exactly (binary (width span) n))
+    (cond b (Per.at_octet al (exactly (binary 8 n))) (cond c (Per.at_octet al (exactly (binary 16 n))) (varied Per.longer_number (least_octets n) (λ k. Per.in_octets_of whole al span n k))))
 
-same_octets_of : (f g : ℕ → ℕ → Per.BitForm) (al : Bool) (span n k : ℕ) → f (octet_width span - 1) (k - 1) ≡ g (octet_width span - 1) (k - 1) → Per.in_octets_of f al span n k ≡ Per.in_octets_of g al span n k
+same_octets_of : (f g : ℕ → ℕ → Per.BitForm) (al : Bool) (span n k : ℕ) → f (octet_width span - 1) (k - 1)
+    ≡ g (octet_width span - 1) (k - 1) → Per.in_octets_of f al span n k ≡ Per.in_octets_of g al span n k
 unfolding Per.in_octets_of
 same_octets_of f g al span n k e = ap (λ x. only_if (leb (least_octets n) k && leb k (octet_width span)) (both x (Per.at_octet al (exactly (flat_map (binary 8) (digits 256 k n)))))) e
 
-same_by_span : (f g : ℕ → ℕ → Per.BitForm) (al : Bool) (span n : ℕ) (a b c : Bool) → (c ≡ false → (x : ℕ) → f (octet_width span - 1) x ≡ g (octet_width span - 1) x) → by_span f al a b c span n ≡ by_span g al a b c span n
+same_by_span : (f g : ℕ → ℕ → Per.BitForm) (al : Bool) (span n : ℕ) (a b c : Bool) →
+    (c ≡ false → (x : ℕ) → f (octet_width span - 1) x ≡ g (octet_width span - 1) x) → by_span f al a b c span n ≡ by_span g al a b c span n
 same_by_span f g al span n true b c h = refl
 same_by_span f g al span n false true c h = refl
 same_by_span f g al span n false false true h = refl
@@ -43,7 +46,8 @@ same_most : (m n : ℕ) (al : Bool) (span d : ℕ) → span < m → span < n →
 unfolding Per.constrained_in
 same_most zero n al span d h i = absurd (omega arith)
 same_most (suc m) zero al span d h i = absurd (omega arith)
-same_most (suc m) (suc n) al span d h i = ap (λ x. only_if (leb d span) x) (same_by_span (λ s c. Per.constrained_in m al s c) (λ s c. Per.constrained_in n al s c) al span d (not al || ltb span 255) (span == 255) (ltb span 65536) (λ e x.
+same_most (suc m) (suc n) al span d h i =
+    ap (λ x. only_if (leb d span) x) (same_by_span (λ s c. Per.constrained_in m al s c) (λ s c. Per.constrained_in n al s c) al span d (not al || ltb span 255) (span == 255) (ltb span 65536) (λ e x.
     let w = ltb-false span 65536 e in
     let f = fewer_octets span in
     same_most m n al (octet_width span - 1) x (omega arith) (omega arith)))
@@ -63,15 +67,18 @@ not_equal n m h = by (n == m) refl
     by false e = e
     by true e = let l = eqb-true n m e in absurd (omega arith)
 
-pub behind_octets : (span d : ℕ) → 65536 ≤ span → Per.constrained true span d ≡ only_if (leb d span) (varied Per.longer_number (least_octets d) (λ k. Per.in_octets_of (λ s c. Per.constrained true s c) true span d k))
+pub behind_octets : (span d : ℕ) → 65536 ≤ span → Per.constrained true span d
+    ≡ only_if (leb d span) (varied Per.longer_number (least_octets d) (λ k. Per.in_octets_of (λ s c. Per.constrained true s c) true span d k))
 unfolding Per.constrained Per.constrained_in
 behind_octets span d h =
     let a = not_less span 255 (omega arith) in
     let b = not_equal span 255 (omega arith) in
     let c = not_less span 65536 h in
     let f = fewer_octets span in
-    let e : by_span (λ s c. Per.constrained_in span true s c) true (ltb span 255) (span == 255) (ltb span 65536) span d ≡ varied Per.longer_number (least_octets d) (λ k. Per.in_octets_of (λ s c. Per.constrained_in span true s c) true span d k) = rw (a, b, c) refl in
-    let g = pointwise (λ k. same_octets_of (λ s c. Per.constrained_in span true s c) (λ s c. Per.constrained true s c) true span d k (same_most span (suc (octet_width span - 1)) true (octet_width span - 1) (k - 1) (omega arith) (omega arith))) in
+    let e : by_span (λ s c. Per.constrained_in span true s c) true (ltb span 255) (span == 255) (ltb span 65536) span d
+    ≡ varied Per.longer_number (least_octets d) (λ k. Per.in_octets_of (λ s c. Per.constrained_in span true s c) true span d k) = rw (a, b, c) refl in
+    let g = pointwise (λ k. same_octets_of (λ s c. Per.constrained_in span true s c) (λ s c. Per.constrained true s c) true span d k
+    (same_most span (suc (octet_width span - 1)) true (octet_width span - 1) (k - 1) (omega arith) (omega arith))) in
     ap (λ x. only_if (leb d span) x) (e ∙ ap (λ l. varied Per.longer_number (least_octets d) l) g)
 
 -- ---- the octets are any whose sum is the number
@@ -79,7 +86,8 @@ module _ (free : Per.Freedom → Bool) (longer : free Per.longer_number ≡ true
   abbrev told_and_octets : ℕ → ℕ → List ℕ → Per.BitForm
   told_and_octets span k os = both (Per.constrained true (octet_width span - 1) (k - 1)) (Per.at_octet true (exactly (flat_map (binary 8) os)))
 
-  range_sum : (span d : ℕ) → 65536 ≤ span → Reads free (Per.constrained true span d) p w → (os : List ℕ) × (0 < length os) × (number_from_digits_after 256 0 os ≡ d) × Reads free (behind_their_number span os) p w
+  range_sum : (span d : ℕ) → 65536 ≤ span → Reads free (Per.constrained true span d) p w →
+      (os : List ℕ) × (0 < length os) × (number_from_digits_after 256 0 os ≡ d) × Reads free (behind_their_number span os) p w
   unfolding Per.in_octets_of Reads
   range_sum span d h r =
       let r' = subst (λ x. Reads free x p w) (behind_octets span d h) r in
@@ -91,15 +99,21 @@ module _ (free : Per.Freedom → Bool) (longer : free Per.longer_number ≡ true
       let s = digits_sum 256 k d (lit< tt) (least_hold k d l) in
       let e = s.1 in
       let b : leb (length (digits 256 k d)) (octet_width span) ≡ true = subst (λ x. leb x (octet_width span) ≡ true) (sym e) c.1 in
-      let both_hold : (list_all is_octet (digits 256 k d) && leb (length (digits 256 k d)) (octet_width span)) ≡ true = two _ _ s.2 b in
-      (digits 256 k d, omega arith, s.0, if_read free p w _ (told_and_octets span (length (digits 256 k d)) (digits 256 k d)) both_hold (subst (λ x. Reads free (told_and_octets span x (digits 256 k d)) p w) (sym e) t.1))
+      let both_hold : (list_all is_octet (digits 256 k d) && leb (length (digits 256 k d)) (octet_width span)) ≡ true = two _ _ s.2 b in (
+        digits 256 k d,
+        omega arith,
+        s.0,
+        if_read free p w _ (told_and_octets span (length (digits 256 k d)) (digits 256 k d))
+            both_hold (subst (λ x. Reads free (told_and_octets span x (digits 256 k d)) p w) (sym e) t.1),
+      )
     where
       two : (a b : Bool) → a ≡ true → b ≡ true → (a && b) ≡ true
       two true true e f = refl
       two true false e f = f
       two false b e f = e
 
-  sum_range : (span d : ℕ) → 65536 ≤ span → d ≤ span → (os : List ℕ) → 0 < length os → number_from_digits_after 256 0 os ≡ d → Reads free (behind_their_number span os) p w → Reads free (Per.constrained true span d) p w
+  sum_range : (span d : ℕ) → 65536 ≤ span → d ≤ span → (os : List ℕ) → 0 < length os → number_from_digits_after 256 0 os ≡ d →
+      Reads free (behind_their_number span os) p w → Reads free (Per.constrained true span d) p w
   unfolding Per.in_octets_of Reads
   sum_range span d h i os j e r =
       let q = read_if free p w (list_all is_octet os && leb (length os) (octet_width span)) (told_and_octets span (length os) os) r in
@@ -110,8 +124,10 @@ module _ (free : Per.Freedom → Bool) (longer : free Per.longer_number ≡ true
       let n = c.1 in
       let both_hold : (leb (least_octets d) (length os) && leb (length os) (octet_width span)) ≡ true = rw (m, n) refl in
       let t = if_read free p w _ (told_and_octets span (length os) (digits 256 (length os) d)) both_hold (subst (λ x. Reads free (told_and_octets span (length os) x) p w) (sym b.1) q.1) in
-      let v = if_read free p w (leb d span) (varied Per.longer_number (least_octets d) (λ k. Per.in_octets_of (λ s c. Per.constrained true s c) true span d k)) (le-leb _ _ i) (length os, inr longer, t) in
+      let v = if_read free p w (leb d span) (varied Per.longer_number (least_octets d)
+      (λ k. Per.in_octets_of (λ s c. Per.constrained true s c) true span d k)) (le-leb _ _ i) (length os, inr longer, t) in
       subst (λ x. Reads free x p w) (sym (behind_octets span d h)) v
 
-pub per_ranges : (free : Per.Freedom → Bool) → free Per.longer_number ≡ true → (span d : ℕ) → 65536 ≤ span → d ≤ span → IsReadAsAny free (Per.constrained true span d) (behind_their_number span) (λ os. number_from_digits_after 256 0 os ≡ d)
+pub per_ranges : (free : Per.Freedom → Bool) → free Per.longer_number ≡ true → (span d : ℕ) → 65536 ≤ span → d ≤ span →
+    IsReadAsAny free (Per.constrained true span d) (behind_their_number span) (λ os. number_from_digits_after 256 0 os ≡ d)
 per_ranges free l span d h i p w = (range_sum free l p w span d h, sum_range free l p w span d h i)

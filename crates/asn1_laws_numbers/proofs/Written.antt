@@ -54,7 +54,8 @@ unfolding IsEncoding
 read_are_octets s v w l = (λ e. oer_octets _ s v 0 w l e.1, λ e. oer_octets _ s v 0 w l e.1)
 
 -- ---- no freedom
-packed_free : (al : Bool) (s : Schema) (v : Value) (w : List ℕ) → option_and_then of_moderate_length (per al s v) ≡ Some w → (length w < 2 ^ 60) × Reads canonically (Per.message al s v) 0 (octet_bits w)
+packed_free : (al : Bool) (s : Schema) (v : Value) (w : List ℕ) → option_and_then of_moderate_length (per al s v) ≡ Some w →
+    (length w < 2 ^ 60) × Reads canonically (Per.message al s v) 0 (octet_bits w)
 packed_free al s v w e = let t = per_text al s v w e in (t.0, reads_written (Per.message al s v) 0 (octet_bits w) t.1)
 
 octets_free : (s : Schema) (v : Value) (w : List ℕ) → option_and_then of_moderate_length (octet_encoding s v) ≡ Some w → (length w < 2 ^ 60) × Reads canonically (Oer.form s v) 0 w
@@ -69,7 +70,8 @@ written_is_free aper_strict s v w e = packed_free true s (normal s v) w e
 written_is_free oer s v w e = octets_free s (normal s v) w e
 written_is_free coer s v w e = octets_free s (normal s v) w e
 
-free_packed : (al : Bool) (s : Schema) (v : Value) (w : List ℕ) → list_all is_octet w ≡ true → length w < 2 ^ 60 → Reads canonically (Per.message al s v) 0 (octet_bits w) → option_and_then of_moderate_length (per al s v) ≡ Some w
+free_packed : (al : Bool) (s : Schema) (v : Value) (w : List ℕ) → list_all is_octet w ≡ true → length w < 2 ^ 60 →
+    Reads canonically (Per.message al s v) 0 (octet_bits w) → option_and_then of_moderate_length (per al s v) ≡ Some w
 unfolding per
 free_packed al s v w o h r =
     let e = writes_read (Per.message al s v) 0 (octet_bits w) r in

@@ -5,7 +5,8 @@ use Rattle.asn1_model.proofs.Forms.{chain_parts, map_parts}
 use Rattle.asn1_laws_values.proofs.Covers.{Covers, CoversEach}
 
 -- an arrangement that begins: what is picked first, and the arrangement of the others
-pub arranged_parts : {X : Type 0} (i : ℕ) (is : List ℕ) (xs : List X) (zs : List X) → arranged (i ∷ is) xs ≡ Some zs → (x : X) × (rest : List X) × (ys : List X) × (pick i xs ≡ Some (x, rest)) × (arranged is rest ≡ Some ys) × (x ∷ ys ≡ zs)
+pub arranged_parts : {X : Type 0} (i : ℕ) (is : List ℕ) (xs : List X) (zs : List X) → arranged (i ∷ is) xs ≡ Some zs →
+    (x : X) × (rest : List X) × (ys : List X) × (pick i xs ≡ Some (x, rest)) × (arranged is rest ≡ Some ys) × (x ∷ ys ≡ zs)
 arranged_parts {X} i is xs zs e =
     let q = chain_parts (pick i xs) (λ (p : X × List X). option_map (λ ys. p.0 ∷ ys) (arranged is (p.1))) zs e in
     let r = map_parts (arranged is (q.0.1)) (λ ys. q.0.0 ∷ ys) zs q.2 in
@@ -14,12 +15,15 @@ arranged_parts {X} i is xs zs e =
 arranged_again : {X : Type 0} (i : ℕ) (is : List ℕ) (xs rest ys : List X) (x : X) → pick i xs ≡ Some (x, rest) → arranged is rest ≡ Some ys → arranged (i ∷ is) xs ≡ Some (x ∷ ys)
 arranged_again i is xs rest ys x e f = rw (e, f) refl
 
-in_place : {K X : Type 0} (before : K → K → Bool) (k : K) (x : X) (f : K × X) (fs : List (K × X)) (xs : List X) (js is : List ℕ) (b : Bool) → arranged js (x ∷ xs) ≡ Some (f.1 ∷ map (λ e. e.1) (put_in_place before (k, x) fs)) → arranged is xs ≡ Some (f.1 ∷ map (λ e. e.1) fs) → (ks : List ℕ) × (arranged ks (x ∷ xs) ≡ Some (map (λ e. e.1) (cond b (f ∷ put_in_place before (k, x) fs) ((k, x) ∷ f ∷ fs))))
+in_place : {K X : Type 0} (before : K → K → Bool) (k : K) (x : X) (f : K × X) (fs : List (K × X)) (xs : List X) (js is : List ℕ)
+    (b : Bool) → arranged js (x ∷ xs) ≡ Some (f.1 ∷ map (λ e. e.1) (put_in_place before (k, x) fs)) → arranged is xs
+    ≡ Some (f.1 ∷ map (λ e. e.1) fs) → (ks : List ℕ) × (arranged ks (x ∷ xs) ≡ Some (map (λ e. e.1) (cond b (f ∷ put_in_place before (k, x) fs) ((k, x) ∷ f ∷ fs))))
 in_place before k x f fs xs js is true g h = (js, g)
 in_place before k x f fs xs js is false g h = (zero ∷ is, arranged_again zero is (x ∷ xs) xs _ x refl h)
 
 -- one more element, inserted
-insert_code : {K X : Type 0} (before : K → K → Bool) (k : K) (x : X) (is : List ℕ) (xs : List X) (es : List (K × X)) → arranged is xs ≡ Some (map (λ e. e.1) es) → (js : List ℕ) × (arranged js (x ∷ xs) ≡ Some (map (λ e. e.1) (put_in_place before (k, x) es)))
+insert_code : {K X : Type 0} (before : K → K → Bool) (k : K) (x : X) (is : List ℕ) (xs : List X) (es : List (K × X)) →
+    arranged is xs ≡ Some (map (λ e. e.1) es) → (js : List ℕ) × (arranged js (x ∷ xs) ≡ Some (map (λ e. e.1) (put_in_place before (k, x) es)))
 insert_code before k x [] [] [] h = (zero ∷ [], refl)
 insert_code before k x [] [] (f ∷ fs) h = cc
 insert_code before k x [] (y ∷ xs) es h = cc
@@ -32,7 +36,8 @@ insert_code {K} {X} before k x (i ∷ is) xs (f ∷ fs) h =
     let g : pick (suc i) (x ∷ xs) ≡ Some (f.1, x ∷ q.1) = ap (λ o. option_map (λ (e : X × List X). (e.0, x ∷ e.1)) o) (q.3 ∙ ap (λ y. Some (y, q.1)) hx) in
     in_place before k x f fs xs (suc i ∷ r.0) (i ∷ is) (before (f.0) k) (arranged_again (suc i) r.0 (x ∷ xs) (x ∷ q.1) _ (f.1) g r.1) h
 
-pub sorted_code : {K X : Type 0} (key : X → Option K) (before : K → K → Bool) (xs : List X) (es : List (K × X)) → with_keys key before xs ≡ Some es → (is : List ℕ) × (arranged is xs ≡ Some (map (λ e. e.1) es))
+pub sorted_code : {K X : Type 0} (key : X → Option K) (before : K → K → Bool) (xs : List X) (es : List (K × X)) →
+    with_keys key before xs ≡ Some es → (is : List ℕ) × (arranged is xs ≡ Some (map (λ e. e.1) es))
 sorted_code key before [] [] h = ([], refl)
 sorted_code key before [] (e ∷ es) h = cc
 sorted_code {K} {X} key before (x ∷ xs) es h =
@@ -53,7 +58,8 @@ some_parts e = cc
 
 -- ---- forms that cover each other
 module _ {F : Type 0} {D : F → Type 0} {A : Type 0} (free : F → Bool) where
-  covers_pick : (i : ℕ) (xs ys : List (Form F D A)) (x : Form F D A) (rest : List (Form F D A)) → CoversEach free xs ys → pick i xs ≡ Some (x, rest) → (y : Form F D A) × (more : List (Form F D A)) × (pick i ys ≡ Some (y, more)) × Covers free x y × CoversEach free rest more
+  covers_pick : (i : ℕ) (xs ys : List (Form F D A)) (x : Form F D A) (rest : List (Form F D A)) → CoversEach free xs ys → pick i xs
+      ≡ Some (x, rest) → (y : Form F D A) × (more : List (Form F D A)) × (pick i ys ≡ Some (y, more)) × Covers free x y × CoversEach free rest more
   covers_pick i [] ys x rest h e = cc
   covers_pick i (z ∷ xs) [] x rest h e = absurd h
   covers_pick zero (z ∷ xs) (y ∷ ys) x rest h e =

@@ -60,7 +60,8 @@ counted_same vs ws h = let n = max (depth_of_members vs) (depth_of_members ws) +
 -- equality in pairs, in some order of both
 pub bags_same : (is js : List ℕ) (vs ws us zs : List Value) → arranged is vs ≡ Some us → arranged js ws ≡ Some zs → EachSame us zs → same (bag (values_of vs)) (bag (values_of ws)) ≡ true
 unfolding same
-bags_same is js vs ws us zs e f h = counted_same (values_of vs) (values_of ws) (λ t. arranged_counts (λ x. same t x) is vs us e ∙ paired_counts t us zs h ∙ sym (arranged_counts (λ x. same t x) js ws zs f))
+bags_same is js vs ws us zs e f h = counted_same (values_of vs) (values_of ws) (λ t. arranged_counts (λ x. same t x) is vs us e
+    ∙ paired_counts t us zs h ∙ sym (arranged_counts (λ x. same t x) js ws zs f))
 
 pub arranged_same : (is : List ℕ) (vs ws : List Value) → arranged is vs ≡ Some ws → same (bag (values_of vs)) (bag (values_of ws)) ≡ true
 unfolding same
@@ -71,7 +72,9 @@ taken_pick : (f : Value → Bool) (ws rest : Values) → taken_out f ws ≡ Some
 taken_pick f no_more rest e = cc
 taken_pick f (member w ws) rest e = go (f w) refl e (λ us h. taken_pick f ws us h)
   where
-    go : (t : Bool) → f w ≡ t → cond t (Some ws) (option_map (λ us. member w us) (taken_out f ws)) ≡ Some rest → ((us : Values) → taken_out f ws ≡ Some us → (i : ℕ) × (u : Value) × (f u ≡ true) × (pick i (listed ws) ≡ Some (u, listed us))) → (i : ℕ) × (u : Value) × (f u ≡ true) × (pick i (w ∷ listed ws) ≡ Some (u, listed rest))
+    go : (t : Bool) → f w ≡ t → cond t (Some ws) (option_map (λ us. member w us) (taken_out f ws)) ≡ Some rest →
+        ((us : Values) → taken_out f ws ≡ Some us →
+        (i : ℕ) × (u : Value) × (f u ≡ true) × (pick i (listed ws) ≡ Some (u, listed us))) → (i : ℕ) × (u : Value) × (f u ≡ true) × (pick i (w ∷ listed ws) ≡ Some (u, listed rest))
     go true q h k = (zero, w, q, ap (λ us. Some (w, listed us)) (some_same h))
     go false q h k =
         let p = map_parts (taken_out f ws) (λ us. member w us) rest h in

@@ -1,7 +1,10 @@
 -- Values carried over between two versions, and the versions, with all defaults in normal form.
 use Rattle.std.proofs.Common.{◌≡◌, ℕ, zero, suc, Bool, true, false, Some, option_map, option_and_then, refl, ap, sym, ◌∙◌, arith}
 use Rattle.asn1_model.specs.Value.{Value, members, bag, fields, chosen, Parts, end, absent, present, same, depth}
-use Rattle.asn1_model.specs.Schema.{Presence, required, optional, by_default, Schema, cut, boolean, null, integer, enumerated, bit_string, octet_string, character_string, object_identifier, sequence_of, set_of, sequence, set, group, choice, Components, no_component, component, Alternatives, no_alternative, alternative}
+use Rattle.asn1_model.specs.Schema.{Presence, required, optional, by_default, Schema, cut, boolean, null, integer}
+use Rattle.asn1_model.specs.Schema.{enumerated, bit_string, octet_string, character_string, object_identifier}
+use Rattle.asn1_model.specs.Schema.{sequence_of, set_of, sequence, set, group, choice, Components, no_component}
+use Rattle.asn1_model.specs.Schema.{component, Alternatives, no_alternative, alternative}
 use Rattle.asn1_model.specs.Normal.{normal}
 use Rattle.asn1_model.specs.Versions.{carried, map_each, both_parts, all_absent, grow, carried_parts, carried_alternative, drop, KeepsPresence, Extends, ExtendsEach, ExtendsAlternatives}
 use Rattle.asn1_laws_values.proofs.Normals.{normal_again}
@@ -56,7 +59,8 @@ mutual
   tidied_lessens s s' v = refl
 
   tidied_parts_lessen : (cs cs' : Components) (ps : Parts) → carried_parts false (tidied_each cs) (tidied_each cs') ps ≡ carried_parts false cs cs' ps
-  tidied_parts_lessen (component t o s cs) (component t' o' s' cs') (present v ps) = λ i. option_and_then (λ w. option_map (λ qs. present w qs) (tidied_parts_lessen cs cs' ps i)) (tidied_lessens s s' v i)
+  tidied_parts_lessen (component t o s cs) (component t' o' s' cs') (present v ps) =
+      λ i. option_and_then (λ w. option_map (λ qs. present w qs) (tidied_parts_lessen cs cs' ps i)) (tidied_lessens s s' v i)
   tidied_parts_lessen (component t o s cs) (component t' o' s' cs') (absent ps) = ap (option_map absent) (tidied_parts_lessen cs cs' ps)
   tidied_parts_lessen cs cs' ps = refl
 

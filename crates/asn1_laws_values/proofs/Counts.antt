@@ -58,7 +58,8 @@ pub taken_there : (f : Value → Bool) (ws : Values) → 0 < count f ws → (res
 taken_there f no_more h = absurd (omega arith)
 taken_there f (member w ws) h = go (f w) h (λ k. taken_there f ws k)
   where
-    go : (t : Bool) → 0 < one_if t + count f ws → (0 < count f ws → (rest : Values) × (taken_out f ws ≡ Some rest)) → (rest : Values) × (cond t (Some ws) (option_map (λ us. member w us) (taken_out f ws)) ≡ Some rest)
+    go : (t : Bool) → 0 < one_if t + count f ws → (0 < count f ws → (rest : Values) × (taken_out f ws ≡ Some rest)) →
+        (rest : Values) × (cond t (Some ws) (option_map (λ us. member w us) (taken_out f ws)) ≡ Some rest)
     go true k j = (ws, refl)
     go false k j = let i = j (omega arith) in (member w i.0, ap (λ o. option_map (λ us. member w us) o) i.1)
 

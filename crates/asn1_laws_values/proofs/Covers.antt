@@ -35,7 +35,8 @@ module _ {F : Type 0} {D : F → Type 0} {A : Type 0} (free : F → Bool) where
   covers_placed h = record { reads = λ p w e. (h p).reads p w e }
 
   -- the reader has the freedom, or its canonical detail is the one
-  pub covers_varied : {c c' : F} {d : D c} {d' : D c'} {f : D c → Form F D A} {f' : D c' → Form F D A} (e' : D c') → ((e' ≡ d') ⊎ IsTrue (free c')) → Covers free (f d) (f' e') → Covers free (varied c d f) (varied c' d' f')
+  pub covers_varied : {c c' : F} {d : D c} {d' : D c'} {f : D c → Form F D A} {f' : D c' → Form F D A} (e' : D c') →
+      ((e' ≡ d') ⊎ IsTrue (free c')) → Covers free (f d) (f' e') → Covers free (varied c d f) (varied c' d' f')
   unfolding written Reads
   covers_varied e' m h = record { reads = λ p w e. (e', m, h.reads p w e) }
 

@@ -1,8 +1,12 @@
 -- Values of a type are equal exactly if their normal forms are the same.
 use Rattle.std.proofs.Common.{◌≡◌, ℕ, zero, suc, ◌==◌, Bool, true, false, cond, ◌&&◌, ◌||◌, Option, Some, None, option_map, refl, ap, sym, ◌∙◌}
 use Rattle.std.proofs.lemmas.Bool.{eqb-true}
-use Rattle.asn1_model.specs.Value.{Value, members, bag, fields, chosen, Values, no_more, member, Parts, end, absent, present, map_members, taken_out, are_absent, same, same_members, same_bag, same_parts}
-use Rattle.asn1_model.specs.Schema.{Presence, required, optional, by_default, Schema, sequence_of, set_of, sequence, set, group, choice, Components, no_component, component, Alternatives, no_alternative, alternative}
+use Rattle.asn1_model.specs.Value.{Value, members, bag, fields, chosen, Values, no_more, member, Parts, end, absent}
+use Rattle.asn1_model.specs.Value.{present, map_members, taken_out, are_absent, same, same_members, same_bag}
+use Rattle.asn1_model.specs.Value.{same_parts}
+use Rattle.asn1_model.specs.Schema.{Presence, required, optional, by_default, Schema, sequence_of, set_of, sequence}
+use Rattle.asn1_model.specs.Schema.{set, group, choice, Components, no_component, component, Alternatives}
+use Rattle.asn1_model.specs.Schema.{no_alternative, alternative}
 use Rattle.asn1_model.specs.Normal.{normal, normal_parts, normal_alternative, is_default_by, is_empty_group}
 use Rattle.asn1_laws_values.proofs.Normal.{default_tests, group_tests}
 use Rattle.asn1_laws_values.specs.Equal.{equal_members, equal_bags, is_the_default, are_equal, equal_parts, equal_alternatives, has_nothing, are_nothing}
@@ -17,7 +21,8 @@ module _ (f : Value → Value) (equal : Value → Value → Bool) (h : (v w : Va
   members_equal (member v vs) no_more = refl
   members_equal (member v vs) (member w ws) = let a = h v w in let b = members_equal vs ws in cc
 
-  taken_by : (b : Bool) (w : Value) (ws : Values) (o : Option Values) → option_map (map_members f) (cond b (Some ws) (option_map (λ vs. member w vs) o)) ≡ cond b (Some (map_members f ws)) (option_map (λ vs. member (f w) vs) (option_map (map_members f) o))
+  taken_by : (b : Bool) (w : Value) (ws : Values) (o : Option Values) →
+      option_map (map_members f) (cond b (Some ws) (option_map (λ vs. member w vs) o)) ≡ cond b (Some (map_members f ws)) (option_map (λ vs. member (f w) vs) (option_map (map_members f) o))
   taken_by true w ws o = refl
   taken_by false w ws None = refl
   taken_by false w ws (Some vs) = refl
@@ -29,7 +34,8 @@ module _ (f : Value → Value) (equal : Value → Value → Bool) (h : (v w : Va
       ∙ ap (λ b. cond b (Some (map_members f ws)) (option_map (λ vs. member (f w) vs) (option_map (map_members f) (taken_out (λ w. equal v w) ws)))) (h v w)
       ∙ ap (λ o. cond (same (f v) (f w)) (Some (map_members f ws)) (option_map (λ vs. member (f w) vs) o)) (taken_mapped v ws)
 
-  rest_mapped : (test also : Values → Bool) → ((ws : Values) → test ws ≡ also (map_members f ws)) → (o : Option Values) → option_map_or test o false ≡ option_map_or also (option_map (map_members f) o) false
+  rest_mapped : (test also : Values → Bool) → ((ws : Values) → test ws ≡ also (map_members f ws)) → (o : Option Values) →
+      option_map_or test o false ≡ option_map_or also (option_map (map_members f) o) false
   rest_mapped test also k None = refl
   rest_mapped test also k (Some ws) = k ws
 
@@ -52,7 +58,8 @@ kept_absent true v ps = refl
 kept_absent false v ps = refl
 
 -- a and b say whether the parts are left out, e whether they are equal
-both_there : (a b e : Bool) (v w : Value) (ps qs : Parts) → e ≡ same v w → (same v w ≡ true → a ≡ b) → ((e || (a && b)) && same_parts ps qs) ≡ same_parts (cond a (absent ps) (present v ps)) (cond b (absent qs) (present w qs))
+both_there : (a b e : Bool) (v w : Value) (ps qs : Parts) → e ≡ same v w → (same v w ≡ true → a ≡ b) →
+    ((e || (a && b)) && same_parts ps qs) ≡ same_parts (cond a (absent ps) (present v ps)) (cond b (absent qs) (present w qs))
 unfolding same_parts
 both_there true true true v w ps qs h k = refl
 both_there true true false v w ps qs h k = refl
@@ -91,7 +98,9 @@ at_places i j a b h = by_test (i == j) refl
     by_test true e = h ∙ ap b (eqb-true i j e)
     by_test false e = refl
 
-left_out_by : (s : Schema) → ((v w : Value) → are_equal s v w ≡ same (normal s v) (normal s w)) → ((v : Value) → has_nothing s v ≡ is_empty_group s (normal s v)) → (o : Presence) (v : Value) → (is_the_default (λ a b. are_equal s a b) o v || has_nothing s v) ≡ (is_default_by (λ d. normal s d) o (normal s v) || is_empty_group s (normal s v))
+left_out_by : (s : Schema) → ((v w : Value) → are_equal s v w ≡ same (normal s v) (normal s w)) →
+    ((v : Value) → has_nothing s v ≡ is_empty_group s (normal s v)) → (o : Presence) (v : Value) →
+    (is_the_default (λ a b. are_equal s a b) o v || has_nothing s v) ≡ (is_default_by (λ d. normal s d) o (normal s v) || is_empty_group s (normal s v))
 left_out_by s h k o v = λ i. default_is (λ d. normal s d) (λ a b. are_equal s a b) h o s v i || k v i
 
 -- ---- all kinds
@@ -119,8 +128,10 @@ mutual
   equal_is (group cs) (fields ps qs) w = refl
   equal_is (group cs) v (fields rs ss) = refl
   equal_is (group cs) v w = refl
-  equal_is (choice roots e adds) (chosen false i v) (chosen false j w) = at_places i j (equal_alternatives roots i v w) (λ k. same (normal_alternative roots i v) (normal_alternative roots k w)) (alternatives_are roots i v w)
-  equal_is (choice roots e adds) (chosen true i v) (chosen true j w) = at_places i j (equal_alternatives adds i v w) (λ k. same (normal_alternative adds i v) (normal_alternative adds k w)) (alternatives_are adds i v w)
+  equal_is (choice roots e adds) (chosen false i v) (chosen false j w) =
+      at_places i j (equal_alternatives roots i v w) (λ k. same (normal_alternative roots i v) (normal_alternative roots k w)) (alternatives_are roots i v w)
+  equal_is (choice roots e adds) (chosen true i v) (chosen true j w) =
+      at_places i j (equal_alternatives adds i v w) (λ k. same (normal_alternative adds i v) (normal_alternative adds k w)) (alternatives_are adds i v w)
   equal_is (choice roots e adds) (chosen false i v) (chosen true j w) = refl
   equal_is (choice roots e adds) (chosen true i v) (chosen false j w) = refl
   equal_is (choice roots e adds) (chosen false i v) w = refl
@@ -138,10 +149,13 @@ mutual
       let e = equal_is s v w in
       let r = parts_are cs ps qs in
       (λ i. (are_equal s v w || (a i && b i)) && r i)
-      ∙ both_there _ _ (are_equal s v w) (normal s v) (normal s w) (normal_parts cs ps) (normal_parts cs qs) e (λ k. λ i. default_tests (λ d. normal s d) o (normal s v) (normal s w) k i || group_tests s (normal s v) (normal s w) k i)
-  parts_are (component t o s cs) (present v ps) (absent qs) = (λ i. left_out_by s (λ a b. equal_is s a b) (λ a. nothing_is s a) o v i && parts_are cs ps qs i) ∙ first_there _ (normal s v) (normal_parts cs ps) (normal_parts cs qs)
+      ∙ both_there _ _ (are_equal s v w) (normal s v) (normal s w) (normal_parts cs ps) (normal_parts cs qs) e
+      (λ k. λ i. default_tests (λ d. normal s d) o (normal s v) (normal s w) k i || group_tests s (normal s v) (normal s w) k i)
+  parts_are (component t o s cs) (present v ps) (absent qs) =
+      (λ i. left_out_by s (λ a b. equal_is s a b) (λ a. nothing_is s a) o v i && parts_are cs ps qs i) ∙ first_there _ (normal s v) (normal_parts cs ps) (normal_parts cs qs)
   parts_are (component t o s cs) (present v ps) end = first_only _ (normal s v) (normal_parts cs ps)
-  parts_are (component t o s cs) (absent ps) (present w qs) = (λ i. left_out_by s (λ a b. equal_is s a b) (λ a. nothing_is s a) o w i && parts_are cs ps qs i) ∙ second_there _ (normal s w) (normal_parts cs ps) (normal_parts cs qs)
+  parts_are (component t o s cs) (absent ps) (present w qs) =
+      (λ i. left_out_by s (λ a b. equal_is s a b) (λ a. nothing_is s a) o w i && parts_are cs ps qs i) ∙ second_there _ (normal s w) (normal_parts cs ps) (normal_parts cs qs)
   parts_are (component t o s cs) (absent ps) (absent qs) = parts_are cs ps qs
   parts_are (component t o s cs) (absent ps) end = refl
   parts_are (component t o s cs) end (present w qs) = second_only _ (normal s w) (normal_parts cs qs)
@@ -160,6 +174,7 @@ mutual
 
   nothings_are : (cs : Components) (ps : Parts) → are_nothing cs ps ≡ are_absent (normal_parts cs ps)
   nothings_are no_component ps = refl
-  nothings_are (component t o s cs) (present v ps) = (λ i. left_out_by s (λ a b. equal_is s a b) (λ a. nothing_is s a) o v i && nothings_are cs ps i) ∙ sym (kept_absent _ (normal s v) (normal_parts cs ps))
+  nothings_are (component t o s cs) (present v ps) =
+      (λ i. left_out_by s (λ a b. equal_is s a b) (λ a. nothing_is s a) o v i && nothings_are cs ps i) ∙ sym (kept_absent _ (normal s v) (normal_parts cs ps))
   nothings_are (component t o s cs) (absent ps) = nothings_are cs ps
   nothings_are (component t o s cs) end = refl

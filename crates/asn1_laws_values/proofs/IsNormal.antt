@@ -60,7 +60,8 @@ same_passes test f (v ∷ vs) (w ∷ ws) h k = (f v w h.0 k.0, same_passes test 
 bags_pass : (test : Value → Bool) → ((v w : Value) → same v w ≡ true → test v ≡ true → test w ≡ true) → (vs ws : Values) → same_bag vs ws ≡ true → are_all test vs ≡ true → are_all test ws ≡ true
 bags_pass test f vs ws e h = let q = bag_matched vs ws e in pass_all test ws (arranged_passes test q.0 (listed ws) q.1 q.2 (same_passes test f (listed vs) q.1 q.3 (all_pass test vs h)))
 
-members_pass : (test : Value → Bool) → ((v w : Value) → same v w ≡ true → test v ≡ true → test w ≡ true) → (vs ws : Values) → same_members vs ws ≡ true → are_all test vs ≡ true → are_all test ws ≡ true
+members_pass : (test : Value → Bool) → ((v w : Value) → same v w ≡ true → test v ≡ true → test w ≡ true) → (vs ws : Values) →
+    same_members vs ws ≡ true → are_all test vs ≡ true → are_all test ws ≡ true
 unfolding same_members
 members_pass test f no_more no_more e h = refl
 members_pass test f no_more (member w ws) e h = cc
@@ -89,8 +90,10 @@ mutual
   stays_normal (group cs) (fields ps qs) (fields rs ss) e h = parts_stay cs ps rs ((and_parts (same_parts ps rs) (same_parts qs ss) e).0) h
   stays_normal (group cs) v (fields rs ss) e h = cc
   stays_normal (group cs) v w e h = refl
-  stays_normal (choice roots x adds) (chosen false i v) (chosen false j w) e h = let p = and_parts (same_truth false false && (i == j)) (same v w) e in alternative_stays roots i j v w (eqb-true i j ((and_parts (same_truth false false) (i == j) p.0).1)) p.1 h
-  stays_normal (choice roots x adds) (chosen true i v) (chosen true j w) e h = let p = and_parts (same_truth true true && (i == j)) (same v w) e in alternative_stays adds i j v w (eqb-true i j ((and_parts (same_truth true true) (i == j) p.0).1)) p.1 h
+  stays_normal (choice roots x adds) (chosen false i v) (chosen false j w) e h = let p =
+      and_parts (same_truth false false && (i == j)) (same v w) e in alternative_stays roots i j v w (eqb-true i j ((and_parts (same_truth false false) (i == j) p.0).1)) p.1 h
+  stays_normal (choice roots x adds) (chosen true i v) (chosen true j w) e h = let p =
+      and_parts (same_truth true true && (i == j)) (same v w) e in alternative_stays adds i j v w (eqb-true i j ((and_parts (same_truth true true) (i == j) p.0).1)) p.1 h
   stays_normal (choice roots x adds) v (chosen b j w) e h = cc
   stays_normal (choice roots x adds) v w e h = refl
   stays_normal s v w e h = refl
@@ -103,7 +106,9 @@ mutual
       let l = and_parts _ _ k.0 in
       let m = and_parts _ _ l.0 in
       let n = normal_same s v w p.0 in
-      and_from _ _ (and_from _ _ (and_from _ _ (not_as (is_at_default o s v) (is_at_default o s w) (default_tests (λ d. normal s d) o (normal s v) (normal s w) n) m.0) (not_as (is_group_left_out s v) (is_group_left_out s w) (group_tests s (normal s v) (normal s w) n) m.1)) (stays_normal s v w p.0 l.1)) (parts_stay cs ps qs p.1 k.1)
+      and_from _ _ (and_from _ _ (and_from _ _
+      (not_as (is_at_default o s v) (is_at_default o s w) (default_tests (λ d. normal s d) o (normal s v) (normal s w) n) m.0)
+      (not_as (is_group_left_out s v) (is_group_left_out s w) (group_tests s (normal s v) (normal s w) n) m.1)) (stays_normal s v w p.0 l.1)) (parts_stay cs ps qs p.1 k.1)
   parts_stay (component t o s cs) (absent ps) (absent qs) e h = parts_stay cs ps qs e h
   parts_stay (component t o s cs) end end e h = refl
   parts_stay (component t o s cs) ps qs e h = cc

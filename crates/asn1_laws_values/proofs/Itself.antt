@@ -4,7 +4,10 @@ use Rattle.std.proofs.lemmas.Bool.{and_parts}
 use Rattle.std.proofs.lemmas.List.{append-nil}
 use Rattle.std.proofs.lemmas.List.Elements.{All-contains_itself}
 use Rattle.asn1_model.specs.Value.{Value, members, bag, fields, chosen, Values, no_more, member, Parts, end, absent, present}
-use Rattle.asn1_model.specs.Schema.{Presence, required, optional, by_default, Schema, cut, boolean, null, integer, enumerated, bit_string, octet_string, character_string, object_identifier, sequence_of, set_of, sequence, set, group, choice, Components, no_component, component, Alternatives, no_alternative, alternative}
+use Rattle.asn1_model.specs.Schema.{Presence, required, optional, by_default, Schema, cut, boolean, null, integer}
+use Rattle.asn1_model.specs.Schema.{enumerated, bit_string, octet_string, character_string, object_identifier}
+use Rattle.asn1_model.specs.Schema.{sequence_of, set_of, sequence, set, group, choice, Components, no_component}
+use Rattle.asn1_model.specs.Schema.{component, Alternatives, no_alternative, alternative}
 use Rattle.asn1_model.specs.Normal.{normal}
 use Rattle.asn1_model.specs.Value.{are_all}
 use Rattle.asn1_model.specs.Lawful.{is_of, are_of, is_of_alternative, member_count}
@@ -28,9 +31,11 @@ mutual
 
   -- a value of a type is carried over unchanged to the type itself
   pub grows : (s : Schema) (v : Value) → is_of s v ≡ true → grow s s v ≡ Some v
-  grows (sequence_of z h s) (members vs) e = ap (option_map members) (each_stays (λ v. grow s s v) (λ v. is_of s v) (λ v f. grows s v f) vs ((and_parts (is_count_within h (member_count vs)) (are_all (λ v. is_of s v) vs) e).1))
+  grows (sequence_of z h s) (members vs) e =
+      ap (option_map members) (each_stays (λ v. grow s s v) (λ v. is_of s v) (λ v f. grows s v f) vs ((and_parts (is_count_within h (member_count vs)) (are_all (λ v. is_of s v) vs) e).1))
   grows (sequence_of z h s) v e = refl
-  grows (set_of z h s) (bag vs) e = ap (option_map bag) (each_stays (λ v. grow s s v) (λ v. is_of s v) (λ v f. grows s v f) vs ((and_parts (is_count_within h (member_count vs)) (are_all (λ v. is_of s v) vs) e).1))
+  grows (set_of z h s) (bag vs) e = ap (option_map bag)
+      (each_stays (λ v. grow s s v) (λ v. is_of s v) (λ v f. grows s v f) vs ((and_parts (is_count_within h (member_count vs)) (are_all (λ v. is_of s v) vs) e).1))
   grows (set_of z h s) v e = refl
   grows (sequence cs e adds) (fields ps qs) f = let p = and_parts (are_of cs ps) (are_of adds qs) f in λ i. both_parts (parts_grow cs ps p.0 i) (parts_grow adds qs p.1 i)
   grows (sequence cs e adds) v f = refl
@@ -89,7 +94,13 @@ mutual
 
   pub each_itself : (more : Bool) (cs : Components) → are_lawful cs ≡ true → ExtendsEach more cs cs
   each_itself more no_component l = tt
-  each_itself more (component t o s cs) l = (All-contains_itself t, keeps_itself s o ((and_parts _ _ ((and_parts _ _ l).0)).1) ((and_parts _ _ ((and_parts _ _ ((and_parts _ _ l).0)).0)).1), extends_itself s ((and_parts _ _ ((and_parts _ _ l).0)).1), each_itself more cs ((and_parts _ _ l).1))
+  each_itself more (component t o s cs) l = (
+    All-contains_itself t,
+    keeps_itself s o ((and_parts _ _ ((and_parts _ _ l).0)).1)
+        ((and_parts _ _ ((and_parts _ _ ((and_parts _ _ l).0)).0)).1),
+    extends_itself s ((and_parts _ _ ((and_parts _ _ l).0)).1),
+    each_itself more cs ((and_parts _ _ l).1),
+  )
 
   pub alternatives_itself : (more : Bool) (others : Alternatives) → are_lawful_alternatives others ≡ true → ExtendsAlternatives more others others
   alternatives_itself more no_alternative l = tt

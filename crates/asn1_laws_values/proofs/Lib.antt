@@ -10,10 +10,12 @@ pub mod Covers
 pub mod Arranged
 pub mod Normals
 pub mod Readable
+pub mod Composition
+pub mod OctetPieces
+pub mod BitPieces
+pub mod Accepted
 pub mod PerRead
 pub mod OerRead
-pub mod PerStrict
-pub mod OerStrict
 pub mod Places
 pub mod Numbers
 pub mod Listed
@@ -25,8 +27,6 @@ pub mod Plain
 pub mod Equal
 pub mod Typed
 pub mod Lengths
-pub mod PerTyped
-pub mod OerTyped
 pub mod Itself
 pub mod Unfolding
 pub mod Recursive

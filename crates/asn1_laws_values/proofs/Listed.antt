@@ -23,7 +23,8 @@ listed_again (member v vs) = ap (λ ws. member v ws) (listed_again vs)
 some_same : {X : Type 0} {x y : X} → Some x ≡ Some y → x ≡ y
 some_same e = cc
 
-pick_map : {X Y : Type 0} (f : X → Y) (i : ℕ) (xs : List X) (y : Y) (rest : List Y) → pick i (map f xs) ≡ Some (y, rest) → (x : X) × (us : List X) × (pick i xs ≡ Some (x, us)) × (f x ≡ y) × (map f us ≡ rest)
+pick_map : {X Y : Type 0} (f : X → Y) (i : ℕ) (xs : List X) (y : Y) (rest : List Y) → pick i (map f xs) ≡ Some (y, rest) →
+    (x : X) × (us : List X) × (pick i xs ≡ Some (x, us)) × (f x ≡ y) × (map f us ≡ rest)
 pick_map f i [] y rest e = cc
 pick_map {X} {Y} f zero (x ∷ xs) y rest e =
     let p : Y × List Y = (f x, map f xs) in
@@ -50,7 +51,8 @@ arranged_map {X} {Y} f (i ∷ is) xs ys e =
     again x rest us e f = rw (e, f) refl
 
 -- any order is an arrangement
-pub order_map : {X Y K : Type 0} (f : X → Y) (key : Y → Option K) (before : K → K → Bool) (o : Option (List ℕ)) (xs : List X) (ys : List Y) → in_order (ascending key before (map f xs)) o (map f xs) ≡ Some ys → (is : List ℕ) × (us : List X) × (arranged is xs ≡ Some us) × (map f us ≡ ys)
+pub order_map : {X Y K : Type 0} (f : X → Y) (key : Y → Option K) (before : K → K → Bool) (o : Option (List ℕ)) (xs : List X)
+    (ys : List Y) → in_order (ascending key before (map f xs)) o (map f xs) ≡ Some ys → (is : List ℕ) × (us : List X) × (arranged is xs ≡ Some us) × (map f us ≡ ys)
 order_map f key before None xs ys e =
     let c = ascending_code key before (map f xs) ys e in
     let r = arranged_map f c.0 xs ys c.1 in

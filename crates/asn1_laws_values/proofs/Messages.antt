@@ -1,5 +1,7 @@
 -- What is written is read.
-use Rattle.std.proofs.Common.{◌≡◌, ℕ, ◌+◌, ◌*◌, ◌-◌, ◌%◌, ◌/◌, ◌<◌, ◌^◌, ◌==◌, ltb, Bool, true, false, cond, IsTrue, List, [], ◌∷◌, ◌++◌, length, replicate, Some, None, option_map, option_and_then, refl, ap, sym, subst, ◌∙◌, length-append, arith}
+use Rattle.std.proofs.Common.{◌≡◌, ℕ, ◌+◌, ◌*◌, ◌-◌, ◌%◌, ◌/◌, ◌<◌, ◌^◌, ◌==◌, ltb, Bool, true, false, cond, IsTrue}
+use Rattle.std.proofs.Common.{List, [], ◌∷◌, ◌++◌, length, replicate, Some, None, option_map, option_and_then, refl, ap}
+use Rattle.std.proofs.Common.{sym, subst, ◌∙◌, length-append, arith}
 use Rattle.std.proofs.lemmas.List.{length-replicate}
 use Rattle.std.proofs.lemmas.Bool.{eq-eqb}
 use borrow.Author.Tests.{ltb-true}
@@ -23,7 +25,8 @@ some_parts e = cc
 
 padding_written : (n p : ℕ) → written (Per.padding n) p ≡ Some (replicate n false)
 unfolding Per.padding written
-padding_written n p = let h : (length (replicate n false) == n) ≡ true = eq-eqb _ _ (length-replicate n false) in ap (λ (t : Bool). written (only_if {F = Per.Freedom} {D = Per.Detail} t (exactly (replicate n false))) p) h
+padding_written n p = let h : (length (replicate n false) == n) ≡ true = eq-eqb _ _ (length-replicate n false) in
+    ap (λ (t : Bool). written (only_if {F = Per.Freedom} {D = Per.Detail} t (exactly (replicate n false))) p) h
 
 pub padded_whole : (a b : List Bool) → written (Per.padded a) 0 ≡ Some b → IsWhole b
 unfolding Per.padded written
@@ -54,7 +57,8 @@ from_none : (b : Bool) → IsTrue false → IsTrue b
 from_none b h = let e : false ≡ true = h in cc
 
 -- what is written as a message, in bits
-pub per_text : (al : Bool) (s : Schema) (v : Value) (w : List ℕ) → option_and_then of_moderate_length (per al s v) ≡ Some w → (length w < 2 ^ 60) × (written (Per.message al s v) 0 ≡ Some (octet_bits w))
+pub per_text : (al : Bool) (s : Schema) (v : Value) (w : List ℕ) → option_and_then of_moderate_length (per al s v) ≡ Some w →
+    (length w < 2 ^ 60) × (written (Per.message al s v) 0 ≡ Some (octet_bits w))
 unfolding per
 per_text al s v w e =
     let q = chain_parts (per al s v) of_moderate_length w e in
@@ -64,7 +68,8 @@ per_text al s v w e =
     let back : octet_bits w ≡ r.0 = ap octet_bits (sym (r.2 ∙ m.0)) ∙ packed_back k.0 r.0 k.1 in
     (m.1, r.1 ∙ ap Some (sym back))
 
-per_read : (free : Per.Freedom → Bool) (al : Bool) (s : Schema) (v : Value) (w : List ℕ) → option_and_then of_moderate_length (per al s v) ≡ Some w → (length w < 2 ^ 60) × Reads free (Per.message al s v) 0 (octet_bits w)
+per_read : (free : Per.Freedom → Bool) (al : Bool) (s : Schema) (v : Value) (w : List ℕ) →
+    option_and_then of_moderate_length (per al s v) ≡ Some w → (length w < 2 ^ 60) × Reads free (Per.message al s v) 0 (octet_bits w)
 per_read free al s v w e =
     let t = per_text al s v w e in
     (t.0, widens canonically free (Per.message al s v) 0 (octet_bits w) (λ c h. from_none (free c) h) (reads_written (Per.message al s v) 0 (octet_bits w) t.1))

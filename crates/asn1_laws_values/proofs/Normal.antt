@@ -1,8 +1,12 @@
 -- Normal forms of equal values, and their nested levels.
 use Rattle.std.proofs.Common.{◌≡◌, ℕ, zero, suc, ◌≤◌, ◌==◌, max, Bool, true, false, ◌&&◌, ◌||◌, not, List, [], ◌∷◌, map, refl, ap, sym, ◌∙◌, subst, arith}
 use Rattle.std.proofs.lemmas.Bool.{and_parts, and_from, eqb-true, eq-eqb}
-use Rattle.asn1_model.specs.Value.{Value, members, bag, fields, chosen, Values, no_more, member, Parts, end, absent, present, map_members, values_of, are_absent, same, same_truth, same_members, same_bag, same_parts, depth, depth_of_members, depth_of_parts}
-use Rattle.asn1_model.specs.Schema.{Presence, required, optional, by_default, Schema, sequence_of, set_of, sequence, set, group, choice, Components, no_component, component, Alternatives, no_alternative, alternative}
+use Rattle.asn1_model.specs.Value.{Value, members, bag, fields, chosen, Values, no_more, member, Parts, end, absent}
+use Rattle.asn1_model.specs.Value.{present, map_members, values_of, are_absent, same, same_truth, same_members}
+use Rattle.asn1_model.specs.Value.{same_bag, same_parts, depth, depth_of_members, depth_of_parts}
+use Rattle.asn1_model.specs.Schema.{Presence, required, optional, by_default, Schema, sequence_of, set_of, sequence}
+use Rattle.asn1_model.specs.Schema.{set, group, choice, Components, no_component, component, Alternatives}
+use Rattle.asn1_model.specs.Schema.{no_alternative, alternative}
 use Rattle.asn1_model.specs.Normal.{normal, normal_parts, normal_alternative, is_default_by, is_empty_group, is_at_default, is_group_left_out}
 use Rattle.asn1_model.specs.Value.{are_all}
 use Rattle.asn1_model.specs.Tidy.{is_normal, are_normal, is_normal_alternative}
@@ -59,14 +63,16 @@ each_mapped f h [] (w ∷ ws) k = absurd k
 each_mapped f h (v ∷ vs) [] k = absurd k
 each_mapped f h (v ∷ vs) (w ∷ ws) k = (h v w k.0, each_mapped f h vs ws k.1)
 
-members_mapped : (f : Value → Value) → ((v w : Value) → same v w ≡ true → same (f v) (f w) ≡ true) → (vs ws : Values) → same_members vs ws ≡ true → same_members (map_members f vs) (map_members f ws) ≡ true
+members_mapped : (f : Value → Value) → ((v w : Value) → same v w ≡ true → same (f v) (f w) ≡ true) → (vs ws : Values) →
+    same_members vs ws ≡ true → same_members (map_members f vs) (map_members f ws) ≡ true
 unfolding same_members
 members_mapped f h no_more no_more e = refl
 members_mapped f h no_more (member w ws) e = cc
 members_mapped f h (member v vs) no_more e = cc
 members_mapped f h (member v vs) (member w ws) e = let p = and_parts _ _ e in and_from _ _ (h v w p.0) (members_mapped f h vs ws p.1)
 
-bag_mapped : (f : Value → Value) → ((v w : Value) → same v w ≡ true → same (f v) (f w) ≡ true) → (vs ws : Values) → same (bag vs) (bag ws) ≡ true → same (bag (map_members f vs)) (bag (map_members f ws)) ≡ true
+bag_mapped : (f : Value → Value) → ((v w : Value) → same v w ≡ true → same (f v) (f w) ≡ true) → (vs ws : Values) →
+    same (bag vs) (bag ws) ≡ true → same (bag (map_members f vs)) (bag (map_members f ws)) ≡ true
 unfolding same
 bag_mapped f h vs ws e =
     let q = bag_matched vs ws e in
@@ -101,8 +107,12 @@ mutual
   normal_same (group cs) (fields ps qs) w f = cc
   normal_same (group cs) v (fields rs ss) f = cc
   normal_same (group cs) v w f = f
-  normal_same (choice roots e adds) (chosen false i v) (chosen false j w) f = let p = and_parts (same_truth false false && (i == j)) (same v w) f in and_from (same_truth false false && (i == j)) _ p.0 (normal_alternative_same roots i j v w ((and_parts (same_truth false false) (i == j) p.0).1) p.1)
-  normal_same (choice roots e adds) (chosen true i v) (chosen true j w) f = let p = and_parts (same_truth true true && (i == j)) (same v w) f in and_from (same_truth true true && (i == j)) _ p.0 (normal_alternative_same adds i j v w ((and_parts (same_truth true true) (i == j) p.0).1) p.1)
+  normal_same (choice roots e adds) (chosen false i v) (chosen false j w) f = let p =
+      and_parts (same_truth false false && (i == j)) (same v w) f in
+      and_from (same_truth false false && (i == j)) _ p.0 (normal_alternative_same roots i j v w ((and_parts (same_truth false false) (i == j) p.0).1) p.1)
+  normal_same (choice roots e adds) (chosen true i v) (chosen true j w) f = let p =
+      and_parts (same_truth true true && (i == j)) (same v w) f in
+      and_from (same_truth true true && (i == j)) _ p.0 (normal_alternative_same adds i j v w ((and_parts (same_truth true true) (i == j) p.0).1) p.1)
   normal_same (choice roots e adds) (chosen a i v) w f = cc
   normal_same (choice roots e adds) v (chosen b j w) f = cc
   normal_same (choice roots e adds) v w f = f
@@ -115,7 +125,8 @@ mutual
       let n = normal_same s v w p.0 in
       let a = default_tests (λ d. normal s d) o (normal s v) (normal s w) n in
       let b = group_tests s (normal s v) (normal s w) n in
-      kept_same (is_default_by (λ d. normal s d) o (normal s v) || is_empty_group s (normal s v)) (is_default_by (λ d. normal s d) o (normal s w) || is_empty_group s (normal s w)) (normal s v) (normal s w) (normal_parts cs ps) (normal_parts cs qs) (cc) n (normal_parts_same cs ps qs p.1)
+      kept_same (is_default_by (λ d. normal s d) o (normal s v) || is_empty_group s (normal s v))
+      (is_default_by (λ d. normal s d) o (normal s w) || is_empty_group s (normal s w)) (normal s v) (normal s w) (normal_parts cs ps) (normal_parts cs qs) (cc) n (normal_parts_same cs ps qs p.1)
   normal_parts_same (component t o s cs) (absent ps) (absent qs) e = normal_parts_same cs ps qs e
   normal_parts_same (component t o s cs) end end e = e
   normal_parts_same (component t o s cs) ps qs e = cc

@@ -16,11 +16,13 @@ abbrev left_out : Presence → Schema → Value → Bool
 left_out o s w = is_default_by (λ d. normal s d) o w || is_empty_group s w
 
 -- what is kept once is kept again
-kept_again : (ts : List Tag) (o : Presence) (s : Schema) (cs : Components) (w : Value) (qs : Parts) (b : Bool) → left_out o s w ≡ b → normal s w ≡ w → normal_parts cs qs ≡ qs → normal_parts (component ts o s cs) (cond b (absent qs) (present w qs)) ≡ cond b (absent qs) (present w qs)
+kept_again : (ts : List Tag) (o : Presence) (s : Schema) (cs : Components) (w : Value) (qs : Parts) (b : Bool) → left_out o s w
+    ≡ b → normal s w ≡ w → normal_parts cs qs ≡ qs → normal_parts (component ts o s cs) (cond b (absent qs) (present w qs)) ≡ cond b (absent qs) (present w qs)
 unfolding normal_parts
 kept_again ts o s cs w qs true e h k = ap absent k
 kept_again ts o s cs w qs false e h k =
-    ap (λ x. (cond (left_out o s x) (absent (normal_parts cs qs)) (present x (normal_parts cs qs)))) h ∙ ap (λ l. (cond (left_out o s w) (absent l) (present w l))) k ∙ ap (λ b. (cond b (absent qs) (present w qs))) e
+    ap (λ x. (cond (left_out o s x) (absent (normal_parts cs qs)) (present x (normal_parts cs qs)))) h
+    ∙ ap (λ l. (cond (left_out o s w) (absent l) (present w l))) k ∙ ap (λ b. (cond b (absent qs) (present w qs))) e
 
 mutual
   unfolding normal normal_parts normal_alternative
@@ -58,7 +60,8 @@ not_either false b e = (refl, e)
 four : (a b c d : Bool) → a ≡ false → b ≡ false → c ≡ true → d ≡ true → (not a && not b && c && d) ≡ true
 four a b c d h i j k = rw (h, i, j, k) refl
 
-kept_normal : (ts : List Tag) (o : Presence) (s : Schema) (cs : Components) (w : Value) (qs : Parts) (b : Bool) → left_out o s w ≡ b → normal s w ≡ w → is_normal s w ≡ true → are_normal cs qs ≡ true → are_normal (component ts o s cs) (cond b (absent qs) (present w qs)) ≡ true
+kept_normal : (ts : List Tag) (o : Presence) (s : Schema) (cs : Components) (w : Value) (qs : Parts) (b : Bool) → left_out o s w
+    ≡ b → normal s w ≡ w → is_normal s w ≡ true → are_normal cs qs ≡ true → are_normal (component ts o s cs) (cond b (absent qs) (present w qs)) ≡ true
 unfolding are_normal
 kept_normal ts o s cs w qs true e h i k = k
 kept_normal ts o s cs w qs false e h i k =

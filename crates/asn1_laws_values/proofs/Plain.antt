@@ -1,6 +1,8 @@
 -- Which values of plain types have an encoding.
 use Rattle.std.specs.Prelude.{ℤ, pos, negsuc, ◌-ℤ◌, max}
-use Rattle.std.proofs.Common.{◌≡◌, ℕ, zero, suc, ◌+◌, ◌-◌, ◌*◌, ◌/◌, ◌%◌, ◌^◌, ◌<◌, ◌≤◌, ◌==◌, ltb, leb, not, lit<, Bool, true, false, cond, ◌&&◌, ◌||◌, List, [], ◌∷◌, length, replicate, Option, Some, None, option_map, refl, ap, arith}
+use Rattle.std.proofs.Common.{◌≡◌, ℕ, zero, suc, ◌+◌, ◌-◌, ◌*◌, ◌/◌, ◌%◌, ◌^◌, ◌<◌, ◌≤◌, ◌==◌, ltb, leb, not, lit<}
+use Rattle.std.proofs.Common.{Bool, true, false, cond, ◌&&◌, ◌||◌, List, [], ◌∷◌, length, replicate, Option, Some, None}
+use Rattle.std.proofs.Common.{option_map, refl, ap, arith}
 use Rattle.std.proofs.lemmas.List.{length-replicate}
 use Rattle.std.proofs.lemmas.Bool.{ltb-false, lt-ltb, le-leb, leb-true, eq-eqb, and_parts}
 use Rattle.std.proofs.lemmas.Int.{ints}
@@ -74,9 +76,11 @@ least_within span d h k =
     one_at_least (suc k) a b = omega arith
 
 abbrev by_span : (ℕ → ℕ → Per.BitForm) → Bool → Bool → Bool → Bool → ℕ → ℕ → Per.BitForm
-by_span whole al a b c span n = cond a (exactly (binary (width span) n)) (cond b (Per.at_octet al (exactly (binary 8 n))) (cond c (Per.at_octet al (exactly (binary 16 n))) (varied Per.longer_number (least_octets n) (λ k. Per.in_octets_of whole al span n k))))
+by_span whole al a b c span n = cond a (exactly (binary (width span) n))
+    (cond b (Per.at_octet al (exactly (binary 8 n))) (cond c (Per.at_octet al (exactly (binary 16 n))) (varied Per.longer_number (least_octets n) (λ k. Per.in_octets_of whole al span n k))))
 
-by_span_written : (whole : ℕ → ℕ → Per.BitForm) (al : Bool) (span n : ℕ) (a b c : Bool) → (255 < span → (d : ℕ) → d ≤ octet_width span - 1 → Bits (whole (octet_width span - 1) d) true) → ltb span 65536 ≡ c → n ≤ span → Bits (by_span whole al a b c span n) true
+by_span_written : (whole : ℕ → ℕ → Per.BitForm) (al : Bool) (span n : ℕ) (a b c : Bool) →
+    (255 < span → (d : ℕ) → d ≤ octet_width span - 1 → Bits (whole (octet_width span - 1) d) true) → ltb span 65536 ≡ c → n ≤ span → Bits (by_span whole al a b c span n) true
 unfolding Per.in_octets_of
 by_span_written whole al span n true b c w e h = written_exactly _
 by_span_written whole al span n false true c w e h = at_octet_written al _ true (written_exactly _)
@@ -85,7 +89,9 @@ by_span_written whole al span n false false false w e h =
     let i = not_less span e in
     let t = least_within span n h i in
     let l : least_octets n ≤ octet_width span = leb-true _ _ (and_parts _ _ t).1 in
-    written_varied {c = Per.longer_number} (written_when (leb (least_octets n) (least_octets n) && leb (least_octets n) (octet_width span)) _ true t (written_both (w i (least_octets n - 1) (omega arith)) (at_octet_written al _ true (written_exactly _))))
+    written_varied {c = Per.longer_number} (written_when
+    (leb (least_octets n) (least_octets n) && leb (least_octets n) (octet_width span)) _ true t
+    (written_both (w i (least_octets n - 1) (omega arith)) (at_octet_written al _ true (written_exactly _))))
   where
     not_less : (span : ℕ) → ltb span 65536 ≡ false → 255 < span
     not_less span e = let a = ltb-false span 65536 e in omega arith
@@ -102,7 +108,9 @@ unfolding Per.constrained_in
 constrained_in_written zero al span d k h = absurd (omega arith)
 constrained_in_written (suc most) al span d k h =
     let f = fewer_octets span in
-    written_when (leb d span) _ true (le-leb _ _ h) (by_span_written (λ s c. Per.constrained_in most al s c) al span d (not al || ltb span 255) (span == 255) (ltb span 65536) (λ i c l. constrained_in_written most al (octet_width span - 1) c (omega arith) l) refl h)
+    written_when (leb d span) _ true (le-leb _ _ h)
+    (by_span_written (λ s c. Per.constrained_in most al s c) al span d (not al || ltb span 255) (span == 255) (ltb span 65536)
+    (λ i c l. constrained_in_written most al (octet_width span - 1) c (omega arith) l) refl h)
 
 constrained_written : (al : Bool) (span d : ℕ) → d ≤ span → Bits (Per.constrained al span d) true
 unfolding Per.constrained
@@ -122,9 +130,15 @@ three true true false = refl
 three true false w = refl
 three false f w = refl
 
-packed_number : (al : Bool) (low high : Option ℤ) (e t : Bool) (v : ℤ) → (is_some low && is_some high && not e) ≡ true → Bits (only_if (t && (not (is_some low || is_some high || e) || fits_128 v)) (Per.with_extension_bit e ((option_map_or (λ x. is_at_most x v) low true) && (option_map_or (λ x. is_at_most v x) high true)) (Per.whole_number al low high v) (Per.unconstrained al v))) (t && fits_128 v && ((option_map_or (λ x. is_at_most x v) low true) && (option_map_or (λ x. is_at_most v x) high true)))
+packed_number : (al : Bool) (low high : Option ℤ) (e t : Bool) (v : ℤ) → (is_some low && is_some high && not e) ≡ true →
+    Bits (only_if (t && (not (is_some low || is_some high || e) || fits_128 v))
+    (Per.with_extension_bit e ((option_map_or (λ x. is_at_most x v) low true) && (option_map_or (λ x. is_at_most v x) high true))
+    (Per.whole_number al low high v) (Per.unconstrained al v))) (t && fits_128 v && ((option_map_or (λ x. is_at_most x v) low true) && (option_map_or (λ x. is_at_most v x) high true)))
 unfolding Per.with_extension_bit
-packed_number al (Some low) (Some high) false t v h = written_as (three t (fits_128 v) (is_at_most low v && is_at_most v high)) (written_if (t && fits_128 v) _ ((is_at_most low v && is_at_most v high) && true) (λ e. written_if (is_at_most low v && is_at_most v high) _ true (λ k. let k' = and_parts _ _ k in whole_written al low high v k'.0 k'.1)))
+packed_number al (Some low) (Some high) false t v h =
+    written_as (three t (fits_128 v) (is_at_most low v && is_at_most v high))
+    (written_if (t && fits_128 v) _ ((is_at_most low v && is_at_most v high) && true)
+    (λ e. written_if (is_at_most low v && is_at_most v high) _ true (λ k. let k' = and_parts _ _ k in whole_written al low high v k'.0 k'.1)))
 packed_number al (Some low) (Some high) true t v h = cc
 packed_number al (Some low) None e t v h = cc
 packed_number al None high e t v h = cc
@@ -173,7 +187,8 @@ message_written al s v h = written_within (packed_written al s v h) padded_writt
 abbrev Octets : Oer.OctetForm → Bool → Type 0
 Octets x b = Written {F = Oer.Freedom} {D = Oer.Detail} {A = ℕ} x b
 
-short_length_written : (n : ℕ) (t : Bool) → n ≤ 16 → ltb n 128 ≡ t → Octets (elim (cond t None (Some (octet_width n))) [ None ↦ only_if (ltb n 128) (exactly (n ∷ [])) | Some k ↦ Oer.long_length n k ]) true
+short_length_written : (n : ℕ) (t : Bool) → n ≤ 16 → ltb n 128 ≡ t →
+    Octets (elim (cond t None (Some (octet_width n))) [ None ↦ only_if (ltb n 128) (exactly (n ∷ [])) | Some k ↦ Oer.long_length n k ]) true
 short_length_written n true h e = written_when (ltb n 128) _ true e (written_exactly _)
 short_length_written n false h e = let a = ltb-false n 128 e in absurd (omega arith)
 
@@ -193,7 +208,8 @@ unfolding Oer.signed
 signed_written v h =
     let a = leb-true _ _ h in
     let b = length-complement (signed_octets v) v in
-    written_varied {c = Oer.longer_number} (written_when (leb (signed_octets v) (signed_octets v)) _ true (le-leb _ _ (omega arith)) (counted_written _ (omega arith) (complement_is_octets (signed_octets v) v)))
+    written_varied {c = Oer.longer_number} (written_when (leb (signed_octets v) (signed_octets v)) _ true (le-leb _ _ (omega arith))
+    (counted_written _ (omega arith) (complement_is_octets (signed_octets v) v)))
 
 natural_few : (n : ℕ) → fits_128 (pos n) ≡ true → least_octets n ≤ 16
 natural_few n h =
@@ -208,7 +224,8 @@ unfolding Oer.unsigned
 unsigned_written n h =
     let a = natural_few n h in
     let b = length-digits 256 (least_octets n) n in
-    written_varied {c = Oer.longer_number} (written_when (leb (least_octets n) (least_octets n)) _ true (le-leb _ _ (omega arith)) (counted_written _ (omega arith) (digits_are_octets (least_octets n) n)))
+    written_varied {c = Oer.longer_number} (written_when (leb (least_octets n) (least_octets n)) _ true (le-leb _ _ (omega arith))
+    (counted_written _ (omega arith) (digits_are_octets (least_octets n) n)))
 
 natural_written : (o : Option ℕ) (n : ℕ) → fits_128 (pos n) ≡ true → Octets (Oer.natural_form o (pos n)) true
 natural_written None n h = unsigned_written n h
@@ -225,8 +242,15 @@ bounded_written (pos low) (negsuc high) (pos n) f h i = absurd (not_below n high
 bounded_written (pos low) high (negsuc n) f h i = absurd (not_below low n h)
 bounded_written (negsuc low) high v f h i = signed_form_written (Oer.fixed_octets (max (signed_octets (negsuc low)) (signed_octets high))) v f
 
-octets_number : (low high : Option ℤ) (e t : Bool) (v : ℤ) → (is_some low && is_some high && not e) ≡ true → Octets (only_if (t && (not (is_some low || is_some high || e) || fits_128 v)) (cond e (Oer.signed v) (only_if ((option_map_or (λ x. is_at_most x v) low true) && (option_map_or (λ x. is_at_most v x) high true)) (Oer.bounded low high v)))) (t && fits_128 v && ((option_map_or (λ x. is_at_most x v) low true) && (option_map_or (λ x. is_at_most v x) high true)))
-octets_number (Some low) (Some high) false t v h = written_as (three t (fits_128 v) (is_at_most low v && is_at_most v high)) (written_if (t && fits_128 v) _ ((is_at_most low v && is_at_most v high) && true) (λ e. written_if (is_at_most low v && is_at_most v high) _ true (λ k. let k' = and_parts _ _ k in bounded_written low high v ((and_parts t _ e).1) k'.0 k'.1)))
+octets_number : (low high : Option ℤ) (e t : Bool) (v : ℤ) → (is_some low && is_some high && not e) ≡ true →
+    Octets (only_if (t && (not (is_some low || is_some high || e) || fits_128 v))
+    (cond e (Oer.signed v) (only_if ((option_map_or (λ x. is_at_most x v) low true)
+    && (option_map_or (λ x. is_at_most v x) high true)) (Oer.bounded low high v))))
+    (t && fits_128 v && ((option_map_or (λ x. is_at_most x v) low true) && (option_map_or (λ x. is_at_most v x) high true)))
+octets_number (Some low) (Some high) false t v h =
+    written_as (three t (fits_128 v) (is_at_most low v && is_at_most v high))
+    (written_if (t && fits_128 v) _ ((is_at_most low v && is_at_most v high) && true)
+    (λ e. written_if (is_at_most low v && is_at_most v high) _ true (λ k. let k' = and_parts _ _ k in bounded_written low high v ((and_parts t _ e).1) k'.0 k'.1)))
 octets_number (Some low) (Some high) true t v h = cc
 octets_number (Some low) None e t v h = cc
 octets_number None high e t v h = cc

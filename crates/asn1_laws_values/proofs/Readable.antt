@@ -1,5 +1,7 @@
 -- If some encoding is read of a form, some encodings are read of its parts.
-use Rattle.std.proofs.Common.{◌≡◌, ℕ, zero, suc, ◌+◌, ltb, not, Bool, true, false, cond, ◌&&◌, ◌||◌, ◌==◌, IsTrue, List, [], ◌∷◌, ◌++◌, length, take, drop, map, Option, Some, None, option_map, refl, ap, sym, ◌∙◌, subst, inl, inr, ◌⊎◌}
+use Rattle.std.proofs.Common.{◌≡◌, ℕ, zero, suc, ◌+◌, ltb, not, Bool, true, false, cond, ◌&&◌, ◌||◌, ◌==◌, IsTrue, List}
+use Rattle.std.proofs.Common.{[], ◌∷◌, ◌++◌, length, take, drop, map, Option, Some, None, option_map, refl, ap, sym}
+use Rattle.std.proofs.Common.{◌∙◌, subst, inl, inr, ◌⊎◌}
 use Rattle.std.proofs.lemmas.Bool.{and_parts}
 use Rattle.asn1_model.specs.Form.{Form, refused, both, placed, varied, within, Reads, only_if, given, joined, pick, arranged, in_order, ascending, Bitmap, is_any_present, present_ones, covered_by}
 use Rattle.asn1_laws_values.proofs.Arranged.{ascending_code, arranged_parts}
@@ -93,7 +95,8 @@ module _ {F : Type 0} {D : F → Type 0} {A : Type 0} (free : F → Bool) where
       let n : AllRead (q.0 ∷ q.2) = subst (λ l. AllRead l) (sym q.5) h in
       all_picked i xs q.0 q.1 q.3 n.0 (all_arranged is q.1 q.2 q.4 n.1)
 
-  pub all_in_order : {K : Type 0} (key : Form F D A → Option K) (before : K → K → Bool) (o : Option (List ℕ)) (xs zs : List (Form F D A)) → in_order (ascending key before xs) o xs ≡ Some zs → AllRead zs → AllRead xs
+  pub all_in_order : {K : Type 0} (key : Form F D A → Option K) (before : K → K → Bool) (o : Option (List ℕ))
+      (xs zs : List (Form F D A)) → in_order (ascending key before xs) o xs ≡ Some zs → AllRead zs → AllRead xs
   all_in_order key before None xs zs e h = let c = ascending_code key before xs zs e in all_arranged c.0 xs zs c.1 h
   all_in_order key before (Some is) xs zs e h = all_arranged is xs zs e h
 

@@ -2,7 +2,9 @@
 use Rattle.std.proofs.Common.{◌≡◌, ℕ, zero, suc, ◌≤◌, true, refl, inl, inr, arith}
 use Rattle.std.proofs.lemmas.Bool.{and_from}
 use Rattle.asn1_model.specs.Schema.{Schema, null, sequence_of, set_of, sequence, set, group, choice, Components, no_component, component, Alternatives, no_alternative, alternative}
-use Rattle.asn1_laws_values.specs.Unfolding.{is_constructed, AgreesTo, AgreesEach, AgreesAlternatives, AreRecursive, unfolded, nest_step, default_step, TreeName, tree, branches, tree_step, MutualName, first, second, holder, mutual_step}
+use Rattle.asn1_laws_values.specs.Unfolding.{is_constructed, AgreesTo, AgreesEach, AgreesAlternatives, AreRecursive}
+use Rattle.asn1_laws_values.specs.Unfolding.{unfolded, nest_step, default_step, TreeName, tree, branches, tree_step}
+use Rattle.asn1_laws_values.specs.Unfolding.{MutualName, first, second, holder, mutual_step}
 
 unfolded_nests : {K : Type 0} (step : K → (K → Schema) → Schema) (i : ℕ) (k : K) → AreRecursive step → is_constructed (unfolded step i k) ≡ true
 unfolded_nests step zero k h = refl

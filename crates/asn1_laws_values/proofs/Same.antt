@@ -1,7 +1,10 @@
 -- Equality of values is an equivalence.
 use Rattle.std.proofs.Common.{◌≡◌, ℕ, zero, suc, ◌+◌, ◌<◌, max, true, refl, ap, sym, ◌∙◌, subst, arith}
 use Rattle.std.proofs.lemmas.Bool.{and_parts, and_from, eqb-true, eq-eqb}
-use Rattle.asn1_model.specs.Value.{Value, truth, nothing, number, item, bit_list, octet_list, text, arcs, members, bag, fields, chosen, Values, no_more, member, Parts, end, absent, present, same, same_truth, same_members, same_bag, same_parts, depth, depth_of_members, depth_of_parts}
+use Rattle.asn1_model.specs.Value.{Value, truth, nothing, number, item, bit_list, octet_list, text, arcs, members, bag}
+use Rattle.asn1_model.specs.Value.{fields, chosen, Values, no_more, member, Parts, end, absent, present, same}
+use Rattle.asn1_model.specs.Value.{same_truth, same_members, same_bag, same_parts, depth, depth_of_members}
+use Rattle.asn1_model.specs.Value.{depth_of_parts}
 use Rattle.asn1_laws_values.proofs.Leaves.{truths_equal, truth_same, numbers_equal, number_same, bits_equal, bits_same, naturals_equal, naturals_same}
 use Rattle.asn1_laws_values.proofs.Counts.{EquivalentBelow, counts_alike, alike_counted}
 
@@ -53,20 +56,23 @@ module _ (n : ℕ) (q : EquivalentBelow n) where
   parts_turned (present v ps) (present w qs) h i e = let p = and_parts _ _ e in and_from _ _ (q.turned v w (omega arith) (omega arith) p.0) (parts_turned ps qs (omega arith) (omega arith) p.1)
   parts_turned ps qs h i e = cc
 
-  members_chained : (us vs ws : Values) → depth_of_members us < n → depth_of_members vs < n → depth_of_members ws < n → same_members us vs ≡ true → same_members vs ws ≡ true → same_members us ws ≡ true
+  members_chained : (us vs ws : Values) → depth_of_members us < n → depth_of_members vs < n → depth_of_members ws < n →
+      same_members us vs ≡ true → same_members vs ws ≡ true → same_members us ws ≡ true
   unfolding same_members depth_of_members
   members_chained no_more no_more ws h i j e f = f
   members_chained no_more (member v vs) ws h i j e f = cc
   members_chained (member u us) no_more ws h i j e f = cc
   members_chained (member u us) (member v vs) no_more h i j e f = cc
-  members_chained (member u us) (member v vs) (member w ws) h i j e f = let p = and_parts _ _ e in let r = and_parts _ _ f in and_from _ _ (q.chained u v w (omega arith) (omega arith) (omega arith) p.0 r.0) (members_chained us vs ws (omega arith) (omega arith) (omega arith) p.1 r.1)
+  members_chained (member u us) (member v vs) (member w ws) h i j e f = let p = and_parts _ _ e in let r = and_parts _ _ f in
+      and_from _ _ (q.chained u v w (omega arith) (omega arith) (omega arith) p.0 r.0) (members_chained us vs ws (omega arith) (omega arith) (omega arith) p.1 r.1)
 
   parts_chained : (ps qs rs : Parts) → depth_of_parts ps < n → depth_of_parts qs < n → depth_of_parts rs < n → same_parts ps qs ≡ true → same_parts qs rs ≡ true → same_parts ps rs ≡ true
   unfolding same_parts depth_of_parts
   parts_chained end end rs h i j e f = f
   parts_chained (absent ps) (absent qs) (absent rs) h i j e f = parts_chained ps qs rs h i j e f
   parts_chained (absent ps) (absent qs) rs h i j e f = cc
-  parts_chained (present v ps) (present w qs) (present z rs) h i j e f = let p = and_parts _ _ e in let r = and_parts _ _ f in and_from _ _ (q.chained v w z (omega arith) (omega arith) (omega arith) p.0 r.0) (parts_chained ps qs rs (omega arith) (omega arith) (omega arith) p.1 r.1)
+  parts_chained (present v ps) (present w qs) (present z rs) h i j e f = let p = and_parts _ _ e in let r = and_parts _ _ f in
+      and_from _ _ (q.chained v w z (omega arith) (omega arith) (omega arith) p.0 r.0) (parts_chained ps qs rs (omega arith) (omega arith) (omega arith) p.1 r.1)
   parts_chained (present v ps) (present w qs) rs h i j e f = cc
   parts_chained ps qs rs h i j e f = cc
 
@@ -101,7 +107,9 @@ module _ (n : ℕ) (q : EquivalentBelow n) where
   next_chained (arcs a) (arcs b) w h i j e f = subst (λ x. same (arcs x) w ≡ true) (sym (naturals_equal a b e)) f
   next_chained (members us) (members vs) (members ws) h i j e f = members_chained us vs ws (omega arith) (omega arith) (omega arith) e f
   next_chained (members us) (members vs) w h i j e f = cc
-  next_chained (bag us) (bag vs) (bag ws) h i j e f = alike_counted n q same_self us ws (omega arith) (omega arith) (λ t k. counts_alike n q same_self us vs (omega arith) (omega arith) e t k ∙ counts_alike n q same_self vs ws (omega arith) (omega arith) f t k)
+  next_chained (bag us) (bag vs) (bag ws) h i j e f =
+      alike_counted n q same_self us ws (omega arith) (omega arith)
+      (λ t k. counts_alike n q same_self us vs (omega arith) (omega arith) e t k ∙ counts_alike n q same_self vs ws (omega arith) (omega arith) f t k)
   next_chained (bag us) (bag vs) w h i j e f = cc
   next_chained (fields ps qs) (fields rs ss) (fields xs ys) h i j e f =
       let p = and_parts _ _ e in
@@ -113,7 +121,8 @@ module _ (n : ℕ) (q : EquivalentBelow n) where
       let r = and_parts _ _ p.0 in
       let p' = and_parts _ _ f in
       let r' = and_parts _ _ p'.0 in
-      and_from _ _ (and_from _ _ (subst (λ x. same_truth a x ≡ true) (truths_equal b c r'.0) r.0) (eq-eqb k m (eqb-true k l r.1 ∙ eqb-true l m r'.1))) (q.chained u v w (omega arith) (omega arith) (omega arith) p.1 p'.1)
+      and_from _ _ (and_from _ _ (subst (λ x. same_truth a x ≡ true) (truths_equal b c r'.0) r.0)
+      (eq-eqb k m (eqb-true k l r.1 ∙ eqb-true l m r'.1))) (q.chained u v w (omega arith) (omega arith) (omega arith) p.1 p'.1)
   next_chained (chosen a k u) (chosen b l v) w h i j e f = cc
   next_chained u v w h i j e f = cc
 

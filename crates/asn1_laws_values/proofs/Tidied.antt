@@ -2,7 +2,9 @@
 use Rattle.std.proofs.Common.{◌≡◌, ℕ, zero, suc, true, ◌&&◌, List, refl, sym, ◌∙◌, subst, inl, inr, ◌⊎◌, arith}
 use Rattle.std.proofs.lemmas.Bool.{and_from}
 use Rattle.asn1_model.specs.Value.{Value, depth}
-use Rattle.asn1_model.specs.Schema.{Presence, required, optional, by_default, Schema, sequence_of, set_of, sequence, set, group, choice, Components, no_component, component, Alternatives, no_alternative, alternative}
+use Rattle.asn1_model.specs.Schema.{Presence, required, optional, by_default, Schema, sequence_of, set_of, sequence}
+use Rattle.asn1_model.specs.Schema.{set, group, choice, Components, no_component, component, Alternatives}
+use Rattle.asn1_model.specs.Schema.{no_alternative, alternative}
 use Rattle.asn1_model.specs.Normal.{normal}
 use Rattle.asn1_model.specs.Tidy.{is_normal, has_normal_default, is_tidy, are_tidy, are_tidy_alternatives}
 use Rattle.asn1_model.specs.Rules.{Rules}
@@ -10,7 +12,10 @@ use Rattle.asn1_laws_values.proofs.Normals.{normal_again, normal_normal}
 use Rattle.asn1_laws_values.specs.Unfolding.{is_constructed}
 use Rattle.asn1_laws_values.specs.UnfoldingLaws.{IsOneIn}
 use Rattle.asn1_laws_values.specs.Tidied.{changed_default, tidied, tidied_each, tidied_alternatives}
-use Rattle.asn1_laws_values.proofs.Unfolding.{AlikeTo, EachAlikeTo, AlternativesAlikeTo, SameDefault, list_alike, bag_alike, component_alike, none_alike, sequence_alike, set_alike, group_alike, alternative_alike, no_alternative_alike, choice_alike, zero_alike, equal_alike, alike_means_the_same}
+use Rattle.asn1_laws_values.proofs.Unfolding.{AlikeTo, EachAlikeTo, AlternativesAlikeTo, SameDefault, list_alike}
+use Rattle.asn1_laws_values.proofs.Unfolding.{bag_alike, component_alike, none_alike, sequence_alike, set_alike}
+use Rattle.asn1_laws_values.proofs.Unfolding.{group_alike, alternative_alike, no_alternative_alike, choice_alike}
+use Rattle.asn1_laws_values.proofs.Unfolding.{zero_alike, equal_alike, alike_means_the_same}
 
 at_the_cut : (s : Schema) → ((is_constructed s && is_constructed (tidied s)) ≡ true) ⊎ (s ≡ tidied s)
 unfolding tidied
@@ -43,7 +48,8 @@ mutual
 
   tidied_alike_each : (n : ℕ) (cs : Components) → EachAlikeTo n cs (tidied_each cs)
   tidied_alike_each n no_component = none_alike n
-  tidied_alike_each n (component t o s cs) = component_alike n t o (changed_default (λ d. normal s d) o) s (tidied s) cs (tidied_each cs) (tidied_default s o (λ m. tidied_alike m s)) (tidied_alike n s) (tidied_alike_each n cs)
+  tidied_alike_each n (component t o s cs) =
+      component_alike n t o (changed_default (λ d. normal s d) o) s (tidied s) cs (tidied_each cs) (tidied_default s o (λ m. tidied_alike m s)) (tidied_alike n s) (tidied_alike_each n cs)
 
   tidied_alike_alternatives : (n : ℕ) (os : Alternatives) → AlternativesAlikeTo n os (tidied_alternatives os)
   tidied_alike_alternatives n no_alternative = no_alternative_alike n

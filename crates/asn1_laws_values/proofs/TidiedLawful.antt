@@ -2,13 +2,18 @@
 use Rattle.std.proofs.Common.{◌≡◌, ℕ, zero, suc, Bool, true, false, not, ◌&&◌, ◌||◌, List, [], ◌∷◌, ◌++◌, refl, ap, sym, ◌∙◌}
 use Rattle.std.proofs.lemmas.Bool.{and_parts, and_from}
 use Rattle.asn1_model.specs.Value.{Value, members, bag, fields, chosen, Parts, end, absent, present}
-use Rattle.asn1_model.specs.Schema.{Tag, Presence, required, optional, by_default, Schema, sequence_of, set_of, sequence, set, group, choice, Components, no_component, component, Alternatives, no_alternative, alternative}
+use Rattle.asn1_model.specs.Schema.{Tag, Presence, required, optional, by_default, Schema, sequence_of, set_of}
+use Rattle.asn1_model.specs.Schema.{sequence, set, group, choice, Components, no_component, component, Alternatives}
+use Rattle.asn1_model.specs.Schema.{no_alternative, alternative}
 use Rattle.asn1_model.specs.Normal.{normal}
 use Rattle.asn1_model.specs.Value.{are_all}
 use Rattle.asn1_model.specs.Numbers.{is_count_within}
 use Rattle.asn1_model.specs.Normal.{is_required}
 use Rattle.asn1_model.specs.Lawful.{member_count, is_of, are_of, is_of_alternative, are_groups_in_place}
-use Rattle.asn1_model.specs.Lawful.{tag_less, tag_same, are_distinct, are_ascending, component_tags, component_places, smallest, alternative_tags, are_no_components, is_empty, is_group, is_optional, is_sequence_table, begins_with, has_typed_default, is_lawful, are_lawful, are_lawful_alternatives}
+use Rattle.asn1_model.specs.Lawful.{tag_less, tag_same, are_distinct, are_ascending, component_tags, component_places}
+use Rattle.asn1_model.specs.Lawful.{smallest, alternative_tags, are_no_components, is_empty, is_group, is_optional}
+use Rattle.asn1_model.specs.Lawful.{is_sequence_table, begins_with, has_typed_default, is_lawful, are_lawful}
+use Rattle.asn1_model.specs.Lawful.{are_lawful_alternatives}
 use Rattle.asn1_laws_values.proofs.Typed.{normal_is_of}
 use Rattle.asn1_laws_values.specs.Tidied.{changed_default, tidied, tidied_each, tidied_alternatives}
 use Rattle.asn1_laws_values.proofs.Carried.{tidied_normal}
@@ -104,9 +109,13 @@ table_still : (cs : Components) (e : Bool) (adds : Components) → is_sequence_t
 table_still cs e adds = λ i. (e || none_still adds i) && are_distinct tag_same (tags_still cs i ++ tags_still adds i) && no_group_still cs i && groups_still adds i
 
 alternatives_table : (roots : Alternatives) (e : Bool) (adds : Alternatives) →
-    (not (is_empty (alternative_tags (tidied_alternatives roots))) && (e || is_empty (alternative_tags (tidied_alternatives adds))) && are_ascending tag_less (alternative_tags (tidied_alternatives roots)) && are_distinct tag_same (alternative_tags (tidied_alternatives roots) ++ alternative_tags (tidied_alternatives adds)))
-    ≡ (not (is_empty (alternative_tags roots)) && (e || is_empty (alternative_tags adds)) && are_ascending tag_less (alternative_tags roots) && are_distinct tag_same (alternative_tags roots ++ alternative_tags adds))
-alternatives_table roots e adds = λ i. not (is_empty (alternative_tags_still roots i)) && (e || is_empty (alternative_tags_still adds i)) && are_ascending tag_less (alternative_tags_still roots i) && are_distinct tag_same (alternative_tags_still roots i ++ alternative_tags_still adds i)
+    (not (is_empty (alternative_tags (tidied_alternatives roots))) && (e || is_empty (alternative_tags (tidied_alternatives adds)))
+    && are_ascending tag_less (alternative_tags (tidied_alternatives roots)) && are_distinct tag_same (alternative_tags (tidied_alternatives roots) ++ alternative_tags (tidied_alternatives adds)))
+    ≡ (not (is_empty (alternative_tags roots)) && (e || is_empty (alternative_tags adds))
+    && are_ascending tag_less (alternative_tags roots) && are_distinct tag_same (alternative_tags roots ++ alternative_tags adds))
+alternatives_table roots e adds = λ i. not (is_empty (alternative_tags_still roots i))
+    && (e || is_empty (alternative_tags_still adds i)) && are_ascending tag_less (alternative_tags_still roots i)
+    && are_distinct tag_same (alternative_tags_still roots i ++ alternative_tags_still adds i)
 
 -- ---- well-formed, with each default in normal form
 typed_still : (s : Schema) (o : Presence) → is_lawful (tidied s) ≡ true → has_typed_default s o ≡ true → has_typed_default (tidied s) (changed_default (λ d. normal s d) o) ≡ true

@@ -2,7 +2,9 @@
 use Rattle.std.proofs.Common.{◌≡◌, ℕ, zero, suc, Bool, true, false, not, ◌||◌, List, refl, ap, sym, ◌∙◌}
 use Rattle.std.proofs.lemmas.Bool.{and_parts, and_from, false≢true}
 use Rattle.asn1_model.specs.Value.{Value, members, bag, fields, chosen, Values, no_more, member, Parts, end, absent, present, map_members}
-use Rattle.asn1_model.specs.Schema.{Tag, Presence, required, optional, by_default, Schema, sequence_of, set_of, sequence, set, group, choice, Components, no_component, component, Alternatives, no_alternative, alternative}
+use Rattle.asn1_model.specs.Schema.{Tag, Presence, required, optional, by_default, Schema, sequence_of, set_of}
+use Rattle.asn1_model.specs.Schema.{sequence, set, group, choice, Components, no_component, component, Alternatives}
+use Rattle.asn1_model.specs.Schema.{no_alternative, alternative}
 use Rattle.asn1_model.specs.Normal.{normal, normal_parts, normal_alternative, is_default_by, is_empty_group}
 use Rattle.asn1_model.specs.Value.{are_all}
 use Rattle.asn1_model.specs.Numbers.{is_count_within}
@@ -37,12 +39,14 @@ or_right : (a b : Bool) → a ≡ false → (a || b) ≡ true → b ≡ true
 or_right true b e h = absurd (false≢true (sym e))
 or_right false b e h = h
 
-may_be_absent : (form : Value → Value) (o : Presence) (s : Schema) (v : Value) → (not (is_group s) || is_optional o) ≡ true → (is_default_by form o v || is_empty_group s v) ≡ true → not (is_required o) ≡ true
+may_be_absent : (form : Value → Value) (o : Presence) (s : Schema) (v : Value) → (not (is_group s) || is_optional o) ≡ true →
+    (is_default_by form o v || is_empty_group s v) ≡ true → not (is_required o) ≡ true
 may_be_absent form required s v h e = absurd (false≢true (group_optional (is_group s) false h (empty_is_group s v e)))
 may_be_absent form optional s v h e = refl
 may_be_absent form (by_default d) s v h e = refl
 
-kept_of : (a : Bool) (t : List Tag) (o : Presence) (s : Schema) (cs : Components) (v : Value) (ps : Parts) → (a ≡ true → not (is_required o) ≡ true) → is_of s v ≡ true → are_of cs ps ≡ true → are_of (component t o s cs) (cond a (absent ps) (present v ps)) ≡ true
+kept_of : (a : Bool) (t : List Tag) (o : Presence) (s : Schema) (cs : Components) (v : Value) (ps : Parts) →
+    (a ≡ true → not (is_required o) ≡ true) → is_of s v ≡ true → are_of cs ps ≡ true → are_of (component t o s cs) (cond a (absent ps) (present v ps)) ≡ true
 unfolding are_of
 kept_of true t o s cs v ps m h k = and_from _ _ (m refl) k
 kept_of false t o s cs v ps m h k = and_from _ _ h k
@@ -94,7 +98,8 @@ mutual
       and_from _ _ p.0 (normal_are_of cs ps q.1 ((and_parts _ _ l).1) p.1)
   normal_are_of (component t o s cs) end g l h = h
 
-  normal_is_of_alternative : (others : Alternatives) (i : ℕ) (v : Value) → are_lawful_alternatives others ≡ true → is_of_alternative others i v ≡ true → is_of_alternative others i (normal_alternative others i v) ≡ true
+  normal_is_of_alternative : (others : Alternatives) (i : ℕ) (v : Value) → are_lawful_alternatives others ≡ true →
+      is_of_alternative others i v ≡ true → is_of_alternative others i (normal_alternative others i v) ≡ true
   normal_is_of_alternative no_alternative i v l h = h
   normal_is_of_alternative (alternative t s others) zero v l h = normal_is_of s v ((and_parts _ _ ((and_parts _ _ l).0)).1) h
   normal_is_of_alternative (alternative t s others) (suc i) v l h = normal_is_of_alternative others i v ((and_parts _ _ l).1) h

@@ -2,7 +2,9 @@
 use Rattle.std.proofs.Common.{◌≡◌, ℕ, zero, suc, ◌+◌, ◌≤◌, max, Bool, true, false, cond, ◌&&◌, List, ◌∷◌, Some, None, option_map, refl, ap, sym, ◌∙◌, subst, inl, inr, ◌⊎◌, arith}
 use Rattle.std.proofs.lemmas.Bool.{and_parts}
 use Rattle.asn1_model.specs.Value.{Value, members, bag, fields, chosen, Values, no_more, member, Parts, end, absent, present, each, map_members, depth, depth_of_members, depth_of_parts}
-use Rattle.asn1_model.specs.Schema.{Tag, Size, Counts, Presence, required, optional, by_default, Schema, cut, sequence_of, set_of, sequence, set, group, choice, Components, no_component, component, Alternatives, no_alternative, alternative}
+use Rattle.asn1_model.specs.Schema.{Tag, Size, Counts, Presence, required, optional, by_default, Schema, cut}
+use Rattle.asn1_model.specs.Schema.{sequence_of, set_of, sequence, set, group, choice, Components, no_component}
+use Rattle.asn1_model.specs.Schema.{component, Alternatives, no_alternative, alternative}
 use Rattle.asn1_model.specs.Normal.{normal, normal_parts, normal_alternative, is_empty_group, is_default_by, is_at_default, is_group_left_out}
 use Rattle.asn1_model.specs.Tidy.{has_normal_default, is_tidy, are_tidy, are_tidy_alternatives}
 use Rattle.asn1_model.specs.Form.{refused, both, given}
@@ -138,7 +140,8 @@ module _ (n : ℕ) (z : Size) (held : Counts) (s s' : Schema) (a : AlikeTo n s s
 
   bag_packed : (al : Bool) (v : Value) → depth v ≤ suc n → Per.form al (set_of z held s) v ≡ Per.form al (set_of z held s') v
   unfolding Per.form depth
-  bag_packed al (bag vs) d = ap (λ xs. Per.in_any_order xs (Per.sized al z held (λ c. false))) (each_alike n (λ v. Per.form al s v) (λ v. Per.form al s' v) (λ v h. a.packed_is al v h) vs (omega arith))
+  bag_packed al (bag vs) d = ap (λ xs. Per.in_any_order xs (Per.sized al z held (λ c. false)))
+      (each_alike n (λ v. Per.form al s v) (λ v. Per.form al s' v) (λ v h. a.packed_is al v h) vs (omega arith))
   bag_packed al v d = refl
 
   bag_octets : (v : Value) → depth v ≤ suc n → Oer.form (set_of z held s) v ≡ Oer.form (set_of z held s') v
@@ -214,7 +217,8 @@ module _ (n : ℕ) (t : List Tag) (o o' : Presence) (s s' : Schema) (cs cs' : Co
   next_packed al end d = refl
   next_packed al (absent ps) d = λ i. cond (same_required s s' o o' h i) refused (b.packed_are al ps d i)
   next_packed al (present v ps) d =
-      let e : Per.spelled o s v (Per.form al s v) ≡ Per.spelled o' s' v (Per.form al s' v) = spelled_packed v (Per.form al s v) (omega arith) ∙ ap (Per.spelled o' s' v) (a.packed_is al v (omega arith)) in
+      let e : Per.spelled o s v (Per.form al s v) ≡ Per.spelled o' s' v (Per.form al s' v) =
+      spelled_packed v (Per.form al s v) (omega arith) ∙ ap (Per.spelled o' s' v) (a.packed_is al v (omega arith)) in
       ap (λ x. both x (Per.component_forms al cs ps)) e ∙ ap (λ x. both (Per.spelled o' s' v (Per.form al s' v)) x) (b.packed_are al ps (omega arith))
 
   next_packed_added : (al : Bool) (ps : Parts) → depth_of_parts ps ≤ n → Per.addition_forms al (component t o s cs) ps ≡ Per.addition_forms al (component t o' s' cs') ps
@@ -222,8 +226,10 @@ module _ (n : ℕ) (t : List Tag) (o o' : Presence) (s s' : Schema) (cs cs' : Co
   next_packed_added al end d = refl
   next_packed_added al (absent ps) d = λ i. cond (same_required s s' o o' h i) None (option_map (λ xs. None ∷ xs) (b.packed_added al ps d i))
   next_packed_added al (present v ps) d =
-      let e : Per.spelled o s v (Per.open_type al (Per.form al s v)) ≡ Per.spelled o' s' v (Per.open_type al (Per.form al s' v)) = spelled_packed v _ (omega arith) ∙ ap (λ x. Per.spelled o' s' v (Per.open_type al x)) (a.packed_is al v (omega arith)) in
-      ap (λ (x : Per.BitForm). option_map (λ xs. Some x ∷ xs) (Per.addition_forms al cs ps)) e ∙ ap (λ x. option_map (λ xs. Some (Per.spelled o' s' v (Per.open_type al (Per.form al s' v))) ∷ xs) x) (b.packed_added al ps (omega arith))
+      let e : Per.spelled o s v (Per.open_type al (Per.form al s v)) ≡ Per.spelled o' s' v (Per.open_type al (Per.form al s' v)) =
+      spelled_packed v _ (omega arith) ∙ ap (λ x. Per.spelled o' s' v (Per.open_type al x)) (a.packed_is al v (omega arith)) in
+      ap (λ (x : Per.BitForm). option_map (λ xs. Some x ∷ xs) (Per.addition_forms al cs ps)) e
+      ∙ ap (λ x. option_map (λ xs. Some (Per.spelled o' s' v (Per.open_type al (Per.form al s' v))) ∷ xs) x) (b.packed_added al ps (omega arith))
 
   next_octets : (ps : Parts) → depth_of_parts ps ≤ n → Oer.component_forms (component t o s cs) ps ≡ Oer.component_forms (component t o' s' cs') ps
   unfolding Oer.component_forms depth_of_parts
@@ -238,25 +244,47 @@ module _ (n : ℕ) (t : List Tag) (o o' : Presence) (s s' : Schema) (cs cs' : Co
   next_octets_added end d = refl
   next_octets_added (absent ps) d = λ i. cond (same_required s s' o o' h i) None (option_map (λ xs. None ∷ xs) (b.octets_added ps d i))
   next_octets_added (present v ps) d =
-      let e : Oer.spelled o s v (Oer.open_type (Oer.form s v)) ≡ Oer.spelled o' s' v (Oer.open_type (Oer.form s' v)) = spelled_octets v _ (omega arith) ∙ ap (λ x. Oer.spelled o' s' v (Oer.open_type x)) (a.octets_is v (omega arith)) in
-      ap (λ (x : Oer.OctetForm). option_map (λ xs. Some x ∷ xs) (Oer.addition_forms cs ps)) e ∙ ap (λ x. option_map (λ xs. Some (Oer.spelled o' s' v (Oer.open_type (Oer.form s' v))) ∷ xs) x) (b.octets_added ps (omega arith))
+      let e : Oer.spelled o s v (Oer.open_type (Oer.form s v)) ≡ Oer.spelled o' s' v (Oer.open_type (Oer.form s' v)) =
+      spelled_octets v _ (omega arith) ∙ ap (λ x. Oer.spelled o' s' v (Oer.open_type x)) (a.octets_is v (omega arith)) in
+      ap (λ (x : Oer.OctetForm). option_map (λ xs. Some x ∷ xs) (Oer.addition_forms cs ps)) e
+      ∙ ap (λ x. option_map (λ xs. Some (Oer.spelled o' s' v (Oer.open_type (Oer.form s' v))) ∷ xs) x) (b.octets_added ps (omega arith))
 
   pub component_alike : EachAlikeTo n (component t o s cs) (component t o' s' cs')
-  component_alike = record { presence_bits_are = next_presence_bits; normal_are = next_normal; packed_are = next_packed; packed_added = next_packed_added; octets_are = next_octets; octets_added = next_octets_added }
+  component_alike = record {
+    presence_bits_are = next_presence_bits;
+    normal_are = next_normal;
+    packed_are =
+        next_packed;
+    packed_added = next_packed_added;
+    octets_are = next_octets;
+    octets_added = next_octets_added;
+  }
 
 pub none_alike : (n : ℕ) → EachAlikeTo n no_component no_component
-none_alike n = record { presence_bits_are = λ ps. refl; normal_are = λ ps d. refl; packed_are = λ al ps d. refl; packed_added = λ al ps d. refl; octets_are = λ ps d. refl; octets_added = λ ps d. refl }
+none_alike n = record {
+  presence_bits_are = λ ps. refl;
+  normal_are = λ ps d. refl;
+  packed_are = λ al ps d. refl;
+  packed_added =
+      λ al ps d. refl;
+  octets_are = λ ps d. refl;
+  octets_added = λ ps d. refl;
+}
 
 -- ---- sequences, sets and groups
 module _ (n : ℕ) (cs cs' : Components) (e : Bool) (adds adds' : Components) (a : EachAlikeTo n cs cs') (b : EachAlikeTo n adds adds') where
-  fields_packed : (al : Bool) (ps qs : Parts) → max (depth_of_parts ps) (depth_of_parts qs) ≤ n → given (Per.addition_forms al adds qs) (Per.sequence_form al e (presence_bits cs ps) (Per.component_forms al cs ps)) ≡ given (Per.addition_forms al adds' qs) (Per.sequence_form al e (presence_bits cs' ps) (Per.component_forms al cs' ps))
+  fields_packed : (al : Bool) (ps qs : Parts) → max (depth_of_parts ps) (depth_of_parts qs) ≤ n →
+      given (Per.addition_forms al adds qs) (Per.sequence_form al e (presence_bits cs ps) (Per.component_forms al cs ps))
+      ≡ given (Per.addition_forms al adds' qs) (Per.sequence_form al e (presence_bits cs' ps) (Per.component_forms al cs' ps))
   fields_packed al ps qs d =
       let x = a.presence_bits_are ps in
       let y = a.packed_are al ps (omega arith) in
       let z = b.packed_added al qs (omega arith) in
       rw (x, y, z) refl
 
-  fields_octets : (ps qs : Parts) → max (depth_of_parts ps) (depth_of_parts qs) ≤ n → given (Oer.addition_forms adds qs) (Oer.sequence_form e (presence_bits cs ps) (Oer.component_forms cs ps)) ≡ given (Oer.addition_forms adds' qs) (Oer.sequence_form e (presence_bits cs' ps) (Oer.component_forms cs' ps))
+  fields_octets : (ps qs : Parts) → max (depth_of_parts ps) (depth_of_parts qs) ≤ n →
+      given (Oer.addition_forms adds qs) (Oer.sequence_form e (presence_bits cs ps) (Oer.component_forms cs ps))
+      ≡ given (Oer.addition_forms adds' qs) (Oer.sequence_form e (presence_bits cs' ps) (Oer.component_forms cs' ps))
   fields_octets ps qs d =
       let x = a.presence_bits_are ps in
       let y = a.octets_are ps (omega arith) in
@@ -384,12 +412,22 @@ mutual
 
   pub agree : (n : ℕ) (s s' : Schema) → is_tidy s ≡ true → is_tidy s' ≡ true → AgreesTo n s s' → AlikeTo n s s'
   agree zero s s' l l' h = zero_alike s s' h
-  agree (suc n) (sequence_of z c s) (sequence_of z' c' s') l l' h = subst (λ x. AlikeTo (suc n) (sequence_of z c s) (sequence_of x c' s')) h.0 (subst (λ x. AlikeTo (suc n) (sequence_of z c s) (sequence_of z x s')) h.1 (list_alike n z c s s' (agree n s s' l l' h.2)))
-  agree (suc n) (set_of z c s) (set_of z' c' s') l l' h = subst (λ x. AlikeTo (suc n) (set_of z c s) (set_of x c' s')) h.0 (subst (λ x. AlikeTo (suc n) (set_of z c s) (set_of z x s')) h.1 (bag_alike n z c s s' (agree n s s' l l' h.2)))
-  agree (suc n) (sequence cs e adds) (sequence cs' e' adds') l l' h = subst (λ x. AlikeTo (suc n) (sequence cs e adds) (sequence cs' x adds')) h.1 (sequence_alike n cs cs' e adds adds' (agree_each n cs cs' ((and_parts _ _ l).0) ((and_parts _ _ l').0) h.0) (agree_each n adds adds' ((and_parts _ _ l).1) ((and_parts _ _ l').1) h.2))
-  agree (suc n) (set cs e adds) (set cs' e' adds') l l' h = subst (λ x. AlikeTo (suc n) (set cs e adds) (set cs' x adds')) h.1 (set_alike n cs cs' e adds adds' (agree_each n cs cs' ((and_parts _ _ l).0) ((and_parts _ _ l').0) h.0) (agree_each n adds adds' ((and_parts _ _ l).1) ((and_parts _ _ l').1) h.2))
+  agree (suc n) (sequence_of z c s) (sequence_of z' c' s') l l' h =
+      subst (λ x. AlikeTo (suc n) (sequence_of z c s) (sequence_of x c' s')) h.0
+      (subst (λ x. AlikeTo (suc n) (sequence_of z c s) (sequence_of z x s')) h.1 (list_alike n z c s s' (agree n s s' l l' h.2)))
+  agree (suc n) (set_of z c s) (set_of z' c' s') l l' h =
+      subst (λ x. AlikeTo (suc n) (set_of z c s) (set_of x c' s')) h.0 (subst (λ x. AlikeTo (suc n) (set_of z c s) (set_of z x s')) h.1 (bag_alike n z c s s' (agree n s s' l l' h.2)))
+  agree (suc n) (sequence cs e adds) (sequence cs' e' adds') l l' h =
+      subst (λ x. AlikeTo (suc n) (sequence cs e adds) (sequence cs' x adds')) h.1
+      (sequence_alike n cs cs' e adds adds' (agree_each n cs cs' ((and_parts _ _ l).0) ((and_parts _ _ l').0) h.0) (agree_each n adds adds' ((and_parts _ _ l).1) ((and_parts _ _ l').1) h.2))
+  agree (suc n) (set cs e adds) (set cs' e' adds') l l' h =
+      subst (λ x. AlikeTo (suc n) (set cs e adds) (set cs' x adds')) h.1
+      (set_alike n cs cs' e adds adds' (agree_each n cs cs' ((and_parts _ _ l).0) ((and_parts _ _ l').0) h.0) (agree_each n adds adds' ((and_parts _ _ l).1) ((and_parts _ _ l').1) h.2))
   agree (suc n) (group cs) (group cs') l l' h = group_alike n cs cs' (agree_each n cs cs' l l' h)
-  agree (suc n) (choice roots e adds) (choice roots' e' adds') l l' h = subst (λ x. AlikeTo (suc n) (choice roots e adds) (choice roots' x adds')) h.1 (choice_alike n roots roots' e adds adds' (agree_alternatives n roots roots' ((and_parts _ _ l).0) ((and_parts _ _ l').0) h.0) (agree_alternatives n adds adds' ((and_parts _ _ l).1) ((and_parts _ _ l').1) h.2))
+  agree (suc n) (choice roots e adds) (choice roots' e' adds') l l' h =
+      subst (λ x. AlikeTo (suc n) (choice roots e adds) (choice roots' x adds')) h.1
+      (choice_alike n roots roots' e adds adds' (agree_alternatives n roots roots' ((and_parts _ _ l).0) ((and_parts _ _ l').0) h.0)
+      (agree_alternatives n adds adds' ((and_parts _ _ l).1) ((and_parts _ _ l').1) h.2))
   agree (suc n) s s' l l' h = equal_alike (suc n) s s' h
 
   agree_each : (n : ℕ) (cs cs' : Components) → are_tidy cs ≡ true → are_tidy cs' ≡ true → AgreesEach n cs cs' → EachAlikeTo n cs cs'
@@ -400,13 +438,16 @@ mutual
       let k = tidy_default s s' o ((and_parts _ _ ((and_parts _ _ l).0)).0) (subst (λ x. has_normal_default s' x ≡ true) (sym h.1) ((and_parts _ _ ((and_parts _ _ l').0)).0)) in
       let x = agree n s s' ((and_parts _ _ ((and_parts _ _ l).0)).1) ((and_parts _ _ ((and_parts _ _ l').0)).1) h.2 in
       let y = agree_each n cs cs' ((and_parts _ _ l).1) ((and_parts _ _ l').1) h.3 in
-      subst (λ x. EachAlikeTo n (component t o s cs) (component x o' s' cs')) h.0 (subst (λ x. EachAlikeTo n (component t o s cs) (component t x s' cs')) h.1 (component_alike n t o o s s' cs cs' k x y))
+      subst (λ x. EachAlikeTo n (component t o s cs) (component x o' s' cs')) h.0
+      (subst (λ x. EachAlikeTo n (component t o s cs) (component t x s' cs')) h.1 (component_alike n t o o s s' cs cs' k x y))
 
   agree_alternatives : (n : ℕ) (os os' : Alternatives) → are_tidy_alternatives os ≡ true → are_tidy_alternatives os' ≡ true → AgreesAlternatives n os os' → AlternativesAlikeTo n os os'
   agree_alternatives n no_alternative no_alternative l l' h = no_alternative_alike n
   agree_alternatives n no_alternative (alternative t' s' os') l l' h = absurd h
   agree_alternatives n (alternative t s os) no_alternative l l' h = absurd h
-  agree_alternatives n (alternative t s os) (alternative t' s' os') l l' h = subst (λ x. AlternativesAlikeTo n (alternative t s os) (alternative x s' os')) h.0 (alternative_alike n t s s' os os' (agree n s s' ((and_parts _ _ l).0) ((and_parts _ _ l').0) h.1) (agree_alternatives n os os' ((and_parts _ _ l).1) ((and_parts _ _ l').1) h.2))
+  agree_alternatives n (alternative t s os) (alternative t' s' os') l l' h =
+      subst (λ x. AlternativesAlikeTo n (alternative t s os) (alternative x s' os')) h.0
+      (alternative_alike n t s s' os os' (agree n s s' ((and_parts _ _ l).0) ((and_parts _ _ l').0) h.1) (agree_alternatives n os os' ((and_parts _ _ l).1) ((and_parts _ _ l').1) h.2))
 
 -- ---- encodings
 messages_are : (al : Bool) (n : ℕ) (s s' : Schema) (v : Value) → AlikeTo n s s' → depth v ≤ n → Per.message al s v ≡ Per.message al s' v
@@ -439,10 +480,12 @@ reading_is aper_strict n s s' v w h d = let e = messages_are true n s s' v h d i
 reading_is oer n s s' v w h d = let e = h.octets_is v d in rw e refl
 reading_is coer n s s' v w h d = let e = h.octets_is v d in rw e refl
 
-pub alike_means_the_same : (r : Rules) (n : ℕ) (s s' : Schema) (v : Value) (w : List ℕ) → AlikeTo n s s' → depth v ≤ n → (normal s v ≡ normal s' v) × (canonical r s v ≡ canonical r s' v) × (IsEncoding r s v w → IsEncoding r s' v w) × (IsEncoding r s' v w → IsEncoding r s v w)
+pub alike_means_the_same : (r : Rules) (n : ℕ) (s s' : Schema) (v : Value) (w : List ℕ) → AlikeTo n s s' → depth v ≤ n →
+    (normal s v ≡ normal s' v) × (canonical r s v ≡ canonical r s' v) × (IsEncoding r s v w → IsEncoding r s' v w) × (IsEncoding r s' v w → IsEncoding r s v w)
 alike_means_the_same r n s s' v w h d =
     let e = reading_is r n s s' v w h d in
     (h.normal_is v d, canonical_is r n s s' v h d, λ x. subst (λ (T : Type 0). T) e x, λ x. subst (λ (T : Type 0). T) (sym e) x)
 
-pub means_the_same : (r : Rules) (n : ℕ) (s s' : Schema) (v : Value) (w : List ℕ) → is_tidy s ≡ true → is_tidy s' ≡ true → AgreesTo n s s' → depth v ≤ n → (normal s v ≡ normal s' v) × (canonical r s v ≡ canonical r s' v) × (IsEncoding r s v w → IsEncoding r s' v w) × (IsEncoding r s' v w → IsEncoding r s v w)
+pub means_the_same : (r : Rules) (n : ℕ) (s s' : Schema) (v : Value) (w : List ℕ) → is_tidy s ≡ true → is_tidy s' ≡ true →
+    AgreesTo n s s' → depth v ≤ n → (normal s v ≡ normal s' v) × (canonical r s v ≡ canonical r s' v) × (IsEncoding r s v w → IsEncoding r s' v w) × (IsEncoding r s' v w → IsEncoding r s v w)
 means_the_same r n s s' v w l l' h d = alike_means_the_same r n s s' v w (agree n s s' l l' h) d

@@ -33,7 +33,10 @@ module _ {F : Type 0} {D : F → Type 0} {A : Type 0} where
 
   pub written_both : {x y : Form F D A} {b c : Bool} → Written x b → Written y c → Written (both x y) (b && c)
   unfolding written
-  written_both {x} {y} {b} {c} h k = record { there = λ p. chained (λ a. option_map (λ d. a ++ d) (written y (p + length a))) (written x p) b c (h.there p) (λ a. mapped (λ d. a ++ d) (written y (p + length a)) ∙ k.there (p + length a)) }
+  written_both {x} {y} {b} {c} h k = record {
+    there =
+        λ p. chained (λ a. option_map (λ d. a ++ d) (written y (p + length a))) (written x p) b c (h.there p) (λ a. mapped (λ d. a ++ d) (written y (p + length a)) ∙ k.there (p + length a));
+  }
 
   pub written_placed : {f : ℕ → Form F D A} {b : Bool} → ((p : ℕ) → Written (f p) b) → Written (placed f) b
   unfolding written

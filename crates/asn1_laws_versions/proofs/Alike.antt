@@ -2,7 +2,10 @@
 use Rattle.std.proofs.Common.{◌≡◌, ℕ, zero, suc, Bool, true, false, List, [], ◌∷◌, Option, Some, option_map, option_and_then, refl, ap, sym, ◌∙◌, subst}
 use Rattle.std.proofs.lemmas.Bool.{and_parts, eqb-true}
 use Rattle.asn1_model.specs.Value.{Value, members, bag, fields, chosen, Values, no_more, member, values_of, Parts, end, absent, present, same, same_members, same_parts}
-use Rattle.asn1_model.specs.Schema.{Schema, cut, boolean, null, integer, enumerated, bit_string, octet_string, character_string, object_identifier, sequence_of, set_of, sequence, set, group, choice, Components, no_component, component, Alternatives, no_alternative, alternative}
+use Rattle.asn1_model.specs.Schema.{Schema, cut, boolean, null, integer, enumerated, bit_string, octet_string}
+use Rattle.asn1_model.specs.Schema.{character_string, object_identifier, sequence_of, set_of, sequence, set, group}
+use Rattle.asn1_model.specs.Schema.{choice, Components, no_component, component, Alternatives, no_alternative}
+use Rattle.asn1_model.specs.Schema.{alternative}
 use Rattle.asn1_model.specs.Form.{pick, arranged}
 use Rattle.asn1_model.specs.Versions.{carried, grow, carried_parts, carried_alternative, map_each, Extends, ExtendsEach, ExtendsAlternatives}
 use Rattle.asn1_model.proofs.Forms.{chain_parts, map_parts}
@@ -160,7 +163,8 @@ mutual
   grows_alike (character_string k z a c) s' v x w h e f = (w, refl)
   grows_alike s s' v x w h e f = absurd h
 
-  parts_alike : (more : Bool) (cs cs' : Components) (ps us qs : Parts) → ExtendsEach more cs cs' → carried_parts true cs cs' ps ≡ Some us → same_parts qs ps ≡ true → (rs : Parts) × (carried_parts true cs cs' qs ≡ Some rs)
+  parts_alike : (more : Bool) (cs cs' : Components) (ps us qs : Parts) → ExtendsEach more cs cs' → carried_parts true cs cs' ps
+      ≡ Some us → same_parts qs ps ≡ true → (rs : Parts) × (carried_parts true cs cs' qs ≡ Some rs)
   parts_alike more no_component cs' end us end h e f = (us, e)
   parts_alike more no_component cs' end us (absent qs) h e f = false_true f
   parts_alike more no_component cs' end us (present w qs) h e f = false_true f
@@ -182,7 +186,8 @@ mutual
       (present k.0 l.0, put_part _ k.0 _ l.0 k.1 l.1)
   parts_alike more (component t o s cs) (component t' o' s' cs') (present v ps) us qs h e f = false_true f
 
-  alternative_alike : (more : Bool) (others others' : Alternatives) (i : ℕ) (v x w : Value) → ExtendsAlternatives more others others' → carried_alternative true others others' i v ≡ Some x → same w v ≡ true → Grows (λ v. carried_alternative true others others' i v) w
+  alternative_alike : (more : Bool) (others others' : Alternatives) (i : ℕ) (v x w : Value) →
+      ExtendsAlternatives more others others' → carried_alternative true others others' i v ≡ Some x → same w v ≡ true → Grows (λ v. carried_alternative true others others' i v) w
   alternative_alike more no_alternative others' i v x w h e f = cc
   alternative_alike more (alternative t s others) no_alternative i v x w h e f = absurd h
   alternative_alike more (alternative t s others) (alternative t' s' others') zero v x w h e f = grows_alike s s' v x w h.1 e f

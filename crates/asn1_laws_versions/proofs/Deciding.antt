@@ -12,7 +12,10 @@ use Rattle.asn1_laws_values.proofs.Normal.{normal_stays}
 use Rattle.asn1_laws_values.proofs.Normals.{not_normal}
 use Rattle.asn1_laws_versions.specs.ExactLaws.{is_strict}
 use Rattle.asn1_laws_versions.specs.Answers.{Answer, not_an_encoding, no_target}
-use Rattle.asn1_laws_versions.specs.Routes.{Version, older, newer, Hop, schema_of, Passed, no_hop, newer_alone, an_older, Stage, behind, Cause, unknown, too_deep, clash, missing, unwritable, answer_to, value_written, NestsTooDeep, Holds, HasNoCause, HasCause, GoesThrough, FailsAt}
+use Rattle.asn1_laws_versions.specs.Routes.{Version, older, newer, Hop, schema_of, Passed, no_hop, newer_alone}
+use Rattle.asn1_laws_versions.specs.Routes.{an_older, Stage, behind, Cause, unknown, too_deep, clash, missing}
+use Rattle.asn1_laws_versions.specs.Routes.{unwritable, answer_to, value_written, NestsTooDeep, Holds, HasNoCause}
+use Rattle.asn1_laws_versions.specs.Routes.{HasCause, GoesThrough, FailsAt}
 
 -- it holds, or it does not
 abbrev pub Decided : Type 0 → Type 0
@@ -113,7 +116,8 @@ module _ (old new : Schema) where
   abbrev holds : (p : Stage) (h : Hop) (v : Value) (c : Cause) → Decided (Holds old new p h v c)
   holds p h v unknown = both (both (is_older h.version) (is_not_older p.passed)) (none (drop old new v))
   holds p h v too_deep = both (is_no_hop p.passed) (deep h.version v)
-  holds p h v clash = three (both (is_older h.version) (is_not_older p.passed)) (is_true (is_strict p.from)) (some (λ u. ¬ (normal old u ≡ u)) (drop old new v) (λ u. abnormal old u (is_normal old u) refl))
+  holds p h v clash = three (both (is_older h.version) (is_not_older p.passed)) (is_true (is_strict p.from))
+      (some (λ u. ¬ (normal old u ≡ u)) (drop old new v) (λ u. abnormal old u (is_normal old u) refl))
   holds p h v missing = both (both (is_newer h.version) (is_an_older p.passed)) (some (λ u. grow old new u ≡ None) (drop old new v) (λ u. none (grow old new u)))
   holds p h v unwritable = some (λ x. canonical h.to (schema_of old new h.version) x ≡ None) (value_written old new p.passed h.version v) (λ x. none (canonical h.to (schema_of old new h.version) x))
 

@@ -6,11 +6,10 @@ use Rattle.asn1_model.specs.Lawful.{is_lawful}
 use Rattle.asn1_model.specs.Normal.{normal}
 use Rattle.asn1_model.specs.Tidy.{is_normal}
 use Rattle.asn1_model.specs.Rules.{Rules, uper, aper, uper_strict, aper_strict, oer, coer, canonical, encoding, IsEncoding}
-use Rattle.asn1_model.specs.Versions.{Extends, drop, grow, IsClash}
+use Rattle.asn1_model.specs.Versions.{Extends, drop, grow}
 use Rattle.asn1_model.proofs.Forms.{widens}
-use Rattle.asn1_laws_values.proofs.PerStrict.{message_normal}
-use Rattle.asn1_laws_values.proofs.OerStrict.{octets_normal}
-use Rattle.asn1_laws_values.proofs.IsNormal.{stays_normal}
+use Rattle.asn1_laws_values.proofs.PerRead.{message_normal}
+use Rattle.asn1_laws_values.proofs.OerRead.{octets_normal}
 use Rattle.asn1_laws_fronts.proofs.Forms.{one_front_uper, one_front_aper}
 use Rattle.asn1_laws_fronts.proofs.OctetForms.{one_front_oer}
 use Rattle.asn1_laws_versions.proofs.Messages.{older_reads_uper, older_reads_aper, newer_reads_uper, newer_reads_aper}
@@ -59,7 +58,8 @@ older_reads aper_strict = older_reads_aper
 older_reads oer = older_reads_oer
 older_reads coer = older_reads_oer
 
-newer_reads : (r : Rules) (old new : Schema) (u v : Value) (w : List ℕ) → Extends old new → grow old new (normal old u) ≡ Some v → canonical (lenient_of r) old u ≡ Some w → IsEncoding (lenient_of r) new v w
+newer_reads : (r : Rules) (old new : Schema) (u v : Value) (w : List ℕ) → Extends old new → grow old new (normal old u) ≡ Some v →
+    canonical (lenient_of r) old u ≡ Some w → IsEncoding (lenient_of r) new v w
 newer_reads uper = newer_reads_uper
 newer_reads aper = newer_reads_aper
 newer_reads uper_strict = newer_reads_uper
@@ -67,10 +67,12 @@ newer_reads aper_strict = newer_reads_aper
 newer_reads oer = newer_reads_oer
 newer_reads coer = newer_reads_oer
 
-pub reads_the_drop : (r : Rules) (old new : Schema) (v u x : Value) (w : List ℕ) → is_lawful old ≡ true → Extends old new → drop old new v ≡ Some u → canonical r new v ≡ Some w → IsEncoding r old x w → same x u ≡ true
+pub reads_the_drop : (r : Rules) (old new : Schema) (v u x : Value) (w : List ℕ) → is_lawful old ≡ true → Extends old new →
+    drop old new v ≡ Some u → canonical r new v ≡ Some w → IsEncoding r old x w → same x u ≡ true
 reads_the_drop r old new v u x w l h d e f = one_meaning r old x u w l (reads_alike r old x w f) (older_reads r old new v u w h d (sym (writes_alike r new v) ∙ e))
 
-pub reads_the_growth : (r : Rules) (old new : Schema) (u v x : Value) (w : List ℕ) → is_lawful new ≡ true → Extends old new → grow old new (normal old u) ≡ Some v → canonical r old u ≡ Some w → IsEncoding r new x w → same x v ≡ true
+pub reads_the_growth : (r : Rules) (old new : Schema) (u v x : Value) (w : List ℕ) → is_lawful new ≡ true → Extends old new →
+    grow old new (normal old u) ≡ Some v → canonical r old u ≡ Some w → IsEncoding r new x w → same x v ≡ true
 reads_the_growth r old new u v x w l h g e f = one_meaning r new x v w l (reads_alike r new x w f) (newer_reads r old new u v w h g (sym (writes_alike r old u) ∙ e))
 
 pub strict_uper : (s : Schema) (v : Value) (w : List ℕ) → IsEncoding uper_strict s v w → is_normal s v ≡ true

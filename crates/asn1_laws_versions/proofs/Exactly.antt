@@ -36,40 +36,48 @@ abbrev octets_free : Oer.Freedom → Bool
 octets_free c = lenient c
 
 -- ---- beginnings
-packed_older : (al : Bool) (old new : Schema) (v x : Value) (w a y z : List ℕ) → is_lawful old ≡ true → is_lawful new ≡ true → Extends old new → option_and_then of_moderate_length (per al new v) ≡ Some w → Reads packed_free (Per.message al old x) 0 (octet_bits a) → a ++ y ≡ w ++ z → (a ≡ w) × There (carried false old new v)
+packed_older : (al : Bool) (old new : Schema) (v x : Value) (w a y z : List ℕ) → is_lawful old ≡ true → is_lawful new ≡ true →
+    Extends old new → option_and_then of_moderate_length (per al new v) ≡ Some w →
+    Reads packed_free (Per.message al old x) 0 (octet_bits a) → a ++ y ≡ w ++ z → (a ≡ w) × There (carried false old new v)
 unfolding Per.message
 packed_older al old new v x w a y z l k h e f q =
     let t = per_text al new v w e in
     let g : Reads packed_free (Per.message al new v) 0 (octet_bits w) = (covers_same packed_free (Per.message al new v)).reads 0 (octet_bits w) t.1 in
-    let r = octet_fronts packed_free _ _ _ a w y z (complete_alike packed_free _ _ _ (packing.way packed_free refl refl false al old new h l k x v)) f g q in
+    let r = octet_fronts packed_free _ _ _ a w y z (complete_alike packed_free _ _ _ (packing.way packed_free false al old new h l k x v)) f g q in
     (r.0, r.1.0)
 
-packed_newer : (al : Bool) (old new : Schema) (u x : Value) (w a y z : List ℕ) → is_lawful old ≡ true → is_lawful new ≡ true → Extends old new → option_and_then of_moderate_length (per al old u) ≡ Some w → Reads packed_free (Per.message al new x) 0 (octet_bits a) → a ++ y ≡ w ++ z → (a ≡ w) × There (grow old new u)
+packed_newer : (al : Bool) (old new : Schema) (u x : Value) (w a y z : List ℕ) → is_lawful old ≡ true → is_lawful new ≡ true →
+    Extends old new → option_and_then of_moderate_length (per al old u) ≡ Some w → Reads packed_free (Per.message al new x) 0 (octet_bits a) → a ++ y ≡ w ++ z → (a ≡ w) × There (grow old new u)
 unfolding Per.message Per.complete
 packed_newer al old new u x w a y z l k h e f q =
     let t = per_text al old u w e in
-    let c : Covers packed_free (Per.complete (Per.form al old u)) (Per.complete (as_written packed_free (Per.form al old u))) = covers_within packed_free (covers_written packed_free (Per.form al old u)) (λ b. covers_same packed_free _) in
-    let r = octet_fronts packed_free _ _ _ w a z y (complete_alike packed_free _ _ _ (packing.way packed_free refl refl true al old new h l k u x)) (c.reads 0 (octet_bits w) t.1) f (sym q) in
+    let c : Covers packed_free (Per.complete (Per.form al old u)) (Per.complete (as_written packed_free (Per.form al old u))) =
+    covers_within packed_free (covers_written packed_free (Per.form al old u)) (λ b. covers_same packed_free _) in
+    let r = octet_fronts packed_free _ _ _ w a z y (complete_alike packed_free _ _ _ (packing.way packed_free true al old new h l k u x)) (c.reads 0 (octet_bits w) t.1) f (sym q) in
     (sym r.0, r.1.1 refl)
 
-octets_older : (old new : Schema) (v x : Value) (w a y z : List ℕ) → is_lawful old ≡ true → is_lawful new ≡ true → Extends old new → option_and_then of_moderate_length (octet_encoding new v) ≡ Some w → Reads octets_free (Oer.form old x) 0 a → a ++ y ≡ w ++ z → (a ≡ w) × There (carried false old new v)
+octets_older : (old new : Schema) (v x : Value) (w a y z : List ℕ) → is_lawful old ≡ true → is_lawful new ≡ true → Extends old new →
+    option_and_then of_moderate_length (octet_encoding new v) ≡ Some w → Reads octets_free (Oer.form old x) 0 a → a ++ y ≡ w ++ z → (a ≡ w) × There (carried false old new v)
 octets_older old new v x w a y z l k h e f q =
     let t = octet_text new v w e in
-    let r = (filing.way octets_free refl refl false old new h l k x v).fronts 0 a w y z f ((covers_same octets_free (Oer.form new v)).reads 0 w t.1) q in
+    let r = (filing.way octets_free false old new h l k x v).fronts 0 a w y z f ((covers_same octets_free (Oer.form new v)).reads 0 w t.1) q in
     (r.0, r.1.0)
 
-octets_newer : (old new : Schema) (u x : Value) (w a y z : List ℕ) → is_lawful old ≡ true → is_lawful new ≡ true → Extends old new → option_and_then of_moderate_length (octet_encoding old u) ≡ Some w → Reads octets_free (Oer.form new x) 0 a → a ++ y ≡ w ++ z → (a ≡ w) × There (grow old new u)
+octets_newer : (old new : Schema) (u x : Value) (w a y z : List ℕ) → is_lawful old ≡ true → is_lawful new ≡ true → Extends old new →
+    option_and_then of_moderate_length (octet_encoding old u) ≡ Some w → Reads octets_free (Oer.form new x) 0 a → a ++ y ≡ w ++ z → (a ≡ w) × There (grow old new u)
 octets_newer old new u x w a y z l k h e f q =
     let t = octet_text old u w e in
-    let r = (filing.way octets_free refl refl true old new h l k u x).fronts 0 w a z y (of_text octets_free (Oer.form old u) 0 w t.1) f (sym q) in
+    let r = (filing.way octets_free true old new h l k u x).fronts 0 w a z y (of_text octets_free (Oer.form old u) 0 w t.1) f (sym q) in
     (sym r.0, r.1.1 refl)
 
 -- ---- in all rules
 abbrev OlderFront : Rules → Type 0
-OlderFront r = (old new : Schema) (v x : Value) (w a y z : List ℕ) → is_lawful old ≡ true → is_lawful new ≡ true → Extends old new → canonical r new v ≡ Some w → IsEncoding r old x a → a ++ y ≡ w ++ z → (a ≡ w) × There (drop old new v)
+OlderFront r = (old new : Schema) (v x : Value) (w a y z : List ℕ) → is_lawful old ≡ true → is_lawful new ≡ true → Extends old new →
+    canonical r new v ≡ Some w → IsEncoding r old x a → a ++ y ≡ w ++ z → (a ≡ w) × There (drop old new v)
 
 abbrev NewerFront : Rules → Type 0
-NewerFront r = (old new : Schema) (u x : Value) (w a y z : List ℕ) → is_lawful old ≡ true → is_lawful new ≡ true → Extends old new → canonical r old u ≡ Some w → IsEncoding r new x a → a ++ y ≡ w ++ z → (a ≡ w) × There (grow old new (normal old u))
+NewerFront r = (old new : Schema) (u x : Value) (w a y z : List ℕ) → is_lawful old ≡ true → is_lawful new ≡ true → Extends old new →
+    canonical r old u ≡ Some w → IsEncoding r new x a → a ++ y ≡ w ++ z → (a ≡ w) × There (grow old new (normal old u))
 
 older_front_uper : OlderFront uper
 unfolding canonical encoding IsEncoding
@@ -120,10 +128,12 @@ newer_front r old new u x w a y z l k h e f q = newer_front_lenient r old new u 
 nothing_there : {X : Type 0} {x : X} → None ≡ Some x → ⊥
 nothing_there e = cc
 
-pub older_refuses : (r : Rules) (old new : Schema) (v x : Value) (w a y z : List ℕ) → is_lawful old ≡ true → is_lawful new ≡ true → Extends old new → drop old new v ≡ None → canonical r new v ≡ Some w → IsEncoding r old x a → a ++ y ≡ w ++ z → ⊥
+pub older_refuses : (r : Rules) (old new : Schema) (v x : Value) (w a y z : List ℕ) → is_lawful old ≡ true → is_lawful new ≡ true →
+    Extends old new → drop old new v ≡ None → canonical r new v ≡ Some w → IsEncoding r old x a → a ++ y ≡ w ++ z → ⊥
 older_refuses r old new v x w a y z l k h d e f q = let t = older_front r old new v x w a y z l k h e f q in nothing_there (sym d ∙ t.1.1)
 
-pub newer_refuses : (r : Rules) (old new : Schema) (u x : Value) (w a y z : List ℕ) → is_lawful old ≡ true → is_lawful new ≡ true → Extends old new → grow old new (normal old u) ≡ None → canonical r old u ≡ Some w → IsEncoding r new x a → a ++ y ≡ w ++ z → ⊥
+pub newer_refuses : (r : Rules) (old new : Schema) (u x : Value) (w a y z : List ℕ) → is_lawful old ≡ true → is_lawful new ≡ true →
+    Extends old new → grow old new (normal old u) ≡ None → canonical r old u ≡ Some w → IsEncoding r new x a → a ++ y ≡ w ++ z → ⊥
 newer_refuses r old new u x w a y z l k h d e f q = let t = newer_front r old new u x w a y z l k h e f q in nothing_there (sym d ∙ t.1.1)
 
 -- ---- exactly
@@ -171,7 +181,8 @@ grown_is_read r old new u x w k h e q =
     let c : canonical r old l.0 ≡ canonical r old u = canonical_same r old l.0 u k (subst (λ y. same y (normal old u) ≡ true) (sym n) l.2) in
     newer_reads r old new l.0 x w h (ap (grow old new) n ∙ l.1) (λ t. normal_stays new x (grown_is_normal old new l.0 x h i l.1)) (c ∙ e)
 
-pub older_reads_exactly : (r : Rules) (old new : Schema) (v x : Value) (w : List ℕ) → is_lawful old ≡ true → is_lawful new ≡ true → Extends old new → canonical r new v ≡ Some w → (IsLeft r old new v x → IsEncoding r old x w) × ((a y z : List ℕ) → IsEncoding r old x a → a ++ y ≡ w ++ z → (a ≡ w) × IsLeft r old new v x)
+pub older_reads_exactly : (r : Rules) (old new : Schema) (v x : Value) (w : List ℕ) → is_lawful old ≡ true → is_lawful new ≡ true →
+    Extends old new → canonical r new v ≡ Some w → (IsLeft r old new v x → IsEncoding r old x w) × ((a y z : List ℕ) → IsEncoding r old x a → a ++ y ≡ w ++ z → (a ≡ w) × IsLeft r old new v x)
 older_reads_exactly r old new v x w l k h e = (
   λ q. left_is_read r old new v x w k h e q,
   λ a y z f q.
@@ -180,7 +191,8 @@ older_reads_exactly r old new v x w l k h e = (
       (t.0, (t.1.0, t.1.1, reads_the_drop r old new v t.1.0 x w l h t.1.1 e g, taken_normal r old x w g)),
 )
 
-pub newer_reads_exactly : (r : Rules) (old new : Schema) (u x : Value) (w : List ℕ) → is_lawful old ≡ true → is_lawful new ≡ true → Extends old new → canonical r old u ≡ Some w → (IsGrown old new u x → IsEncoding r new x w) × ((a y z : List ℕ) → IsEncoding r new x a → a ++ y ≡ w ++ z → (a ≡ w) × IsGrown old new u x)
+pub newer_reads_exactly : (r : Rules) (old new : Schema) (u x : Value) (w : List ℕ) → is_lawful old ≡ true → is_lawful new ≡ true →
+    Extends old new → canonical r old u ≡ Some w → (IsGrown old new u x → IsEncoding r new x w) × ((a y z : List ℕ) → IsEncoding r new x a → a ++ y ≡ w ++ z → (a ≡ w) × IsGrown old new u x)
 newer_reads_exactly r old new u x w l k h e = (
   λ q. grown_is_read r old new u x w l h e q,
   λ a y z f q.

@@ -1,7 +1,10 @@
 -- Growing twice is growing once.
 use Rattle.std.proofs.Common.{◌≡◌, ℕ, zero, suc, Bool, true, false, List, Option, Some, None, option_map, option_and_then, refl, ap, sym, ◌∙◌, subst}
 use Rattle.asn1_model.specs.Value.{Value, members, bag, fields, chosen, Values, no_more, member, Parts, end, absent, present}
-use Rattle.asn1_model.specs.Schema.{Tag, Presence, required, optional, by_default, Schema, cut, boolean, null, integer, enumerated, bit_string, octet_string, character_string, object_identifier, sequence_of, set_of, sequence, set, group, choice, Components, no_component, component, Alternatives, no_alternative, alternative}
+use Rattle.asn1_model.specs.Schema.{Tag, Presence, required, optional, by_default, Schema, cut, boolean, null, integer}
+use Rattle.asn1_model.specs.Schema.{enumerated, bit_string, octet_string, character_string, object_identifier}
+use Rattle.asn1_model.specs.Schema.{sequence_of, set_of, sequence, set, group, choice, Components, no_component}
+use Rattle.asn1_model.specs.Schema.{component, Alternatives, no_alternative, alternative}
 use Rattle.asn1_model.specs.Versions.{carried, grow, carried_parts, carried_alternative, all_absent, map_each, both_parts, KeepsPresence, Extends, ExtendsEach, ExtendsAlternatives}
 use Rattle.asn1_model.proofs.Forms.{chain_parts, map_parts}
 use Rattle.asn1_laws_values.proofs.Messages.{some_parts}
@@ -15,7 +18,8 @@ pub both_parts_from : (o p : Option Parts) (ps qs : Parts) → o ≡ Some ps →
 both_parts_from o p ps qs e f = rw (e, f) refl
 
 -- ---- growing twice
-each_twice : (f g h : Value → Option Value) (vs us ws : Values) → ((v u w : Value) → f v ≡ Some u → g u ≡ Some w → h v ≡ Some w) → map_each f vs ≡ Some us → map_each g us ≡ Some ws → map_each h vs ≡ Some ws
+each_twice : (f g h : Value → Option Value) (vs us ws : Values) → ((v u w : Value) → f v ≡ Some u → g u ≡ Some w → h v ≡ Some w) →
+    map_each f vs ≡ Some us → map_each g us ≡ Some ws → map_each h vs ≡ Some ws
 each_twice f g h no_more us ws k e i = let a : no_more ≡ us = some_parts e in subst (λ us. map_each g us ≡ Some ws) (sym a) i
 each_twice f g h (member v vs) us ws k e i =
     let a = chain_parts (f v) (λ w. option_map (λ ws. member w ws) (map_each f vs)) us e in
@@ -28,7 +32,8 @@ each_twice f g h (member v vs) us ws k e i =
     rest : (o : Option Value) (w : Value) (p : Option Values) (ws : Values) → o ≡ Some w → p ≡ Some ws → option_and_then (λ w. option_map (λ ws. member w ws) p) o ≡ Some (member w ws)
     rest o w p ws e f = rw (e, f) refl
 
-kept_absent : (s s' : Schema) (o o' : Presence) (t t' : List Tag) (cs cs' : Components) (us : Parts) (p : Option Parts) → KeepsPresence s s' o o' → all_absent (component t o s cs) ≡ Some us → p ≡ all_absent cs' → option_map absent p ≡ all_absent (component t' o' s' cs')
+kept_absent : (s s' : Schema) (o o' : Presence) (t t' : List Tag) (cs cs' : Components) (us : Parts) (p : Option Parts) →
+    KeepsPresence s s' o o' → all_absent (component t o s cs) ≡ Some us → p ≡ all_absent cs' → option_map absent p ≡ all_absent (component t' o' s' cs')
 kept_absent s s' required required t t' cs cs' us p h e q = cc
 kept_absent s s' optional optional t t' cs cs' us p h e q = ap (option_map absent) q
 kept_absent s s' (by_default d) (by_default d') t t' cs cs' us p h e q = ap (option_map absent) q
@@ -46,7 +51,8 @@ absent_twice more no_component cs' us h e = let a : end ≡ us = some_parts e in
 absent_twice more (component t o s cs) no_component us h e = absurd h
 absent_twice more (component t o s cs) (component t' o' s' cs') us h e =
     let b = absent_of o s t cs us e in
-    subst (λ us. carried_parts true (component t o s cs) (component t' o' s' cs') us ≡ all_absent (component t' o' s' cs')) b.2 (kept_absent s s' o o' t t' cs cs' us (carried_parts true cs cs' b.0) h.1 e (absent_twice more cs cs' b.0 h.3 b.1))
+    subst (λ us. carried_parts true (component t o s cs) (component t' o' s' cs') us ≡ all_absent (component t' o' s' cs')) b.2
+    (kept_absent s s' o o' t t' cs cs' us (carried_parts true cs cs' b.0) h.1 e (absent_twice more cs cs' b.0 h.3 b.1))
 
 -- a value that is unchanged
 stays : (f : Value → Option Value) (v u w : Value) → Some v ≡ Some u → f u ≡ Some w → f v ≡ Some w
@@ -114,7 +120,8 @@ mutual
   grown_twice (character_string n z a c) (character_string n' z' a' c') r v u w h k e f = stays (λ u. grow (character_string n' z' a' c') r u) v u w e f
   grown_twice s t r v u w h k e f = absurd h
 
-  parts_twice : (more more' : Bool) (cs ds es : Components) (ps qs rs : Parts) → ExtendsEach more cs ds → ExtendsEach more' ds es → carried_parts true cs ds ps ≡ Some qs → carried_parts true ds es qs ≡ Some rs → carried_parts true cs es ps ≡ Some rs
+  parts_twice : (more more' : Bool) (cs ds es : Components) (ps qs rs : Parts) → ExtendsEach more cs ds → ExtendsEach more' ds es →
+      carried_parts true cs ds ps ≡ Some qs → carried_parts true ds es qs ≡ Some rs → carried_parts true cs es ps ≡ Some rs
   parts_twice more more' no_component ds es end qs rs h k e f = sym (absent_twice more' ds es qs k e) ∙ f
   parts_twice more more' no_component ds es (absent ps) qs rs h k e f = cc
   parts_twice more more' no_component ds es (present v ps) qs rs h k e f = cc
@@ -123,13 +130,15 @@ mutual
   parts_twice more more' (component t o s cs) (component t' o' s' ds) (component y i r es) end qs rs h k e f = cc
   parts_twice more more' (component t o s cs) (component t' o' s' ds) (component y i r es) (absent ps) qs rs h k e f =
       let a = map_parts (carried_parts true cs ds ps) absent qs e in
-      let g : carried_parts true (component t' o' s' ds) (component y i r es) (absent a.0) ≡ Some rs = subst (λ q. carried_parts true (component t' o' s' ds) (component y i r es) q ≡ Some rs) (sym a.2) f in
+      let g : carried_parts true (component t' o' s' ds) (component y i r es) (absent a.0) ≡ Some rs =
+      subst (λ q. carried_parts true (component t' o' s' ds) (component y i r es) q ≡ Some rs) (sym a.2) f in
       let b = map_parts (carried_parts true ds es a.0) absent rs g in
       ap (option_map absent) (parts_twice more more' cs ds es ps a.0 b.0 h.3 k.3 a.1 b.1) ∙ ap Some b.2
   parts_twice more more' (component t o s cs) (component t' o' s' ds) (component y i r es) (present v ps) qs rs h k e f =
       let a = chain_parts (grow s s' v) (λ w. option_map (λ q. present w q) (carried_parts true cs ds ps)) qs e in
       let b = map_parts (carried_parts true cs ds ps) (λ q. present a.0 q) qs a.2 in
-      let g : carried_parts true (component t' o' s' ds) (component y i r es) (present a.0 b.0) ≡ Some rs = subst (λ q. carried_parts true (component t' o' s' ds) (component y i r es) q ≡ Some rs) (sym b.2) f in
+      let g : carried_parts true (component t' o' s' ds) (component y i r es) (present a.0 b.0) ≡ Some rs =
+      subst (λ q. carried_parts true (component t' o' s' ds) (component y i r es) q ≡ Some rs) (sym b.2) f in
       let c = chain_parts (grow s' r a.0) (λ w. option_map (λ q. present w q) (carried_parts true ds es b.0)) rs g in
       let d = map_parts (carried_parts true ds es b.0) (λ q. present c.0 q) rs c.2 in
       put (grow s r v) c.0 (carried_parts true cs es ps) d.0 (grown_twice s s' r v a.0 c.0 h.2 k.2 a.1 c.1) (parts_twice more more' cs ds es ps b.0 d.0 h.3 k.3 b.1 d.1) ∙ ap Some d.2
@@ -137,7 +146,8 @@ mutual
       put : (o : Option Value) (w : Value) (p : Option Parts) (q : Parts) → o ≡ Some w → p ≡ Some q → option_and_then (λ w. option_map (λ q. present w q) p) o ≡ Some (present w q)
       put o w p q e f = rw (e, f) refl
 
-  alternative_twice : (more more' : Bool) (as_ bs cs : Alternatives) (i : ℕ) (v u w : Value) → ExtendsAlternatives more as_ bs → ExtendsAlternatives more' bs cs → carried_alternative true as_ bs i v ≡ Some u → carried_alternative true bs cs i u ≡ Some w → carried_alternative true as_ cs i v ≡ Some w
+  alternative_twice : (more more' : Bool) (as_ bs cs : Alternatives) (i : ℕ) (v u w : Value) → ExtendsAlternatives more as_ bs →
+      ExtendsAlternatives more' bs cs → carried_alternative true as_ bs i v ≡ Some u → carried_alternative true bs cs i u ≡ Some w → carried_alternative true as_ cs i v ≡ Some w
   alternative_twice more more' no_alternative bs cs i v u w h k e f = cc
   alternative_twice more more' (alternative t s as_) no_alternative cs i v u w h k e f = absurd h
   alternative_twice more more' (alternative t s as_) (alternative t' s' bs) no_alternative i v u w h k e f = absurd k

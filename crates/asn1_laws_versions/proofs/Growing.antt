@@ -2,7 +2,10 @@
 use Rattle.std.proofs.Common.{◌≡◌, ◌⊎◌, inl, inr, ℕ, zero, suc, Bool, true, false, ◌||◌, List, Option, Some, None, option_map, option_and_then, refl, ap}
 use Rattle.std.proofs.lemmas.Bool.{and_parts}
 use Rattle.asn1_model.specs.Value.{Value, members, bag, fields, chosen, Values, no_more, member, Parts, end, absent, present, map_members, are_absent}
-use Rattle.asn1_model.specs.Schema.{Tag, Presence, required, optional, by_default, Schema, cut, boolean, null, integer, enumerated, bit_string, octet_string, character_string, object_identifier, sequence_of, set_of, sequence, set, group, choice, Components, no_component, component, Alternatives, no_alternative, alternative}
+use Rattle.asn1_model.specs.Schema.{Tag, Presence, required, optional, by_default, Schema, cut, boolean, null, integer}
+use Rattle.asn1_model.specs.Schema.{enumerated, bit_string, octet_string, character_string, object_identifier}
+use Rattle.asn1_model.specs.Schema.{sequence_of, set_of, sequence, set, group, choice, Components, no_component}
+use Rattle.asn1_model.specs.Schema.{component, Alternatives, no_alternative, alternative}
 use Rattle.asn1_model.specs.Normal.{normal, normal_parts, normal_alternative, is_empty_group, is_default_by}
 use Rattle.asn1_model.specs.Value.{are_all}
 use Rattle.asn1_model.specs.Lawful.{is_of, are_of, is_of_alternative}
@@ -26,7 +29,8 @@ either_true true b e = inl refl
 either_true false b e = inr e
 
 -- ---- elements
-members_grow : (g : Value → Option Value) (f : Value → Value) (test : Value → Bool) (vs us : Values) → ((v u : Value) → test v ≡ true → g (f v) ≡ Some u → Grows g v) → are_all test vs ≡ true → map_each g (map_members f vs) ≡ Some us → (ws : Values) × (map_each g vs ≡ Some ws)
+members_grow : (g : Value → Option Value) (f : Value → Value) (test : Value → Bool) (vs us : Values) →
+    ((v u : Value) → test v ≡ true → g (f v) ≡ Some u → Grows g v) → are_all test vs ≡ true → map_each g (map_members f vs) ≡ Some us → (ws : Values) × (map_each g vs ≡ Some ws)
 members_grow g f test no_more us k t e = (no_more, refl)
 members_grow g f test (member v vs) us k t e =
     let p = and_parts _ _ t in
@@ -36,7 +40,8 @@ members_grow g f test (member v vs) us k t e =
     (member y.0 ys.0, each_again g v y.0 vs ys.0 y.1 ys.1)
 
 -- ---- what is left out in the normal form
-kept_absent : (t t' : List Tag) (o o' : Presence) (s s' : Schema) (cs cs' : Components) (b : Bool) (x : Value) (ps : Parts) → (are_absent ps ≡ true → PartsGrow cs cs' ps) → are_absent (cond b (absent ps) (present x ps)) ≡ true → PartsGrow (component t o s cs) (component t' o' s' cs') (cond b (absent ps) (present x ps))
+kept_absent : (t t' : List Tag) (o o' : Presence) (s s' : Schema) (cs cs' : Components) (b : Bool) (x : Value) (ps : Parts) →
+    (are_absent ps ≡ true → PartsGrow cs cs' ps) → are_absent (cond b (absent ps) (present x ps)) ≡ true → PartsGrow (component t o s cs) (component t' o' s' cs') (cond b (absent ps) (present x ps))
 unfolding carried_parts
 kept_absent t t' o o' s s' cs cs' true x ps k a = let u = k a in (absent u.0, ap (option_map absent) u.1)
 kept_absent t t' o o' s s' cs cs' false x ps k a = cc
@@ -72,12 +77,15 @@ default_grows s s' (by_default d) optional x h k e = absurd k
 default_grows s s' required o' x h k e = cc
 default_grows s s' optional o' x h k e = cc
 
-left_out_grows : (s s' : Schema) (o o' : Presence) (v : Value) → Extends s s' → KeepsPresence s s' o o' → is_of s v ≡ true → (is_default_by (λ d. normal s d) o (normal s v) ≡ true) ⊎ (is_empty_group s (normal s v) ≡ true) → Grows (λ v. grow s s' v) (normal s v)
+left_out_grows : (s s' : Schema) (o o' : Presence) (v : Value) → Extends s s' → KeepsPresence s s' o o' → is_of s v ≡ true →
+    (is_default_by (λ d. normal s d) o (normal s v) ≡ true) ⊎ (is_empty_group s (normal s v) ≡ true) → Grows (λ v. grow s s' v) (normal s v)
 left_out_grows s s' o o' v h p k (inl e) = default_grows s s' o o' (normal s v) h p e
 left_out_grows s s' o o' v h p k (inr e) = empty_grows s s' v h k e
 
 -- a part that is left out or kept, and the further ones
-kept_grows : (t t' : List Tag) (o o' : Presence) (s s' : Schema) (cs cs' : Components) (b : Bool) (x : Value) (ps us : Parts) → (b ≡ true → Grows (λ v. grow s s' v) x) → carried_parts true (component t o s cs) (component t' o' s' cs') (cond b (absent ps) (present x ps)) ≡ Some us → Grows (λ v. grow s s' v) x × PartsGrow cs cs' ps
+kept_grows : (t t' : List Tag) (o o' : Presence) (s s' : Schema) (cs cs' : Components) (b : Bool) (x : Value) (ps us : Parts) →
+    (b ≡ true → Grows (λ v. grow s s' v) x) →
+    carried_parts true (component t o s cs) (component t' o' s' cs') (cond b (absent ps) (present x ps)) ≡ Some us → Grows (λ v. grow s s' v) x × PartsGrow cs cs' ps
 unfolding carried_parts
 kept_grows t t' o o' s s' cs cs' true x ps us k e = let a = map_parts (carried_parts true cs cs' ps) absent us e in (k refl, (a.0, a.1))
 kept_grows t t' o o' s s' cs cs' false x ps us k e =
@@ -158,7 +166,9 @@ mutual
       let l = parts_grow more cs cs' ps b.1.0 h.3 p.1 b.1.1 in
       (present y.0 l.0, put_part _ y.0 _ l.0 y.1 l.1)
 
-  alternative_grows : (more : Bool) (others others' : Alternatives) (i : ℕ) (v x : Value) → ExtendsAlternatives more others others' → is_of_alternative others i v ≡ true → carried_alternative true others others' i (normal_alternative others i v) ≡ Some x → Grows (λ v. carried_alternative true others others' i v) v
+  alternative_grows : (more : Bool) (others others' : Alternatives) (i : ℕ) (v x : Value) →
+      ExtendsAlternatives more others others' → is_of_alternative others i v ≡ true →
+      carried_alternative true others others' i (normal_alternative others i v) ≡ Some x → Grows (λ v. carried_alternative true others others' i v) v
   alternative_grows more no_alternative others' i v x h k e = cc
   alternative_grows more (alternative t s others) no_alternative i v x h k e = absurd h
   alternative_grows more (alternative t s others) (alternative t' s' others') zero v x h k e = grows s s' v x h.1 k e

@@ -3,7 +3,10 @@
 use Rattle.std.proofs.Common.{◌≡◌, ℕ, zero, suc, ◌==◌, Bool, true, false, cond, ◌&&◌, Option, Some, None, option_map, refl, ap, sym, subst}
 use Rattle.std.proofs.lemmas.Bool.{eqb-true}
 use Rattle.asn1_model.specs.Value.{Value, members, bag, fields, chosen, Values, no_more, member, Parts, end, absent, present, same, same_members, same_bag, same_parts, same_truth, taken_out}
-use Rattle.asn1_model.specs.Schema.{Schema, cut, boolean, null, integer, enumerated, bit_string, octet_string, character_string, object_identifier, sequence_of, set_of, sequence, set, group, choice, Components, no_component, component, Alternatives, no_alternative, alternative}
+use Rattle.asn1_model.specs.Schema.{Schema, cut, boolean, null, integer, enumerated, bit_string, octet_string}
+use Rattle.asn1_model.specs.Schema.{character_string, object_identifier, sequence_of, set_of, sequence, set, group}
+use Rattle.asn1_model.specs.Schema.{choice, Components, no_component, component, Alternatives, no_alternative}
+use Rattle.asn1_model.specs.Schema.{alternative}
 use Rattle.asn1_model.specs.Versions.{carried, grow, carried_parts, carried_alternative, all_absent, map_each, Extends, ExtendsEach, ExtendsAlternatives}
 use Rattle.asn1_model.proofs.Forms.{chain_parts, map_parts}
 use Rattle.asn1_laws_values.proofs.Messages.{some_parts}
@@ -68,9 +71,11 @@ taken_grown : (g : Value → Option Value) (v u : Value) (ws ts : Values) → Ke
 taken_grown g v u no_more ts k e f = subst (λ ts. Rests g None (taken_out (λ t. same u t) ts)) (some_parts f) tt
 taken_grown g v u (member w ws) ts k e f =
     let b = each_of g w ws ts f in
-    subst (λ ts. Rests g (taken_out (λ w. same v w) (member w ws)) (taken_out (λ t. same u t) ts)) b.4 (rest_cases g (same v w) (same u b.0) ws b.1 _ _ (k v w u b.0 e b.2) b.3 (more_rest g w b.0 _ _ b.2 (taken_grown g v u ws b.1 k e b.3)))
+    subst (λ ts. Rests g (taken_out (λ w. same v w) (member w ws)) (taken_out (λ t. same u t) ts)) b.4
+    (rest_cases g (same v w) (same u b.0) ws b.1 _ _ (k v w u b.0 e b.2) b.3 (more_rest g w b.0 _ _ b.2 (taken_grown g v u ws b.1 k e b.3)))
 
-with_rests : (g : Value → Option Value) (o p : Option Values) (f h : Values → Bool) → Rests g o p → ((r r' : Values) → map_each g r ≡ Some r' → h r' ≡ f r) → option_map_or h p false ≡ option_map_or f o false
+with_rests : (g : Value → Option Value) (o p : Option Values) (f h : Values → Bool) → Rests g o p →
+    ((r r' : Values) → map_each g r ≡ Some r' → h r' ≡ f r) → option_map_or h p false ≡ option_map_or f o false
 with_rests g None None f h r k = refl
 with_rests g (Some s) (Some s') f h r k = k s s' r
 with_rests g None (Some s') f h r k = absurd r
@@ -85,7 +90,9 @@ bags_grown g no_more no_more us ts k e f = bag_by us no_more ts no_more true (so
 bags_grown g no_more (member w ws) us ts k e f = let b = each_of g w ws ts f in bag_by us no_more ts (member b.0 b.1) false (some_parts e) b.4 refl
 bags_grown g (member v vs) ws us ts k e f =
     let a = each_of g v vs us e in
-    bag_by us (member a.0 a.1) ts ts _ a.4 refl (with_rests g (taken_out (λ w. same v w) ws) (taken_out (λ t. same a.0 t) ts) (λ rest. same_bag vs rest) (λ rest. same_bag a.1 rest) (taken_grown g v a.0 ws ts k a.2 f) (λ r r' q. bags_grown g vs r a.1 r' k a.3 q))
+    bag_by us (member a.0 a.1) ts ts _ a.4 refl
+    (with_rests g (taken_out (λ w. same v w) ws) (taken_out (λ t. same a.0 t) ts) (λ rest. same_bag vs rest)
+    (λ rest. same_bag a.1 rest) (taken_grown g v a.0 ws ts k a.2 f) (λ r r' q. bags_grown g vs r a.1 r' k a.3 q))
 
 -- ---- parts
 absent_same : (cs : Components) (us ts : Parts) → all_absent cs ≡ Some us → all_absent cs ≡ Some ts → same_parts us ts ≡ true
@@ -123,8 +130,10 @@ mutual
       let a = map_parts (map_each (λ v. grow s s' v) vs) members u e in
       let b = map_parts (map_each (λ v. grow s s' v) ws) members t f in
       as_before u (members a.0) t (members b.0) _ a.2 b.2 (members_grown (λ v. grow s s' v) vs ws a.0 b.0 (λ v w u t i j. same_grown s s' v w u t h.2 i j) a.1 b.1)
-  same_grown (sequence_of z c s) (sequence_of z' c' s') (members vs) w u t h e f = let a = map_parts (map_each (λ v. grow s s' v) vs) members u e in as_before u (members a.0) t w _ a.2 (some_parts f) refl
-  same_grown (sequence_of z c s) (sequence_of z' c' s') v (members ws) u t h e f = let b = map_parts (map_each (λ v. grow s s' v) ws) members t f in as_before u v t (members b.0) _ (some_parts e) b.2 refl
+  same_grown (sequence_of z c s) (sequence_of z' c' s') (members vs) w u t h e f = let a =
+      map_parts (map_each (λ v. grow s s' v) vs) members u e in as_before u (members a.0) t w _ a.2 (some_parts f) refl
+  same_grown (sequence_of z c s) (sequence_of z' c' s') v (members ws) u t h e f = let b =
+      map_parts (map_each (λ v. grow s s' v) ws) members t f in as_before u v t (members b.0) _ (some_parts e) b.2 refl
   same_grown (sequence_of z c s) (sequence_of z' c' s') v w u t h e f = as_before u v t w _ (some_parts e) (some_parts f) refl
   same_grown (set_of z c s) (set_of z' c' s') (bag vs) (bag ws) u t h e f =
       let a = map_parts (map_each (λ v. grow s s' v) vs) bag u e in
@@ -136,32 +145,41 @@ mutual
   same_grown (sequence cs m adds) (sequence cs' m' adds') (fields ps qs) (fields rs ss) u t h e f =
       let a = both_parts_parts (carried_parts true cs cs' ps) (carried_parts true adds adds' qs) u e in
       let b = both_parts_parts (carried_parts true cs cs' rs) (carried_parts true adds adds' ss) t f in
-      as_before u (fields a.0 a.1) t (fields b.0 b.1) _ a.4 b.4 (fields_grown ps qs rs ss a.0 a.1 b.0 b.1 (parts_grown false cs cs' ps rs a.0 b.0 h.0 a.2 b.2) (parts_grown m adds adds' qs ss a.1 b.1 h.2 a.3 b.3))
-  same_grown (sequence cs m adds) (sequence cs' m' adds') (fields ps qs) w u t h e f = let a = both_parts_parts (carried_parts true cs cs' ps) (carried_parts true adds adds' qs) u e in as_before u (fields a.0 a.1) t w _ a.4 (some_parts f) refl
-  same_grown (sequence cs m adds) (sequence cs' m' adds') v (fields rs ss) u t h e f = let b = both_parts_parts (carried_parts true cs cs' rs) (carried_parts true adds adds' ss) t f in as_before u v t (fields b.0 b.1) _ (some_parts e) b.4 refl
+      as_before u (fields a.0 a.1) t (fields b.0 b.1) _ a.4 b.4
+      (fields_grown ps qs rs ss a.0 a.1 b.0 b.1 (parts_grown false cs cs' ps rs a.0 b.0 h.0 a.2 b.2) (parts_grown m adds adds' qs ss a.1 b.1 h.2 a.3 b.3))
+  same_grown (sequence cs m adds) (sequence cs' m' adds') (fields ps qs) w u t h e f = let a =
+      both_parts_parts (carried_parts true cs cs' ps) (carried_parts true adds adds' qs) u e in as_before u (fields a.0 a.1) t w _ a.4 (some_parts f) refl
+  same_grown (sequence cs m adds) (sequence cs' m' adds') v (fields rs ss) u t h e f = let b =
+      both_parts_parts (carried_parts true cs cs' rs) (carried_parts true adds adds' ss) t f in as_before u v t (fields b.0 b.1) _ (some_parts e) b.4 refl
   same_grown (sequence cs m adds) (sequence cs' m' adds') v w u t h e f = as_before u v t w _ (some_parts e) (some_parts f) refl
   same_grown (set cs m adds) (set cs' m' adds') (fields ps qs) (fields rs ss) u t h e f =
       let a = both_parts_parts (carried_parts true cs cs' ps) (carried_parts true adds adds' qs) u e in
       let b = both_parts_parts (carried_parts true cs cs' rs) (carried_parts true adds adds' ss) t f in
-      as_before u (fields a.0 a.1) t (fields b.0 b.1) _ a.4 b.4 (fields_grown ps qs rs ss a.0 a.1 b.0 b.1 (parts_grown false cs cs' ps rs a.0 b.0 h.0 a.2 b.2) (parts_grown m adds adds' qs ss a.1 b.1 h.2 a.3 b.3))
-  same_grown (set cs m adds) (set cs' m' adds') (fields ps qs) w u t h e f = let a = both_parts_parts (carried_parts true cs cs' ps) (carried_parts true adds adds' qs) u e in as_before u (fields a.0 a.1) t w _ a.4 (some_parts f) refl
-  same_grown (set cs m adds) (set cs' m' adds') v (fields rs ss) u t h e f = let b = both_parts_parts (carried_parts true cs cs' rs) (carried_parts true adds adds' ss) t f in as_before u v t (fields b.0 b.1) _ (some_parts e) b.4 refl
+      as_before u (fields a.0 a.1) t (fields b.0 b.1) _ a.4 b.4
+      (fields_grown ps qs rs ss a.0 a.1 b.0 b.1 (parts_grown false cs cs' ps rs a.0 b.0 h.0 a.2 b.2) (parts_grown m adds adds' qs ss a.1 b.1 h.2 a.3 b.3))
+  same_grown (set cs m adds) (set cs' m' adds') (fields ps qs) w u t h e f = let a =
+      both_parts_parts (carried_parts true cs cs' ps) (carried_parts true adds adds' qs) u e in as_before u (fields a.0 a.1) t w _ a.4 (some_parts f) refl
+  same_grown (set cs m adds) (set cs' m' adds') v (fields rs ss) u t h e f = let b =
+      both_parts_parts (carried_parts true cs cs' rs) (carried_parts true adds adds' ss) t f in as_before u v t (fields b.0 b.1) _ (some_parts e) b.4 refl
   same_grown (set cs m adds) (set cs' m' adds') v w u t h e f = as_before u v t w _ (some_parts e) (some_parts f) refl
   same_grown (group cs) (group cs') (fields ps qs) (fields rs ss) u t h e f =
       let a = both_parts_parts (carried_parts true cs cs' ps) (Some qs) u e in
       let b = both_parts_parts (carried_parts true cs cs' rs) (Some ss) t f in
-      as_before u (fields a.0 a.1) t (fields b.0 b.1) _ a.4 b.4 (fields_grown ps qs rs ss a.0 a.1 b.0 b.1 (parts_grown false cs cs' ps rs a.0 b.0 h a.2 b.2) (parts_by a.1 qs b.1 ss _ (some_parts a.3) (some_parts b.3) refl))
+      as_before u (fields a.0 a.1) t (fields b.0 b.1) _ a.4 b.4
+      (fields_grown ps qs rs ss a.0 a.1 b.0 b.1 (parts_grown false cs cs' ps rs a.0 b.0 h a.2 b.2) (parts_by a.1 qs b.1 ss _ (some_parts a.3) (some_parts b.3) refl))
   same_grown (group cs) (group cs') (fields ps qs) w u t h e f = let a = both_parts_parts (carried_parts true cs cs' ps) (Some qs) u e in as_before u (fields a.0 a.1) t w _ a.4 (some_parts f) refl
   same_grown (group cs) (group cs') v (fields rs ss) u t h e f = let b = both_parts_parts (carried_parts true cs cs' rs) (Some ss) t f in as_before u v t (fields b.0 b.1) _ (some_parts e) b.4 refl
   same_grown (group cs) (group cs') v w u t h e f = as_before u v t w _ (some_parts e) (some_parts f) refl
   same_grown (choice roots m adds) (choice roots' m' adds') (chosen false i v) (chosen false j w) u t h e f =
       let a = map_parts (carried_alternative true roots roots' i v) (λ w. chosen false i w) u e in
       let b = map_parts (carried_alternative true roots roots' j w) (λ w. chosen false j w) t f in
-      as_before u (chosen false i a.0) t (chosen false j b.0) _ a.2 b.2 (chosen_grown false i j v w a.0 b.0 (λ n. alternative_grown false roots roots' i v w a.0 b.0 h.0 a.1 (subst (λ k. carried_alternative true roots roots' k w ≡ Some b.0) (sym n) b.1)))
+      as_before u (chosen false i a.0) t (chosen false j b.0) _ a.2 b.2
+      (chosen_grown false i j v w a.0 b.0 (λ n. alternative_grown false roots roots' i v w a.0 b.0 h.0 a.1 (subst (λ k. carried_alternative true roots roots' k w ≡ Some b.0) (sym n) b.1)))
   same_grown (choice roots m adds) (choice roots' m' adds') (chosen true i v) (chosen true j w) u t h e f =
       let a = map_parts (carried_alternative true adds adds' i v) (λ w. chosen true i w) u e in
       let b = map_parts (carried_alternative true adds adds' j w) (λ w. chosen true j w) t f in
-      as_before u (chosen true i a.0) t (chosen true j b.0) _ a.2 b.2 (chosen_grown true i j v w a.0 b.0 (λ n. alternative_grown m adds adds' i v w a.0 b.0 h.2 a.1 (subst (λ k. carried_alternative true adds adds' k w ≡ Some b.0) (sym n) b.1)))
+      as_before u (chosen true i a.0) t (chosen true j b.0) _ a.2 b.2
+      (chosen_grown true i j v w a.0 b.0 (λ n. alternative_grown m adds adds' i v w a.0 b.0 h.2 a.1 (subst (λ k. carried_alternative true adds adds' k w ≡ Some b.0) (sym n) b.1)))
   same_grown (choice roots m adds) (choice roots' m' adds') (chosen false i v) (chosen true j w) u t h e f =
       let a = map_parts (carried_alternative true roots roots' i v) (λ w. chosen false i w) u e in
       let b = map_parts (carried_alternative true adds adds' j w) (λ w. chosen true j w) t f in
@@ -170,10 +188,14 @@ mutual
       let a = map_parts (carried_alternative true adds adds' i v) (λ w. chosen true i w) u e in
       let b = map_parts (carried_alternative true roots roots' j w) (λ w. chosen false j w) t f in
       as_before u (chosen true i a.0) t (chosen false j b.0) _ a.2 b.2 refl
-  same_grown (choice roots m adds) (choice roots' m' adds') (chosen false i v) w u t h e f = let a = map_parts (carried_alternative true roots roots' i v) (λ w. chosen false i w) u e in as_before u (chosen false i a.0) t w _ a.2 (some_parts f) refl
-  same_grown (choice roots m adds) (choice roots' m' adds') (chosen true i v) w u t h e f = let a = map_parts (carried_alternative true adds adds' i v) (λ w. chosen true i w) u e in as_before u (chosen true i a.0) t w _ a.2 (some_parts f) refl
-  same_grown (choice roots m adds) (choice roots' m' adds') v (chosen false j w) u t h e f = let b = map_parts (carried_alternative true roots roots' j w) (λ w. chosen false j w) t f in as_before u v t (chosen false j b.0) _ (some_parts e) b.2 refl
-  same_grown (choice roots m adds) (choice roots' m' adds') v (chosen true j w) u t h e f = let b = map_parts (carried_alternative true adds adds' j w) (λ w. chosen true j w) t f in as_before u v t (chosen true j b.0) _ (some_parts e) b.2 refl
+  same_grown (choice roots m adds) (choice roots' m' adds') (chosen false i v) w u t h e f = let a =
+      map_parts (carried_alternative true roots roots' i v) (λ w. chosen false i w) u e in as_before u (chosen false i a.0) t w _ a.2 (some_parts f) refl
+  same_grown (choice roots m adds) (choice roots' m' adds') (chosen true i v) w u t h e f = let a =
+      map_parts (carried_alternative true adds adds' i v) (λ w. chosen true i w) u e in as_before u (chosen true i a.0) t w _ a.2 (some_parts f) refl
+  same_grown (choice roots m adds) (choice roots' m' adds') v (chosen false j w) u t h e f = let b =
+      map_parts (carried_alternative true roots roots' j w) (λ w. chosen false j w) t f in as_before u v t (chosen false j b.0) _ (some_parts e) b.2 refl
+  same_grown (choice roots m adds) (choice roots' m' adds') v (chosen true j w) u t h e f = let b =
+      map_parts (carried_alternative true adds adds' j w) (λ w. chosen true j w) t f in as_before u v t (chosen true j b.0) _ (some_parts e) b.2 refl
   same_grown (choice roots m adds) (choice roots' m' adds') v w u t h e f = as_before u v t w _ (some_parts e) (some_parts f) refl
   same_grown cut s' v w u t h e f = as_before u v t w _ (some_parts e) (some_parts f) refl
   same_grown boolean s' v w u t h e f = as_before u v t w _ (some_parts e) (some_parts f) refl
@@ -186,7 +208,8 @@ mutual
   same_grown (character_string k z a c) s' v w u t h e f = as_before u v t w _ (some_parts e) (some_parts f) refl
   same_grown s s' v w u t h e f = absurd h
 
-  parts_grown : (more : Bool) (cs cs' : Components) (ps qs us ts : Parts) → ExtendsEach more cs cs' → carried_parts true cs cs' ps ≡ Some us → carried_parts true cs cs' qs ≡ Some ts → same_parts us ts ≡ same_parts ps qs
+  parts_grown : (more : Bool) (cs cs' : Components) (ps qs us ts : Parts) → ExtendsEach more cs cs' → carried_parts true cs cs' ps
+      ≡ Some us → carried_parts true cs cs' qs ≡ Some ts → same_parts us ts ≡ same_parts ps qs
   parts_grown more no_component cs' end end us ts h e f = absent_same cs' us ts e f
   parts_grown more no_component cs' end (absent qs) us ts h e f = cc
   parts_grown more no_component cs' end (present w qs) us ts h e f = cc
@@ -217,7 +240,8 @@ mutual
       let b = map_parts (carried_parts true cs cs' qs) (λ rs. present c.0 rs) ts c.2 in
       parts_by us (present d.0 a.0) ts (present c.0 b.0) _ a.2 b.2 (both_same _ _ _ _ (same_grown s s' v w d.0 c.0 h.2 d.1 c.1) (parts_grown more cs cs' ps qs a.0 b.0 h.3 a.1 b.1))
 
-  alternative_grown : (more : Bool) (others others' : Alternatives) (i : ℕ) (v w u t : Value) → ExtendsAlternatives more others others' → carried_alternative true others others' i v ≡ Some u → carried_alternative true others others' i w ≡ Some t → same u t ≡ same v w
+  alternative_grown : (more : Bool) (others others' : Alternatives) (i : ℕ) (v w u t : Value) →
+      ExtendsAlternatives more others others' → carried_alternative true others others' i v ≡ Some u → carried_alternative true others others' i w ≡ Some t → same u t ≡ same v w
   alternative_grown more no_alternative others' i v w u t h e f = cc
   alternative_grown more (alternative y s others) no_alternative i v w u t h e f = absurd h
   alternative_grown more (alternative y s others) (alternative y' s' others') zero v w u t h e f = same_grown s s' v w u t h.1 e f

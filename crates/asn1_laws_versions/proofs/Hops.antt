@@ -15,15 +15,18 @@ use Rattle.asn1_laws_values.proofs.IsNormal.{stays_normal}
 use Rattle.asn1_laws_values.proofs.Normal.{normal_depth, normal_stays}
 use Rattle.asn1_laws_values.proofs.Same.{same_self}
 use Rattle.asn1_laws_fronts.proofs.Every.{one_front}
-use Rattle.asn1_laws_values.proofs.PerTyped.{message_of}
-use Rattle.asn1_laws_values.proofs.OerTyped.{octets_are_of}
+use Rattle.asn1_laws_values.proofs.PerRead.{message_of}
+use Rattle.asn1_laws_values.proofs.OerRead.{octets_are_of}
 use Rattle.asn1_laws_values.proofs.Typed.{normal_is_of}
 use Rattle.asn1_laws_versions.proofs.Back.{dropped_back}
 use Rattle.asn1_laws_versions.proofs.Levels.{same_depth, grown_depth}
 use Rattle.asn1_laws_versions.specs.ExactLaws.{is_strict, MayBeRead}
 use Rattle.asn1_laws_versions.proofs.Exactly.{older_refuses, newer_refuses, older_reads_exactly, newer_reads_exactly}
 use Rattle.asn1_laws_versions.specs.Answers.{IsMessage, Answer, not_an_encoding, no_target, IsAnswer}
-use Rattle.asn1_laws_versions.specs.Routes.{Version, older, newer, Hop, schema_of, HopAnswers, Passed, no_hop, newer_alone, an_older, Stage, at_first, and_one, Cause, unknown, too_deep, clash, missing, unwritable, answer_to, value_written, Holds, HasNoCause, HasCause, StandsWritten, IsSeen}
+use Rattle.asn1_laws_versions.specs.Routes.{Version, older, newer, Hop, schema_of, HopAnswers, Passed, no_hop}
+use Rattle.asn1_laws_versions.specs.Routes.{newer_alone, an_older, Stage, at_first, and_one, Cause, unknown, too_deep}
+use Rattle.asn1_laws_versions.specs.Routes.{clash, missing, unwritable, answer_to, value_written, Holds, HasNoCause}
+use Rattle.asn1_laws_versions.specs.Routes.{HasCause, StandsWritten, IsSeen}
 use Rattle.asn1_laws_versions.specs.RouteLaws.{HandsOn}
 use Rattle.asn1_laws_versions.proofs.Answers.{whole}
 use Rattle.asn1_laws_versions.proofs.Growing.{normal_growth}
@@ -76,7 +79,8 @@ module _ (old new : Schema) (lo : IsLawful old) (ln : IsLawful new) (ext : Exten
   unknown_unread r v w d e = λ front behind further x m q. older_refuses r old new v x w front behind further lo ln ext d e m.0 q
 
   -- what is read is what is left
-  left_of : (r : Rules) (v x u : Value) (w front behind further : List ℕ) → canonical r new v ≡ Some w → drop old new v ≡ Some u → IsMessage r old x front → front ++ behind ≡ w ++ further → (same x u ≡ true) × MayBeRead r old x
+  left_of : (r : Rules) (v x u : Value) (w front behind further : List ℕ) → canonical r new v ≡ Some w → drop old new v ≡ Some u →
+      IsMessage r old x front → front ++ behind ≡ w ++ further → (same x u ≡ true) × MayBeRead r old x
   left_of r v x u w front behind further e d m q =
       let t = ((older_reads_exactly r old new v x w lo ln ext e).1 front behind further m.0 q).1 in
       (subst (λ u. same x u ≡ true) (some_parts (sym t.1 ∙ d)) t.2, t.3)
@@ -183,8 +187,10 @@ module _ (old new : Schema) (lo : IsLawful old) (ln : IsLawful new) (ext : Exten
       by_target None e = inr (no_target, (unwritable, (y, value, e), refl, λ f. reads), (x, m, alike h.to ∙ e))
 
   -- a hop of the newer version, with none of the older one before it
-  own : (p : Passed) (from to : Rules) (v : Value) (w : List ℕ) → value_written old new p newer v ≡ Some v → and_one p newer ≡ newer_alone → p ≢ an_older → canonical from new v ≡ Some w → depth (normal new v) ≤ 128 → Step (record { passed = p; from = from }) (record { version = newer; to = to }) v w
-  own p from to v w value next first e d = writes _ _ v (normal new v) v w reads value (own_message from new v w e d) (λ t. normal_written t new v) (λ t f. subst (λ q. StandsWritten old new q to v t) (sym next) (f, d))
+  own : (p : Passed) (from to : Rules) (v : Value) (w : List ℕ) → value_written old new p newer v ≡ Some v → and_one p newer
+      ≡ newer_alone → p ≢ an_older → canonical from new v ≡ Some w → depth (normal new v) ≤ 128 → Step (record { passed = p; from = from }) (record { version = newer; to = to }) v w
+  own p from to v w value next first e d =
+      writes _ _ v (normal new v) v w reads value (own_message from new v w e d) (λ t. normal_written t new v) (λ t f. subst (λ q. StandsWritten old new q to v t) (sym next) (f, d))
     where
       reads : IsRead (record { passed = p; from = from }) (record { version = newer; to = to }) v
       reads unknown a k = let f : newer ≡ older = k.0.0 in cc
@@ -266,11 +272,13 @@ module _ (old new : Schema) (lo : IsLawful old) (ln : IsLawful new) (ext : Exten
             cc
         reads unwritable a i = cc
 
-  by_levels : (from to : Rules) (v : Value) (w : List ℕ) → canonical from new v ≡ Some w → (128 < depth (normal new v)) ⊎ (depth (normal new v) ≤ 128) → Step (record { passed = no_hop; from = from }) (record { version = newer; to = to }) v w
+  by_levels : (from to : Rules) (v : Value) (w : List ℕ) → canonical from new v ≡ Some w →
+      (128 < depth (normal new v)) ⊎ (depth (normal new v) ≤ 128) → Step (record { passed = no_hop; from = from }) (record { version = newer; to = to }) v w
   by_levels from to v w e (inl d) = refuses _ _ v w too_deep refl (refl, d) (own_too_deep from to new v w ln e d)
   by_levels from to v w e (inr d) = own no_hop from to v w refl refl (λ f. cc) e d
 
-  steps : (p : Passed) (from : Rules) (n : Version) (to : Rules) (v : Value) (w : List ℕ) → StandsWritten old new p from v w → Step (record { passed = p; from = from }) (record { version = n; to = to }) v w
+  steps : (p : Passed) (from : Rules) (n : Version) (to : Rules) (v : Value) (w : List ℕ) → StandsWritten old new p from v w →
+      Step (record { passed = p; from = from }) (record { version = n; to = to }) v w
   steps no_hop from newer to v w e = by_levels from to v w e (cases_lt 128 (depth (normal new v)))
   steps no_hop from older to v w e = by_drop no_hop from to v w refl (λ f. cc) e (λ u f d. refl) (drop old new v) refl
   steps newer_alone from newer to v w e = own newer_alone from to v w refl refl (λ f. cc) e.0 e.1

@@ -1,7 +1,10 @@
 -- Nested levels of equal values, and of values that are carried over to a newer version.
 use Rattle.std.proofs.Common.{◌≡◌, ℕ, zero, suc, ◌+◌, ◌≤◌, max, true, false, Option, Some, option_map, refl, ap, sym, subst, arith}
 use Rattle.std.proofs.lemmas.Bool.{and_parts}
-use Rattle.asn1_model.specs.Value.{Value, truth, nothing, number, item, bit_list, octet_list, text, arcs, members, bag, fields, chosen, Values, no_more, member, Parts, end, absent, present, same, same_members, same_bag, same_parts, taken_out, depth, depth_of_members, depth_of_parts}
+use Rattle.asn1_model.specs.Value.{Value, truth, nothing, number, item, bit_list, octet_list, text, arcs, members, bag}
+use Rattle.asn1_model.specs.Value.{fields, chosen, Values, no_more, member, Parts, end, absent, present, same}
+use Rattle.asn1_model.specs.Value.{same_members, same_bag, same_parts, taken_out, depth, depth_of_members}
+use Rattle.asn1_model.specs.Value.{depth_of_parts}
 use Rattle.asn1_model.specs.Schema.{Schema, sequence_of, set_of, sequence, set, group, choice, Components, no_component, component, Alternatives, alternative}
 use Rattle.asn1_model.specs.Versions.{carried, grow, carried_parts, carried_alternative, all_absent, map_each}
 use Rattle.asn1_model.proofs.Forms.{chain_parts, map_parts}

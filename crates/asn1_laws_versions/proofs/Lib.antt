@@ -1,4 +1,7 @@
 pub mod Between
+pub mod Covered
+pub mod Keeping
+pub mod Carrying
 pub mod PerVersions
 pub mod Messages
 pub mod OerVersions
@@ -15,6 +18,7 @@ pub mod Back
 pub mod Taken
 pub mod Parts
 pub mod Members
+pub mod Ways
 pub mod Packed
 pub mod Octets
 pub mod Exactly

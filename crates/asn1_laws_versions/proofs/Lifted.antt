@@ -2,7 +2,10 @@
 use Rattle.std.proofs.Common.{◌≡◌, ℕ, zero, suc, Bool, true, false, cond, ◌||◌, List, [], ◌∷◌, Option, Some, None, option_map, option_and_then, refl, ap, sym, ◌∙◌, subst}
 use Rattle.std.proofs.lemmas.Bool.{and_parts, and_from, eqb-true, eq-eqb}
 use Rattle.asn1_model.specs.Value.{Value, item, members, bag, fields, chosen, Values, no_more, member, values_of, Parts, end, absent, present, same, same_members, same_parts}
-use Rattle.asn1_model.specs.Schema.{Schema, cut, boolean, null, integer, enumerated, bit_string, octet_string, character_string, object_identifier, sequence_of, set_of, sequence, set, group, choice, Components, no_component, component, Alternatives, no_alternative, alternative}
+use Rattle.asn1_model.specs.Schema.{Schema, cut, boolean, null, integer, enumerated, bit_string, octet_string}
+use Rattle.asn1_model.specs.Schema.{character_string, object_identifier, sequence_of, set_of, sequence, set, group}
+use Rattle.asn1_model.specs.Schema.{choice, Components, no_component, component, Alternatives, no_alternative}
+use Rattle.asn1_model.specs.Schema.{alternative}
 use Rattle.asn1_model.specs.Form.{pick, arranged}
 use Rattle.std.specs.Prelude.{is_some}
 use Rattle.asn1_model.specs.Normal.{item_place}
@@ -25,7 +28,8 @@ abbrev Lifts : (Value → Option Value) → Type 0
 Lifts g = (v u x : Value) → g v ≡ Some u → same x u ≡ true → Lifted g x v
 
 -- ---- elements
-members_lifted : (g : Value → Option Value) (vs us xs : Values) → Lifts g → map_each g vs ≡ Some us → same_members xs us ≡ true → (ys : Values) × (map_each g ys ≡ Some xs) × (same_members ys vs ≡ true)
+members_lifted : (g : Value → Option Value) (vs us xs : Values) → Lifts g → map_each g vs ≡ Some us → same_members xs us ≡ true →
+    (ys : Values) × (map_each g ys ≡ Some xs) × (same_members ys vs ≡ true)
 unfolding same_members
 members_lifted g no_more us no_more k e f = (no_more, refl, refl)
 members_lifted g no_more us (member x xs) k e f = let q : same_members (member x xs) no_more ≡ true = subst (λ us. same_members (member x xs) us ≡ true) (sym (some_parts e)) f in cc
@@ -53,7 +57,8 @@ of_along g [] (z ∷ zs) h = absurd h
 of_along g (y ∷ ys) [] h = absurd h
 of_along g (y ∷ ys) (z ∷ zs) h = each_again g y z (values_of ys) (values_of zs) h.0 (of_along g ys zs h.1)
 
-pick_along : (g : Value → Option Value) (i : ℕ) (xs bs : List Value) (z : Value) (rest : List Value) → Along g xs bs → pick i bs ≡ Some (z, rest) → (y : Value) × (more : List Value) × (pick i xs ≡ Some (y, more)) × (g y ≡ Some z) × Along g more rest
+pick_along : (g : Value → Option Value) (i : ℕ) (xs bs : List Value) (z : Value) (rest : List Value) → Along g xs bs → pick i bs
+    ≡ Some (z, rest) → (y : Value) × (more : List Value) × (pick i xs ≡ Some (y, more)) × (g y ≡ Some z) × Along g more rest
 pick_along g i [] [] z rest h e = cc
 pick_along g i [] (b ∷ bs) z rest h e = absurd h
 pick_along g i (x ∷ xs) [] z rest h e = absurd h
@@ -94,7 +99,8 @@ each_lifted g (y ∷ ys) (z ∷ zs) (x ∷ xs) k h s =
     let r = each_lifted g ys zs xs k h.1 s.1 in
     (a.0 ∷ r.0, (a.1, r.1), (a.2, r.2))
 
-bag_lifted : (g : Value → Option Value) (vs us xs : Values) → Lifts g → map_each g vs ≡ Some us → same (bag xs) (bag us) ≡ true → (ys : Values) × (map_each g ys ≡ Some xs) × (same (bag ys) (bag vs) ≡ true)
+bag_lifted : (g : Value → Option Value) (vs us xs : Values) → Lifts g → map_each g vs ≡ Some us → same (bag xs) (bag us) ≡ true →
+    (ys : Values) × (map_each g ys ≡ Some xs) × (same (bag ys) (bag vs) ≡ true)
 unfolding same
 bag_lifted g vs us xs k e f =
     let m = bag_matched xs us f in
@@ -168,7 +174,8 @@ mutual
       let q : same (members xs) (members a.0) ≡ true = subst (λ u. same (members xs) u ≡ true) (sym a.2) f in
       let l = members_lifted (λ v. carried false s s' v) vs a.0 xs (λ v u x i j. lessen_lifted s s' v u x h.2 i j) a.1 q in
       (members l.0, ap (option_map members) l.1, l.2)
-  lessen_lifted (sequence_of z c s) (sequence_of z' c' s') (members vs) u x h e f = let a = map_parts (map_each (λ v. carried false s s' v) vs) members u e in none_same x u (members a.0) a.2 f (λ q. false_true q)
+  lessen_lifted (sequence_of z c s) (sequence_of z' c' s') (members vs) u x h e f = let a =
+      map_parts (map_each (λ v. carried false s s' v) vs) members u e in none_same x u (members a.0) a.2 f (λ q. false_true q)
   lessen_lifted (sequence_of z c s) (sequence_of z' c' s') v u (members xs) h e f = none_same (members xs) u v (some_parts e) f (λ q. false_true q)
   lessen_lifted (sequence_of z c s) (sequence_of z' c' s') v u x h e f = itself _ v u x (some_parts e) refl f
   lessen_lifted (set_of z c s) (set_of z' c' s') (bag vs) u (bag xs) h e f =
@@ -184,7 +191,8 @@ mutual
       let l = lessen_parts_lifted false cs cs' ps a.0 xs h.0 a.2 q.0 in
       let n = lessen_parts_lifted m adds adds' qs a.1 zs h.2 a.3 q.1 in
       (fields l.0 n.0, both_parts_from _ _ xs zs l.1 n.1, fields_lifted ps qs l.0 n.0 l.2 n.2)
-  lessen_lifted (sequence cs m adds) (sequence cs' m' adds') (fields ps qs) u x h e f = let a = both_parts_parts (carried_parts false cs cs' ps) (carried_parts false adds adds' qs) u e in none_same x u (fields a.0 a.1) a.4 f (λ q. false_true q)
+  lessen_lifted (sequence cs m adds) (sequence cs' m' adds') (fields ps qs) u x h e f = let a =
+      both_parts_parts (carried_parts false cs cs' ps) (carried_parts false adds adds' qs) u e in none_same x u (fields a.0 a.1) a.4 f (λ q. false_true q)
   lessen_lifted (sequence cs m adds) (sequence cs' m' adds') v u (fields xs zs) h e f = none_same (fields xs zs) u v (some_parts e) f (λ q. false_true q)
   lessen_lifted (sequence cs m adds) (sequence cs' m' adds') v u x h e f = itself _ v u x (some_parts e) refl f
   lessen_lifted (set cs m adds) (set cs' m' adds') (fields ps qs) u (fields xs zs) h e f =
@@ -193,7 +201,8 @@ mutual
       let l = lessen_parts_lifted false cs cs' ps a.0 xs h.0 a.2 q.0 in
       let n = lessen_parts_lifted m adds adds' qs a.1 zs h.2 a.3 q.1 in
       (fields l.0 n.0, both_parts_from _ _ xs zs l.1 n.1, fields_lifted ps qs l.0 n.0 l.2 n.2)
-  lessen_lifted (set cs m adds) (set cs' m' adds') (fields ps qs) u x h e f = let a = both_parts_parts (carried_parts false cs cs' ps) (carried_parts false adds adds' qs) u e in none_same x u (fields a.0 a.1) a.4 f (λ q. false_true q)
+  lessen_lifted (set cs m adds) (set cs' m' adds') (fields ps qs) u x h e f = let a =
+      both_parts_parts (carried_parts false cs cs' ps) (carried_parts false adds adds' qs) u e in none_same x u (fields a.0 a.1) a.4 f (λ q. false_true q)
   lessen_lifted (set cs m adds) (set cs' m' adds') v u (fields xs zs) h e f = none_same (fields xs zs) u v (some_parts e) f (λ q. false_true q)
   lessen_lifted (set cs m adds) (set cs' m' adds') v u x h e f = itself _ v u x (some_parts e) refl f
   lessen_lifted (group cs) (group cs') (fields ps qs) u (fields xs zs) h e f =
@@ -214,8 +223,10 @@ mutual
       let q = chosen_apart true b i j a.0 x (subst (λ u. same (chosen b j x) u ≡ true) (sym a.2) f) in
       let l = lessen_alternative_lifted m adds adds' i v a.0 x h.2 a.1 q.2 in
       (chosen true i l.0, ap (option_map (λ w. chosen true i w)) l.1 ∙ ap (λ k. Some (chosen true k x)) (sym q.1) ∙ ap (λ b. Some (chosen b j x)) (sym q.0), chosen_lifted true i i v l.0 refl l.2)
-  lessen_lifted (choice roots m adds) (choice roots' m' adds') (chosen false i v) u x h e f = let a = map_parts (carried_alternative false roots roots' i v) (λ w. chosen false i w) u e in none_same x u (chosen false i a.0) a.2 f (λ q. false_true q)
-  lessen_lifted (choice roots m adds) (choice roots' m' adds') (chosen true i v) u x h e f = let a = map_parts (carried_alternative false adds adds' i v) (λ w. chosen true i w) u e in none_same x u (chosen true i a.0) a.2 f (λ q. false_true q)
+  lessen_lifted (choice roots m adds) (choice roots' m' adds') (chosen false i v) u x h e f = let a =
+      map_parts (carried_alternative false roots roots' i v) (λ w. chosen false i w) u e in none_same x u (chosen false i a.0) a.2 f (λ q. false_true q)
+  lessen_lifted (choice roots m adds) (choice roots' m' adds') (chosen true i v) u x h e f = let a =
+      map_parts (carried_alternative false adds adds' i v) (λ w. chosen true i w) u e in none_same x u (chosen true i a.0) a.2 f (λ q. false_true q)
   lessen_lifted (choice roots m adds) (choice roots' m' adds') v u (chosen b j x) h e f = none_same (chosen b j x) u v (some_parts e) f (λ q. false_true q)
   lessen_lifted (choice roots m adds) (choice roots' m' adds') v u x h e f = itself _ v u x (some_parts e) refl f
   lessen_lifted cut s' v u x h e f = itself _ v u x (some_parts e) refl f
@@ -228,10 +239,12 @@ mutual
   lessen_lifted (character_string k z a c) s' v u x h e f = itself _ v u x (some_parts e) refl f
   lessen_lifted s s' v u x h e f = absurd h
 
-  lessen_parts_lifted : (more : Bool) (cs cs' : Components) (ps us xs : Parts) → ExtendsEach more cs cs' → carried_parts false cs cs' ps ≡ Some us → same_parts xs us ≡ true → PartsLifted (λ ps. carried_parts false cs cs' ps) xs ps
+  lessen_parts_lifted : (more : Bool) (cs cs' : Components) (ps us xs : Parts) → ExtendsEach more cs cs' →
+      carried_parts false cs cs' ps ≡ Some us → same_parts xs us ≡ true → PartsLifted (λ ps. carried_parts false cs cs' ps) xs ps
   lessen_parts_lifted more no_component cs' ps us end h e f = (ps, refl, parts_self ps)
   lessen_parts_lifted more no_component cs' ps us (absent xs) h e f = let q : same_parts (absent xs) end ≡ true = subst (λ us. same_parts (absent xs) us ≡ true) (sym (some_parts e)) f in false_true q
-  lessen_parts_lifted more no_component cs' ps us (present x xs) h e f = let q : same_parts (present x xs) end ≡ true = subst (λ us. same_parts (present x xs) us ≡ true) (sym (some_parts e)) f in false_true q
+  lessen_parts_lifted more no_component cs' ps us (present x xs) h e f = let q : same_parts (present x xs) end ≡ true =
+      subst (λ us. same_parts (present x xs) us ≡ true) (sym (some_parts e)) f in false_true q
   lessen_parts_lifted more (component t o s cs) no_component ps us xs h e f = absurd h
   lessen_parts_lifted more (component t o s cs) (component t' o' s' cs') end us xs h e f = cc
   lessen_parts_lifted more (component t o s cs) (component t' o' s' cs') (absent ps) us (absent xs) h e f =
@@ -255,7 +268,8 @@ mutual
       let q : same_parts xs (present d.0 a.0) ≡ true = subst (λ us. same_parts xs us ≡ true) (sym a.2) f in
       false_true q
 
-  lessen_alternative_lifted : (more : Bool) (others others' : Alternatives) (i : ℕ) (v u x : Value) → ExtendsAlternatives more others others' → carried_alternative false others others' i v ≡ Some u → same x u ≡ true → Lifted (λ v. carried_alternative false others others' i v) x v
+  lessen_alternative_lifted : (more : Bool) (others others' : Alternatives) (i : ℕ) (v u x : Value) →
+      ExtendsAlternatives more others others' → carried_alternative false others others' i v ≡ Some u → same x u ≡ true → Lifted (λ v. carried_alternative false others others' i v) x v
   lessen_alternative_lifted more no_alternative others' i v u x h e f = cc
   lessen_alternative_lifted more (alternative t s others) no_alternative i v u x h e f = absurd h
   lessen_alternative_lifted more (alternative t s others) (alternative t' s' others') zero v u x h e f = lessen_lifted s s' v u x h.1 e f
@@ -284,7 +298,8 @@ mutual
       let q : same (members xs) (members a.0) ≡ true = subst (λ u. same (members xs) u ≡ true) (sym a.2) f in
       let l = members_lifted (λ v. grow s s' v) vs a.0 xs (λ v u x i j. grow_lifted s s' v u x h.2 i j) a.1 q in
       (members l.0, ap (option_map members) l.1, l.2)
-  grow_lifted (sequence_of z c s) (sequence_of z' c' s') (members vs) u x h e f = let a = map_parts (map_each (λ v. grow s s' v) vs) members u e in none_same x u (members a.0) a.2 f (λ q. false_true q)
+  grow_lifted (sequence_of z c s) (sequence_of z' c' s') (members vs) u x h e f = let a =
+      map_parts (map_each (λ v. grow s s' v) vs) members u e in none_same x u (members a.0) a.2 f (λ q. false_true q)
   grow_lifted (sequence_of z c s) (sequence_of z' c' s') v u (members xs) h e f = none_same (members xs) u v (some_parts e) f (λ q. false_true q)
   grow_lifted (sequence_of z c s) (sequence_of z' c' s') v u x h e f = itself _ v u x (some_parts e) refl f
   grow_lifted (set_of z c s) (set_of z' c' s') (bag vs) u (bag xs) h e f =
@@ -300,7 +315,8 @@ mutual
       let l = grow_parts_lifted false cs cs' ps a.0 xs h.0 a.2 q.0 in
       let n = grow_parts_lifted m adds adds' qs a.1 zs h.2 a.3 q.1 in
       (fields l.0 n.0, both_parts_from _ _ xs zs l.1 n.1, fields_lifted ps qs l.0 n.0 l.2 n.2)
-  grow_lifted (sequence cs m adds) (sequence cs' m' adds') (fields ps qs) u x h e f = let a = both_parts_parts (carried_parts true cs cs' ps) (carried_parts true adds adds' qs) u e in none_same x u (fields a.0 a.1) a.4 f (λ q. false_true q)
+  grow_lifted (sequence cs m adds) (sequence cs' m' adds') (fields ps qs) u x h e f = let a =
+      both_parts_parts (carried_parts true cs cs' ps) (carried_parts true adds adds' qs) u e in none_same x u (fields a.0 a.1) a.4 f (λ q. false_true q)
   grow_lifted (sequence cs m adds) (sequence cs' m' adds') v u (fields xs zs) h e f = none_same (fields xs zs) u v (some_parts e) f (λ q. false_true q)
   grow_lifted (sequence cs m adds) (sequence cs' m' adds') v u x h e f = itself _ v u x (some_parts e) refl f
   grow_lifted (set cs m adds) (set cs' m' adds') (fields ps qs) u (fields xs zs) h e f =
@@ -309,7 +325,8 @@ mutual
       let l = grow_parts_lifted false cs cs' ps a.0 xs h.0 a.2 q.0 in
       let n = grow_parts_lifted m adds adds' qs a.1 zs h.2 a.3 q.1 in
       (fields l.0 n.0, both_parts_from _ _ xs zs l.1 n.1, fields_lifted ps qs l.0 n.0 l.2 n.2)
-  grow_lifted (set cs m adds) (set cs' m' adds') (fields ps qs) u x h e f = let a = both_parts_parts (carried_parts true cs cs' ps) (carried_parts true adds adds' qs) u e in none_same x u (fields a.0 a.1) a.4 f (λ q. false_true q)
+  grow_lifted (set cs m adds) (set cs' m' adds') (fields ps qs) u x h e f = let a =
+      both_parts_parts (carried_parts true cs cs' ps) (carried_parts true adds adds' qs) u e in none_same x u (fields a.0 a.1) a.4 f (λ q. false_true q)
   grow_lifted (set cs m adds) (set cs' m' adds') v u (fields xs zs) h e f = none_same (fields xs zs) u v (some_parts e) f (λ q. false_true q)
   grow_lifted (set cs m adds) (set cs' m' adds') v u x h e f = itself _ v u x (some_parts e) refl f
   grow_lifted (group cs) (group cs') (fields ps qs) u (fields xs zs) h e f =
@@ -330,8 +347,10 @@ mutual
       let q = chosen_apart true b i j a.0 x (subst (λ u. same (chosen b j x) u ≡ true) (sym a.2) f) in
       let l = grow_alternative_lifted m adds adds' i v a.0 x h.2 a.1 q.2 in
       (chosen true i l.0, ap (option_map (λ w. chosen true i w)) l.1 ∙ ap (λ k. Some (chosen true k x)) (sym q.1) ∙ ap (λ b. Some (chosen b j x)) (sym q.0), chosen_lifted true i i v l.0 refl l.2)
-  grow_lifted (choice roots m adds) (choice roots' m' adds') (chosen false i v) u x h e f = let a = map_parts (carried_alternative true roots roots' i v) (λ w. chosen false i w) u e in none_same x u (chosen false i a.0) a.2 f (λ q. false_true q)
-  grow_lifted (choice roots m adds) (choice roots' m' adds') (chosen true i v) u x h e f = let a = map_parts (carried_alternative true adds adds' i v) (λ w. chosen true i w) u e in none_same x u (chosen true i a.0) a.2 f (λ q. false_true q)
+  grow_lifted (choice roots m adds) (choice roots' m' adds') (chosen false i v) u x h e f = let a =
+      map_parts (carried_alternative true roots roots' i v) (λ w. chosen false i w) u e in none_same x u (chosen false i a.0) a.2 f (λ q. false_true q)
+  grow_lifted (choice roots m adds) (choice roots' m' adds') (chosen true i v) u x h e f = let a =
+      map_parts (carried_alternative true adds adds' i v) (λ w. chosen true i w) u e in none_same x u (chosen true i a.0) a.2 f (λ q. false_true q)
   grow_lifted (choice roots m adds) (choice roots' m' adds') v u (chosen b j x) h e f = none_same (chosen b j x) u v (some_parts e) f (λ q. false_true q)
   grow_lifted (choice roots m adds) (choice roots' m' adds') v u x h e f = itself _ v u x (some_parts e) refl f
   grow_lifted cut s' v u x h e f = itself _ v u x (some_parts e) refl f
@@ -345,7 +364,8 @@ mutual
   grow_lifted (character_string k z a c) s' v u x h e f = itself _ v u x (some_parts e) refl f
   grow_lifted s s' v u x h e f = absurd h
 
-  grow_parts_lifted : (more : Bool) (cs cs' : Components) (ps us xs : Parts) → ExtendsEach more cs cs' → carried_parts true cs cs' ps ≡ Some us → same_parts xs us ≡ true → PartsLifted (λ ps. carried_parts true cs cs' ps) xs ps
+  grow_parts_lifted : (more : Bool) (cs cs' : Components) (ps us xs : Parts) → ExtendsEach more cs cs' →
+      carried_parts true cs cs' ps ≡ Some us → same_parts xs us ≡ true → PartsLifted (λ ps. carried_parts true cs cs' ps) xs ps
   grow_parts_lifted more no_component cs' end us xs h e f = (end, e ∙ ap Some (sym (absent_equal cs' us xs e f)), refl)
   grow_parts_lifted more no_component cs' (absent ps) us xs h e f = cc
   grow_parts_lifted more no_component cs' (present v ps) us xs h e f = cc
@@ -372,7 +392,8 @@ mutual
       let q : same_parts xs (present d.0 a.0) ≡ true = subst (λ us. same_parts xs us ≡ true) (sym a.2) f in
       false_true q
 
-  grow_alternative_lifted : (more : Bool) (others others' : Alternatives) (i : ℕ) (v u x : Value) → ExtendsAlternatives more others others' → carried_alternative true others others' i v ≡ Some u → same x u ≡ true → Lifted (λ v. carried_alternative true others others' i v) x v
+  grow_alternative_lifted : (more : Bool) (others others' : Alternatives) (i : ℕ) (v u x : Value) →
+      ExtendsAlternatives more others others' → carried_alternative true others others' i v ≡ Some u → same x u ≡ true → Lifted (λ v. carried_alternative true others others' i v) x v
   grow_alternative_lifted more no_alternative others' i v u x h e f = cc
   grow_alternative_lifted more (alternative t s others) no_alternative i v u x h e f = absurd h
   grow_alternative_lifted more (alternative t s others) (alternative t' s' others') zero v u x h e f = grow_lifted s s' v u x h.1 e f

@@ -25,7 +25,8 @@ not_so true e = cc
 not_so false e = refl
 
 -- ---- what leaves a default is not normal
-some_left : (g : Value → Option Value) (P : Value → Type 0) (test : Value → Bool) → ((v w : Value) → g v ≡ Some w → P v → test w ≡ false) → (vs us : Values) → map_each g vs ≡ Some us → OfSome P vs → are_all test us ≡ false
+some_left : (g : Value → Option Value) (P : Value → Type 0) (test : Value → Bool) →
+    ((v w : Value) → g v ≡ Some w → P v → test w ≡ false) → (vs us : Values) → map_each g vs ≡ Some us → OfSome P vs → are_all test us ≡ false
 some_left g P test h no_more us e l = absurd l
 some_left g P test h (member v vs) us e (inl l) = let a = each_of g v vs us e in subst (λ us. are_all test us ≡ false) a.4 (and_left _ _ (h v a.0 a.2 l))
 some_left g P test h (member v vs) us e (inr l) = let a = each_of g v vs us e in subst (λ us. are_all test us ≡ false) a.4 (and_right _ _ (some_left g P test h vs a.1 a.3 l))
@@ -42,7 +43,8 @@ mutual
   pub left_clashes : (s s' : Schema) (v w : Value) → carried false s s' v ≡ Some w → LeavesDefault s s' v → is_normal s w ≡ false
   left_clashes (sequence_of z h s) (sequence_of z' h' s') (members vs) w e l =
       let a = map_parts (map_each (λ v. carried false s s' v) vs) members w e in
-      subst (λ w. is_normal (sequence_of z h s) w ≡ false) a.2 (some_left (λ v. carried false s s' v) (λ v. LeavesDefault s s' v) (λ w. is_normal s w) (λ v w f l. left_clashes s s' v w f l) vs a.0 a.1 l)
+      subst (λ w. is_normal (sequence_of z h s) w ≡ false) a.2
+      (some_left (λ v. carried false s s' v) (λ v. LeavesDefault s s' v) (λ w. is_normal s w) (λ v w f l. left_clashes s s' v w f l) vs a.0 a.1 l)
   left_clashes (set_of z h s) (set_of z' h' s') (bag vs) w e l =
       let a = map_parts (map_each (λ v. carried false s s' v) vs) bag w e in
       subst (λ w. is_normal (set_of z h s) w ≡ false) a.2 (some_left (λ v. carried false s s' v) (λ v. LeavesDefault s s' v) (λ w. is_normal s w) (λ v w f l. left_clashes s s' v w f l) vs a.0 a.1 l)
@@ -79,17 +81,20 @@ mutual
   parts_clash (component t o s cs) (component t' o' s' cs') (present v ps) us e (inr (inl l)) =
       let d = chain_parts (carried false s s' v) (λ w. option_map (λ qs. present w qs) (carried_parts false cs cs' ps)) us e in
       let a = map_parts (carried_parts false cs cs' ps) (λ qs. present d.0 qs) us d.2 in
-      subst (λ us. are_normal (component t o s cs) us ≡ false) a.2 (not_inside (not (is_at_default o s d.0)) (not (is_group_left_out s d.0)) (is_normal s d.0) (are_normal cs a.0) (left_clashes s s' v d.0 d.1 l))
+      subst (λ us. are_normal (component t o s cs) us ≡ false) a.2
+      (not_inside (not (is_at_default o s d.0)) (not (is_group_left_out s d.0)) (is_normal s d.0) (are_normal cs a.0) (left_clashes s s' v d.0 d.1 l))
   parts_clash (component t o s cs) (component t' o' s' cs') (present v ps) us e (inr (inr l)) =
       let d = chain_parts (carried false s s' v) (λ w. option_map (λ qs. present w qs) (carried_parts false cs cs' ps)) us e in
       let a = map_parts (carried_parts false cs cs' ps) (λ qs. present d.0 qs) us d.2 in
-      subst (λ us. are_normal (component t o s cs) us ≡ false) a.2 (and_right (not (is_at_default o s d.0) && not (is_group_left_out s d.0) && is_normal s d.0) (are_normal cs a.0) (parts_clash cs cs' ps a.0 a.1 l))
+      subst (λ us. are_normal (component t o s cs) us ≡ false) a.2
+      (and_right (not (is_at_default o s d.0) && not (is_group_left_out s d.0) && is_normal s d.0) (are_normal cs a.0) (parts_clash cs cs' ps a.0 a.1 l))
   parts_clash (component t o s cs) (component t' o' s' cs') (absent ps) us e l =
       let a = map_parts (carried_parts false cs cs' ps) absent us e in
       subst (λ us. are_normal (component t o s cs) us ≡ false) a.2 (parts_clash cs cs' ps a.0 a.1 l)
   parts_clash cs cs' ps us e l = absurd l
 
-  alternative_clashes : (others others' : Alternatives) (i : ℕ) (v w : Value) → carried_alternative false others others' i v ≡ Some w → AlternativeLeavesDefault others others' i v → is_normal_alternative others i w ≡ false
+  alternative_clashes : (others others' : Alternatives) (i : ℕ) (v w : Value) → carried_alternative false others others' i v
+      ≡ Some w → AlternativeLeavesDefault others others' i v → is_normal_alternative others i w ≡ false
   alternative_clashes (alternative t s others) (alternative t' s' others') zero v w e l = left_clashes s s' v w e l
   alternative_clashes (alternative t s others) (alternative t' s' others') (suc i) v w e l = alternative_clashes others others' i v w e l
   alternative_clashes others others' i v w e l = absurd l
@@ -117,13 +122,16 @@ mutual
   dropped_depth (enumerated roots m adds) (enumerated roots' m' adds') (item i) u e = ap depth (sym (if_known _ (item i) u e))
   dropped_depth (sequence_of z c s) (sequence_of z' c' s') (members vs) u e =
       let a = map_parts (map_each (λ v. carried false s s' v) vs) members u e in
-      subst (λ u. depth u ≡ seen_depth (sequence_of z c s) (sequence_of z' c' s') (members vs)) a.2 (ap (λ n. n + 1) (members_seen (λ v. carried false s s' v) (λ v. seen_depth s s' v) vs a.0 (λ v u i. dropped_depth s s' v u i) a.1))
+      subst (λ u. depth u ≡ seen_depth (sequence_of z c s) (sequence_of z' c' s') (members vs)) a.2
+      (ap (λ n. n + 1) (members_seen (λ v. carried false s s' v) (λ v. seen_depth s s' v) vs a.0 (λ v u i. dropped_depth s s' v u i) a.1))
   dropped_depth (set_of z c s) (set_of z' c' s') (bag vs) u e =
       let a = map_parts (map_each (λ v. carried false s s' v) vs) bag u e in
-      subst (λ u. depth u ≡ seen_depth (set_of z c s) (set_of z' c' s') (bag vs)) a.2 (ap (λ n. n + 1) (members_seen (λ v. carried false s s' v) (λ v. seen_depth s s' v) vs a.0 (λ v u i. dropped_depth s s' v u i) a.1))
+      subst (λ u. depth u ≡ seen_depth (set_of z c s) (set_of z' c' s') (bag vs)) a.2
+      (ap (λ n. n + 1) (members_seen (λ v. carried false s s' v) (λ v. seen_depth s s' v) vs a.0 (λ v u i. dropped_depth s s' v u i) a.1))
   dropped_depth (sequence cs m adds) (sequence cs' m' adds') (fields ps qs) u e =
       let a = both_parts_parts (carried_parts false cs cs' ps) (carried_parts false adds adds' qs) u e in
-      subst (λ u. depth u ≡ seen_depth (sequence cs m adds) (sequence cs' m' adds') (fields ps qs)) a.4 (both_depths (dropped_parts_depth cs cs' ps a.0 a.2) (dropped_parts_depth adds adds' qs a.1 a.3))
+      subst (λ u. depth u ≡ seen_depth (sequence cs m adds) (sequence cs' m' adds') (fields ps qs)) a.4
+      (both_depths (dropped_parts_depth cs cs' ps a.0 a.2) (dropped_parts_depth adds adds' qs a.1 a.3))
   dropped_depth (set cs m adds) (set cs' m' adds') (fields ps qs) u e =
       let a = both_parts_parts (carried_parts false cs cs' ps) (carried_parts false adds adds' qs) u e in
       subst (λ u. depth u ≡ seen_depth (set cs m adds) (set cs' m' adds') (fields ps qs)) a.4 (both_depths (dropped_parts_depth cs cs' ps a.0 a.2) (dropped_parts_depth adds adds' qs a.1 a.3))
@@ -157,7 +165,9 @@ mutual
   dropped_alternative_depth others others' i v u e = cc
 
 -- ---- what is not normal leaves a default
-some_found : (g : Value → Option Value) (P : Value → Type 0) (of tidy test : Value → Bool) → ((v w : Value) → of v ≡ true → tidy v ≡ true → g v ≡ Some w → test w ≡ false → P v) → (vs us : Values) → are_all of vs ≡ true → are_all tidy vs ≡ true → map_each g vs ≡ Some us → are_all test us ≡ false → OfSome P vs
+some_found : (g : Value → Option Value) (P : Value → Type 0) (of tidy test : Value → Bool) →
+    ((v w : Value) → of v ≡ true → tidy v ≡ true → g v ≡ Some w → test w ≡ false → P v) → (vs us : Values) → are_all of vs ≡ true →
+    are_all tidy vs ≡ true → map_each g vs ≡ Some us → are_all test us ≡ false → OfSome P vs
 some_found g P of tidy test k no_more us o n e f = let b : true ≡ false = subst (λ us. are_all test us ≡ false) (sym (some_parts e)) f in cc
 some_found g P of tidy test k (member v vs) us o n e f =
     let a = each_of g v vs us e in
@@ -183,19 +193,23 @@ left_out_by false true ps qs v e = inr refl
 left_out_by false false ps qs v e = cc
 
 mutual
-  unfolding carried carried_parts carried_alternative is_of are_of is_of_alternative is_normal are_normal is_normal_alternative normal normal_parts Extends ExtendsEach ExtendsAlternatives LeavesDefault PartsLeaveDefault AlternativeLeavesDefault
+  unfolding carried carried_parts carried_alternative is_of are_of is_of_alternative is_normal are_normal
+      is_normal_alternative normal normal_parts Extends ExtendsEach ExtendsAlternatives LeavesDefault PartsLeaveDefault
+      AlternativeLeavesDefault
 
   pub clash_leaves : (s s' : Schema) (v w : Value) → Extends s s' → is_of s' v ≡ true → is_normal s' v ≡ true → carried false s s' v ≡ Some w → is_normal s w ≡ false → LeavesDefault s s' v
   clash_leaves (sequence_of z h s) (sequence_of z' h' s') (members vs) w x o n e f =
       let a = map_parts (map_each (λ v. carried false s s' v) vs) members w e in
       let k : are_all (λ w. is_normal s w) a.0 ≡ false = subst (λ w. is_normal (sequence_of z h s) w ≡ false) (sym a.2) f in
-      some_found (λ v. carried false s s' v) (λ v. LeavesDefault s s' v) (λ v. is_of s' v) (λ v. is_normal s' v) (λ w. is_normal s w) (λ v w o n e f. clash_leaves s s' v w x.2 o n e f) vs a.0 ((and_parts _ _ o).1) n a.1 k
+      some_found (λ v. carried false s s' v) (λ v. LeavesDefault s s' v) (λ v. is_of s' v) (λ v. is_normal s' v)
+      (λ w. is_normal s w) (λ v w o n e f. clash_leaves s s' v w x.2 o n e f) vs a.0 ((and_parts _ _ o).1) n a.1 k
   clash_leaves (sequence_of z h s) (sequence_of z' h' s') v w x o n e f = cc
   clash_leaves (sequence_of z h s) s' v w x o n e f = absurd x
   clash_leaves (set_of z h s) (set_of z' h' s') (bag vs) w x o n e f =
       let a = map_parts (map_each (λ v. carried false s s' v) vs) bag w e in
       let k : are_all (λ w. is_normal s w) a.0 ≡ false = subst (λ w. is_normal (set_of z h s) w ≡ false) (sym a.2) f in
-      some_found (λ v. carried false s s' v) (λ v. LeavesDefault s s' v) (λ v. is_of s' v) (λ v. is_normal s' v) (λ w. is_normal s w) (λ v w o n e f. clash_leaves s s' v w x.2 o n e f) vs a.0 ((and_parts _ _ o).1) n a.1 k
+      some_found (λ v. carried false s s' v) (λ v. LeavesDefault s s' v) (λ v. is_of s' v) (λ v. is_normal s' v)
+      (λ w. is_normal s w) (λ v w o n e f. clash_leaves s s' v w x.2 o n e f) vs a.0 ((and_parts _ _ o).1) n a.1 k
   clash_leaves (set_of z h s) (set_of z' h' s') v w x o n e f = cc
   clash_leaves (set_of z h s) s' v w x o n e f = absurd x
   clash_leaves (sequence cs m adds) (sequence cs' m' adds') (fields ps qs) w x o n e f =
@@ -232,7 +246,8 @@ mutual
   clash_leaves (choice roots m adds) s' v w x o n e f = absurd x
   clash_leaves s s' v w x o n e f = cc
 
-  parts_leave : (cs cs' : Components) (ps us : Parts) (more : Bool) → ExtendsEach more cs cs' → are_of cs' ps ≡ true → are_normal cs' ps ≡ true → carried_parts false cs cs' ps ≡ Some us → are_normal cs us ≡ false → PartsLeaveDefault cs cs' ps
+  parts_leave : (cs cs' : Components) (ps us : Parts) (more : Bool) → ExtendsEach more cs cs' → are_of cs' ps ≡ true →
+      are_normal cs' ps ≡ true → carried_parts false cs cs' ps ≡ Some us → are_normal cs us ≡ false → PartsLeaveDefault cs cs' ps
   parts_leave (component t o s cs) (component t' o' s' cs') (present v ps) us more x h n e f =
       let d = chain_parts (carried false s s' v) (λ w. option_map (λ qs. present w qs) (carried_parts false cs cs' ps)) us e in
       let a = map_parts (carried_parts false cs cs' ps) (λ qs. present d.0 qs) us d.2 in
@@ -253,14 +268,17 @@ mutual
   parts_leave (component t o s cs) no_component ps us more x h n e f = absurd x
   parts_leave no_component cs' ps us more x h n e f = cc
 
-  alternative_leaves : (others others' : Alternatives) (i : ℕ) (v w : Value) (more : Bool) → ExtendsAlternatives more others others' → is_of_alternative others' i v ≡ true → is_normal_alternative others' i v ≡ true → carried_alternative false others others' i v ≡ Some w → is_normal_alternative others i w ≡ false → AlternativeLeavesDefault others others' i v
+  alternative_leaves : (others others' : Alternatives) (i : ℕ) (v w : Value) (more : Bool) →
+      ExtendsAlternatives more others others' → is_of_alternative others' i v ≡ true → is_normal_alternative others' i v ≡ true →
+      carried_alternative false others others' i v ≡ Some w → is_normal_alternative others i w ≡ false → AlternativeLeavesDefault others others' i v
   alternative_leaves (alternative t s others) (alternative t' s' others') zero v w more x o n e f = clash_leaves s s' v w x.1 o n e f
   alternative_leaves (alternative t s others) (alternative t' s' others') (suc i) v w more x o n e f = alternative_leaves others others' i v w more x.2 o n e f
   alternative_leaves (alternative t s others) no_alternative i v w more x o n e f = absurd x
   alternative_leaves no_alternative others' i v w more x o n e f = none_is_some w e
 
   -- a group with nothing left in it, though a component was present
-  group_leaves : (s s' : Schema) (v w : Value) → Extends s s' → is_of s' v ≡ true → is_normal s' v ≡ true → is_group_left_out s' v ≡ false → carried false s s' v ≡ Some w → is_group_left_out s w ≡ true → LeavesDefault s s' v
+  group_leaves : (s s' : Schema) (v w : Value) → Extends s s' → is_of s' v ≡ true → is_normal s' v ≡ true → is_group_left_out s' v
+      ≡ false → carried false s s' v ≡ Some w → is_group_left_out s w ≡ true → LeavesDefault s s' v
   group_leaves (group cs) (group cs') (fields ps end) w x o n k e f =
       let a = both_parts_parts (carried_parts false cs cs' ps) (Some end) w e in
       let h : are_absent (normal_parts cs a.0) ≡ true = subst (λ w. is_group_left_out (group cs) w ≡ true) (sym a.4) f in
@@ -269,7 +287,8 @@ mutual
   group_leaves (group cs) s' v w x o n k e f = absurd x
   group_leaves s s' v w x o n k e f = cc
 
-  emptied_leave : (cs cs' : Components) (ps us : Parts) → ExtendsEach false cs cs' → are_of cs' ps ≡ true → are_normal cs' ps ≡ true → are_absent (normal_parts cs' ps) ≡ false → carried_parts false cs cs' ps ≡ Some us → are_absent (normal_parts cs us) ≡ true → PartsLeaveDefault cs cs' ps
+  emptied_leave : (cs cs' : Components) (ps us : Parts) → ExtendsEach false cs cs' → are_of cs' ps ≡ true → are_normal cs' ps
+      ≡ true → are_absent (normal_parts cs' ps) ≡ false → carried_parts false cs cs' ps ≡ Some us → are_absent (normal_parts cs us) ≡ true → PartsLeaveDefault cs cs' ps
   emptied_leave (component t o s cs) (component t' o' s' cs') (present v ps) us x h n k e f =
       let d = chain_parts (carried false s s' v) (λ w. option_map (λ qs. present w qs) (carried_parts false cs cs' ps)) us e in
       let a = map_parts (carried_parts false cs cs' ps) (λ qs. present d.0 qs) us d.2 in
@@ -295,7 +314,8 @@ by_test : {P : Type 0} (s : Schema) (w : Value) (b : Bool) → is_normal s w ≡
 by_test s w true e h k = absurd (h (normal_stays s w e))
 by_test s w false e h k = k e
 
-pub clash_is_left : (s t : Schema) (v w : Value) → Extends s t → is_of t v ≡ true → is_normal t v ≡ true → carried false s t v ≡ Some w → (u : Value) × (carried false s t v ≡ Some u) × ¬ (normal s u ≡ u) → LeavesDefault s t v
+pub clash_is_left : (s t : Schema) (v w : Value) → Extends s t → is_of t v ≡ true → is_normal t v ≡ true → carried false s t v
+    ≡ Some w → (u : Value) × (carried false s t v ≡ Some u) × ¬ (normal s u ≡ u) → LeavesDefault s t v
 clash_is_left s t v w x o n e h = by_test s h.0 (is_normal s h.0) refl h.2 (λ k. clash_leaves s t v h.0 x o n h.1 k)
 
 pub left_is_clash : (s t : Schema) (v w : Value) → carried false s t v ≡ Some w → LeavesDefault s t v → ¬ (normal s w ≡ w)

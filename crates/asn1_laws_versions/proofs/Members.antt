@@ -58,11 +58,13 @@ each_there g no_more h = (no_more, refl)
 each_there g (member v vs) h = there_chain (g v) _ h.0 (λ w. there_map (λ ws. member w ws) _ (each_there g vs h.1))
 
 -- each element can be carried over
-pub members_carried : (m : Bool) (z z' : Size) (c c' : Counts) (s s' : Schema) (us vs : Values) → Each (λ v. There (carried false s s' v)) (listed vs) → (m ≡ true → Each (λ x. There (grow s s' x)) (listed us)) → Carried m (sequence_of z c s) (sequence_of z' c' s') (members us) (members vs)
+pub members_carried : (m : Bool) (z z' : Size) (c c' : Counts) (s s' : Schema) (us vs : Values) →
+    Each (λ v. There (carried false s s' v)) (listed vs) → (m ≡ true → Each (λ x. There (grow s s' x)) (listed us)) → Carried m (sequence_of z c s) (sequence_of z' c' s') (members us) (members vs)
 unfolding carried
 members_carried m z z' c c' s s' us vs h k = (there_map members _ (each_there _ vs h), λ q. there_map members _ (each_there _ us (k q)))
 
-pub bags_carried : (m : Bool) (z z' : Size) (c c' : Counts) (s s' : Schema) (us vs : Values) → Each (λ v. There (carried false s s' v)) (listed vs) → (m ≡ true → Each (λ x. There (grow s s' x)) (listed us)) → Carried m (set_of z c s) (set_of z' c' s') (bag us) (bag vs)
+pub bags_carried : (m : Bool) (z z' : Size) (c c' : Counts) (s s' : Schema) (us vs : Values) →
+    Each (λ v. There (carried false s s' v)) (listed vs) → (m ≡ true → Each (λ x. There (grow s s' x)) (listed us)) → Carried m (set_of z c s) (set_of z' c' s') (bag us) (bag vs)
 unfolding carried
 bags_carried m z z' c c' s s' us vs h k = (there_map bag _ (each_there _ vs h), λ q. there_map bag _ (each_there _ us (k q)))
 
@@ -101,7 +103,10 @@ module _ (F : Type 0) (D : F → Type 0) (A : Type 0) (free : F → Bool) where
   newer_forms g h [] = refl
   newer_forms g h (x ∷ xs) = ap (λ l. h x ∷ l) (newer_forms g h xs)
 
-  pub related_alike : (g h : Value → Form F D A) (R : Value → Value → Type 0) → ((x y : Value) → Agree {F = F} {D = D} {A = A} free (g x) (g y) (Unit {0})) → ((x y : Value) → Agree {F = F} {D = D} {A = A} free (h x) (h y) (Unit {0})) → ((x y : Value) → Agree {F = F} {D = D} {A = A} free (g x) (h y) (R x y)) → (a b : Both) → Agree {F = F} {D = D} {A = A} free (form_of g h a) (form_of g h b) (Related R a b)
+  pub related_alike : (g h : Value → Form F D A) (R : Value → Value → Type 0) →
+      ((x y : Value) → Agree {F = F} {D = D} {A = A} free (g x) (g y) (Unit {0})) →
+      ((x y : Value) → Agree {F = F} {D = D} {A = A} free (h x) (h y) (Unit {0})) →
+      ((x y : Value) → Agree {F = F} {D = D} {A = A} free (g x) (h y) (R x y)) → (a b : Both) → Agree {F = F} {D = D} {A = A} free (form_of g h a) (form_of g h b) (Related R a b)
   related_alike g h R i j k (inl x) (inl y) = i x y
   related_alike g h R i j k (inl x) (inr y) = k x y
   related_alike g h R i j k (inr x) (inl y) = agree_map free (λ q. tt) (agree_turned free (k y x))
@@ -120,11 +125,13 @@ abbrev pub AlternativeCarried : Bool → Alternatives → Alternatives → ℕ �
 AlternativeCarried m others others' i x v = There (carried_alternative false others others' i v) × (m ≡ true → There (carried_alternative true others others' i x))
 
 -- ---- what is put together can be carried over
-pub fields_carried : (m : Bool) (cs cs' : Components) (e e' : Bool) (adds adds' : Components) (ps qs rs ss : Parts) → PartsCarried m cs cs' ps rs × PartsCarried m adds adds' qs ss → Carried m (sequence cs e adds) (sequence cs' e' adds') (fields ps qs) (fields rs ss)
+pub fields_carried : (m : Bool) (cs cs' : Components) (e e' : Bool) (adds adds' : Components) (ps qs rs ss : Parts) →
+    PartsCarried m cs cs' ps rs × PartsCarried m adds adds' qs ss → Carried m (sequence cs e adds) (sequence cs' e' adds') (fields ps qs) (fields rs ss)
 unfolding carried
 fields_carried m cs cs' e e' adds adds' ps qs rs ss q = (there_both _ _ q.0.0 q.1.0, λ t. there_both _ _ (q.0.1 t) (q.1.1 t))
 
-pub set_carried : (m : Bool) (cs cs' : Components) (e e' : Bool) (adds adds' : Components) (ps qs rs ss : Parts) → PartsCarried m cs cs' ps rs × PartsCarried m adds adds' qs ss → Carried m (set cs e adds) (set cs' e' adds') (fields ps qs) (fields rs ss)
+pub set_carried : (m : Bool) (cs cs' : Components) (e e' : Bool) (adds adds' : Components) (ps qs rs ss : Parts) →
+    PartsCarried m cs cs' ps rs × PartsCarried m adds adds' qs ss → Carried m (set cs e adds) (set cs' e' adds') (fields ps qs) (fields rs ss)
 unfolding carried
 set_carried m cs cs' e e' adds adds' ps qs rs ss q = (there_both _ _ q.0.0 q.1.0, λ t. there_both _ _ (q.0.1 t) (q.1.1 t))
 
@@ -136,14 +143,19 @@ item_there : (b : Bool) (v : Value) → b ≡ true → There (cond b (Some v) No
 item_there true v e = (v, refl)
 item_there false v e = cc
 
-pub item_carried : (m : Bool) (roots adds adds' : List ℤ) (e : Bool) (n k : ℤ) → (is_some (item_place k roots) || is_some (item_place k adds)) ≡ true → Carried m (enumerated roots e adds) (enumerated roots e adds') (item n) (item k)
+pub item_carried : (m : Bool) (roots adds adds' : List ℤ) (e : Bool) (n k : ℤ) →
+    (is_some (item_place k roots) || is_some (item_place k adds)) ≡ true → Carried m (enumerated roots e adds) (enumerated roots e adds') (item n) (item k)
 unfolding carried
 item_carried m roots adds adds' e n k h = (item_there _ (item k) h, λ q. (item n, refl))
 
-pub chosen_carried : (m : Bool) (roots roots' adds adds' : Alternatives) (e e' : Bool) (i j : ℕ) (x v : Value) → i ≡ j → AlternativeCarried m roots roots' i x v → Carried m (choice roots e adds) (choice roots' e' adds') (chosen false i x) (chosen false j v)
+pub chosen_carried : (m : Bool) (roots roots' adds adds' : Alternatives) (e e' : Bool) (i j : ℕ) (x v : Value) → i ≡ j →
+    AlternativeCarried m roots roots' i x v → Carried m (choice roots e adds) (choice roots' e' adds') (chosen false i x) (chosen false j v)
 unfolding carried
-chosen_carried m roots roots' adds adds' e e' i j x v n q = (there_map (λ w. chosen false j w) _ (subst (λ k. There (carried_alternative false roots roots' k v)) n q.0), λ t. there_map (λ w. chosen false i w) _ (q.1 t))
+chosen_carried m roots roots' adds adds' e e' i j x v n q =
+    (there_map (λ w. chosen false j w) _ (subst (λ k. There (carried_alternative false roots roots' k v)) n q.0), λ t. there_map (λ w. chosen false i w) _ (q.1 t))
 
-pub chosen_added_carried : (m : Bool) (roots roots' adds adds' : Alternatives) (e e' : Bool) (i j : ℕ) (x v : Value) → i ≡ j → AlternativeCarried m adds adds' i x v → Carried m (choice roots e adds) (choice roots' e' adds') (chosen true i x) (chosen true j v)
+pub chosen_added_carried : (m : Bool) (roots roots' adds adds' : Alternatives) (e e' : Bool) (i j : ℕ) (x v : Value) → i ≡ j →
+    AlternativeCarried m adds adds' i x v → Carried m (choice roots e adds) (choice roots' e' adds') (chosen true i x) (chosen true j v)
 unfolding carried
-chosen_added_carried m roots roots' adds adds' e e' i j x v n q = (there_map (λ w. chosen true j w) _ (subst (λ k. There (carried_alternative false adds adds' k v)) n q.0), λ t. there_map (λ w. chosen true i w) _ (q.1 t))
+chosen_added_carried m roots roots' adds adds' e e' i j x v n q =
+    (there_map (λ w. chosen true j w) _ (subst (λ k. There (carried_alternative false adds adds' k v)) n q.0), λ t. there_map (λ w. chosen true i w) _ (q.1 t))

@@ -7,13 +7,14 @@ use Rattle.asn1_model.specs.Schema.{Tag, Presence, required, optional, by_defaul
 use Rattle.asn1_model.specs.Form.{Form, refused, both, joined, Bitmap, is_any_present, present_ones, covered_by, own_bitmap}
 use Rattle.std.specs.Prelude.{is_some}
 use Rattle.asn1_model.specs.Normal.{presence_bits, is_required, presence_bit_unless}
-use Rattle.asn1_model.specs.Versions.{carried, grow, carried_parts, all_absent, both_parts, KeepsPresence, ExtendsEach}
+use Rattle.asn1_model.specs.Versions.{carried, grow, carried_parts, all_absent, both_parts, ExtendsEach}
 use Rattle.asn1_model.proofs.Forms.{map_parts}
 use Rattle.asn1_laws_fronts.proofs.Fronts.{Agree, agree_with_refused, agree_map, agree_both, agree_if_right, agree_nothing}
 use Rattle.asn1_laws_fronts.proofs.Additions as adding
 use Rattle.asn1_laws_fronts.proofs.Additions.{unless_equal, no_any, cond_some}
 use Rattle.asn1_laws_fronts.proofs.Spelled.{presence_bits_long}
 use Rattle.asn1_laws_versions.proofs.Taken.{taken, taken_same, taken_both, taken_refused, taken_if, taken_given, right_given}
+use Rattle.asn1_laws_versions.proofs.Keeping.{kept_required, take_all}
 
 -- ---- what there is
 abbrev pub There : {X : Type 0} → Option X → Type 0
@@ -39,11 +40,14 @@ Carried m s s' x v = There (carried false s s' v) × (m ≡ true → There (grow
 abbrev pub PartsCarried : Bool → Components → Components → Parts → Parts → Type 0
 PartsCarried m cs cs' ps qs = There (carried_parts false cs cs' qs) × (m ≡ true → There (carried_parts true cs cs' ps))
 
-present_carried : (m : Bool) (t t' : List Tag) (o o' : Presence) (s s' : Schema) (cs cs' : Components) (x v : Value) (ps qs : Parts) → Carried m s s' x v → PartsCarried m cs cs' ps qs → PartsCarried m (component t o s cs) (component t' o' s' cs') (present x ps) (present v qs)
+present_carried : (m : Bool) (t t' : List Tag) (o o' : Presence) (s s' : Schema) (cs cs' : Components) (x v : Value)
+    (ps qs : Parts) → Carried m s s' x v → PartsCarried m cs cs' ps qs → PartsCarried m (component t o s cs) (component t' o' s' cs') (present x ps) (present v qs)
 unfolding carried_parts
-present_carried m t t' o o' s s' cs cs' x v ps qs h k = (there_chain (carried false s s' v) _ h.0 (λ w. there_map (λ rs. present w rs) _ k.0), λ q. there_chain (grow s s' x) _ (h.1 q) (λ w. there_map (λ rs. present w rs) _ (k.1 q)))
+present_carried m t t' o o' s s' cs cs' x v ps qs h k =
+    (there_chain (carried false s s' v) _ h.0 (λ w. there_map (λ rs. present w rs) _ k.0), λ q. there_chain (grow s s' x) _ (h.1 q) (λ w. there_map (λ rs. present w rs) _ (k.1 q)))
 
-absent_carried : (m : Bool) (t t' : List Tag) (o o' : Presence) (s s' : Schema) (cs cs' : Components) (ps qs : Parts) → PartsCarried m cs cs' ps qs → PartsCarried m (component t o s cs) (component t' o' s' cs') (absent ps) (absent qs)
+absent_carried : (m : Bool) (t t' : List Tag) (o o' : Presence) (s s' : Schema) (cs cs' : Components) (ps qs : Parts) →
+    PartsCarried m cs cs' ps qs → PartsCarried m (component t o s cs) (component t' o' s' cs') (absent ps) (absent qs)
 unfolding carried_parts
 absent_carried m t t' o o' s s' cs cs' ps qs k = (there_map absent _ k.0, λ q. there_map absent _ (k.1 q))
 
@@ -52,12 +56,6 @@ unfolding carried_parts
 no_parts_carried m = ((end, refl), λ q. (end, refl))
 
 -- ---- what an extension keeps
-kept_required : (s s' : Schema) (o o' : Presence) → KeepsPresence s s' o o' → is_required o' ≡ is_required o
-kept_required s s' required required h = refl
-kept_required s s' optional optional h = refl
-kept_required s s' (by_default d) (by_default d') h = refl
-kept_required s s' o o' h = absurd h
-
 presence_bits_further : (r r' m n : Bool) (ms ns : List Bool) → r' ≡ r → presence_bit_unless r m ms ≡ presence_bit_unless r' n ns → (ms ≡ ns) × ((r ≡ true) ⊎ (m ≡ n))
 presence_bits_further r r' m n ms ns k e = unless_equal r m n ms ns (e ∙ ap (λ r. presence_bit_unless r n ns) k)
 
@@ -83,7 +81,8 @@ abbrev pub EachPair : (Presence → Schema → Presence → Schema → Type 0) �
 EachPair Q (component t o s cs) (component t' o' s' cs') = Q o s o' s' × EachPair Q cs cs'
 EachPair Q cs cs' = Unit {0}
 
-pub pair_map : {P Q : Presence → Schema → Presence → Schema → Type 0} (cs cs' : Components) → ((o : Presence) (s : Schema) (o' : Presence) (s' : Schema) → P o s o' s' → Q o s o' s') → EachPair P cs cs' → EachPair Q cs cs'
+pub pair_map : {P Q : Presence → Schema → Presence → Schema → Type 0} (cs cs' : Components) →
+    ((o : Presence) (s : Schema) (o' : Presence) (s' : Schema) → P o s o' s' → Q o s o' s') → EachPair P cs cs' → EachPair Q cs cs'
 pair_map no_component cs' f h = tt
 pair_map (component t o s cs) no_component f h = tt
 pair_map (component t o s cs) (component t' o' s' cs') f h = (f o s o' s' h.0, pair_map cs cs' f h.1)
@@ -126,7 +125,8 @@ module _ (F : Type 0) (D : F → Type 0) (A : Type 0) (free : F → Bool) (m : B
     abbrev Shown : Components → Parts → Forms
     Shown cs ps = adding.components_of F D A free shown cs ps
 
-    pub components_meet : (cs cs' : Components) (ps qs : Parts) → ExtendsEach false cs cs' → EachPair ShownMeet cs cs' → presence_bits cs ps ≡ presence_bits cs' qs → Meets (Shown cs ps) (Shown cs' qs) (PartsCarried m cs cs' ps qs)
+    pub components_meet : (cs cs' : Components) (ps qs : Parts) → ExtendsEach false cs cs' → EachPair ShownMeet cs cs' →
+        presence_bits cs ps ≡ presence_bits cs' qs → Meets (Shown cs ps) (Shown cs' qs) (PartsCarried m cs cs' ps qs)
     unfolding ExtendsEach
     components_meet no_component no_component end end h k e = agree_map free (λ u. no_parts_carried m) (taken_same free m _ _ _ (agree_nothing free))
     components_meet no_component no_component end qs h k e = agree_with_refused free _ _
@@ -134,19 +134,27 @@ module _ (F : Type 0) (D : F → Type 0) (A : Type 0) (free : F → Bool) (m : B
     components_meet no_component (component t' o' s' cs') ps qs h k e = absurd h
     components_meet (component t o s cs) no_component ps qs h k e = absurd h
     components_meet (component t o s cs) (component t' o' s' cs') (present x ps) (present v qs) h k e =
-        agree_map free (λ q. present_carried m t t' o o' s s' cs cs' x v ps qs q.0 q.1) (taken_both free m _ _ _ _ _ _ (k.0 x v) (λ u. components_meet cs cs' ps qs h.3 k.1 ((presence_bits_further (is_required o) (is_required o') true true _ _ (kept_required s s' o o' h.1) e).0)))
+        agree_map free (λ q. present_carried m t t' o o' s s' cs cs' x v ps qs q.0 q.1)
+        (taken_both free m _ _ _ _ _ _ (k.0 x v)
+        (λ u. components_meet cs cs' ps qs h.3 k.1 ((presence_bits_further (is_required o) (is_required o') true true _ _ (kept_required s s' o o' h.1) e).0)))
     components_meet (component t o s cs) (component t' o' s' cs') (present x ps) (absent qs) h k e =
-        one_absent (is_required o') _ _ _ (kept_required s s' o o' h.1 ∙ unlike (is_required o) true false true_false ((presence_bits_further (is_required o) (is_required o') true false _ _ (kept_required s s' o o' h.1) e).1))
+        one_absent (is_required o') _ _ _ (kept_required s s' o o' h.1
+        ∙ unlike (is_required o) true false true_false ((presence_bits_further (is_required o) (is_required o') true false _ _ (kept_required s s' o o' h.1) e).1))
     components_meet (component t o s cs) (component t' o' s' cs') (present x ps) end h k e = agree_with_refused free _ _
     components_meet (component t o s cs) (component t' o' s' cs') (absent ps) (present v qs) h k e =
         other_absent (is_required o) _ _ _ (unlike (is_required o) false true false_true ((presence_bits_further (is_required o) (is_required o') false true _ _ (kept_required s s' o o' h.1) e).1))
     components_meet (component t o s cs) (component t' o' s' cs') (absent ps) (absent qs) h k e =
-        if_absent (is_required o) (is_required o') _ _ _ (kept_required s s' o o' h.1) (agree_map free (λ q. absent_carried m t t' o o' s s' cs cs' ps qs q) (components_meet cs cs' ps qs h.3 k.1 ((presence_bits_further (is_required o) (is_required o') false false _ _ (kept_required s s' o o' h.1) e).0)))
+        if_absent (is_required o) (is_required o') _ _ _ (kept_required s s' o o' h.1)
+        (agree_map free (λ q. absent_carried m t t' o o' s s' cs cs' ps qs q)
+        (components_meet cs cs' ps qs h.3 k.1 ((presence_bits_further (is_required o) (is_required o') false false _ _ (kept_required s s' o o' h.1) e).0)))
     components_meet (component t o s cs) (component t' o' s' cs') (absent ps) end h k e = agree_with_refused free _ _
     components_meet (component t o s cs) (component t' o' s' cs') end qs h k e = taken_refused free m _ _
 
   -- ---- additions
-  module _ (unknown : List ℕ → Form F D A) (unknown_alike : (os ps : List ℕ) → Agree {F = F} {D = D} {A = A} free (unknown os) (unknown ps) (os ≡ ps)) (added : Presence → Schema → Value → Form F D A) (unknown_added : (o : Presence) (s : Schema) (v : Value) (os : List ℕ) → Agree {F = F} {D = D} {A = A} free (unknown os) (added o s v) (Unit {0})) where
+  module _ (unknown : List ℕ → Form F D A)
+      (unknown_alike : (os ps : List ℕ) → Agree {F = F} {D = D} {A = A} free (unknown os) (unknown ps) (os ≡ ps))
+      (added : Presence → Schema → Value → Form F D A) (unknown_added : (o : Presence) (s : Schema) (v : Value) (os : List ℕ) →
+      Agree {F = F} {D = D} {A = A} free (unknown os) (added o s v) (Unit {0})) where
     abbrev pub AddedMeet : Presence → Schema → Presence → Schema → Type 0
     AddedMeet o s o' s' = (x v : Value) → Meets (added o s x) (added o' s' v) (Carried m s s' x v)
 
@@ -169,10 +177,12 @@ module _ (F : Type 0) (D : F → Type 0) (A : Type 0) (free : F → Bool) (m : B
     unless_required true o xs e = cc
     unless_required false o xs e = e
 
-    absent_added : (t : List Tag) (o : Presence) (s : Schema) (cs : Components) (ps : Parts) (xs : List (Option Forms)) → Added (component t o s cs) (absent ps) ≡ Some xs → (zs : List (Option Forms)) × (Added cs ps ≡ Some zs) × (None ∷ zs ≡ xs)
+    absent_added : (t : List Tag) (o : Presence) (s : Schema) (cs : Components) (ps : Parts) (xs : List (Option Forms)) →
+        Added (component t o s cs) (absent ps) ≡ Some xs → (zs : List (Option Forms)) × (Added cs ps ≡ Some zs) × (None ∷ zs ≡ xs)
     absent_added t o s cs ps xs e = map_parts (Added cs ps) (λ zs. None ∷ zs) xs (unless_required (is_required o) _ _ e)
 
-    present_added : (t : List Tag) (o : Presence) (s : Schema) (cs : Components) (v : Value) (ps : Parts) (xs : List (Option Forms)) → Added (component t o s cs) (present v ps) ≡ Some xs → (zs : List (Option Forms)) × (Added cs ps ≡ Some zs) × (Some (added o s v) ∷ zs ≡ xs)
+    present_added : (t : List Tag) (o : Presence) (s : Schema) (cs : Components) (v : Value) (ps : Parts)
+        (xs : List (Option Forms)) → Added (component t o s cs) (present v ps) ≡ Some xs → (zs : List (Option Forms)) × (Added cs ps ≡ Some zs) × (Some (added o s v) ∷ zs ≡ xs)
     present_added t o s cs v ps xs e = map_parts (Added cs ps) (λ zs. Some (added o s v) ∷ zs) xs e
 
     is_one : (x : Forms) (xs zs : List (Option Forms)) → Some x ∷ zs ≡ xs → No xs → ⊥
@@ -182,7 +192,8 @@ module _ (F : Type 0) (D : F → Type 0) (A : Type 0) (free : F → Bool) (m : B
     none_further xs zs e n = subst (λ l. No l) (sym e) n
 
     -- ---- additions, all of which are absent
-    may_be_absent : (o : Presence) (t : List Tag) (s : Schema) (cs : Components) (l : Option (List (Option Forms))) (xs : List (Option Forms)) → cond (is_required o) None l ≡ Some xs → There (all_absent cs) → There (all_absent (component t o s cs))
+    may_be_absent : (o : Presence) (t : List Tag) (s : Schema) (cs : Components) (l : Option (List (Option Forms)))
+        (xs : List (Option Forms)) → cond (is_required o) None l ≡ Some xs → There (all_absent cs) → There (all_absent (component t o s cs))
     may_be_absent required t s cs l xs e h = cc
     may_be_absent optional t s cs l xs e h = there_map absent _ h
     may_be_absent (by_default d) t s cs l xs e h = there_map absent _ h
@@ -195,7 +206,8 @@ module _ (F : Type 0) (D : F → Type 0) (A : Type 0) (free : F → Bool) (m : B
         may_be_absent o t s cs _ ys f (absent_there cs qs b.0 b.1 (none_further ys b.0 b.2 i))
     absent_there (component t o s cs) (present v qs) ys f i = let b = present_added t o s cs v qs ys f in absurd (is_one _ ys b.0 b.2 i)
 
-    pub none_meet : (more : Bool) (cs cs' : Components) (ps qs : Parts) (xs ys : List (Option Forms)) → ExtendsEach more cs cs' → Added cs ps ≡ Some xs → Added cs' qs ≡ Some ys → No xs → No ys → There (carried_parts false cs cs' qs) × There (carried_parts true cs cs' ps)
+    pub none_meet : (more : Bool) (cs cs' : Components) (ps qs : Parts) (xs ys : List (Option Forms)) → ExtendsEach more cs cs' →
+        Added cs ps ≡ Some xs → Added cs' qs ≡ Some ys → No xs → No ys → There (carried_parts false cs cs' qs) × There (carried_parts true cs cs' ps)
     unfolding ExtendsEach carried_parts
     none_meet more no_component cs' end qs xs ys h e f i j = ((end, refl), absent_there cs' qs ys f j)
     none_meet more no_component cs' (absent ps) qs xs ys h e f i j = cc
@@ -212,7 +224,12 @@ module _ (F : Type 0) (D : F → Type 0) (A : Type 0) (free : F → Bool) (m : B
         (there_map absent _ r.0, there_map absent _ r.1)
 
     -- ---- additions that the older version does not know
-    unknown_place : (y : Option Forms) (ys others : List (Option Forms)) (more : List (Option (List ℕ))) → Tells (y ∷ ys) others → Flags (Spread more) ≡ Flags others → ((os : List ℕ) (x : Forms) → y ≡ Some x → Agree {F = F} {D = D} {A = A} free (unknown os) x (Unit {0})) → ((more : List (Option (List ℕ))) (others : List (Option Forms)) → Tells ys others → Flags (Spread more) ≡ Flags others → Agree {F = F} {D = D} {A = A} free (joined (present_ones (Spread more))) (joined (present_ones others)) (Unit {0})) → Agree {F = F} {D = D} {A = A} free (joined (present_ones (Spread more))) (joined (present_ones others)) (Unit {0})
+    unknown_place : (y : Option Forms) (ys others : List (Option Forms)) (more : List (Option (List ℕ))) → Tells (y ∷ ys) others →
+        Flags (Spread more) ≡ Flags others → ((os : List ℕ) (x : Forms) → y ≡ Some x →
+        Agree {F = F} {D = D} {A = A} free (unknown os) x (Unit {0})) →
+        ((more : List (Option (List ℕ))) (others : List (Option Forms)) → Tells ys others → Flags (Spread more) ≡ Flags others →
+        Agree {F = F} {D = D} {A = A} free (joined (present_ones (Spread more))) (joined (present_ones others)) (Unit {0})) →
+        Agree {F = F} {D = D} {A = A} free (joined (present_ones (Spread more))) (joined (present_ones others)) (Unit {0})
     unknown_place y ys [] [] t e h k = agree_nothing free
     unknown_place y ys (b ∷ others) [] t e h k = cc
     unknown_place y ys [] (a ∷ more) t e h k = cc
@@ -224,11 +241,13 @@ module _ (F : Type 0) (D : F → Type 0) (A : Type 0) (free : F → Bool) (m : B
     none_is_none : (os : List ℕ) (x : Forms) → None ≡ Some x → Agree {F = F} {D = D} {A = A} free (unknown os) x (Unit {0})
     none_is_none os x e = cc
 
-    unknowns_meet : (cs : Components) (qs : Parts) (ys others : List (Option Forms)) (more : List (Option (List ℕ))) → Added cs qs ≡ Some ys → Tells ys others → Flags (Spread more) ≡ Flags others → Agree {F = F} {D = D} {A = A} free (joined (present_ones (Spread more))) (joined (present_ones others)) (Unit {0})
+    unknowns_meet : (cs : Components) (qs : Parts) (ys others : List (Option Forms)) (more : List (Option (List ℕ))) → Added cs qs
+        ≡ Some ys → Tells ys others → Flags (Spread more) ≡ Flags others → Agree {F = F} {D = D} {A = A} free (joined (present_ones (Spread more))) (joined (present_ones others)) (Unit {0})
     unknowns_meet no_component end ys others more f t e =
         let b : [] ≡ ys = cc in
         let u : Tells [] others = subst (λ l. Tells l others) (sym b) t in
-        subst (λ l. Agree free (joined (present_ones (Spread more))) (joined (present_ones l)) (Unit {0})) u.1 (adding.unknowns_alike F D A free unknown unknown_alike more u.0 (e ∙ ap (λ l. Flags l) (sym u.1)))
+        subst (λ l. Agree free (joined (present_ones (Spread more))) (joined (present_ones l)) (Unit {0})) u.1
+        (adding.unknowns_alike F D A free unknown unknown_alike more u.0 (e ∙ ap (λ l. Flags l) (sym u.1)))
     unknowns_meet no_component (absent qs) ys others more f t e = cc
     unknowns_meet no_component (present v qs) ys others more f t e = cc
     unknowns_meet (component k o s cs) end ys others more f t e = cc
@@ -237,14 +256,19 @@ module _ (F : Type 0) (D : F → Type 0) (A : Type 0) (free : F → Bool) (m : B
         unknown_place None b.0 others more (subst (λ l. Tells l others) (sym b.2) t) e none_is_none (λ more others t' e'. unknowns_meet cs qs b.0 others more b.1 t' e')
     unknowns_meet (component k o s cs) (present v qs) ys others more f t e =
         let b = present_added k o s cs v qs ys f in
-        let one : (os : List ℕ) (x : Forms) → Some (added o s v) ≡ Some x → Agree {F = F} {D = D} {A = A} free (unknown os) x (Unit {0}) = λ os x q. subst (λ z. Agree free (unknown os) z (Unit {0})) (some_one q) (unknown_added o s v os) in
+        let one : (os : List ℕ) (x : Forms) → Some (added o s v) ≡ Some x →
+        Agree {F = F} {D = D} {A = A} free (unknown os) x (Unit {0}) = λ os x q. subst (λ z. Agree free (unknown os) z (Unit {0})) (some_one q) (unknown_added o s v os) in
         unknown_place (Some (added o s v)) b.0 others more (subst (λ l. Tells l others) (sym b.2) t) e one (λ more others t' e'. unknowns_meet cs qs b.0 others more b.1 t' e')
       where
         some_one : {x y : Forms} → Some x ≡ Some y → x ≡ y
         some_one e = cc
 
     -- ---- one position in both versions
-    places_meet : (x y : Option Forms) (xs ys all others : List (Option Forms)) (P : Type 0) → Tells (x ∷ xs) all → (m ≡ true → length all ≡ suc (length xs)) → Tells (y ∷ ys) others → Flags all ≡ Flags others → (No (x ∷ xs) → No (y ∷ ys) → P) → (is_some x ≡ is_some y → (us vs : List (Option Forms)) → Tells xs us → (m ≡ true → length us ≡ length xs) → Tells ys vs → Flags us ≡ Flags vs → Meets (joined (present_ones (x ∷ us))) (joined (present_ones (y ∷ vs))) P) → Meets (joined (present_ones all)) (joined (present_ones others)) P
+    places_meet : (x y : Option Forms) (xs ys all others : List (Option Forms)) (P : Type 0) → Tells (x ∷ xs) all →
+        (m ≡ true → length all ≡ suc (length xs)) → Tells (y ∷ ys) others → Flags all ≡ Flags others →
+        (No (x ∷ xs) → No (y ∷ ys) → P) → (is_some x ≡ is_some y → (us vs : List (Option Forms)) → Tells xs us →
+        (m ≡ true → length us ≡ length xs) → Tells ys vs → Flags us ≡ Flags vs →
+        Meets (joined (present_ones (x ∷ us))) (joined (present_ones (y ∷ vs))) P) → Meets (joined (present_ones all)) (joined (present_ones others)) P
     places_meet x y xs ys [] [] P t l u e k c = taken_same free m _ _ _ (agree_map free (λ q. k t u) (agree_nothing free))
     places_meet x y xs ys [] (b ∷ others) P t l u e k c = cc
     places_meet x y xs ys (a ∷ all) [] P t l u e k c = cc
@@ -252,7 +276,8 @@ module _ (F : Type 0) (D : F → Type 0) (A : Type 0) (free : F → Bool) (m : B
         let head : is_some a ≡ is_some b = cc in
         let tail : Flags all ≡ Flags others = cc in
         let flags : is_some x ≡ is_some y = ap (λ z. is_some z) t.0 ∙ head ∙ ap (λ z. is_some z) (sym u.0) in
-        subst (λ z. Meets (joined (present_ones (z ∷ all))) (joined (present_ones (b ∷ others))) P) t.0 (subst (λ z. Meets (joined (present_ones (x ∷ all))) (joined (present_ones (z ∷ others))) P) u.0 (c flags all others t.1 (λ q. one_less _ _ (l q)) u.1 tail))
+        subst (λ z. Meets (joined (present_ones (z ∷ all))) (joined (present_ones (b ∷ others))) P) t.0
+        (subst (λ z. Meets (joined (present_ones (x ∷ all))) (joined (present_ones (z ∷ others))) P) u.0 (c flags all others t.1 (λ q. one_less _ _ (l q)) u.1 tail))
       where
         one_less : (i j : ℕ) → suc i ≡ suc j → i ≡ j
         one_less i j e = cc
@@ -270,13 +295,17 @@ module _ (F : Type 0) (D : F → Type 0) (A : Type 0) (free : F → Bool) (m : B
         none_is_some : (n : ℕ) → suc n ≡ 0 → ⊥
         none_is_some n e = cc
 
-    further_meet : (cs' : Components) (ps qs : Parts) (xs ys all others : List (Option Forms)) → Added no_component ps ≡ Some xs → Added cs' qs ≡ Some ys → Tells xs all → (m ≡ true → length all ≡ length xs) → Tells ys others → Flags all ≡ Flags others → Meets (joined (present_ones all)) (joined (present_ones others)) (PartsCarried m no_component cs' ps qs)
+    further_meet : (cs' : Components) (ps qs : Parts) (xs ys all others : List (Option Forms)) → Added no_component ps ≡ Some xs →
+        Added cs' qs ≡ Some ys → Tells xs all → (m ≡ true → length all ≡ length xs) → Tells ys others → Flags all ≡ Flags others →
+        Meets (joined (present_ones all)) (joined (present_ones others)) (PartsCarried m no_component cs' ps qs)
     unfolding carried_parts
     further_meet cs' end qs xs ys all others e f t l u w =
         let a : [] ≡ xs = cc in
         let t' : Tells [] all = subst (λ l. Tells l all) (sym a) t in
-        let carried : PartsCarried m no_component cs' end qs = ((end, refl), λ q. let n : others ≡ [] = no_others all others w (l q ∙ ap length (sym a)) in absent_there cs' qs ys f (not_told ys (subst (λ l. Tells ys l) n u))) in
-        subst (λ l. Meets (joined (present_ones l)) (joined (present_ones others)) (PartsCarried m no_component cs' end qs)) t'.1 (taken_same free m _ _ _ (agree_map free (λ q. carried) (unknowns_meet cs' qs ys others t'.0 f u (ap (λ l. Flags l) t'.1 ∙ w))))
+        let carried : PartsCarried m no_component cs' end qs =
+        ((end, refl), λ q. let n : others ≡ [] = no_others all others w (l q ∙ ap length (sym a)) in absent_there cs' qs ys f (not_told ys (subst (λ l. Tells ys l) n u))) in
+        subst (λ l. Meets (joined (present_ones l)) (joined (present_ones others)) (PartsCarried m no_component cs' end qs)) t'.1
+        (taken_same free m _ _ _ (agree_map free (λ q. carried) (unknowns_meet cs' qs ys others t'.0 f u (ap (λ l. Flags l) t'.1 ∙ w))))
     further_meet cs' (absent ps) qs xs ys all others e f t l u w = cc
     further_meet cs' (present x ps) qs xs ys all others e f t l u w = cc
 
@@ -286,7 +315,9 @@ module _ (F : Type 0) (D : F → Type 0) (A : Type 0) (free : F → Bool) (m : B
     further_length : (x : Option Forms) (xs zs all : List (Option Forms)) → x ∷ zs ≡ xs → (m ≡ true → length all ≡ length xs) → m ≡ true → length all ≡ suc (length zs)
     further_length x xs zs all e l q = l q ∙ ap length (sym e)
 
-    pub present_meet : (more : Bool) (cs cs' : Components) (ps qs : Parts) (xs ys all others : List (Option Forms)) → ExtendsEach more cs cs' → EachPair AddedMeet cs cs' → Added cs ps ≡ Some xs → Added cs' qs ≡ Some ys → Tells xs all → (m ≡ true → length all ≡ length xs) → Tells ys others → Flags all ≡ Flags others → Meets (joined (present_ones all)) (joined (present_ones others)) (PartsCarried m cs cs' ps qs)
+    pub present_meet : (more : Bool) (cs cs' : Components) (ps qs : Parts) (xs ys all others : List (Option Forms)) →
+        ExtendsEach more cs cs' → EachPair AddedMeet cs cs' → Added cs ps ≡ Some xs → Added cs' qs ≡ Some ys → Tells xs all →
+        (m ≡ true → length all ≡ length xs) → Tells ys others → Flags all ≡ Flags others → Meets (joined (present_ones all)) (joined (present_ones others)) (PartsCarried m cs cs' ps qs)
     unfolding ExtendsEach
     present_meet more no_component cs' ps qs xs ys all others h k e f t l u w = further_meet cs' ps qs xs ys all others e f t l u w
     present_meet more (component n o s cs) no_component ps qs xs ys all others h k e f t l u w = absurd h
@@ -296,25 +327,30 @@ module _ (F : Type 0) (D : F → Type 0) (A : Type 0) (free : F → Bool) (m : B
     present_meet more (component n o s cs) (component n' o' s' cs') (absent ps) (absent qs) xs ys all others h k e f t l u w =
         let a = absent_added n o s cs ps xs e in
         let b = absent_added n' o' s' cs' qs ys f in
-        places_meet None None a.0 b.0 all others _ (subst (λ l. Tells l all) (sym a.2) t) (further_length None xs a.0 all a.2 l) (subst (λ l. Tells l others) (sym b.2) u) w (λ i j. absent_carried m n n' o o' s s' cs cs' ps qs (weaken more cs cs' ps qs (none_meet more cs cs' ps qs a.0 b.0 h.3 a.1 b.1 i j))) (λ i us vs t' l' u' w'. agree_map free (λ q. absent_carried m n n' o o' s s' cs cs' ps qs q) (present_meet more cs cs' ps qs a.0 b.0 us vs h.3 k.1 a.1 b.1 t' l' u' w'))
+        places_meet None None a.0 b.0 all others _ (subst (λ l. Tells l all) (sym a.2) t) (further_length None xs a.0 all a.2 l)
+        (subst (λ l. Tells l others) (sym b.2) u) w
+        (λ i j. absent_carried m n n' o o' s s' cs cs' ps qs
+        (weaken more cs cs' ps qs (none_meet more cs cs' ps qs a.0 b.0 h.3 a.1 b.1 i j)))
+        (λ i us vs t' l' u' w'. agree_map free (λ q. absent_carried m n n' o o' s s' cs cs' ps qs q) (present_meet more cs cs' ps qs a.0 b.0 us vs h.3 k.1 a.1 b.1 t' l' u' w'))
     present_meet more (component n o s cs) (component n' o' s' cs') (absent ps) (present v qs) xs ys all others h k e f t l u w =
         let a = absent_added n o s cs ps xs e in
         let b = present_added n' o' s' cs' v qs ys f in
-        places_meet None (Some (added o' s' v)) a.0 b.0 all others _ (subst (λ l. Tells l all) (sym a.2) t) (further_length None xs a.0 all a.2 l) (subst (λ l. Tells l others) (sym b.2) u) w (λ i j. absurd (true_false j)) (λ i us vs t' l' u' w'. absurd (false_true i))
+        places_meet None (Some (added o' s' v)) a.0 b.0 all others _ (subst (λ l. Tells l all) (sym a.2) t)
+        (further_length None xs a.0 all a.2 l) (subst (λ l. Tells l others) (sym b.2) u) w (λ i j. absurd (true_false j)) (λ i us vs t' l' u' w'. absurd (false_true i))
     present_meet more (component n o s cs) (component n' o' s' cs') (present x ps) (absent qs) xs ys all others h k e f t l u w =
         let a = present_added n o s cs x ps xs e in
         let b = absent_added n' o' s' cs' qs ys f in
-        places_meet (Some (added o s x)) None a.0 b.0 all others _ (subst (λ l. Tells l all) (sym a.2) t) (further_length (Some (added o s x)) xs a.0 all a.2 l) (subst (λ l. Tells l others) (sym b.2) u) w (λ i j. absurd (true_false i)) (λ i us vs t' l' u' w'. absurd (true_false i))
+        places_meet (Some (added o s x)) None a.0 b.0 all others _ (subst (λ l. Tells l all) (sym a.2) t)
+        (further_length (Some (added o s x)) xs a.0 all a.2 l) (subst (λ l. Tells l others) (sym b.2) u) w (λ i j. absurd (true_false i)) (λ i us vs t' l' u' w'. absurd (true_false i))
     present_meet more (component n o s cs) (component n' o' s' cs') (present x ps) (present v qs) xs ys all others h k e f t l u w =
         let a = present_added n o s cs x ps xs e in
         let b = present_added n' o' s' cs' v qs ys f in
-        places_meet (Some (added o s x)) (Some (added o' s' v)) a.0 b.0 all others _ (subst (λ l. Tells l all) (sym a.2) t) (further_length (Some (added o s x)) xs a.0 all a.2 l) (subst (λ l. Tells l others) (sym b.2) u) w (λ i j. absurd (true_false i)) (λ i us vs t' l' u' w'. agree_map free (λ q. present_carried m n n' o o' s s' cs cs' x v ps qs q.0 q.1) (taken_both free m _ _ _ _ _ _ (k.0 x v) (λ r. present_meet more cs cs' ps qs a.0 b.0 us vs h.3 k.1 a.1 b.1 t' l' u' w')))
+        places_meet (Some (added o s x)) (Some (added o' s' v)) a.0 b.0 all others _ (subst (λ l. Tells l all) (sym a.2) t)
+        (further_length (Some (added o s x)) xs a.0 all a.2 l) (subst (λ l. Tells l others) (sym b.2) u) w
+        (λ i j. absurd (true_false i)) (λ i us vs t' l' u' w'. agree_map free
+        (λ q. present_carried m n n' o o' s s' cs cs' x v ps qs q.0 q.1) (taken_both free m _ _ _ _ _ _ (k.0 x v) (λ r. present_meet more cs cs' ps qs a.0 b.0 us vs h.3 k.1 a.1 b.1 t' l' u' w')))
 
     -- ---- with or without a bitmap
-    take_all : (xs : List (Option Forms)) → take (length xs) xs ≡ xs
-    take_all [] = refl
-    take_all (x ∷ xs) = ap (λ l. x ∷ l) (take_all xs)
-
     own_is : (t : Bool) (xs : List (Option Forms)) (b : Bitmap) → Some b ≡ cond t (Some (record { covered = length xs; further = [] })) None → b ≡ record { covered = length xs; further = [] }
     own_is true xs b e = cc
     own_is false xs b e = cc
@@ -332,7 +368,15 @@ module _ (F : Type 0) (D : F → Type 0) (A : Type 0) (free : F → Bool) (m : B
     other_differs : (ms ns : List Bool) → true ∷ ms ≡ false ∷ ns → ⊥
     other_differs ms ns e = cc
 
-    module _ (preamble : List Bool → Form F D A) (preambles_alike : (ms ns : List Bool) → length ms ≡ length ns → Agree {F = F} {D = D} {A = A} free (preamble ms) (preamble ns) (ms ≡ ns)) (bits : List (Option (Form F D A)) → Form F D A) (bits_alike : (xs ys : List (Option (Form F D A))) → Agree {F = F} {D = D} {A = A} free (bits xs) (bits ys) (map (λ a. is_some a) xs ≡ map (λ a. is_some a) ys)) (hidden : Form F D A → Form F D A) (hidden_left : (x y : Form F D A) (P : Type 0) → Agree {F = F} {D = D} {A = A} free x y P → Agree {F = F} {D = D} {A = A} free (hidden x) y P) (hidden_right : (x y : Form F D A) (P : Type 0) → Agree {F = F} {D = D} {A = A} free x y P → Agree {F = F} {D = D} {A = A} free x (hidden y) P) (hidden_taken : (x y : Form F D A) (P : Type 0) → Agree {F = F} {D = D} {A = A} free (taken free m x) y P → Agree {F = F} {D = D} {A = A} free (taken free m (hidden x)) y P) where
+    module _ (preamble : List Bool → Form F D A) (preambles_alike : (ms ns : List Bool) → length ms ≡ length ns →
+        Agree {F = F} {D = D} {A = A} free (preamble ms) (preamble ns) (ms ≡ ns)) (bits : List (Option (Form F D A)) → Form F D A)
+        (bits_alike : (xs ys : List (Option (Form F D A))) →
+        Agree {F = F} {D = D} {A = A} free (bits xs) (bits ys) (map (λ a. is_some a) xs ≡ map (λ a. is_some a) ys))
+        (hidden : Form F D A → Form F D A) (hidden_left : (x y : Form F D A) (P : Type 0) →
+        Agree {F = F} {D = D} {A = A} free x y P → Agree {F = F} {D = D} {A = A} free (hidden x) y P)
+        (hidden_right : (x y : Form F D A) (P : Type 0) → Agree {F = F} {D = D} {A = A} free x y P →
+        Agree {F = F} {D = D} {A = A} free x (hidden y) P) (hidden_taken : (x y : Form F D A) (P : Type 0) →
+        Agree {F = F} {D = D} {A = A} free (taken free m x) y P → Agree {F = F} {D = D} {A = A} free (taken free m (hidden x)) y P) where
       abbrev With : List Bool → Form F D A → List (Option (Form F D A)) → Form F D A
       With ms root all = adding.with_all F D A free unknown unknown_alike added preamble preambles_alike bits bits_alike hidden hidden_left hidden_right ms root all
 
@@ -349,20 +393,36 @@ module _ (F : Type 0) (D : F → Type 0) (A : Type 0) (free : F → Bool) (m : B
 
       module _ (ms ns : List Bool) (long : length ms ≡ length ns) (x y : Form F D A) (P : Type 0) (roots_meet : ms ≡ ns → Agree {F = F} {D = D} {A = A} free (taken free m x) y P) where
         without_and_with : (others : List (Option Forms)) (Q : Type 0) → Meets (both (preamble (false ∷ ms)) x) (With ns y others) Q
-        without_and_with others Q = agree_map free (λ (q : ⊥ × Q). absurd (q.0)) (taken_both free m _ _ _ _ ⊥ Q (taken_same free m _ _ _ (agree_map free (λ e. first_differs ms ns e) (preambles_alike (false ∷ ms) (true ∷ ns) (ap suc long)))) (λ e. absurd e))
+        without_and_with others Q = agree_map free (λ (q : ⊥ × Q). absurd (q.0))
+            (taken_both free m _ _ _ _ ⊥ Q (taken_same free m _ _ _ (agree_map free (λ e. first_differs ms ns e) (preambles_alike (false ∷ ms) (true ∷ ns) (ap suc long)))) (λ e. absurd e))
 
         with_and_without : (all : List (Option Forms)) (Q : Type 0) → Meets (With ms x all) (both (preamble (false ∷ ns)) y) Q
-        with_and_without all Q = agree_map free (λ (q : ⊥ × Q). absurd (q.0)) (taken_both free m _ _ _ _ ⊥ Q (taken_same free m _ _ _ (agree_map free (λ e. other_differs ms ns e) (preambles_alike (true ∷ ms) (false ∷ ns) (ap suc long)))) (λ e. absurd e))
+        with_and_without all Q = agree_map free (λ (q : ⊥ × Q). absurd (q.0))
+            (taken_both free m _ _ _ _ ⊥ Q (taken_same free m _ _ _ (agree_map free (λ e. other_differs ms ns e) (preambles_alike (true ∷ ms) (false ∷ ns) (ap suc long)))) (λ e. absurd e))
 
         without_bitmaps : Meets (both (preamble (false ∷ ms)) x) (both (preamble (false ∷ ns)) y) P
         without_bitmaps = agree_map free (λ q. q.1) (taken_both free m _ _ _ _ _ _ (taken_same free m _ _ _ (preambles_alike (false ∷ ms) (false ∷ ns) (ap suc long))) (λ e. roots_meet cc))
 
-        module _ (more : Bool) (cs cs' : Components) (ps qs : Parts) (xs ys : List (Option (Form F D A))) (h : ExtendsEach more cs cs') (k : EachPair AddedMeet cs cs') (e : Added cs ps ≡ Some xs) (f : Added cs' qs ≡ Some ys) where
-          with_bitmaps : (all others : List (Option Forms)) → Tells xs all → (m ≡ true → length all ≡ length xs) → Tells ys others → Meets (With ms x all) (With ns y others) (P × PartsCarried m cs cs' ps qs)
-          with_bitmaps all others t l u = agree_map free (λ q. (q.1.0, q.1.1.1)) (taken_both free m _ _ _ _ _ _ (taken_same free m _ _ _ (preambles_alike (true ∷ ms) (true ∷ ns) (ap suc long))) (λ i. taken_both free m _ _ _ _ _ _ (roots_meet cc) (λ j. taken_both free m _ _ _ _ _ _ (taken_same free m _ _ _ (bits_alike all others)) (λ w. present_meet more cs cs' ps qs xs ys all others h k e f t l u w))))
+        module _ (more : Bool) (cs cs' : Components) (ps qs : Parts) (xs ys : List (Option (Form F D A)))
+            (h : ExtendsEach more cs cs') (k : EachPair AddedMeet cs cs') (e : Added cs ps ≡ Some xs) (f : Added cs' qs ≡ Some ys) where
+          with_bitmaps : (all others : List (Option Forms)) → Tells xs all → (m ≡ true → length all ≡ length xs) → Tells ys others →
+              Meets (With ms x all) (With ns y others) (P × PartsCarried m cs cs' ps qs)
+          with_bitmaps all others t l u = agree_map free (λ q. (q.1.0, q.1.1.1))
+              (taken_both free m _ _ _ _ _ _ (taken_same free m _ _ _ (preambles_alike (true ∷ ms) (true ∷ ns) (ap suc long)))
+              (λ i. taken_both free m _ _ _ _ _ _ (roots_meet cc)
+              (λ j. taken_both free m _ _ _ _ _ _ (taken_same free m _ _ _ (bits_alike all others)) (λ w. present_meet more cs cs' ps qs xs ys all others h k e f t l u w))))
 
           pub bitmapped_meet : (b c : Option Bitmap) → (m ≡ true → b ≡ own_bitmap xs) → Meets (Bitmapped ms x xs b) (Bitmapped ns y ys c) (P × PartsCarried m cs cs' ps qs)
-          bitmapped_meet None None o = taken_if free m (not (is_any_present xs)) (both (preamble (false ∷ ms)) x) _ _ (λ i. agree_if_right free (not (is_any_present ys)) (λ j. agree_map free (λ q. (q, weaken more cs cs' ps qs (none_meet more cs cs' ps qs xs ys h e f (no_any _ i) (no_any _ j)))) without_bitmaps))
-          bitmapped_meet None (Some c) o = taken_if free m (not (is_any_present xs)) (both (preamble (false ∷ ms)) x) _ _ (λ i. right_given free (covered_by unknown c ys) _ _ _ (λ others j. right_shown (is_any_present others) _ _ _ (without_and_with others _)))
-          bitmapped_meet (Some b) None o = taken_given free m (covered_by unknown b xs) _ _ _ (λ all i. agree_if_right free (not (is_any_present ys)) (λ j. left_shown (is_any_present all) _ _ _ (with_and_without all _)))
-          bitmapped_meet (Some b) (Some c) o = taken_given free m (covered_by unknown b xs) _ _ _ (λ all i. right_given free (covered_by unknown c ys) _ _ _ (λ others j. left_shown (is_any_present all) _ _ _ (right_shown (is_any_present others) _ _ _ (with_bitmaps all others (adding.covered_tells F D A free unknown unknown_alike b xs all i) (λ q. own_length xs all b (o q) i) (adding.covered_tells F D A free unknown unknown_alike c ys others j)))))
+          bitmapped_meet None None o = taken_if free m (not (is_any_present xs)) (both (preamble (false ∷ ms)) x) _ _
+              (λ i. agree_if_right free (not (is_any_present ys))
+              (λ j. agree_map free (λ q. (q, weaken more cs cs' ps qs (none_meet more cs cs' ps qs xs ys h e f (no_any _ i) (no_any _ j)))) without_bitmaps))
+          bitmapped_meet None (Some c) o = taken_if free m (not (is_any_present xs)) (both (preamble (false ∷ ms)) x) _ _
+              (λ i. right_given free (covered_by unknown c ys) _ _ _ (λ others j. right_shown (is_any_present others) _ _ _ (without_and_with others _)))
+          bitmapped_meet (Some b) None o = taken_given free m (covered_by unknown b xs) _ _ _
+              (λ all i. agree_if_right free (not (is_any_present ys)) (λ j. left_shown (is_any_present all) _ _ _ (with_and_without all _)))
+          bitmapped_meet (Some b) (Some c) o = taken_given free m (covered_by unknown b xs) _ _ _
+              (λ all i. right_given free (covered_by unknown c ys) _ _ _
+              (λ others j. left_shown (is_any_present all) _ _ _
+              (right_shown (is_any_present others) _ _ _
+              (with_bitmaps all others (adding.covered_tells F D A free unknown unknown_alike b xs all i)
+              (λ q. own_length xs all b (o q) i) (adding.covered_tells F D A free unknown unknown_alike c ys others j)))))

@@ -145,7 +145,8 @@ module _ (source target : Rules) (old new : Schema) (limit : ℕ) (lo : IsLawful
     refused a c (inr k) (inl l) = halted unread (inr l)
     refused a c (inr k) (inr l) = halted untranslated (subst (λ a. HasCause old new (at_first source) (older_to target) v a) k c, l)
 
-    handed_on : Goes vs others → HasNoCause old new (at_first source) (older_to target) v → (t : List ℕ) → Writes old new no_hop (older_to target) v (Some t) → (limit < length x) ⊎ (length x ≤ limit) → Goes (v ∷ vs) w
+    handed_on : Goes vs others → HasNoCause old new (at_first source) (older_to target) v → (t : List ℕ) →
+        Writes old new no_hop (older_to target) v (Some t) → (limit < length x) ⊎ (length x ≤ limit) → Goes (v ∷ vs) w
     handed_on g n t k (inl l) = halted unread (inr l)
     handed_on g n [] k (inr l) = halted emptied (n, l, k)
     handed_on g n (a ∷ t) k (inr l) = (suc g.0, (a ∷ t) ++ g.1, g.2, g.3, (x, others, e, some, joined, inr (g.0, a ∷ t, g.1, (n, l, k, λ f. cc), refl, refl, g.4)))

@@ -6,7 +6,10 @@ use Rattle.asn1_model.specs.Lawful.{IsLawful}
 use Rattle.asn1_model.specs.Rules.{Rules, canonical}
 use Rattle.asn1_model.specs.Versions.{Extends}
 use Rattle.asn1_laws_versions.specs.Answers.{Answer, answered}
-use Rattle.asn1_laws_versions.specs.Routes.{Version, older, newer, Hop, schema_of, IsRefusal, HopAnswers, Arrives, RefusesAt, Stage, at_first, behind, Cause, unknown, too_deep, clash, missing, unwritable, answer_to, Writes, HasCause, GoesThrough, FailsAt, IsLastWritten, StandsWritten}
+use Rattle.asn1_laws_versions.specs.Routes.{Version, older, newer, Hop, schema_of, IsRefusal, HopAnswers, Arrives}
+use Rattle.asn1_laws_versions.specs.Routes.{RefusesAt, Stage, at_first, behind, Cause, unknown, too_deep, clash}
+use Rattle.asn1_laws_versions.specs.Routes.{missing, unwritable, answer_to, Writes, HasCause, GoesThrough, FailsAt}
+use Rattle.asn1_laws_versions.specs.Routes.{IsLastWritten, StandsWritten}
 use Rattle.asn1_laws_versions.proofs.Answers.{one_answer}
 use Rattle.asn1_laws_versions.proofs.Hops.{Step, step, hands_on, answers_by_cause}
 
@@ -67,11 +70,13 @@ module _ (old new : Schema) (lo : IsLawful old) (ln : IsLawful new) where
     abbrev Failed : Stage → List Hop → List ℕ → Type 0
     Failed p hops w = (i : ℕ) × (a : Answer) × FailsAt old new p hops v i a × RefusesAt old new p.from hops w i a
 
-    last_of : (p : Stage) (h : Hop) (hops : List Hop) (x out : List ℕ) → Writes old new p.passed h v (Some x) → Arrives old new h.to hops x out → (hops ≢ [] → IsLastWritten old new (behind p h) hops v out) → IsLastWritten old new p (h ∷ hops) v out
+    last_of : (p : Stage) (h : Hop) (hops : List Hop) (x out : List ℕ) → Writes old new p.passed h v (Some x) →
+        Arrives old new h.to hops x out → (hops ≢ [] → IsLastWritten old new (behind p h) hops v out) → IsLastWritten old new p (h ∷ hops) v out
     last_of p h [] x out k a l = subst (λ x. Writes old new p.passed h v (Some x)) a k
     last_of p h (g ∷ hops) x out k a l = l (λ e. cc)
 
-    goes_on : (p : Stage) (h : Hop) (hops : List Hop) (w : List ℕ) → (k : Step old new lo ln ext p h v w) → ((x : List ℕ) → StandsWritten old new (behind p h).passed (behind p h).from v x → Free (behind p h) hops x ⊎ Failed (behind p h) hops x) → Free p (h ∷ hops) w ⊎ Failed p (h ∷ hops) w
+    goes_on : (p : Stage) (h : Hop) (hops : List Hop) (w : List ℕ) → (k : Step old new lo ln ext p h v w) →
+        ((x : List ℕ) → StandsWritten old new (behind p h).passed (behind p h).from v x → Free (behind p h) hops x ⊎ Failed (behind p h) hops x) → Free p (h ∷ hops) w ⊎ Failed p (h ∷ hops) w
     goes_on p h hops w (inr k) next = inr (zero, k.0, k.1, (refusal_of p h k.0 k.1, k.2))
     goes_on p h hops w (inl k) next = further (next k.1.0 k.1.3)
       where

@@ -58,12 +58,14 @@ module _ {F : Type 0} {D : F → Type 0} {A : Type 0} (free : F → Bool) where
   taken_if m true x y P h = h refl
   taken_if m false x y P h = taken_refused m y P
 
-  pub taken_given : {X : Type 0} (m : Bool) (o : Option X) (f : X → Form F D A) (y : Form F D A) (P : Type 0) → ((z : X) → o ≡ Some z → Agree free (taken m (f z)) y P) → Agree free (taken m (given o f)) y P
+  pub taken_given : {X : Type 0} (m : Bool) (o : Option X) (f : X → Form F D A) (y : Form F D A) (P : Type 0) →
+      ((z : X) → o ≡ Some z → Agree free (taken m (f z)) y P) → Agree free (taken m (given o f)) y P
   taken_given m None f y P h = taken_refused m y P
   taken_given m (Some z) f y P h = h z refl
 
   -- as it is written, its detail is the canonical one
-  pub taken_varied : (m : Bool) (c : F) (d : D c) (f : D c → Form F D A) (y : Form F D A) (P : Type 0) → ((e : D c) → (m ≡ true → e ≡ d) → Agree free (taken m (f e)) y P) → Agree free (taken m (varied c d f)) y P
+  pub taken_varied : (m : Bool) (c : F) (d : D c) (f : D c → Form F D A) (y : Form F D A) (P : Type 0) →
+      ((e : D c) → (m ≡ true → e ≡ d) → Agree free (taken m (f e)) y P) → Agree free (taken m (varied c d f)) y P
   unfolding written
   taken_varied false c d f y P h = agree_varied_left free (λ e. h e (λ q. differs q))
   taken_varied true c d f y P h = record { fronts = λ p a b r s u v e. (h d (λ q. refl)).fronts p a b r s (of_text (f d) p a (text_of (varied c d f) p a u)) v e }

@@ -18,12 +18,14 @@ pub enclosed_records : (o : Presence) (s : Schema) (v : Value) → noted o s v �
 enclosed_records o s v e = rw e refl
 
 -- an addition in front of the others
-pub more_records : (n : ℕ) (ts : List Tag) (o : Presence) (s : ℕ → Schema) (fs : Fields) (x : Part) (qs : Parts) → added_records (components_at n (field ts o s fs)) (with_part x qs) ≡ addition_records (λ v. presents (s n) v) o (s n) x ++ added_records (components_at n fs) qs
+pub more_records : (n : ℕ) (ts : List Tag) (o : Presence) (s : ℕ → Schema) (fs : Fields) (x : Part) (qs : Parts) →
+    added_records (components_at n (field ts o s fs)) (with_part x qs) ≡ addition_records (λ v. presents (s n) v) o (s n) x ++ added_records (components_at n fs) qs
 unfolding components_at added_records
 more_records n ts o s fs left_out qs = refl
 more_records n ts o s fs (there v) qs = refl
 
-pub more_fit : (n : ℕ) (ts : List Tag) (o : Presence) (s : ℕ → Schema) (fs : Fields) (x : Part) (qs : Parts) → PartsFit (components_at n (field ts o s fs)) (with_part x qs) → PartFits (λ v. Fits (s n) v) o x × PartsFit (components_at n fs) qs
+pub more_fit : (n : ℕ) (ts : List Tag) (o : Presence) (s : ℕ → Schema) (fs : Fields) (x : Part) (qs : Parts) →
+    PartsFit (components_at n (field ts o s fs)) (with_part x qs) → PartFits (λ v. Fits (s n) v) o x × PartsFit (components_at n fs) qs
 unfolding components_at PartsFit
 more_fit n ts o s fs left_out qs f = (f.0, f.1)
 more_fit n ts o s fs (there v) qs f = (f.0, f.1)

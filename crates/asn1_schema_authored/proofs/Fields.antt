@@ -41,7 +41,8 @@ unfolding components_at ExtendsEach
 no_fields = record { unfolded = λ n h. tt }
 
 -- A component that has grown itself, and those behind it.
-pub grown_field : {k : ℕ} {more : Bool} {t t' : List Tag} {o o' : Presence} {s s' : ℕ → Schema} {fs gs : Fields} → All (Contains t') t → KeepsPresenceFrom k s s' o o' → ExtendsFrom k s s' → FieldsExtend k more fs gs → FieldsExtend k more (field t o s fs) (field t' o' s' gs)
+pub grown_field : {k : ℕ} {more : Bool} {t t' : List Tag} {o o' : Presence} {s s' : ℕ → Schema} {fs gs : Fields} →
+    All (Contains t') t → KeepsPresenceFrom k s s' o o' → ExtendsFrom k s s' → FieldsExtend k more fs gs → FieldsExtend k more (field t o s fs) (field t' o' s' gs)
 unfolding components_at ExtendsEach
 grown_field a b c d = record { unfolded = λ n h. (a, b.unfolded n h, c.unfolded n h, d.unfolded n h) }
 
@@ -59,7 +60,8 @@ appended n (field t o s fs) gs h = (h.0, h.1, h.2, appended n fs gs h.3)
 -- ---- sequences
 
 -- A sequence whose components have grown, or further ones behind its extension marker have come.
-pub sequence_extends : {k : ℕ} {t t' : Table} → FieldsExtend k false t.root t'.root → t.extensible ≡ t'.extensible → FieldsExtend k t.extensible t.additions t'.additions → ExtendsFrom (suc k) (sequence_type t) (sequence_type t')
+pub sequence_extends : {k : ℕ} {t t' : Table} → FieldsExtend k false t.root t'.root → t.extensible ≡ t'.extensible →
+    FieldsExtend k t.extensible t.additions t'.additions → ExtendsFrom (suc k) (sequence_type t) (sequence_type t')
 unfolding sequence_type scope Extends
 sequence_extends {k} {t} {t'} a e b = record { unfolded = at }
   where
@@ -76,7 +78,8 @@ lawful_set : (t : Table) (n : ℕ) → is_lawful (set_type t (suc n)) ≡ true �
 unfolding scope is_lawful
 lawful_set t n l = let p = and_parts _ (are_lawful (components_at n t.additions)) l in ((and_parts _ (are_lawful (components_at n t.root)) p.0).1, p.1)
 
-lawful_choice : (t : Choices) (n : ℕ) → is_lawful (choice_type t (suc n)) ≡ true → (are_lawful_alternatives (alternatives_at n t.root) ≡ true) × (are_lawful_alternatives (alternatives_at n t.additions) ≡ true)
+lawful_choice : (t : Choices) (n : ℕ) → is_lawful (choice_type t (suc n)) ≡ true →
+    (are_lawful_alternatives (alternatives_at n t.root) ≡ true) × (are_lawful_alternatives (alternatives_at n t.additions) ≡ true)
 unfolding choice_type scope is_lawful
 lawful_choice t n l = let p = and_parts _ (are_lawful_alternatives (alternatives_at n t.additions)) l in ((and_parts _ (are_lawful_alternatives (alternatives_at n t.root)) p.0).1, p.1)
 
@@ -120,18 +123,21 @@ joined_variants (variant t s vs) ws = variant t s (joined_variants vs ws)
 abbrev pub with_alternatives : Variants → Choices → Choices
 with_alternatives vs t = record { root = t.root; extensible = t.extensible; additions = joined_variants t.additions vs }
 
-appended_variants : (n : ℕ) (vs ws : Variants) → ExtendsAlternatives true (alternatives_at n vs) (alternatives_at n vs) → ExtendsAlternatives true (alternatives_at n vs) (alternatives_at n (joined_variants vs ws))
+appended_variants : (n : ℕ) (vs ws : Variants) → ExtendsAlternatives true (alternatives_at n vs) (alternatives_at n vs) →
+    ExtendsAlternatives true (alternatives_at n vs) (alternatives_at n (joined_variants vs ws))
 unfolding alternatives_at ExtendsAlternatives
 appended_variants n no_variant no_variant h = tt
 appended_variants n no_variant (variant t s ws) h = tt
 appended_variants n (variant t s vs) ws h = (h.0, h.1, appended_variants n vs ws h.2)
 
 -- A choice with an extension marker, and further alternatives behind its own.
-pub gains_alternatives : {k : ℕ} (t : Choices) (vs : Variants) → ((n : ℕ) → is_lawful (choice_type t n) ≡ true) → t.extensible ≡ true → ExtendsFrom k (choice_type t) (choice_type (with_alternatives vs t))
+pub gains_alternatives : {k : ℕ} (t : Choices) (vs : Variants) → ((n : ℕ) → is_lawful (choice_type t n) ≡ true) → t.extensible
+    ≡ true → ExtendsFrom k (choice_type t) (choice_type (with_alternatives vs t))
 unfolding choice_type scope Extends
 gains_alternatives {k} t vs l e = record { unfolded = λ n h. at n }
   where
-    more : (n : ℕ) (b : Bool) → b ≡ true → ExtendsAlternatives true (alternatives_at n t.additions) (alternatives_at n t.additions) → ExtendsAlternatives b (alternatives_at n t.additions) (alternatives_at n (joined_variants t.additions vs))
+    more : (n : ℕ) (b : Bool) → b ≡ true → ExtendsAlternatives true (alternatives_at n t.additions)
+        (alternatives_at n t.additions) → ExtendsAlternatives b (alternatives_at n t.additions) (alternatives_at n (joined_variants t.additions vs))
     more n true e h = appended_variants n t.additions vs h
     more n false e h = absurd (let z : false ≡ true = e in cc)
 

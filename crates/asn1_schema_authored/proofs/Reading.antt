@@ -5,7 +5,9 @@ use Rattle.asn1_model.specs.Schema.{Tag, Presence, required, optional, by_defaul
 use Rattle.asn1_model.specs.Normal.{normal, normal_parts, is_at_default, is_group_left_out}
 use Rattle.asn1_model.specs.Normal.{is_required}
 use Rattle.asn1_schema_faults.specs.declared.DecodeError.{DecodeError}
-use Rattle.asn1_schema_presented.specs.Records.{Record, is_default, is_empty, additions_begin, addition, addition_ends, ends, asks_additions, asks_addition, asks_addition_end, asks_default, asks_empty, asks_end}
+use Rattle.asn1_schema_presented.specs.Records.{Record, is_default, is_empty, additions_begin, addition, addition_ends}
+use Rattle.asn1_schema_presented.specs.Records.{ends, asks_additions, asks_addition, asks_addition_end, asks_default}
+use Rattle.asn1_schema_presented.specs.Records.{asks_empty, asks_end}
 use Rattle.asn1_schema_presented.specs.Presents.{Part, left_out, there, with_part, presents, noted, component_count, root_records, addition_records, added_records, Fits, PartFits, PartsFit}
 use Rattle.asn1_schema_presented.specs.Tables.{Fields, no_field, field, components_at, IsType, IsValue}
 use Rattle.asn1_schema_presented.specs.Parts.{part_unless}
@@ -20,24 +22,36 @@ use Rattle.asn1_schema_decode.specs.Reads.{NoRecord, Reads, Unread, ReadsTail, U
 use Rattle.asn1_schema_lacking.specs.Carried.{CarriesRecords, CarriesValues}
 use Rattle.asn1_schema_decode.proofs.Reading.{reads_as}
 use Rattle.asn1_schema_presented.specs.Additions.{addition_count, extensible_table}
-use Rattle.asn1_schema_authored.specs.Reads.{ReadsEnclosed, ReadsExtension, UnreadExtension, ReadsExtensionDefault, omitted, spelled_out, other_value, UnreadExtensionDefault, ReadsAddition, UnreadAddition, ReadsAdded, UnreadAdded}
+use Rattle.asn1_schema_authored.specs.Reads.{ReadsEnclosed, ReadsExtension, UnreadExtension, ReadsExtensionDefault}
+use Rattle.asn1_schema_authored.specs.Reads.{omitted, spelled_out, other_value, UnreadExtensionDefault, ReadsAddition}
+use Rattle.asn1_schema_authored.specs.Reads.{UnreadAddition, ReadsAdded, UnreadAdded}
 use Rattle.asn1_schema_authored.proofs.Extending.{count_at, enclosed_records, more_records}
 
 -- the end of additions, and their beginning, in front
-not_at_end : {S : Type 0} (step : S → Record → S → Type 0) (n : ℕ) (qs : Parts) (a b : S) → PartsFit (components_at n no_field) qs → Chain step (added_records (components_at n no_field) qs) a b → (c : S) × step a ends c
+not_at_end : {S : Type 0} (step : S → Record → S → Type 0) (n : ℕ) (qs : Parts) (a b : S) → PartsFit (components_at n no_field) qs →
+    Chain step (added_records (components_at n no_field) qs) a b → (c : S) × step a ends c
 unfolding components_at PartsFit added_records
 not_at_end step n end a b f p = (p.0, p.1)
 not_at_end step n (present v qs) a b f p = absurd f
 not_at_end step n (absent qs) a b f p = absurd f
 
-no_root : {S : Type 0} (step : S → Record → S → Type 0) (n : ℕ) (fs : Fields) (ps qs : Parts) (a c : S) → PartsFit (components_at n no_field) ps → Chain step (root_records (components_at n no_field) ps (additions_begin (addition_count fs) ∷ added_records (components_at n fs) qs)) a c → (b : S) × step a (additions_begin (addition_count fs)) b × Chain step (added_records (components_at n fs) qs) b c
+no_root : {S : Type 0} (step : S → Record → S → Type 0) (n : ℕ) (fs : Fields) (ps qs : Parts) (a c : S) →
+    PartsFit (components_at n no_field) ps →
+    Chain step (root_records (components_at n no_field) ps
+    (additions_begin (addition_count fs) ∷ added_records (components_at n fs) qs)) a c →
+    (b : S) × step a (additions_begin (addition_count fs)) b × Chain step (added_records (components_at n fs) qs) b c
 unfolding components_at PartsFit root_records
 no_root step n fs end qs a c f p = p
 no_root step n fs (present v ps) qs a c f p = absurd f
 no_root step n fs (absent ps) qs a c f p = absurd f
 
-behind_extension_bit : {S : Type 0} (step : S → Record → S → Type 0) (n : ℕ) (fs : Fields) (ps qs : Parts) (a c : S) → PartsFit (components_at n no_field) ps → Chain step (root_records (components_at n no_field) ps (additions_begin (component_count (components_at n fs)) ∷ added_records (components_at n fs) qs)) a c → (b : S) × step a (additions_begin (addition_count fs)) b × Chain step (added_records (components_at n fs) qs) b c
-behind_extension_bit step n fs ps qs a c f p = no_root step n fs ps qs a c f (subst (λ (i : ℕ). Chain step (root_records (components_at n no_field) ps (additions_begin i ∷ added_records (components_at n fs) qs)) a c) (count_at n fs) p)
+behind_extension_bit : {S : Type 0} (step : S → Record → S → Type 0) (n : ℕ) (fs : Fields) (ps qs : Parts) (a c : S) →
+    PartsFit (components_at n no_field) ps →
+    Chain step (root_records (components_at n no_field) ps
+    (additions_begin (component_count (components_at n fs)) ∷ added_records (components_at n fs) qs)) a c →
+    (b : S) × step a (additions_begin (addition_count fs)) b × Chain step (added_records (components_at n fs) qs) b c
+behind_extension_bit step n fs ps qs a c f p =
+    no_root step n fs ps qs a c f (subst (λ (i : ℕ). Chain step (root_records (components_at n no_field) ps (additions_begin i ∷ added_records (components_at n fs) qs)) a c) (count_at n fs) p)
 
 -- a type that is no group leaves nothing out as one
 no_group_left : {ts : List Tag} {t : ℕ → Schema} → IsType ts t → (n : ℕ) (v : Value) → is_group_left_out (t n) v ≡ false
@@ -51,16 +65,19 @@ module _ {S : Type 0} {step : S → Record → S → Type 0} where
   pub reads_no_addition : (o : Presence) (s : ℕ → Schema) (n : ℕ) {a b : S} → is_required o ≡ false → step a (addition false) b → ReadsAddition step o s n left_out a b
   reads_no_addition o s n {a} {b} r h = record { raw = left_out; fits = r; means = refl; chain = rw r (b, h, refl) }
 
-  pub reads_addition : (o : Presence) {s : ℕ → Schema} {n : ℕ} {v : Value} {a d : S} → (h : ReadsEnclosed step s n v a d) → is_group_left_out (s n) h.reads.raw ≡ false → is_at_default o (s n) h.reads.raw ≡ false → ReadsAddition step o s n (there v) a d
+  pub reads_addition : (o : Presence) {s : ℕ → Schema} {n : ℕ} {v : Value} {a d : S} → (h : ReadsEnclosed step s n v a d) →
+      is_group_left_out (s n) h.reads.raw ≡ false → is_at_default o (s n) h.reads.raw ≡ false → ReadsAddition step o s n (there v) a d
   reads_addition o {s} {n} {v} {a} {d} h g k = record {
     raw = there h.reads.raw;
     fits = h.reads.fits;
     means = rw (k, g) (ap there h.reads.means);
-    chain = subst (λ rs. Chain step rs a d) (sym (enclosed_records o (s n) h.reads.raw (nothing_noted o (s n) h.reads.raw g k))) (h.begun, h.begins, chain_append step (presents (s n) h.reads.raw) (addition_ends ∷ []) h.begun h.read d h.reads.chain (d, h.ends, refl));
+    chain = subst (λ rs. Chain step rs a d) (sym (enclosed_records o (s n) h.reads.raw (nothing_noted o (s n) h.reads.raw g k)))
+        (h.begun, h.begins, chain_append step (presents (s n) h.reads.raw) (addition_ends ∷ []) h.begun h.read d h.reads.chain (d, h.ends, refl));
   }
 
   -- a default that is spelled out, and a group in which nothing is left
-  pub reads_spelled : (o : Presence) {s : ℕ → Schema} {n : ℕ} {v : Value} {a c d : S} → (h : ReadsEnclosed step s n v a c) → is_at_default o (s n) h.reads.raw ≡ true → step c is_default d → ReadsAddition step o s n left_out a d
+  pub reads_spelled : (o : Presence) {s : ℕ → Schema} {n : ℕ} {v : Value} {a c d : S} → (h : ReadsEnclosed step s n v a c) →
+      is_at_default o (s n) h.reads.raw ≡ true → step c is_default d → ReadsAddition step o s n left_out a d
   reads_spelled o {s} {n} {v} {a} {c} {d} h k z = record {
     raw = there h.reads.raw;
     fits = h.reads.fits;
@@ -68,7 +85,8 @@ module _ {S : Type 0} {step : S → Record → S → Type 0} where
     chain = rw k (h.begun, h.begins, chain_append step (presents (s n) h.reads.raw) (addition_ends ∷ is_default ∷ []) h.begun h.read d h.reads.chain (c, h.ends, (d, z, refl)));
   }
 
-  pub reads_empty : (o : Presence) {s : ℕ → Schema} {n : ℕ} {v : Value} {a c d : S} → (h : ReadsEnclosed step s n v a c) → is_at_default o (s n) h.reads.raw ≡ false → is_group_left_out (s n) h.reads.raw ≡ true → step c is_empty d → ReadsAddition step o s n left_out a d
+  pub reads_empty : (o : Presence) {s : ℕ → Schema} {n : ℕ} {v : Value} {a c d : S} → (h : ReadsEnclosed step s n v a c) →
+      is_at_default o (s n) h.reads.raw ≡ false → is_group_left_out (s n) h.reads.raw ≡ true → step c is_empty d → ReadsAddition step o s n left_out a d
   reads_empty o {s} {n} {v} {a} {c} {d} h k g z = record {
     raw = there h.reads.raw;
     fits = h.reads.fits;
@@ -76,7 +94,8 @@ module _ {S : Type 0} {step : S → Record → S → Type 0} where
     chain = rw (k, g) (h.begun, h.begins, chain_append step (presents (s n) h.reads.raw) (addition_ends ∷ is_empty ∷ []) h.begun h.read d h.reads.chain (c, h.ends, (d, z, refl)));
   }
 
-  pub unread_addition_here : (o : Presence) {s : ℕ → Schema} {n : ℕ} {few : S → S → S → Type 0} {a failed : S} {x : DecodeError} → NoRecord step few asks_addition a failed x → UnreadAddition step few o s n a failed x
+  pub unread_addition_here : (o : Presence) {s : ℕ → Schema} {n : ℕ} {few : S → S → S → Type 0} {a failed : S} {x : DecodeError} →
+      NoRecord step few asks_addition a failed x → UnreadAddition step few o s n a failed x
   unread_addition_here o {s} {n} h = record {
     none = λ w start near p b. elim p as (λ p. PartFits (λ v. Fits (s n) v) o p → Chain step (addition_records (λ v. presents (s n) v) o (s n) p) start b → ⊥) [
       | left_out ↦ λ f q. let q' : Chain step (addition false ∷ []) start b = rw f at q in h.none w start near (addition false) q'.0 refl q'.1
@@ -89,7 +108,8 @@ module _ {S : Type 0} {step : S → Record → S → Type 0} where
   unfolding components_at added_records PartsFit normal_parts
   reads_no_more n {a} {b} h = record { raw = end; fits = tt; means = refl; chain = (b, h, refl) }
 
-  pub reads_more : (ts : List Tag) {o : Presence} {s : ℕ → Schema} {fs : Fields} {n : ℕ} {x : Part} {qs : Parts} {a b c : S} → ReadsAddition step o s n x a b → ReadsAdded step fs n qs b c → ReadsAdded step (field ts o s fs) n (with_part x qs) a c
+  pub reads_more : (ts : List Tag) {o : Presence} {s : ℕ → Schema} {fs : Fields} {n : ℕ} {x : Part} {qs : Parts} {a b c : S} →
+      ReadsAddition step o s n x a b → ReadsAdded step fs n qs b c → ReadsAdded step (field ts o s fs) n (with_part x qs) a c
   unfolding components_at
   reads_more ts {o} {s} {fs} {n} {x} {qs} {a} {b} {c} h k = record {
     raw = with_part h.raw k.raw;
@@ -98,7 +118,8 @@ module _ {S : Type 0} {step : S → Record → S → Type 0} where
     chain = subst (λ rs. Chain step rs a c) (sym (more_records n ts o s fs h.raw k.raw)) (chain_append step _ _ a b c h.chain k.chain);
   }
 
-  pub reads_additions : {fs : Fields} {n : ℕ} {qs : Parts} {k : ℕ} {a b c : S} → k ≡ addition_count fs → step a (additions_begin k) b → ReadsAdded step fs n qs b c → ReadsTail step (extensible_table fs) n end qs a c
+  pub reads_additions : {fs : Fields} {n : ℕ} {qs : Parts} {k : ℕ} {a b c : S} → k ≡ addition_count fs →
+      step a (additions_begin k) b → ReadsAdded step fs n qs b c → ReadsTail step (extensible_table fs) n end qs a c
   unfolding components_at root_records PartsFit normal_parts
   reads_additions {fs} {n} {qs} {k} {a} {b} {c} e h r = record {
     root = end;
@@ -113,17 +134,27 @@ module _ {S : Type 0} {step : S → Record → S → Type 0} where
   unread_no_more n h = record { none = λ w start near qs b f p. let t = not_at_end step n qs start b f p in h.none w start near ends t.0 refl t.1 }
 
   -- additions, and what they are made of
-  parts_of : (n : ℕ) (ts : List Tag) (o : Presence) (s : ℕ → Schema) (fs : Fields) (qs : Parts) (a c : S) → PartsFit (components_at n (field ts o s fs)) qs → Chain step (added_records (components_at n (field ts o s fs)) qs) a c → (x : Part) × (rs : Parts) × (m : S) × PartFits (λ v. Fits (s n) v) o x × PartsFit (components_at n fs) rs × Chain step (addition_records (λ v. presents (s n) v) o (s n) x) a m × Chain step (added_records (components_at n fs) rs) m c
+  parts_of : (n : ℕ) (ts : List Tag) (o : Presence) (s : ℕ → Schema) (fs : Fields) (qs : Parts) (a c : S) →
+      PartsFit (components_at n (field ts o s fs)) qs → Chain step (added_records (components_at n (field ts o s fs)) qs) a c →
+      (x : Part) × (rs : Parts) × (m : S) × PartFits (λ v. Fits (s n) v) o x × PartsFit (components_at n fs) rs
+      × Chain step (addition_records (λ v. presents (s n) v) o (s n) x) a m × Chain step (added_records (components_at n fs) rs) m c
   unfolding components_at PartsFit added_records
   parts_of n ts o s fs end a c f p = absurd f
-  parts_of n ts o s fs (absent qs) a c f p = let d = chain_split step (addition_records (λ v. presents (s n) v) o (s n) left_out) (added_records (components_at n fs) qs) a c p in (left_out, qs, d.0, f.0, f.1, d.1, d.2)
-  parts_of n ts o s fs (present v qs) a c f p = let d = chain_split step (addition_records (λ v. presents (s n) v) o (s n) (there v)) (added_records (components_at n fs) qs) a c p in (there v, qs, d.0, f.0, f.1, d.1, d.2)
+  parts_of n ts o s fs (absent qs) a c f p = let d =
+      chain_split step (addition_records (λ v. presents (s n) v) o (s n) left_out) (added_records (components_at n fs) qs) a c p in (left_out, qs, d.0, f.0, f.1, d.1, d.2)
+  parts_of n ts o s fs (present v qs) a c f p = let d =
+      chain_split step (addition_records (λ v. presents (s n) v) o (s n) (there v)) (added_records (components_at n fs) qs) a c p in (there v, qs, d.0, f.0, f.1, d.1, d.2)
 
-  pub unread_more_here : (ts : List Tag) {o : Presence} {s : ℕ → Schema} (fs : Fields) {n : ℕ} {few : S → S → S → Type 0} {a failed : S} {x : DecodeError} → UnreadAddition step few o s n a failed x → UnreadAdded step few (field ts o s fs) n a failed x
+  pub unread_more_here : (ts : List Tag) {o : Presence} {s : ℕ → Schema}
+      (fs : Fields) {n : ℕ} {few : S → S → S → Type 0} {a failed : S} {x : DecodeError} → UnreadAddition step few o s n a failed x → UnreadAdded step few (field ts o s fs) n a failed x
   unread_more_here ts {o} {s} fs {n} h = record { none = λ w start near qs c f p. let d = parts_of n ts o s fs qs start c f p in h.none w start near d.0 d.2 d.3 d.5 }
 
-  pub unread_additions_here : {fs : Fields} {n : ℕ} {k : ℕ} {few : S → S → S → Type 0} {a failed : S} {x : DecodeError} → k ≡ addition_count fs → NoRecord step few (asks_additions k) a failed x → UnreadTail step few (extensible_table fs) n a failed x
-  unread_additions_here {fs} {n} e h = record { none = λ w start near ps qs c f p. let d = behind_extension_bit step n fs ps qs start c f.0 p in h.none w start near (additions_begin (addition_count fs)) d.0 (ap asks_additions (sym e)) d.1 }
+  pub unread_additions_here : {fs : Fields} {n : ℕ} {k : ℕ} {few : S → S → S → Type 0} {a failed : S} {x : DecodeError} → k
+      ≡ addition_count fs → NoRecord step few (asks_additions k) a failed x → UnreadTail step few (extensible_table fs) n a failed x
+  unread_additions_here {fs} {n} e h = record {
+    none = λ w start near ps qs c f p. let d =
+        behind_extension_bit step n fs ps qs start c f.0 p in h.none w start near (additions_begin (addition_count fs)) d.0 (ap asks_additions (sym e)) d.1;
+  }
 
 module _ {S : Type 0} {step : S → Record → S → Type 0} (one : OneRecord step) where
   after : OneAfter step
@@ -133,7 +164,8 @@ module _ {S : Type 0} {step : S → Record → S → Type 0} (one : OneRecord st
   not_both {a} {b} {c} m q = let e : addition false ≡ addition true = (one a (addition false) (addition true) c b refl q m).0 in cc
 
   -- the records of one addition at most are next
-  one_addition : (o : Presence) (s : Schema) (x y : Part) (a b c : S) → PartFits (λ v. Fits s v) o x → PartFits (λ v. Fits s v) o y → Chain step (addition_records (λ v. presents s v) o s x) a b → Chain step (addition_records (λ v. presents s v) o s y) a c → b ≡ c
+  one_addition : (o : Presence) (s : Schema) (x y : Part) (a b c : S) → PartFits (λ v. Fits s v) o x →
+      PartFits (λ v. Fits s v) o y → Chain step (addition_records (λ v. presents s v) o s x) a b → Chain step (addition_records (λ v. presents s v) o s y) a c → b ≡ c
   one_addition o s left_out left_out a b c u t p q =
       let p' : Chain step (addition false ∷ []) a b = rw u at p in
       let q' : Chain step (addition false ∷ []) a c = rw u at q in
@@ -149,7 +181,8 @@ module _ {S : Type 0} {step : S → Record → S → Type 0} (one : OneRecord st
       chain_one step after (addition_ends ∷ noted o s w) j.0 b c m j.2
 
   -- what is told behind a value that was read
-  told_behind : (o : Presence) (s : Schema) (v : Value) {a b c : S} (d : S) → step a (addition true) b → Fits s v → Chain step (presents s v) b c → (p : Part) → PartFits (λ w. Fits s w) o p → Chain step (addition_records (λ w. presents s w) o s p) a d → Chain step (addition_ends ∷ noted o s v) c d
+  told_behind : (o : Presence) (s : Schema) (v : Value) {a b c : S} (d : S) → step a (addition true) b → Fits s v →
+      Chain step (presents s v) b c → (p : Part) → PartFits (λ w. Fits s w) o p → Chain step (addition_records (λ w. presents s w) o s p) a d → Chain step (addition_ends ∷ noted o s v) c d
   told_behind o s v {a} {b} {c} d m g r left_out f q = let q' : Chain step (addition false ∷ []) a d = rw f at q in absurd (not_both m q'.1)
   told_behind o s v {a} {b} {c} d m g r (there u) f q =
       let i = chain_split step (presents s u) (addition_ends ∷ noted o s u) q.0 d q.2 in
@@ -157,7 +190,8 @@ module _ {S : Type 0} {step : S → Record → S → Type 0} (one : OneRecord st
       subst (λ (y : Value). Chain step (addition_ends ∷ noted o s y) c d) k.0 (subst (λ (z : S). Chain step (addition_ends ∷ noted o s u) z d) k.1 i.2)
 
   module _ {few : S → S → S → Type 0} (carries : CarriesRecords step few) where
-    pub unread_additions : {fs : Fields} {n : ℕ} {k : ℕ} {a b failed : S} {x : DecodeError} → k ≡ addition_count fs → step a (additions_begin k) b → UnreadAdded step few fs n b failed x → UnreadTail step few (extensible_table fs) n a failed x
+    pub unread_additions : {fs : Fields} {n : ℕ} {k : ℕ} {a b failed : S} {x : DecodeError} → k ≡ addition_count fs →
+        step a (additions_begin k) b → UnreadAdded step few fs n b failed x → UnreadTail step few (extensible_table fs) n a failed x
     unread_additions {fs} {n} {k} {a} {b} {failed} e h r = record {
       none = λ w start near ps qs c f p.
           let i = carries (additions_begin k) a b failed start refl h near in
@@ -190,7 +224,9 @@ module _ {S : Type 0} {step : S → Record → S → Type 0} (one : OneRecord st
     }
 
     module _ (values : CarriesValues step few) where
-      pub unread_more : (ts : List Tag) {o : Presence} {s : ℕ → Schema} {fs : Fields} {n : ℕ} {x : Part} {a b failed : S} {y : DecodeError} → ReadsAddition step o s n x a b → UnreadAdded step few fs n b failed y → UnreadAdded step few (field ts o s fs) n a failed y
+      pub unread_more : (ts : List Tag) {o : Presence} {s : ℕ →
+          Schema} {fs : Fields} {n : ℕ} {x : Part} {a b failed : S} {y : DecodeError} → ReadsAddition step o s n x a b →
+          UnreadAdded step few fs n b failed y → UnreadAdded step few (field ts o s fs) n a failed y
       unread_more ts {o} {s} {fs} {n} {x} {a} {b} {failed} h k = record {
         none = λ w start near qs c f p.
             let i = carry_addition step few carries values o (s n) h.raw a b failed start h.chain near in
@@ -199,7 +235,8 @@ module _ {S : Type 0} {step : S → Record → S → Type 0} (one : OneRecord st
             k.none w i.0 i.2 d.1 c d.4 (subst (λ (z : S). Chain step (added_records (components_at n fs) d.1) z c) e d.6);
       }
 
-      pub unread_end : (o : Presence) {s : ℕ → Schema} {n : ℕ} {v : Value} {a b c failed : S} {x : DecodeError} → step a (addition true) b → Reads step s n v b c → NoRecord step few asks_addition_end c failed x → UnreadAddition step few o s n a failed x
+      pub unread_end : (o : Presence) {s : ℕ → Schema} {n : ℕ} {v : Value} {a b c failed : S} {x : DecodeError} →
+          step a (addition true) b → Reads step s n v b c → NoRecord step few asks_addition_end c failed x → UnreadAddition step few o s n a failed x
       unread_end o {s} {n} {v} {a} {b} {c} {failed} m r h = record {
         none = λ w start near p d f q.
             let i = carries (addition true) a b failed start refl m near in
@@ -208,7 +245,9 @@ module _ {S : Type 0} {step : S → Record → S → Type 0} (one : OneRecord st
             h.none w j.0 j.2 addition_ends t.0 refl t.1;
       }
 
-      pub unread_empty : (o : Presence) {s : ℕ → Schema} {n : ℕ} {v : Value} {a b c d failed : S} {x : DecodeError} → step a (addition true) b → (r : Reads step s n v b c) → step c addition_ends d → is_at_default o (s n) r.raw ≡ false → is_group_left_out (s n) r.raw ≡ true → NoRecord step few asks_empty d failed x → UnreadAddition step few o s n a failed x
+      pub unread_empty : (o : Presence) {s : ℕ → Schema} {n : ℕ} {v : Value} {a b c d failed : S} {x : DecodeError} →
+          step a (addition true) b → (r : Reads step s n v b c) → step c addition_ends d → is_at_default o (s n) r.raw ≡ false →
+          is_group_left_out (s n) r.raw ≡ true → NoRecord step few asks_empty d failed x → UnreadAddition step few o s n a failed x
       unread_empty o {s} {n} {v} {a} {b} {c} {d} {failed} m r e k g h = record {
         none = λ w start near p y f q.
             let i = carries (addition true) a b failed start refl m near in
@@ -223,9 +262,14 @@ module _ {S : Type 0} {step : S → Record → S → Type 0} (one : OneRecord st
 -- ---- additions under given constraints
 module _ {S : Type 0} {step : S → Record → S → Type 0} {s : ℕ → Schema} {n : ℕ} where
   pub unread_extension_here : {few : S → S → S → Type 0} {a failed : S} {x : DecodeError} → NoRecord step few asks_addition a failed x → UnreadExtension step few s n a failed x
-  unread_extension_here h = record { none = λ w start near p c. elim p as (λ p. ReadsExtension step s n p start c → ⊥) [ left_out ↦ λ q. h.none w start near (addition false) c refl q | there v ↦ λ q. h.none w start near (addition true) q.begun refl q.begins ] }
+  unread_extension_here h = record {
+    none =
+        λ w start near p c. elim p as (λ p. ReadsExtension step s n p start c →
+        ⊥) [ left_out ↦ λ q. h.none w start near (addition false) c refl q | there v ↦ λ q. h.none w start near (addition true) q.begun refl q.begins ];
+  }
 
-  pub unread_extension_default_here : {d : Value} {few : S → S → S → Type 0} {a failed : S} {x : DecodeError} → NoRecord step few asks_addition a failed x → UnreadExtensionDefault step few s n d a failed x
+  pub unread_extension_default_here : {d : Value} {few : S → S → S → Type 0} {a failed : S} {x : DecodeError} →
+      NoRecord step few asks_addition a failed x → UnreadExtensionDefault step few s n d a failed x
   unread_extension_default_here h = record {
     none = λ w start near v c p. elim p [
       | omitted e q ↦ h.none w start near (addition false) c refl q
@@ -236,12 +280,14 @@ module _ {S : Type 0} {step : S → Record → S → Type 0} {s : ℕ → Schema
 
   module _ (one : OneRecord step) where
     not_enclosed : {v : Value} {a b c : S} → step a (addition true) b → ((v : Value) (c : S) → Fits (s n) v → Chain step (presents (s n) v) b c → ⊥) → ReadsEnclosed step s n v a c → ⊥
-    not_enclosed {v} {a} {b} {c} m h q = h q.reads.raw q.read q.reads.fits (subst (λ (z : S). Chain step (presents (s n) q.reads.raw) z q.read) (after one a (addition true) q.begun b q.begins m) q.reads.chain)
+    not_enclosed {v} {a} {b} {c} m h q = h q.reads.raw q.read q.reads.fits
+        (subst (λ (z : S). Chain step (presents (s n) q.reads.raw) z q.read) (after one a (addition true) q.begun b q.begins m) q.reads.chain)
 
     -- what is read there is one value, and one state stands behind it
     same_value : {v w : Value} {a b c d : S} → step a (addition true) b → Reads step s n v b c → (q : ReadsEnclosed step s n w a d) → (w ≡ v) × (q.read ≡ c)
     same_value {v} {w} {a} {b} {c} {d} m r q =
-        let k = one_value one (s n) q.reads.raw r.raw b q.read c q.reads.fits r.fits (subst (λ (z : S). Chain step (presents (s n) q.reads.raw) z q.read) (after one a (addition true) q.begun b q.begins m) q.reads.chain) r.chain in
+        let k = one_value one (s n) q.reads.raw r.raw b q.read c q.reads.fits r.fits
+        (subst (λ (z : S). Chain step (presents (s n) q.reads.raw) z q.read) (after one a (addition true) q.begun b q.begins m) q.reads.chain) r.chain in
         (sym q.reads.means ∙ ap (λ y. normal (s n) y) k.0 ∙ r.means, k.1)
 
     not_ended : {v w : Value} {a b c d : S} → step a (addition true) b → Reads step s n v b c → ((e : S) → step c addition_ends e → ⊥) → ReadsEnclosed step s n w a d → ⊥
@@ -267,7 +313,8 @@ module _ {S : Type 0} {step : S → Record → S → Type 0} {s : ℕ → Schema
       }
 
       module _ (values : CarriesValues step few) where
-        pub unread_extension_end : {v : Value} {a b c failed : S} {x : DecodeError} → step a (addition true) b → Reads step s n v b c → NoRecord step few asks_addition_end c failed x → UnreadExtension step few s n a failed x
+        pub unread_extension_end : {v : Value} {a b c failed : S} {x : DecodeError} → step a (addition true) b →
+            Reads step s n v b c → NoRecord step few asks_addition_end c failed x → UnreadExtension step few s n a failed x
         unread_extension_end {a = a} {b = b} {failed = failed} m r h = record {
           none = λ w start near p y.
               let i = carries (addition true) a b failed start refl m near in
@@ -275,7 +322,8 @@ module _ {S : Type 0} {step : S → Record → S → Type 0} {s : ℕ → Schema
               elim p as (λ p. ReadsExtension step s n p start y → ⊥) [ left_out ↦ λ q. not_both one i.1 q | there v ↦ λ q. not_ended i.1 j.1 (λ o k. h.none w j.0 j.2 addition_ends o refl k) q ];
         }
 
-        pub unread_extension_default_end : {d v : Value} {a b c failed : S} {x : DecodeError} → step a (addition true) b → Reads step s n v b c → NoRecord step few asks_addition_end c failed x → UnreadExtensionDefault step few s n d a failed x
+        pub unread_extension_default_end : {d v : Value} {a b c failed : S} {x : DecodeError} → step a (addition true) b →
+            Reads step s n v b c → NoRecord step few asks_addition_end c failed x → UnreadExtensionDefault step few s n d a failed x
         unread_extension_default_end {a = a} {b = b} {failed = failed} m r h = record {
           none = λ w start near v y p.
               let i = carries (addition true) a b failed start refl m near in
@@ -287,7 +335,8 @@ module _ {S : Type 0} {step : S → Record → S → Type 0} {s : ℕ → Schema
               ];
         }
 
-        pub unread_extension_noted : {d v : Value} {a b c l failed : S} {x : DecodeError} → same v d ≡ true → step a (addition true) b → Reads step s n v b c → step c addition_ends l → NoRecord step few asks_default l failed x → UnreadExtensionDefault step few s n d a failed x
+        pub unread_extension_noted : {d v : Value} {a b c l failed : S} {x : DecodeError} → same v d ≡ true →
+            step a (addition true) b → Reads step s n v b c → step c addition_ends l → NoRecord step few asks_default l failed x → UnreadExtensionDefault step few s n d a failed x
         unread_extension_noted {d} {v} {a} {b} {c} {l} {failed} f m r e h = record {
           none = λ w start near u y p.
               let i = carries (addition true) a b failed start refl m near in
@@ -327,7 +376,8 @@ module _ {S : Type 0} {step : S → Record → S → Type 0} {s : ℕ → Schema
     of_type v b c m f p z = reads_enclosed m (reads_as t s (λ i. sym (e i)) (record { raw = v; fits = f; means = refl; chain = p })) z
 
     -- an addition that is there, and what is noted behind it
-    there_of : (o : Presence) (v : Value) {a : S} (c : S) → Fits (t n) v → Chain step (addition_records (λ w. presents (t n) w) o (t n) (there v)) a c → (b : S) × ReadsEnclosed step s n (normal (t n) v) a b × Chain step (noted o (t n) v) b c
+    there_of : (o : Presence) (v : Value) {a : S} (c : S) → Fits (t n) v →
+        Chain step (addition_records (λ w. presents (t n) w) o (t n) (there v)) a c → (b : S) × ReadsEnclosed step s n (normal (t n) v) a b × Chain step (noted o (t n) v) b c
     there_of o v {a} c f q = let d = chain_split step (presents (t n) v) (addition_ends ∷ noted o (t n) v) q.0 c q.2 in (d.2.0, of_type v q.0 d.0 q.1 f d.1 d.2.1, d.2.2)
 
     pub extension_unread : {few : S → S → S → Type 0} {a failed : S} {x : DecodeError} → UnreadExtension step few s n a failed x → UnreadAddition step few optional t n a failed x
@@ -338,7 +388,8 @@ module _ {S : Type 0} {step : S → Record → S → Type 0} {s : ℕ → Schema
       ];
     }
 
-    default_there : {d : Value} (v : Value) {a c : S} (b : Bool) → is_at_default (by_default d) (t n) v ≡ b → IsValue t d → Fits (t n) v → Chain step (addition_records (λ v. presents (t n) v) (by_default d) (t n) (there v)) a c → ReadsExtensionDefault step s n d (normal (t n) v) a c
+    default_there : {d : Value} (v : Value) {a c : S} (b : Bool) → is_at_default (by_default d) (t n) v ≡ b → IsValue t d →
+        Fits (t n) v → Chain step (addition_records (λ v. presents (t n) v) (by_default d) (t n) (there v)) a c → ReadsExtensionDefault step s n d (normal (t n) v) a c
     default_there {d} v {a} {c} true l i f q =
         let y = there_of (by_default d) v c f q in
         let j : noted (by_default d) (t n) v ≡ is_default ∷ [] = rw l refl in
@@ -350,7 +401,8 @@ module _ {S : Type 0} {step : S → Record → S → Type 0} {s : ℕ → Schema
         let z = subst (λ rs. Chain step rs y.0 c) j y.2 in
         other_value (rw (i.normal n) at l) (subst (λ (j : S). ReadsEnclosed step s n (normal (t n) v) a j) (sym z) y.1)
 
-    pub extension_default_unread : {d : Value} {few : S → S → S → Type 0} {a failed : S} {x : DecodeError} → IsValue t d → UnreadExtensionDefault step few s n d a failed x → UnreadAddition step few (by_default d) t n a failed x
+    pub extension_default_unread : {d : Value} {few : S → S → S → Type 0} {a failed : S} {x : DecodeError} → IsValue t d →
+        UnreadExtensionDefault step few s n d a failed x → UnreadAddition step few (by_default d) t n a failed x
     extension_default_unread {d} i h = record {
       none = λ w start near p c. elim p as (λ p. PartFits (λ v. Fits (t n) v) (by_default d) p → Chain step (addition_records (λ v. presents (t n) v) (by_default d) (t n) p) start c → ⊥) [
         | left_out ↦ λ f q. h.none w start near d q.0 (omitted refl q.1)

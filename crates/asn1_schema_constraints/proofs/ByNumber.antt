@@ -33,11 +33,13 @@ to_is number (Some a) v = refl
 ends : {X : Type 0} (number : X → ℤ) (b : Bounded X) (v : X) → admits_by number b v ≡ (is_above (at_most_by number) (lower b) v && is_below (at_most_by number) (upper b) v)
 ends number b v = both_by (from_is number (lower b) v) (to_is number (upper b) v)
 
-meet_admits_by : {X : Type 0} (number : X → ℤ) → IsOrder (at_most_by number) → (a b : Bounded X) (v : X) → admits_by number (meet (at_most_by number) a b) v ≡ (admits_by number a v && admits_by number b v)
+meet_admits_by : {X : Type 0} (number : X → ℤ) → IsOrder (at_most_by number) → (a b : Bounded X) (v : X) →
+    admits_by number (meet (at_most_by number) a b) v ≡ (admits_by number a v && admits_by number b v)
 meet_admits_by number o a b v = ends number (meet (at_most_by number) a b) v
     ∙ (meet_admits (at_most_by number) o a b v ∙ sym (both_by (ends number a v) (ends number b v)))
 
-pub common_admits : {X : Type 0} (number : X → ℤ) → IsOrder (at_most_by number) → (a b : Bounded X) (v : X) → are_admitting (admits_by number) (common (at_most_by number) a b) v ≡ (admits_by number a v && admits_by number b v)
+pub common_admits : {X : Type 0} (number : X → ℤ) → IsOrder (at_most_by number) → (a b : Bounded X) (v : X) →
+    are_admitting (admits_by number) (common (at_most_by number) a b) v ≡ (admits_by number a v && admits_by number b v)
 common_admits {X} number o a b v = go (is_inverted le (later le (lower a) (lower b)) (earlier le (upper a) (upper b))) refl where
   le : X → X → Bool
   le = at_most_by number

@@ -21,7 +21,8 @@ meet_within : (a b : Range) (v : ℤ) → is_within (record { low = later is_at_
 meet_within a b v =
     both_by (from_is (later is_at_most a.low b.low) v ∙ (later_admits is_at_most number_order a.low b.low v ∙ sym (both_by (from_is a.low v) (from_is b.low v))))
     (to_is (earlier is_at_most a.high b.high) v ∙ (earlier_admits is_at_most number_order a.high b.high v ∙ sym (both_by (to_is a.high v) (to_is b.high v))))
-    ∙ regroup (option_map_or (λ x. is_at_most x v) a.low true) (option_map_or (λ x. is_at_most x v) b.low true) (option_map_or (λ x. is_at_most v x) a.high true) (option_map_or (λ x. is_at_most v x) b.high true)
+    ∙ regroup (option_map_or (λ x. is_at_most x v) a.low true) (option_map_or (λ x. is_at_most x v) b.low true)
+    (option_map_or (λ x. is_at_most v x) a.high true) (option_map_or (λ x. is_at_most v x) b.high true)
 
 pub held_within : (c : Extensible Value) (h : Range) (v : ℤ) → is_within (held_of (Some c) h) v ≡ (is_within h v && is_within wide_range v)
 held_within c h v = meet_within h wide_range v
@@ -39,8 +40,10 @@ wide_fits (negsuc n) h =
     le-leb (signed_octets (negsuc n)) 16 (signed_octets-le (negsuc n) 15 (omega (arith, ints, l)))
 
 pub fits_wide : (v : ℤ) → fits_128 v ≡ true → is_within wide_range v ≡ true
-fits_wide (pos m) e = let p = plain-fits (pos m) 15 (leb-true (signed_octets (pos m)) 16 e) in both_by (at_most (negsuc (2 ^ 127 - 1)) (pos m) (omega (arith, ints))) (at_most (pos m) (pos (2 ^ 127 - 1)) (omega (arith, ints, p)))
-fits_wide (negsuc m) e = let p = plain-fits (negsuc m) 15 (leb-true (signed_octets (negsuc m)) 16 e) in both_by (at_most (negsuc (2 ^ 127 - 1)) (negsuc m) (omega (arith, ints, p))) (at_most (negsuc m) (pos (2 ^ 127 - 1)) (omega (arith, ints)))
+fits_wide (pos m) e = let p = plain-fits (pos m) 15 (leb-true (signed_octets (pos m)) 16 e) in
+    both_by (at_most (negsuc (2 ^ 127 - 1)) (pos m) (omega (arith, ints))) (at_most (pos m) (pos (2 ^ 127 - 1)) (omega (arith, ints, p)))
+fits_wide (negsuc m) e = let p = plain-fits (negsuc m) 15 (leb-true (signed_octets (negsuc m)) 16 e) in
+    both_by (at_most (negsuc (2 ^ 127 - 1)) (negsuc m) (omega (arith, ints, p))) (at_most (negsuc m) (pos (2 ^ 127 - 1)) (omega (arith, ints)))
 
 pub too_wide : (v : ℤ) → 16 < signed_octets v → is_within wide_range v ≡ false
 too_wide v h = go (is_within wide_range v) refl where
@@ -63,6 +66,7 @@ pub not_held : (c : Option (Extensible Value)) (h : Range) (v : ℤ) → is_with
 not_held None h v e f = false≢true (sym e ∙ f)
 not_held (Some c) h v e f = false≢true (sym e ∙ (and_parts (is_within h v) (is_within wide_range v) (sym (held_within c h v) ∙ f)).0)
 
-pub not_admitted : (c : Option (Extensible Value)) (h : Range) (v : ℤ) → admits_whole c v ≡ false → is_within (held_of c h) v ≡ true → ((bounds_of c).extensible || is_within (bounds_of c).range v) ≡ true → ⊥
+pub not_admitted : (c : Option (Extensible Value)) (h : Range) (v : ℤ) → admits_whole c v ≡ false → is_within (held_of c h) v
+    ≡ true → ((bounds_of c).extensible || is_within (bounds_of c).range v) ≡ true → ⊥
 not_admitted None h v e f g = cc
 not_admitted (Some c) h v e f g = false≢true (sym e ∙ both_by (and_parts (is_within h v) (is_within wide_range v) (sym (held_within c h v) ∙ f)).1 g)

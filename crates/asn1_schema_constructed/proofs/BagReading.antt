@@ -25,7 +25,9 @@ count_mapped g (member v vs) = ap suc (count_mapped g vs)
 
 module _ {S : Type 0} {step : S → Record → S → Type 0} (s : ℕ → Schema) (z : Size) (h : Counts) {a b : S} {m n : ℕ} where
   -- a list begins with any number of members that h admits
-  pub reads_bag : {A : Type 0} (f : A → Value) (xs : List A) {c : S} → m ≡ n + 1 → ((k : ℕ) → is_count_within h k ≡ true → step a (bag_begins z h k) b) → is_count_within h (length xs) ≡ true → ReadsMembers step s n (values_of f xs) b c → Reads step (bag_type z h s) m (bag (values_of f xs)) a c
+  pub reads_bag : {A : Type 0} (f : A → Value) (xs : List A) {c : S} → m ≡ n + 1 →
+      ((k : ℕ) → is_count_within h k ≡ true → step a (bag_begins z h k) b) → is_count_within h (length xs) ≡ true →
+      ReadsMembers step s n (values_of f xs) b c → Reads step (bag_type z h s) m (bag (values_of f xs)) a c
   unfolding bag_type scope presents Fits normal
   reads_bag f xs {c} l i k r =
       let e : member_count r.raw ≡ length xs = sym (count_mapped (λ v. normal (s n) v) r.raw) ∙ ap member_count r.means ∙ count_values f xs in
@@ -37,7 +39,10 @@ module _ {S : Type 0} {step : S → Record → S → Type 0} (s : ℕ → Schema
       } in
       subst (λ (i : ℕ). Reads step (bag_type z h s) i (bag (values_of f xs)) a c) (let z : suc n ≡ m = omega arith in z) y
 
-  pub unread_bag : OneRecord step → {few within : S → S → S → Type 0} → CarriesMembers step few within → ((a : S) (z : Size) (h : Counts) (k : ℕ) (b : S) → step a (bag_begins z h k) b → is_count_within h k ≡ true) → {failed : S} {x : DecodeError} → m ≡ n + 1 → ((k : ℕ) → is_count_within h k ≡ true → step a (bag_begins z h k) b) → UnreadMembers step within s n h b failed x → Unread step few (bag_type z h s) m a failed x
+  pub unread_bag : OneRecord step → {few within : S → S → S → Type 0} → CarriesMembers step few within →
+      ((a : S) (z : Size) (h : Counts) (k : ℕ) (b : S) → step a (bag_begins z h k) b → is_count_within h k
+      ≡ true) → {failed : S} {x : DecodeError} → m ≡ n + 1 → ((k : ℕ) → is_count_within h k ≡ true → step a (bag_begins z h k) b) →
+      UnreadMembers step within s n h b failed x → Unread step few (bag_type z h s) m a failed x
   unfolding bag_type scope presents Fits
   unread_bag one {few} {within} carries held {failed} {x} l i u =
       let y : Unread step few (bag_type z h s) (suc n) a failed x = record {
@@ -52,7 +57,8 @@ module _ {S : Type 0} {step : S → Record → S → Type 0} (s : ℕ → Schema
       } in
       subst (λ (i : ℕ). Unread step few (bag_type z h s) i a failed x) (let z : suc n ≡ m = omega arith in z) y
 
-pub unread_bag_here : {S : Type 0} {step : S → Record → S → Type 0} (s : ℕ → Schema) (z : Size) (h : Counts) (m : ℕ) {few : S → S → S → Type 0} {a failed : S} {x : DecodeError} → NoLevel step few (asks_bag z h) m a failed x → Unread step few (bag_type z h s) m a failed x
+pub unread_bag_here : {S : Type 0} {step : S → Record → S → Type 0} (s : ℕ → Schema) (z : Size) (h : Counts)
+    (m : ℕ) {few : S → S → S → Type 0} {a failed : S} {x : DecodeError} → NoLevel step few (asks_bag z h) m a failed x → Unread step few (bag_type z h s) m a failed x
 unfolding bag_type scope presents Fits
 unread_bag_here s z h zero k = record { none = λ w start near v c g p. g }
 unread_bag_here {step = step} s z h (suc n) k = record {

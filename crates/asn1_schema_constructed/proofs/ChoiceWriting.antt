@@ -19,25 +19,29 @@ module _ {S : Type 0} (step : S → Record → S → Type 0) (t : Choices) (b : 
   writes_choice : {v : Value} {a p q d : S} → step a (begins t b i) p → Writes step (type_at (side t b) i) v p q → step q ends d → Writes step (choice_type t) (chosen b i v) a d
   unfolding choice_type scope Fits
   writes_choice {v} {a} {p} {q} {d} h w z = record {
-    chain = λ n. elim n as (λ n. Fits (scope n (λ m. choice (alternatives_at m t.root) t.extensible (alternatives_at m t.additions))) (chosen b i v) → Chain step (presents (scope n (λ m. choice (alternatives_at m t.root) t.extensible (alternatives_at m t.additions))) (chosen b i v)) a d) [
-      | zero ↦ λ f. absurd f
-      | suc m ↦ λ f.
-          let g = chosen_fits t b i m v f in
-          subst (λ rs. Chain step rs a d) (sym (choice_records t b i m v g)) (p, h, chain_append step (presents (type_at (side t b) i m) v) (ends ∷ []) p q d (w.chain m g) (d, z, refl))
-    ];
+    chain = λ n. elim n as (λ n. Fits (scope n
+        (λ m. choice (alternatives_at m t.root) t.extensible (alternatives_at m t.additions))) (chosen b i v) →
+        Chain step (presents (scope n (λ m. choice (alternatives_at m t.root) t.extensible (alternatives_at m t.additions))) (chosen b i v)) a d) [
+          | zero ↦ λ f. absurd f
+          | suc m ↦ λ f.
+              let g = chosen_fits t b i m v f in
+              subst (λ rs. Chain step rs a d) (sym (choice_records t b i m v g)) (p, h, chain_append step (presents (type_at (side t b) i m) v) (ends ∷ []) p q d (w.chain m g) (d, z, refl))
+        ];
   }
 
   -- whatever may stand behind a choice stands behind its records
   module _ (v : Value) (a : S) (k : (m : ℕ) (c p : S) → Fits (type_at (side t b) i m) v → step a (begins t b i) p → Chain step (presents (type_at (side t b) i m) v ++ (ends ∷ [])) p c → ⊥) where
     none_behind : (n : ℕ) (c : S) → Fits (choice_type t n) (chosen b i v) → Chain step (presents (choice_type t n) (chosen b i v)) a c → ⊥
     unfolding choice_type scope Fits
-    none_behind n c = elim n as (λ n. Fits (scope n (λ m. choice (alternatives_at m t.root) t.extensible (alternatives_at m t.additions))) (chosen b i v) → Chain step (presents (scope n (λ m. choice (alternatives_at m t.root) t.extensible (alternatives_at m t.additions))) (chosen b i v)) a c → ⊥) [
-      | zero ↦ λ f r. f
-      | suc m ↦ λ f r.
-          let g = chosen_fits t b i m v f in
-          let s = subst (λ rs. Chain step rs a c) (choice_records t b i m v g) r in
-          k m c s.0 g s.1 s.2
-    ]
+    none_behind n c = elim n as (λ n. Fits (scope n
+        (λ m. choice (alternatives_at m t.root) t.extensible (alternatives_at m t.additions))) (chosen b i v) →
+        Chain step (presents (scope n (λ m. choice (alternatives_at m t.root) t.extensible (alternatives_at m t.additions))) (chosen b i v)) a c → ⊥) [
+          | zero ↦ λ f r. f
+          | suc m ↦ λ f r.
+              let g = chosen_fits t b i m v f in
+              let s = subst (λ rs. Chain step rs a c) (choice_records t b i m v g) r in
+              k m c s.0 g s.1 s.2
+        ]
 
   cannot_choice_here : (v : Value) {a : S} {x : EncodeError} → Refused step (begins t b i) a x → CannotWrite step (choice_type t) (chosen b i v) a x
   cannot_choice_here v {a} {x} h = record { none = λ w. none_behind v a (λ m c p g s r. h.none w p s) }
@@ -50,10 +54,12 @@ module _ {S : Type 0} (step : S → Record → S → Type 0) (t : Choices) (b : 
           z.none w m u.0 g (subst (λ (j : S). Chain step (presents (type_at (side t b) i m) v) j u.0) (one a (begins t b i) y p s h) u.1));
     }
 
-    cannot_choice_end : {v : Value} {a p q : S} {x : EncodeError} → step a (begins t b i) p → Writes step (type_at (side t b) i) v p q → Refused step ends q x → CannotWrite step (choice_type t) (chosen b i v) a x
+    cannot_choice_end : {v : Value} {a p q : S} {x : EncodeError} → step a (begins t b i) p →
+        Writes step (type_at (side t b) i) v p q → Refused step ends q x → CannotWrite step (choice_type t) (chosen b i v) a x
     cannot_choice_end {v} {a} {p} {q} {x} h k z = record {
       none = λ w. none_behind v a (λ m c y g s r.
-          let u = chain_rest step one (presents (type_at (side t b) i m) v) (ends ∷ []) p q c (k.chain m g) (subst (λ (j : S). Chain step (presents (type_at (side t b) i m) v ++ (ends ∷ [])) j c) (one a (begins t b i) y p s h) r) in
+          let u = chain_rest step one (presents (type_at (side t b) i m) v) (ends ∷ []) p q c (k.chain m g)
+          (subst (λ (j : S). Chain step (presents (type_at (side t b) i m) v ++ (ends ∷ [])) j c) (one a (begins t b i) y p s h) r) in
           z.none w u.0 u.1);
     }
 
@@ -78,7 +84,9 @@ module _ {S : Type 0} (step : S → Record → S → Type 0) (t : Choices) {s : 
   cannot_begun_end one k w z = not_meant (cannot_choice_end step t p.added p.place one k w z)
 
 -- What has failed behind the value of the chosen alternative had failed in front of it.
-pub failed_before_chosen : {S : Type 0} {step : S → Record → S → Type 0} {has_failed : S → Type 0} → GoesOn step has_failed → (t : Choices) {s : ℕ → Schema} → ((n : ℕ) → s n ≡ choice_type t n) → (p : Chosen) {v u : Value} → v ≡ chosen_value p u → IsValue s v → {a b : S} → Writes step (chosen_type t p) u a b → has_failed b → has_failed a
+pub failed_before_chosen : {S : Type 0} {step : S → Record → S → Type 0} {has_failed : S → Type 0} → GoesOn step has_failed →
+    (t : Choices) {s : ℕ → Schema} → ((n : ℕ) → s n ≡ choice_type t n) → (p : Chosen) {v u : Value} → v ≡ chosen_value p u →
+    IsValue s v → {a b : S} → Writes step (chosen_type t p) u a b → has_failed b → has_failed a
 unfolding choice_type scope
 failed_before_chosen law t {s} is p {v} {u} means i {a} {b} w f =
     let m : ℕ = depth v in

@@ -51,7 +51,8 @@ module _ {S : Type 0} (step : S → Record → S → Type 0) (few : S → S → 
     module _ (values : CarriesValues step few) where
       pub carry_part : (o : Presence) (s : Schema) (p : Part) → Carries (part_records (λ v. presents s v) o s p)
       carry_part o s left_out = carry_left_out (is_required o)
-      carry_part o s (there v) = carry_presence_bit (is_required o) (presents s v ++ noted o s v) (carry_append (presents s v) (noted o s v) (λ a b failed c p f. values s v a b failed c p f) (carry_noted o s v))
+      carry_part o s (there v) = carry_presence_bit (is_required o) (presents s v ++ noted o s v)
+          (carry_append (presents s v) (noted o s v) (λ a b failed c p f. values s v a b failed c p f) (carry_noted o s v))
 
       pub carry_addition : (o : Presence) (s : Schema) (p : Part) → Carries (addition_records (λ v. presents s v) o s p)
       carry_addition o s left_out = by_case (is_required o)
@@ -59,10 +60,13 @@ module _ {S : Type 0} (step : S → Record → S → Type 0) (few : S → S → 
           by_case : (b : Bool) → Carries (cond b (mismatch ∷ []) (addition false ∷ []))
           by_case true = carry_one mismatch refl [] carry_none
           by_case false = carry_one (addition false) refl [] carry_none
-      carry_addition o s (there v) = carry_one (addition true) refl (presents s v ++ (addition_ends ∷ noted o s v)) (carry_append (presents s v) (addition_ends ∷ noted o s v) (λ a b failed c p f. values s v a b failed c p f) (carry_one addition_ends refl (noted o s v) (carry_noted o s v)))
+      carry_addition o s (there v) = carry_one (addition true) refl (presents s v ++ (addition_ends ∷ noted o s v))
+          (carry_append (presents s v) (addition_ends ∷ noted o s v) (λ a b failed c p f. values s v a b failed c p f) (carry_one addition_ends refl (noted o s v) (carry_noted o s v)))
 
 module _ {S : Type 0} {step : S → Record → S → Type 0} {few : S → S → S → Type 0} where
-  pub reads_part_near : CarriesRecords step few → CarriesValues step few → {o : Presence} {s : ℕ → Schema} {n : ℕ} {x : Part} {a b failed c : S} → ReadsPart step o s n x a b → few a failed c → (d : S) × ReadsPart step o s n x c d × few b failed d
+  pub reads_part_near : CarriesRecords step few →
+      CarriesValues step few → {o : Presence} {s : ℕ → Schema} {n : ℕ} {x : Part} {a b failed c : S} → ReadsPart step o s n x a b →
+      few a failed c → (d : S) × ReadsPart step o s n x c d × few b failed d
   reads_part_near one values {o} {s} {n} {x} {a} {b} {failed} {c} r f =
       let z = carry_part step few one values o (s n) r.raw a b failed c r.chain f in
       (z.0, record { raw = r.raw; fits = r.fits; means = r.means; chain = z.1 }, z.2)

@@ -52,7 +52,10 @@ within_below (Some high) k n l e = le-leb n high (let j = leb-true k high e in o
 -- a loop over the members: what is read of them so far, and what is behind, also with few octets more
 pub record ReadsFrom {S A : Type 0} (step : S → Record → S → Type 0) (within : S → S → S → Type 0) (s : ℕ → Schema) (n : ℕ) (f : A → Value) (xs : List A) (start now : S) : Type 0 where
   pub done : (us : Values) (c : S) → ReadsMembers step s n us now c → ReadsMembers step s n (joined (values_of f xs) us) start c
-  pub rest : (failed c : S) → within start failed c → (d : S) × within now failed d × ((vs : Values) (e : S) → AllFit (λ v. Fits (s n) v) vs → Chain step (member_records (λ v. presents (s n) v) vs) c e → (ws : Values) × (member_count vs ≡ length xs + member_count ws) × AllFit (λ v. Fits (s n) v) ws × Chain step (member_records (λ v. presents (s n) v) ws) d e)
+  pub rest : (failed c : S) → within start failed c →
+      (d : S) × within now failed d × ((vs : Values) (e : S) → AllFit (λ v. Fits (s n) v) vs →
+      Chain step (member_records (λ v. presents (s n) v) vs) c e → (ws : Values) × (member_count vs ≡ length xs + member_count ws)
+      × AllFit (λ v. Fits (s n) v) ws × Chain step (member_records (λ v. presents (s n) v) ws) d e)
 
 module _ {S : Type 0} (step : S → Record → S → Type 0) (s : ℕ → Schema) (n : ℕ) where
   reads_no_more : {a : S} (b : S) {c : S} → step a (further false) b → step b ends c → ReadsMembers step s n no_more a c
@@ -78,12 +81,18 @@ module _ {S : Type 0} (step : S → Record → S → Type 0) (s : ℕ → Schema
     none_further (member w ws) {a} {b} c m p = let e : further true ≡ further false = (one a (further true) (further false) p.0 b refl p.1 m).0 in cc
 
     -- a member comes where there is a further one
-    one_further : (ws : Values) {a b : S} (c : S) → step a (further true) b → AllFit (λ v. Fits (s n) v) ws → Chain step (member_records (λ v. presents (s n) v) ws) a c → (w : Value) × (us : Values) × (member_count ws ≡ suc (member_count us)) × Fits (s n) w × AllFit (λ v. Fits (s n) v) us × Chain step (presents (s n) w ++ member_records (λ v. presents (s n) v) us) b c
+    one_further : (ws : Values) {a b : S} (c : S) → step a (further true) b → AllFit (λ v. Fits (s n) v) ws →
+        Chain step (member_records (λ v. presents (s n) v) ws) a c →
+        (w : Value) × (us : Values) × (member_count ws ≡ suc (member_count us)) × Fits (s n) w × AllFit (λ v. Fits (s n) v) us
+        × Chain step (presents (s n) w ++ member_records (λ v. presents (s n) v) us) b c
     one_further no_more {a} {b} c m g p = let e : further false ≡ further true = (one a (further false) (further true) p.0 b refl p.1 m).0 in cc
-    one_further (member w ws) {a} {b} c m g p = (w, ws, refl, g.0, g.1, subst (λ (z : S). Chain step (presents (s n) w ++ member_records (λ v. presents (s n) v) ws) z c) (one a (further true) (further true) p.0 b refl p.1 m).1 p.2)
+    one_further (member w ws) {a} {b} c m g p =
+        (w, ws, refl, g.0, g.1, subst (λ (z : S). Chain step (presents (s n) w ++ member_records (λ v. presents (s n) v) ws) z c) (one a (further true) (further true) p.0 b refl p.1 m).1 p.2)
 
     -- what is behind a member that is read
-    behind_member : (ws : Values) {v : Value} {a b d : S} (c : S) → step a (further true) b → Reads step s n v b d → AllFit (λ v. Fits (s n) v) ws → Chain step (member_records (λ v. presents (s n) v) ws) a c → (us : Values) × (member_count ws ≡ suc (member_count us)) × AllFit (λ v. Fits (s n) v) us × Chain step (member_records (λ v. presents (s n) v) us) d c
+    behind_member : (ws : Values) {v : Value} {a b d : S} (c : S) → step a (further true) b → Reads step s n v b d →
+        AllFit (λ v. Fits (s n) v) ws → Chain step (member_records (λ v. presents (s n) v) ws) a c →
+        (us : Values) × (member_count ws ≡ suc (member_count us)) × AllFit (λ v. Fits (s n) v) us × Chain step (member_records (λ v. presents (s n) v) us) d c
     behind_member ws {v} {a} {b} {d} c m r g p =
         let q = one_further ws c m g p in
         let t = chain_split step (presents (s n) q.0) (member_records (λ v. presents (s n) v) q.1) b c q.5 in
@@ -98,7 +107,8 @@ module _ {S A : Type 0} {step : S → Record → S → Type 0} {within : S → S
   from_end {xs} {a} {b} {c} {d} w m h = subst (λ (us : Values). ReadsMembers step s n us a d) (joined_all (values_of f xs)) (w.done no_more d (reads_no_more step s n _ m h))
 
   module _ {few : S → S → S → Type 0} (carries : CarriesMembers step few within) where
-    pub from_further : (h : Counts) {xs : List A} {a b failed : S} {x : DecodeError} → ReadsFrom step within s n f xs a b → NoRecord step few asks_further b failed x → UnreadMembers step within s n h a failed x
+    pub from_further : (h : Counts) {xs : List A} {a b failed : S} {x : DecodeError} → ReadsFrom step within s n f xs a b →
+        NoRecord step few asks_further b failed x → UnreadMembers step within s n h a failed x
     from_further h {a = a} {b = b} {failed = failed} w k = record {
       none = λ m start near vs c i g p.
           let y = w.rest failed start near in
@@ -125,7 +135,8 @@ module _ {S A : Type 0} {step : S → Record → S → Type 0} {within : S → S
             );
       }
 
-      pub from_stuck : (h : Counts) → IsLawful (s n) → {xs : List A} {a b c failed : S} {x : DecodeError} → ReadsFrom step within s n f xs a b → step b (further true) c → Unread step few s n c failed x → UnreadMembers step within s n h a failed x
+      pub from_stuck : (h : Counts) → IsLawful (s n) → {xs : List A} {a b c failed : S} {x : DecodeError} →
+          ReadsFrom step within s n f xs a b → step b (further true) c → Unread step few s n c failed x → UnreadMembers step within s n h a failed x
       from_stuck h lawful {b = b} {c = c} {failed = failed} w m u = record {
         none = λ y start near vs e i g p.
             let r = w.rest failed start near in
@@ -135,7 +146,8 @@ module _ {S A : Type 0} {step : S → Record → S → Type 0} {within : S → S
             carries.stuck (s n) lawful b c failed m (λ d l v o f p. u.none y d l v o f p) r.0 z.0 r.1 z.1 t.0 t.1 e t.3 t.5;
       }
 
-      pub from_close : (h : Counts) {xs : List A} {a b c failed : S} {x : DecodeError} → ReadsFrom step within s n f xs a b → step b (further false) c → NoRecord step few asks_end c failed x → UnreadMembers step within s n h a failed x
+      pub from_close : (h : Counts) {xs : List A} {a b c failed : S} {x : DecodeError} → ReadsFrom step within s n f xs a b →
+          step b (further false) c → NoRecord step few asks_end c failed x → UnreadMembers step within s n h a failed x
       from_close h {b = b} {c = c} {failed = failed} w m u = record {
         none = λ y start near vs e i g p.
             let r = w.rest failed start near in
@@ -146,7 +158,8 @@ module _ {S A : Type 0} {step : S → Record → S → Type 0} {within : S → S
       }
 
       -- one member more than h has room for
-      pub from_full : (h : Counts) (x : DecodeError) {xs : List A} {a b c : S} (failed : S) → ReadsFrom step within s n f xs a b → step b (further true) c → not (option_map_or (λ x. leb (length xs + 1) x) h.high true) ≡ true → UnreadMembers step within s n h a failed x
+      pub from_full : (h : Counts) (x : DecodeError) {xs : List A} {a b c : S} (failed : S) → ReadsFrom step within s n f xs a b →
+          step b (further true) c → not (option_map_or (λ x. leb (length xs + 1) x) h.high true) ≡ true → UnreadMembers step within s n h a failed x
       from_full h x {xs} {b = b} {c = c} failed w m u = record {
         none = λ y start near vs e i g p.
             let r = w.rest failed start near in
@@ -161,7 +174,8 @@ module _ {S A : Type 0} {step : S → Record → S → Type 0} {within : S → S
       }
 
       -- another number of members than h admits
-      pub from_other : (h : Counts) (x : DecodeError) {xs : List A} {a b c : S} (failed : S) → ReadsFrom step within s n f xs a b → step b (further false) c → is_count_within h (length xs) ≡ false → UnreadMembers step within s n h a failed x
+      pub from_other : (h : Counts) (x : DecodeError) {xs : List A} {a b c : S} (failed : S) → ReadsFrom step within s n f xs a b →
+          step b (further false) c → is_count_within h (length xs) ≡ false → UnreadMembers step within s n h a failed x
       from_other h x {xs} {b = b} {c = c} failed w m u = record {
         none = λ y start near vs e i g p.
             let r = w.rest failed start near in
@@ -176,7 +190,9 @@ module _ {S A : Type 0} {step : S → Record → S → Type 0} {within : S → S
 
 module _ {S : Type 0} {step : S → Record → S → Type 0} (s : ℕ → Schema) (z : Size) (h : Counts) {a b : S} {m n : ℕ} where
   -- a list begins with any number of members that h admits
-  pub reads_list : {A : Type 0} (f : A → Value) (xs : List A) {c : S} → m ≡ n + 1 → ((k : ℕ) → is_count_within h k ≡ true → step a (list_begins z h k) b) → is_count_within h (length xs) ≡ true → ReadsMembers step s n (values_of f xs) b c → Reads step (list_type z h s) m (members (values_of f xs)) a c
+  pub reads_list : {A : Type 0} (f : A → Value) (xs : List A) {c : S} → m ≡ n + 1 →
+      ((k : ℕ) → is_count_within h k ≡ true → step a (list_begins z h k) b) → is_count_within h (length xs) ≡ true →
+      ReadsMembers step s n (values_of f xs) b c → Reads step (list_type z h s) m (members (values_of f xs)) a c
   unfolding list_type scope presents Fits normal
   reads_list f xs {c} l i k r =
       let e : member_count r.raw ≡ length xs = sym (count_mapped (λ v. normal (s n) v) r.raw) ∙ ap member_count r.means ∙ count_values f xs in
@@ -188,7 +204,10 @@ module _ {S : Type 0} {step : S → Record → S → Type 0} (s : ℕ → Schema
       } in
       subst (λ (i : ℕ). Reads step (list_type z h s) i (members (values_of f xs)) a c) (let z : suc n ≡ m = omega arith in z) y
 
-  pub unread_list : OneRecord step → {few within : S → S → S → Type 0} → CarriesMembers step few within → ((a : S) (z : Size) (h : Counts) (k : ℕ) (b : S) → step a (list_begins z h k) b → is_count_within h k ≡ true) → {failed : S} {x : DecodeError} → m ≡ n + 1 → ((k : ℕ) → is_count_within h k ≡ true → step a (list_begins z h k) b) → UnreadMembers step within s n h b failed x → Unread step few (list_type z h s) m a failed x
+  pub unread_list : OneRecord step → {few within : S → S → S → Type 0} → CarriesMembers step few within →
+      ((a : S) (z : Size) (h : Counts) (k : ℕ) (b : S) → step a (list_begins z h k) b → is_count_within h k
+      ≡ true) → {failed : S} {x : DecodeError} → m ≡ n + 1 → ((k : ℕ) → is_count_within h k ≡ true → step a (list_begins z h k) b) →
+      UnreadMembers step within s n h b failed x → Unread step few (list_type z h s) m a failed x
   unfolding list_type scope presents Fits
   unread_list one {few} {within} carries held {failed} {x} l i u =
       let y : Unread step few (list_type z h s) (suc n) a failed x = record {
@@ -203,7 +222,8 @@ module _ {S : Type 0} {step : S → Record → S → Type 0} (s : ℕ → Schema
       } in
       subst (λ (i : ℕ). Unread step few (list_type z h s) i a failed x) (let z : suc n ≡ m = omega arith in z) y
 
-pub unread_list_here : {S : Type 0} {step : S → Record → S → Type 0} (s : ℕ → Schema) (z : Size) (h : Counts) (m : ℕ) {few : S → S → S → Type 0} {a failed : S} {x : DecodeError} → NoLevel step few (asks_list z h) m a failed x → Unread step few (list_type z h s) m a failed x
+pub unread_list_here : {S : Type 0} {step : S → Record → S → Type 0} (s : ℕ → Schema) (z : Size) (h : Counts)
+    (m : ℕ) {few : S → S → S → Type 0} {a failed : S} {x : DecodeError} → NoLevel step few (asks_list z h) m a failed x → Unread step few (list_type z h s) m a failed x
 unfolding list_type scope presents Fits
 unread_list_here s z h zero k = record { none = λ w start near v c g p. g }
 unread_list_here {step = step} s z h (suc n) {a} k = record {

@@ -27,7 +27,11 @@ module _ {S : Type 0} {step : S → Record → S → Type 0} {s : ℕ → Schema
 
   -- ---- no presence bit says that it is there
   pub unread_optional_here : {few : S → S → S → Type 0} {a failed : S} {x : DecodeError} → NoRecord step few asks_presence_bit a failed x → UnreadOptional step few s n a failed x
-  unread_optional_here {a} h = record { none = λ w start near p c. elim p as (λ p. ReadsOptional step s n p start c → ⊥) [ left_out ↦ λ q. h.none w start near (presence_bit false) c refl q | there v ↦ λ q. h.none w start near (presence_bit true) q.behind_presence_bit refl q.presence_bits ] }
+  unread_optional_here {a} h = record {
+    none =
+        λ w start near p c. elim p as (λ p. ReadsOptional step s n p start c →
+        ⊥) [ left_out ↦ λ q. h.none w start near (presence_bit false) c refl q | there v ↦ λ q. h.none w start near (presence_bit true) q.behind_presence_bit refl q.presence_bits ];
+  }
 
   pub unread_default_here : {d : Value} {few : S → S → S → Type 0} {a failed : S} {x : DecodeError} → NoRecord step few asks_presence_bit a failed x → UnreadDefault step few s n d a failed x
   unread_default_here {d} {a} h = record {
@@ -72,7 +76,8 @@ module _ {S : Type 0} {step : S → Record → S → Type 0} {s : ℕ → Schema
       }
 
       module _ (values : CarriesValues step few) where
-        pub unread_noted : {d v : Value} {a b c failed : S} {x : DecodeError} → same v d ≡ true → step a (presence_bit true) b → Reads step s n v b c → NoRecord step few asks_default c failed x → UnreadDefault step few s n d a failed x
+        pub unread_noted : {d v : Value} {a b c failed : S} {x : DecodeError} → same v d ≡ true → step a (presence_bit true) b →
+            Reads step s n v b c → NoRecord step few asks_default c failed x → UnreadDefault step few s n d a failed x
         unread_noted {d} {v} {a} {b} {c} {failed} f m r h = record {
           none = λ w start near u y p.
               let i = carries (presence_bit true) a b failed start refl m near in
@@ -114,7 +119,8 @@ module _ {S : Type 0} {step : S → Record → S → Type 0} {s : ℕ → Schema
       ];
     }
 
-    default_there : {d : Value} (v : Value) {a c : S} (b : Bool) → is_at_default (by_default d) (t n) v ≡ b → IsValue t d → Fits (t n) v → Chain step (part_records (λ v. presents (t n) v) (by_default d) (t n) (there v)) a c → ReadsDefault step s n d (normal (t n) v) a c
+    default_there : {d : Value} (v : Value) {a c : S} (b : Bool) → is_at_default (by_default d) (t n) v ≡ b → IsValue t d →
+        Fits (t n) v → Chain step (part_records (λ v. presents (t n) v) (by_default d) (t n) (there v)) a c → ReadsDefault step s n d (normal (t n) v) a c
     default_there {d} v {a} {c} true l i f q =
         let y = chain_split step (presents (t n) v) (noted (by_default d) (t n) v) q.0 c q.2 in
         let j : noted (by_default d) (t n) v ≡ is_default ∷ [] = rw l refl in
@@ -124,7 +130,8 @@ module _ {S : Type 0} {step : S → Record → S → Type 0} {s : ℕ → Schema
         let z = subst (λ rs. Chain step rs a c) (present_records (by_default d) (t n) v refl (nothing_noted (by_default d) (t n) v (not_empty (t n) (normal (t n) v) (k.no_group n)) l)) q in
         other_value (rw (i.normal n) at l) (of_type v z.0 z.1 f z.2)
 
-    pub part_default_unread : {d : Value} {few : S → S → S → Type 0} {a failed : S} {x : DecodeError} → IsValue t d → UnreadDefault step few s n d a failed x → UnreadPart step few (by_default d) t n a failed x
+    pub part_default_unread : {d : Value} {few : S → S → S → Type 0} {a failed : S} {x : DecodeError} → IsValue t d →
+        UnreadDefault step few s n d a failed x → UnreadPart step few (by_default d) t n a failed x
     part_default_unread {d} {a} i h = record {
       none = λ w start near p c. elim p as (λ p. PartFits (λ v. Fits (t n) v) (by_default d) p → Chain step (part_records (λ v. presents (t n) v) (by_default d) (t n) p) start c → ⊥) [
         | left_out ↦ λ f q. h.none w start near d q.0 (omitted refl q.1)

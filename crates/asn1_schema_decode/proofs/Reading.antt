@@ -39,13 +39,25 @@ module _ {S : Type 0} {step : S → Record → S → Type 0} where
         chain = subst (λ rs. Chain step rs a b) (sym (there_records required (s n) h.raw (nothing_noted required (s n) h.raw g refl))) h.chain;
       }
 
-  pub unread_required : {ts : List Tag} {s : ℕ → Schema} {n : ℕ} {few : S → S → S → Type 0} {a failed : S} {x : DecodeError} → IsType ts s → Unread step few s n a failed x → UnreadPart step few required s n a failed x
-  unread_required {ts} {s} {n} {a} t h = record { none = λ w start near p b. elim p as (λ p. PartFits (λ v. Fits (s n) v) required p → Chain step (part_records (λ v. presents (s n) v) required (s n) p) start b → ⊥) [ left_out ↦ λ f q. let e : true ≡ false = f in cc | there v ↦ λ f q. h.none w start near v b f (subst (λ rs. Chain step rs start b) (there_records required (s n) v (nothing_noted required (s n) v (not_empty (s n) (normal (s n) v) (t.no_group n)) refl)) q) ] }
+  pub unread_required : {ts : List Tag} {s : ℕ → Schema} {n : ℕ} {few : S → S → S → Type 0} {a failed : S} {x : DecodeError} →
+      IsType ts s → Unread step few s n a failed x → UnreadPart step few required s n a failed x
+  unread_required {ts} {s} {n} {a} t h = record {
+    none =
+        λ w start near p b. elim p as (λ p. PartFits (λ v. Fits (s n) v) required p →
+        Chain step (part_records (λ v. presents (s n) v) required (s n) p) start b →
+        ⊥) [
+          | left_out ↦ λ f q. let e : true ≡ false = f in
+              cc
+          | there v ↦ λ f q. h.none w start near v b f
+              (subst (λ rs. Chain step rs start b) (there_records required (s n) v (nothing_noted required (s n) v (not_empty (s n) (normal (s n) v) (t.no_group n)) refl)) q)
+        ];
+  }
 
   pub reads_left_out : (o : Presence) (s : ℕ → Schema) (n : ℕ) {a b : S} → is_required o ≡ false → step a (presence_bit false) b → ReadsPart step o s n left_out a b
   reads_left_out o s n {a} {b} r h = record { raw = left_out; fits = r; means = refl; chain = rw r (b, h, refl) }
 
-  pub reads_there : {ts : List Tag} (o : Presence) {s : ℕ → Schema} {n : ℕ} {v : Value} {a b c : S} → is_required o ≡ false → IsType ts s → step a (presence_bit true) b → (r : Reads step s n v b c) → is_at_default o (s n) r.raw ≡ false → ReadsPart step o s n (there v) a c
+  pub reads_there : {ts : List Tag} (o : Presence) {s : ℕ → Schema} {n : ℕ} {v : Value} {a b c : S} → is_required o ≡ false →
+      IsType ts s → step a (presence_bit true) b → (r : Reads step s n v b c) → is_at_default o (s n) r.raw ≡ false → ReadsPart step o s n (there v) a c
   reads_there o {s} {n} {v} {a} {b} {c} q t m h d =
       let g : is_group_left_out (s n) h.raw ≡ false = not_empty (s n) (normal (s n) h.raw) (t.no_group n) in
       record {
@@ -56,7 +68,8 @@ module _ {S : Type 0} {step : S → Record → S → Type 0} where
       }
 
   -- a default that is spelled out
-  pub reads_spelled : (o : Presence) {s : ℕ → Schema} {n : ℕ} {v : Value} {a b c d : S} → is_required o ≡ false → step a (presence_bit true) b → (r : Reads step s n v b c) → is_at_default o (s n) r.raw ≡ true → step c is_default d → ReadsPart step o s n left_out a d
+  pub reads_spelled : (o : Presence) {s : ℕ → Schema} {n : ℕ} {v : Value} {a b c d : S} → is_required o ≡ false →
+      step a (presence_bit true) b → (r : Reads step s n v b c) → is_at_default o (s n) r.raw ≡ true → step c is_default d → ReadsPart step o s n left_out a d
   reads_spelled o {s} {n} {v} {a} {b} {c} {d} q m h e z = record {
     raw = there h.raw;
     fits = h.fits;
@@ -64,15 +77,27 @@ module _ {S : Type 0} {step : S → Record → S → Type 0} where
     chain = rw (q, e) (b, m, chain_append step (presents (s n) h.raw) (is_default ∷ []) b c d h.chain (d, z, refl));
   }
 
-  pub unread_presence_bit : (o : Presence) (s : ℕ → Schema) (n : ℕ) {few : S → S → S → Type 0} {a failed : S} {x : DecodeError} → is_required o ≡ false → NoRecord step few asks_presence_bit a failed x → UnreadPart step few o s n a failed x
-  unread_presence_bit o s n {a} r h = record { none = λ w start near p b. elim p as (λ p. PartFits (λ v. Fits (s n) v) o p → Chain step (part_records (λ v. presents (s n) v) o (s n) p) start b → ⊥) [ left_out ↦ λ f q. let q' : Chain step (presence_bit false ∷ []) start b = rw r at q in h.none w start near (presence_bit false) q'.0 refl q'.1 | there v ↦ λ f q. let q' : Chain step (presence_bit true ∷ (presents (s n) v ++ noted o (s n) v)) start b = rw r at q in h.none w start near (presence_bit true) q'.0 refl q'.1 ] }
+  pub unread_presence_bit : (o : Presence) (s : ℕ → Schema) (n : ℕ) {few : S → S → S → Type 0} {a failed : S} {x : DecodeError} →
+      is_required o ≡ false → NoRecord step few asks_presence_bit a failed x → UnreadPart step few o s n a failed x
+  unread_presence_bit o s n {a} r h = record {
+    none =
+        λ w start near p b. elim p as (λ p. PartFits (λ v. Fits (s n) v) o p →
+        Chain step (part_records (λ v. presents (s n) v) o (s n) p) start b →
+        ⊥) [
+          | left_out ↦ λ f q. let q' : Chain step (presence_bit false ∷ []) start b = rw r at q in
+              h.none w start near (presence_bit false) q'.0 refl q'.1
+          | there v ↦ λ f q. let q' : Chain step
+              (presence_bit true ∷ (presents (s n) v ++ noted o (s n) v)) start b = rw r at q in h.none w start near (presence_bit true) q'.0 refl q'.1
+        ];
+  }
 
   -- ---- what is left of a sequence
   pub reads_end : (n : ℕ) {a b : S} → step a ends b → ReadsTail step no_table n end end a b
   unfolding components_at root_records added_records PartsFit normal_parts
   reads_end n {a} {b} h = record { root = end; additions = end; fits = (tt, tt); means = refl; means_added = refl; chain = (b, h, refl) }
 
-  pub reads_field : (ts : List Tag) {o : Presence} {s : ℕ → Schema} {t : Table} {n : ℕ} {x : Part} {ps qs : Parts} {a b c : S} → ReadsPart step o s n x a b → ReadsTail step t n ps qs b c → ReadsTail step (with_field ts o s t) n (with_part x ps) qs a c
+  pub reads_field : (ts : List Tag) {o : Presence} {s : ℕ → Schema} {t : Table} {n : ℕ} {x : Part} {ps qs : Parts} {a b c : S} →
+      ReadsPart step o s n x a b → ReadsTail step t n ps qs b c → ReadsTail step (with_field ts o s t) n (with_part x ps) qs a c
   unfolding components_at
   reads_field ts {o} {s} {t} {n} {x} {ps} {qs} {a} {b} {c} h k = record {
     root = with_part h.raw k.root;
@@ -83,7 +108,8 @@ module _ {S : Type 0} {step : S → Record → S → Type 0} where
     chain = subst (λ rs. Chain step rs a c) (sym (tail_field n ts o s t h.raw k.root k.additions)) (chain_append step _ _ a b c h.chain k.chain);
   }
 
-  pub reads_sequence : (t : Table) {x : Bool} {k : ℕ} {ps qs : Parts} {m n : ℕ} {a b c : S} → k ≡ presence_bits t.root → t.extensible ≡ x → m ≡ n + 1 → step a (sequence_begins x k) b → ReadsTail step t n ps qs b c → Reads step (sequence_type t) m (fields ps qs) a c
+  pub reads_sequence : (t : Table) {x : Bool} {k : ℕ} {ps qs : Parts} {m n : ℕ} {a b c : S} → k ≡ presence_bits t.root →
+      t.extensible ≡ x → m ≡ n + 1 → step a (sequence_begins x k) b → ReadsTail step t n ps qs b c → Reads step (sequence_type t) m (fields ps qs) a c
   unfolding sequence_type scope presents Fits normal
   reads_sequence t {x} {k} {ps} {qs} {m} {n} {a} {b} {c} e f l h r =
       let h' = subst (λ (y : Bool). step a (sequence_begins y k) b) (sym f) h in
@@ -99,28 +125,47 @@ module _ {S : Type 0} {step : S → Record → S → Type 0} where
   unread_end n {a} h = record { none = λ w start near ps qs b f p. let t = not_at_end step n ps qs start b f p in h.none w start near ends t.0 refl t.1 }
 
   -- parts, and what they are made of
-  parts_of : (n : ℕ) (ts : List Tag) (o : Presence) (s : ℕ → Schema) (t : Table) (ps qs : Parts) (a c : S) → TailFits n (with_field ts o s t) ps qs → Chain step (tail_records n (with_field ts o s t) ps qs) a c → (x : Part) × (rs : Parts) × (m : S) × PartFits (λ v. Fits (s n) v) o x × TailFits n t rs qs × Chain step (part_records (λ v. presents (s n) v) o (s n) x) a m × Chain step (tail_records n t rs qs) m c
+  parts_of : (n : ℕ) (ts : List Tag) (o : Presence) (s : ℕ → Schema) (t : Table) (ps qs : Parts) (a c : S) →
+      TailFits n (with_field ts o s t) ps qs → Chain step (tail_records n (with_field ts o s t) ps qs) a c →
+      (x : Part) × (rs : Parts) × (m : S) × PartFits (λ v. Fits (s n) v) o x × TailFits n t rs qs
+      × Chain step (part_records (λ v. presents (s n) v) o (s n) x) a m × Chain step (tail_records n t rs qs) m c
   unfolding components_at PartsFit root_records
   parts_of n ts o s t end qs a c f p = absurd f.0
-  parts_of n ts o s t (absent ps) qs a c f p = let d = chain_split step (part_records (λ v. presents (s n) v) o (s n) left_out) (tail_records n t ps qs) a c p in (left_out, ps, d.0, f.0.0, (f.0.1, f.1), d.1, d.2)
-  parts_of n ts o s t (present v ps) qs a c f p = let d = chain_split step (part_records (λ v. presents (s n) v) o (s n) (there v)) (tail_records n t ps qs) a c p in (there v, ps, d.0, f.0.0, (f.0.1, f.1), d.1, d.2)
+  parts_of n ts o s t (absent ps) qs a c f p = let d =
+      chain_split step (part_records (λ v. presents (s n) v) o (s n) left_out) (tail_records n t ps qs) a c p in (left_out, ps, d.0, f.0.0, (f.0.1, f.1), d.1, d.2)
+  parts_of n ts o s t (present v ps) qs a c f p = let d =
+      chain_split step (part_records (λ v. presents (s n) v) o (s n) (there v)) (tail_records n t ps qs) a c p in (there v, ps, d.0, f.0.0, (f.0.1, f.1), d.1, d.2)
 
-  pub unread_field_here : (ts : List Tag) {o : Presence} {s : ℕ → Schema} (t : Table) {n : ℕ} {few : S → S → S → Type 0} {a failed : S} {x : DecodeError} → UnreadPart step few o s n a failed x → UnreadTail step few (with_field ts o s t) n a failed x
+  pub unread_field_here : (ts : List Tag) {o : Presence} {s : ℕ → Schema}
+      (t : Table) {n : ℕ} {few : S → S → S → Type 0} {a failed : S} {x : DecodeError} → UnreadPart step few o s n a failed x → UnreadTail step few (with_field ts o s t) n a failed x
   unread_field_here ts {o} {s} t {n} {a} h = record { none = λ w start near ps qs c f p. let d = parts_of n ts o s t ps qs start c f p in h.none w start near d.0 d.2 d.3 d.5 }
 
-  pub unread_sequence_here : (t : Table) {x : Bool} {k : ℕ} (m : ℕ) {few : S → S → S → Type 0} {a failed : S} {y : DecodeError} → k ≡ presence_bits t.root → t.extensible ≡ x → NoLevel step few (asks_sequence x k) m a failed y → Unread step few (sequence_type t) m a failed y
+  pub unread_sequence_here : (t : Table) {x : Bool} {k : ℕ} (m : ℕ) {few : S → S → S → Type 0} {a failed : S} {y : DecodeError} → k
+      ≡ presence_bits t.root → t.extensible ≡ x → NoLevel step few (asks_sequence x k) m a failed y → Unread step few (sequence_type t) m a failed y
   unfolding sequence_type scope presents Fits
   unread_sequence_here t zero e f h = record { none = λ w start near v c g p. g }
-  unread_sequence_here t {x} {k} (suc n) {a} e f h = record { none = λ w start near v c. elim v as (λ v. Fits (sequence (components_at n t.root) t.extensible (components_at n t.additions)) v → Chain step (presents (sequence (components_at n t.root) t.extensible (components_at n t.additions)) v) start c → ⊥) [ fields ps qs ↦ λ g p. h.none w start near (let z : 0 < suc n = omega arith in z) _ p.0 (ap (λ i. asks_sequence t.extensible i) (presence_bits_at n t.root ∙ sym e) ∙ ap (λ i. asks_sequence i k) f) p.1 | _ ↦ λ g p. g ] }
+  unread_sequence_here t {x} {k} (suc n) {a} e f h =
+      record {
+        none = λ w start near v c. elim v as (λ v. Fits
+            (sequence (components_at n t.root) t.extensible (components_at n t.additions)) v →
+            Chain step (presents (sequence (components_at n t.root) t.extensible (components_at n t.additions)) v) start c →
+            ⊥) [
+              | fields ps qs ↦ λ g p. h.none w start near (let z : 0 < suc n = omega arith in z) _ p.0
+                  (ap (λ i. asks_sequence t.extensible i) (presence_bits_at n t.root ∙ sym e) ∙ ap (λ i. asks_sequence i k) f) p.1
+              | _ ↦ λ g p. g
+            ];
+      }
 
   module _ (one : OneRecord step) {few : S → S → S → Type 0} (carries : CarriesRecords step few) where
     -- where a component ends
-    pub unread_present : (o : Presence) {s : ℕ → Schema} {n : ℕ} {a b failed : S} {x : DecodeError} → is_required o ≡ false → step a (presence_bit true) b → Unread step few s n b failed x → UnreadPart step few o s n a failed x
+    pub unread_present : (o : Presence) {s : ℕ → Schema} {n : ℕ} {a b failed : S} {x : DecodeError} → is_required o ≡ false →
+        step a (presence_bit true) b → Unread step few s n b failed x → UnreadPart step few o s n a failed x
     unread_present o {s} {n} {a} {b} {failed} r m h = record {
       none = λ w start near p c.
           let y = carries (presence_bit true) a b failed start refl m near in
           elim p as (λ p. PartFits (λ v. Fits (s n) v) o p → Chain step (part_records (λ v. presents (s n) v) o (s n) p) start c → ⊥) [
-            | left_out ↦ λ f q. let q' : Chain step (presence_bit false ∷ []) start c = rw r at q in let e : presence_bit false ≡ presence_bit true = (one start (presence_bit false) (presence_bit true) q'.0 y.0 refl q'.1 y.1).0 in cc
+            | left_out ↦ λ f q. let q' : Chain step (presence_bit false ∷ []) start c = rw r at q in let e : presence_bit false
+                ≡ presence_bit true = (one start (presence_bit false) (presence_bit true) q'.0 y.0 refl q'.1 y.1).0 in cc
             | there v ↦ λ f q. let q' : Chain step (presence_bit true ∷ (presents (s n) v ++ noted o (s n) v)) start c = rw r at q in
                 let e = (one start (presence_bit true) (presence_bit true) q'.0 y.0 refl q'.1 y.1).1 in
                 let d = chain_split step (presents (s n) v) (noted o (s n) v) y.0 c (subst (λ (z : S). Chain step (presents (s n) v ++ noted o (s n) v) z c) e q'.2) in
@@ -128,18 +173,29 @@ module _ {S : Type 0} {step : S → Record → S → Type 0} where
           ];
     }
 
-    pub unread_sequence : (t : Table) {x : Bool} {k : ℕ} {m n : ℕ} {a b failed : S} {y : DecodeError} → k ≡ presence_bits t.root → t.extensible ≡ x → m ≡ n + 1 → step a (sequence_begins x k) b → UnreadTail step few t n b failed y → Unread step few (sequence_type t) m a failed y
+    pub unread_sequence : (t : Table) {x : Bool} {k : ℕ} {m n : ℕ} {a b failed : S} {y : DecodeError} → k ≡ presence_bits t.root →
+        t.extensible ≡ x → m ≡ n + 1 → step a (sequence_begins x k) b → UnreadTail step few t n b failed y → Unread step few (sequence_type t) m a failed y
     unfolding sequence_type scope presents Fits
     unread_sequence t {x} {k} {m} {n} {a} {b} {failed} {y} e f l h u =
         let r : Unread step few (sequence_type t) (suc n) a failed y = record {
           none = λ w start near v c.
               let i = carries (sequence_begins x k) a b failed start refl h near in
-              elim v as (λ v. Fits (sequence (components_at n t.root) t.extensible (components_at n t.additions)) v → Chain step (presents (sequence (components_at n t.root) t.extensible (components_at n t.additions)) v) start c → ⊥) [ fields ps qs ↦ λ g p. u.none w i.0 i.2 ps qs c g (subst (λ (z : S). Chain step (tail_records n t ps qs) z c) (one start (sequence_begins t.extensible (optional_count (components_at n t.root))) (sequence_begins x k) p.0 i.0 (ap (λ i. asks_sequence t.extensible i) (presence_bits_at n t.root ∙ sym e) ∙ ap (λ i. asks_sequence i k) f) p.1 i.1).1 p.2) | _ ↦ λ g p. g ];
+              elim v as (λ v. Fits (sequence (components_at n t.root) t.extensible (components_at n t.additions)) v →
+              Chain step (presents (sequence (components_at n t.root) t.extensible (components_at n t.additions)) v) start c →
+              ⊥) [
+                | fields ps qs ↦ λ g p. u.none w i.0 i.2 ps qs c g
+                    (subst (λ (z : S). Chain step (tail_records n t ps qs) z c)
+                    (one start (sequence_begins t.extensible (optional_count (components_at n t.root))) (sequence_begins x k) p.0 i.0
+                    (ap (λ i. asks_sequence t.extensible i) (presence_bits_at n t.root ∙ sym e) ∙ ap (λ i. asks_sequence i k) f) p.1 i.1).1 p.2)
+                | _ ↦ λ g p. g
+              ];
         } in
         subst (λ (i : ℕ). Unread step few (sequence_type t) i a failed y) (let z : suc n ≡ m = omega arith in z) r
 
     module _ (values : CarriesValues step few) where
-      pub unread_field : (ts : List Tag) {o : Presence} {s : ℕ → Schema} {t : Table} {n : ℕ} {x : Part} {a b failed : S} {y : DecodeError} → ReadsPart step o s n x a b → UnreadTail step few t n b failed y → UnreadTail step few (with_field ts o s t) n a failed y
+      pub unread_field : (ts : List Tag) {o : Presence} {s : ℕ →
+          Schema} {t : Table} {n : ℕ} {x : Part} {a b failed : S} {y : DecodeError} → ReadsPart step o s n x a b →
+          UnreadTail step few t n b failed y → UnreadTail step few (with_field ts o s t) n a failed y
       unread_field ts {o} {s} {t} {n} {x} {a} {b} {failed} h k = record {
         none = λ w start near ps qs c f p.
             let i = reads_part_near carries values h near in
@@ -150,7 +206,8 @@ module _ {S : Type 0} {step : S → Record → S → Type 0} where
       }
 
 -- a value that is read where there may be a default: whether it is equal to this
-pub at_default : {S : Type 0} {step : S → Record → S → Type 0} {s : ℕ → Schema} {n : ℕ} {v d : Value} {a b : S} {e : Bool} → IsValue s d → e ≡ same v d → (r : Reads step s n v a b) → is_at_default (by_default d) (s n) r.raw ≡ e
+pub at_default : {S : Type 0} {step : S → Record → S → Type 0} {s : ℕ → Schema} {n : ℕ} {v d : Value} {a b : S} {e : Bool} →
+    IsValue s d → e ≡ same v d → (r : Reads step s n v a b) → is_at_default (by_default d) (s n) r.raw ≡ e
 at_default k h r = rw (r.means, k.normal _) (sym h)
 
 -- the default where it is left out, what is read and is not equal to it, and what is spelled out
@@ -158,10 +215,12 @@ module _ {S : Type 0} {step : S → Record → S → Type 0} {s : ℕ → Schema
   pub reads_default : {v : Value} {a b : S} → v ≡ d → step a (presence_bit false) b → ReadsPart step (by_default d) s n (part_unless (same v d) v) a b
   reads_default {v} {a} {b} e h = rw (e, same_self d) (reads_left_out (by_default d) s n refl h)
 
-  pub reads_other : {ts : List Tag} {v : Value} {a b c : S} {e : Bool} → IsType ts s → IsValue s d → e ≡ same v d → e ≡ false → step a (presence_bit true) b → Reads step s n v b c → ReadsPart step (by_default d) s n (part_unless (same v d) v) a c
+  pub reads_other : {ts : List Tag} {v : Value} {a b c : S} {e : Bool} → IsType ts s → IsValue s d → e ≡ same v d → e ≡ false →
+      step a (presence_bit true) b → Reads step s n v b c → ReadsPart step (by_default d) s n (part_unless (same v d) v) a c
   reads_other t k h f m r = rw (sym h ∙ f) (reads_there (by_default d) refl t m r (at_default k h r ∙ f))
 
-  pub reads_equal : {v : Value} {a b c x : S} {e : Bool} → IsValue s d → e ≡ same v d → e ≡ true → step a (presence_bit true) b → Reads step s n v b c → step c is_default x → ReadsPart step (by_default d) s n (part_unless (same v d) v) a x
+  pub reads_equal : {v : Value} {a b c x : S} {e : Bool} → IsValue s d → e ≡ same v d → e ≡ true → step a (presence_bit true) b →
+      Reads step s n v b c → step c is_default x → ReadsPart step (by_default d) s n (part_unless (same v d) v) a x
   reads_equal k h f m r z = rw (sym h ∙ f) (reads_spelled (by_default d) refl m r (at_default k h r ∙ f) z)
 
 -- another spelling of the same type
@@ -171,7 +230,8 @@ reads_as {step = step} s t {n} {v} {a} {b} e h =
     let q = subst (λ (f : Schema). Reads step (λ _. f) n v a b) (sym (e n)) r in
     record { raw = q.raw; fits = q.fits; means = q.means; chain = q.chain }
 
-pub unread_as : {S : Type 0} {step : S → Record → S → Type 0} (s t : ℕ → Schema) {n : ℕ} {few : S → S → S → Type 0} {a failed : S} {x : DecodeError} → ((n : ℕ) → t n ≡ s n) → Unread step few s n a failed x → Unread step few t n a failed x
+pub unread_as : {S : Type 0} {step : S → Record → S → Type 0}
+    (s t : ℕ → Schema) {n : ℕ} {few : S → S → S → Type 0} {a failed : S} {x : DecodeError} → ((n : ℕ) → t n ≡ s n) → Unread step few s n a failed x → Unread step few t n a failed x
 unread_as {step = step} s t {n} {few} {a} {failed} {x} e h =
     let r : Unread step few (λ _. s n) n a failed x = record { none = h.none } in
     let q = subst (λ (f : Schema). Unread step few (λ _. f) n a failed x) (sym (e n)) r in

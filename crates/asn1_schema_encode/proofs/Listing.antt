@@ -43,7 +43,8 @@ module _ {S : Type 0} {step : S → Record → S → Type 0} {s : ℕ → Schema
           h.none w n t.0 f.0 t.1;
     }
 
-    pub cannot_member : {v : Value} {vs : Values} {a b c : S} {x : EncodeError} → step a (further true) b → Writes step s v b c → CannotWriteMembers step s vs c x → CannotWriteMembers step s (member v vs) a x
+    pub cannot_member : {v : Value} {vs : Values} {a b c : S} {x : EncodeError} → step a (further true) b → Writes step s v b c →
+        CannotWriteMembers step s vs c x → CannotWriteMembers step s (member v vs) a x
     cannot_member {v} {vs} {a} {b} {c} m h k = record {
       none = λ w n d f p.
           let q = subst (λ (z : S). Chain step (presents (s n) v ++ member_records (λ v. presents (s n) v) vs) z d) (one a _ _ _ p.1 m) p.2 in
@@ -53,15 +54,29 @@ module _ {S : Type 0} {step : S → Record → S → Type 0} {s : ℕ → Schema
 module _ {S : Type 0} {step : S → Record → S → Type 0} (s : ℕ → Schema) (z : Size) (h : Counts) where
   pub writes_list : {vs : Values} {a b c : S} → step a (list_begins z h (member_count vs)) b → WritesMembers step s vs b c → Writes step (list_type z h s) (members vs) a c
   unfolding list_type scope presents Fits
-  writes_list {vs} {a} {b} {c} p w = record { chain = λ n. elim n as (λ n. Fits (scope n (λ m. sequence_of z h (s m))) (members vs) → Chain step (presents (scope n (λ m. sequence_of z h (s m))) (members vs)) a c) [ zero ↦ λ f. absurd f | suc j ↦ λ f. (b, p, w.chain j f) ] }
+  writes_list {vs} {a} {b} {c} p w = record {
+    chain =
+        λ n. elim n as (λ n. Fits (scope n (λ m. sequence_of z h (s m))) (members vs) →
+        Chain step (presents (scope n (λ m. sequence_of z h (s m))) (members vs)) a c) [ zero ↦ λ f. absurd f | suc j ↦ λ f. (b, p, w.chain j f) ];
+  }
 
   pub cannot_list_here : (vs : Values) {a : S} {x : EncodeError} → Refused step (list_begins z h (member_count vs)) a x → CannotWrite step (list_type z h s) (members vs) a x
   unfolding list_type scope presents Fits
-  cannot_list_here vs {a} k = record { none = λ w n c. elim n as (λ n. Fits (scope n (λ m. sequence_of z h (s m))) (members vs) → Chain step (presents (scope n (λ m. sequence_of z h (s m))) (members vs)) a c → ⊥) [ zero ↦ λ f p. f | suc j ↦ λ f p. k.none w p.0 p.1 ] }
+  cannot_list_here vs {a} k = record {
+    none =
+        λ w n c. elim n as (λ n. Fits (scope n (λ m. sequence_of z h (s m))) (members vs) →
+        Chain step (presents (scope n (λ m. sequence_of z h (s m))) (members vs)) a c → ⊥) [ zero ↦ λ f p. f | suc j ↦ λ f p. k.none w p.0 p.1 ];
+  }
 
-  pub cannot_list : OneAfter step → {vs : Values} {a b : S} {x : EncodeError} → step a (list_begins z h (member_count vs)) b → CannotWriteMembers step s vs b x → CannotWrite step (list_type z h s) (members vs) a x
+  pub cannot_list : OneAfter step → {vs : Values} {a b : S} {x : EncodeError} → step a (list_begins z h (member_count vs)) b →
+      CannotWriteMembers step s vs b x → CannotWrite step (list_type z h s) (members vs) a x
   unfolding list_type scope presents Fits
-  cannot_list one {vs} {a} {b} i k = record { none = λ w n c. elim n as (λ n. Fits (scope n (λ m. sequence_of z h (s m))) (members vs) → Chain step (presents (scope n (λ m. sequence_of z h (s m))) (members vs)) a c → ⊥) [ zero ↦ λ f p. f | suc j ↦ λ f p. k.none w j c f (subst (λ (y : S). Chain step (member_records (λ v. presents (s j) v) vs) y c) (one a _ _ _ p.1 i) p.2) ] }
+  cannot_list one {vs} {a} {b} i k = record {
+    none =
+        λ w n c. elim n as (λ n. Fits (scope n (λ m. sequence_of z h (s m))) (members vs) →
+        Chain step (presents (scope n (λ m. sequence_of z h (s m))) (members vs)) a c →
+        ⊥) [ zero ↦ λ f p. f | suc j ↦ λ f p. k.none w j c f (subst (λ (y : S). Chain step (member_records (λ v. presents (s j) v) vs) y c) (one a _ _ _ p.1 i) p.2) ];
+  }
 
 -- a loop over the items: what is to be written after the first i of them
 pub record WritesFrom {S A : Type 0} (step : S → Record → S → Type 0) (s : ℕ → Schema) (f : A → Value) (xs : List A) (i : ℕ) (start now : S) : Type 0 where
@@ -75,7 +90,8 @@ module _ {S A : Type 0} {step : S → Record → S → Type 0} {s : ℕ → Sche
   pub from_start : (a : S) → WritesFrom step s f xs 0 a a
   from_start a = record { done = λ c h. h; stuck = λ x h. h }
 
-  pub from_next : OneAfter step → {i : ℕ} {a b c d : S} {x : A} → i < length xs → x ≡ get_or xs i x → WritesFrom step s f xs i a b → step b (further true) c → Writes step s (f x) c d → WritesFrom step s f xs (i + 1) a d
+  pub from_next : OneAfter step → {i : ℕ} {a b c d : S} {x : A} → i < length xs → x ≡ get_or xs i x → WritesFrom step s f xs i a b →
+      step b (further true) c → Writes step s (f x) c d → WritesFrom step s f xs (i + 1) a d
   from_next one {i} {a} {b} {c} {d} {x} lt at w m h =
       let e = rest_is xs i x lt at in
       record {
@@ -83,10 +99,12 @@ module _ {S A : Type 0} {step : S → Record → S → Type 0} {s : ℕ → Sche
         stuck = λ y k. w.stuck y (subst (λ (ys : List A). CannotWriteMembers step s (values_of f ys) b y) (sym e) (cannot_member one m h k));
       }
 
-  pub from_further : {i : ℕ} {a b : S} {x : A} {y : EncodeError} → i < length xs → x ≡ get_or xs i x → WritesFrom step s f xs i a b → Refused step (further true) b y → CannotWriteMembers step s (values_of f xs) a y
+  pub from_further : {i : ℕ} {a b : S} {x : A} {y : EncodeError} → i < length xs → x ≡ get_or xs i x →
+      WritesFrom step s f xs i a b → Refused step (further true) b y → CannotWriteMembers step s (values_of f xs) a y
   from_further {i} {a} {b} {x} {y} lt at w h = w.stuck y (subst (λ (ys : List A). CannotWriteMembers step s (values_of f ys) b y) (sym (rest_is xs i x lt at)) (cannot_further _ h))
 
-  pub from_stuck : OneAfter step → {i : ℕ} {a b c : S} {x : A} {y : EncodeError} → i < length xs → x ≡ get_or xs i x → WritesFrom step s f xs i a b → step b (further true) c → CannotWrite step s (f x) c y → CannotWriteMembers step s (values_of f xs) a y
+  pub from_stuck : OneAfter step → {i : ℕ} {a b c : S} {x : A} {y : EncodeError} → i < length xs → x ≡ get_or xs i x →
+      WritesFrom step s f xs i a b → step b (further true) c → CannotWrite step s (f x) c y → CannotWriteMembers step s (values_of f xs) a y
   from_stuck one {i} {a} {b} {c} {x} {y} lt at w m h = w.stuck y (subst (λ (ys : List A). CannotWriteMembers step s (values_of f ys) b y) (sym (rest_is xs i x lt at)) (cannot_member_here one _ m h))
 
   pub from_end : {i : ℕ} {a b c d : S} → length xs ≤ i → WritesFrom step s f xs i a b → step b (further false) c → step c ends d → WritesMembers step s (values_of f xs) a d
@@ -95,5 +113,6 @@ module _ {S A : Type 0} {step : S → Record → S → Type 0} {s : ℕ → Sche
   pub from_no_more : {i : ℕ} {a b : S} {y : EncodeError} → length xs ≤ i → WritesFrom step s f xs i a b → Refused step (further false) b y → CannotWriteMembers step s (values_of f xs) a y
   from_no_more {i} {a} {b} {y} le w h = w.stuck y (subst (λ (ys : List A). CannotWriteMembers step s (values_of f ys) b y) (sym (drop_all i xs le)) (cannot_no_more h))
 
-  pub from_close : OneAfter step → {i : ℕ} {a b c : S} {y : EncodeError} → length xs ≤ i → WritesFrom step s f xs i a b → step b (further false) c → Refused step ends c y → CannotWriteMembers step s (values_of f xs) a y
+  pub from_close : OneAfter step → {i : ℕ} {a b c : S} {y : EncodeError} → length xs ≤ i → WritesFrom step s f xs i a b →
+      step b (further false) c → Refused step ends c y → CannotWriteMembers step s (values_of f xs) a y
   from_close one {i} {a} {b} {c} {y} le w m h = w.stuck y (subst (λ (ys : List A). CannotWriteMembers step s (values_of f ys) b y) (sym (drop_all i xs le)) (cannot_close one m h))

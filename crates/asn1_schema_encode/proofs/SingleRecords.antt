@@ -48,11 +48,13 @@ module _ {S : Type 0} {step : S → Record → S → Type 0} where
   unfolding presents
   cannot_octet_string z h k = record { none = λ w n b f p. k.none w p.0 p.1 }
 
-  pub writes_character_string : (t : StringKind) (z : Size) (l : Alphabet) (h : Counts) {y : List ℕ} {a b : S} → step a (characters t z l h y) b → Writes step (λ _. character_string t z l h) (text y) a b
+  pub writes_character_string : (t : StringKind) (z : Size) (l : Alphabet) (h : Counts) {y : List ℕ} {a b : S} →
+      step a (characters t z l h y) b → Writes step (λ _. character_string t z l h) (text y) a b
   unfolding presents
   writes_character_string t z l h {b = b} k = record { chain = λ n f. (b, k, refl) }
 
-  pub cannot_character_string : (t : StringKind) (z : Size) (l : Alphabet) (h : Counts) {y : List ℕ} {a : S} {x : EncodeError} → Refused step (characters t z l h y) a x → CannotWrite step (λ _. character_string t z l h) (text y) a x
+  pub cannot_character_string : (t : StringKind) (z : Size) (l : Alphabet) (h : Counts) {y : List ℕ} {a : S} {x : EncodeError} →
+      Refused step (characters t z l h y) a x → CannotWrite step (λ _. character_string t z l h) (text y) a x
   unfolding presents
   cannot_character_string t z l h k = record { none = λ w n b f p. k.none w p.0 p.1 }
 

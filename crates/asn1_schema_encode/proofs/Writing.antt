@@ -17,10 +17,18 @@ use Rattle.asn1_schema_presented.proofs.Joined.{is_there, presence_bits_at, noth
 
 module _ {S : Type 0} {step : S → Record → S → Type 0} where
   pub writes_required : {ts : List Tag} {s : ℕ → Schema} {v : Value} {a b : S} → IsType ts s → Writes step s v a b → WritesPart step required s (there v) a b
-  writes_required {ts} {s} {v} {a} {b} t h = record { chain = λ n f. subst (λ rs. Chain step rs a b) (sym (there_records required (s n) v (nothing_noted required (s n) v (not_empty (s n) (normal (s n) v) (t.no_group n)) refl))) (h.chain n f) }
+  writes_required {ts} {s} {v} {a} {b} t h =
+      record {
+        chain = λ n f. subst (λ rs. Chain step rs a b)
+            (sym (there_records required (s n) v (nothing_noted required (s n) v (not_empty (s n) (normal (s n) v) (t.no_group n)) refl))) (h.chain n f);
+      }
 
   pub cannot_required : {ts : List Tag} {s : ℕ → Schema} {v : Value} {a : S} {e : EncodeError} → IsType ts s → CannotWrite step s v a e → CannotWritePart step required s (there v) a e
-  cannot_required {ts} {s} {v} {a} {e} t h = record { none = λ w n b f p. h.none w n b f (subst (λ rs. Chain step rs a b) (there_records required (s n) v (nothing_noted required (s n) v (not_empty (s n) (normal (s n) v) (t.no_group n)) refl)) p) }
+  cannot_required {ts} {s} {v} {a} {e} t h =
+      record {
+        none = λ w n b f p. h.none w n b f
+            (subst (λ rs. Chain step rs a b) (there_records required (s n) v (nothing_noted required (s n) v (not_empty (s n) (normal (s n) v) (t.no_group n)) refl)) p);
+      }
 
   pub writes_end : {a b : S} → step a ends b → WritesTail step no_table end end a b
   unfolding components_at root_records added_records
@@ -30,14 +38,16 @@ module _ {S : Type 0} {step : S → Record → S → Type 0} where
   unfolding components_at root_records added_records
   cannot_end h = record { none = λ w n b f p. h.none w p.0 p.1 }
 
-  pub writes_field : (ts : List Tag) {o : Presence} {s : ℕ → Schema} {t : Table} {x : Part} {ps qs : Parts} {a b c : S} → WritesPart step o s x a b → WritesTail step t ps qs b c → WritesTail step (with_field ts o s t) (with_part x ps) qs a c
+  pub writes_field : (ts : List Tag) {o : Presence} {s : ℕ → Schema} {t : Table} {x : Part} {ps qs : Parts} {a b c : S} →
+      WritesPart step o s x a b → WritesTail step t ps qs b c → WritesTail step (with_field ts o s t) (with_part x ps) qs a c
   writes_field ts {o} {s} {t} {x} {ps} {qs} {a} {b} {c} h k = record {
     chain = λ n f.
         let g = tail_fits n ts o s t x ps qs f in
         subst (λ rs. Chain step rs a c) (sym (tail_field n ts o s t x ps qs)) (chain_append step _ _ a b c (h.chain n g.0) (k.chain n g.1));
   }
 
-  pub cannot_field_here : (ts : List Tag) {o : Presence} {s : ℕ → Schema} (t : Table) {x : Part} (ps qs : Parts) {a : S} {e : EncodeError} → CannotWritePart step o s x a e → CannotWriteTail step (with_field ts o s t) (with_part x ps) qs a e
+  pub cannot_field_here : (ts : List Tag) {o : Presence} {s : ℕ → Schema} (t : Table) {x : Part}
+      (ps qs : Parts) {a : S} {e : EncodeError} → CannotWritePart step o s x a e → CannotWriteTail step (with_field ts o s t) (with_part x ps) qs a e
   cannot_field_here ts {o} {s} t {x} ps qs {a} h = record {
     none = λ w n c f p.
         let g = tail_fits n ts o s t x ps qs f in
@@ -45,28 +55,55 @@ module _ {S : Type 0} {step : S → Record → S → Type 0} where
         h.none w n r.0 g.0 r.1;
   }
 
-  pub writes_sequence : (t : Table) {ps qs : Parts} {a b c : S} → step a (sequence_begins t.extensible (presence_bits t.root)) b → WritesTail step t ps qs b c → Writes step (sequence_type t) (fields ps qs) a c
+  pub writes_sequence : (t : Table) {ps qs : Parts} {a b c : S} → step a (sequence_begins t.extensible (presence_bits t.root)) b →
+      WritesTail step t ps qs b c → Writes step (sequence_type t) (fields ps qs) a c
   unfolding sequence_type scope presents Fits
-  writes_sequence t {ps} {qs} {a} {b} {c} h w = record { chain = λ n. elim n as (λ n. Fits (scope n (λ m. sequence (components_at m t.root) t.extensible (components_at m t.additions))) (fields ps qs) → Chain step (presents (scope n (λ m. sequence (components_at m t.root) t.extensible (components_at m t.additions))) (fields ps qs)) a c) [ zero ↦ λ f. absurd f | suc j ↦ λ f. (b, subst (λ (i : ℕ). step a (sequence_begins t.extensible i) b) (sym (presence_bits_at j t.root)) h, w.chain j f) ] }
+  writes_sequence t {ps} {qs} {a} {b} {c} h w =
+      record {
+        chain = λ n. elim n as (λ n. Fits
+            (scope n (λ m. sequence (components_at m t.root) t.extensible (components_at m t.additions))) (fields ps qs) →
+            Chain step (presents (scope n (λ m. sequence (components_at m t.root) t.extensible (components_at m t.additions)))
+            (fields ps qs)) a c) [ zero ↦ λ f. absurd f | suc j ↦ λ f. (b, subst (λ (i : ℕ). step a (sequence_begins t.extensible i) b) (sym (presence_bits_at j t.root)) h, w.chain j f) ];
+      }
 
-  pub cannot_sequence_here : (t : Table) (ps qs : Parts) {a : S} {e : EncodeError} → Refused step (sequence_begins t.extensible (presence_bits t.root)) a e → CannotWrite step (sequence_type t) (fields ps qs) a e
+  pub cannot_sequence_here : (t : Table) (ps qs : Parts) {a : S} {e : EncodeError} →
+      Refused step (sequence_begins t.extensible (presence_bits t.root)) a e → CannotWrite step (sequence_type t) (fields ps qs) a e
   unfolding sequence_type scope presents Fits
-  cannot_sequence_here t ps qs {a} h = record { none = λ w n c. elim n as (λ n. Fits (scope n (λ m. sequence (components_at m t.root) t.extensible (components_at m t.additions))) (fields ps qs) → Chain step (presents (scope n (λ m. sequence (components_at m t.root) t.extensible (components_at m t.additions))) (fields ps qs)) a c → ⊥) [ zero ↦ λ f p. f | suc j ↦ λ f p. h.none w p.0 (subst (λ (i : ℕ). step a (sequence_begins t.extensible i) p.0) (presence_bits_at j t.root) p.1) ] }
+  cannot_sequence_here t ps qs {a} h = record {
+    none =
+        λ w n c. elim n as (λ n. Fits (scope n (λ m. sequence (components_at m t.root) t.extensible (components_at m t.additions)))
+        (fields ps qs) → Chain step (presents (scope n
+        (λ m. sequence (components_at m t.root) t.extensible (components_at m t.additions))) (fields ps qs)) a c →
+        ⊥) [ zero ↦ λ f p. f | suc j ↦ λ f p. h.none w p.0 (subst (λ (i : ℕ). step a (sequence_begins t.extensible i) p.0) (presence_bits_at j t.root) p.1) ];
+  }
 
   module _ (one : OneAfter step) where
     pub cannot_later : (xs ys : List Record) (a b c : S) → Chain step xs a b → (Chain step ys b c → ⊥) → Chain step (xs ++ ys) a c → ⊥
     cannot_later xs ys a b c h k p = k (chain_rest step one _ _ _ _ _ h p)
 
-    pub cannot_field : (ts : List Tag) {o : Presence} {s : ℕ → Schema} {t : Table} {x : Part} {ps qs : Parts} {a b : S} {e : EncodeError} → WritesPart step o s x a b → CannotWriteTail step t ps qs b e → CannotWriteTail step (with_field ts o s t) (with_part x ps) qs a e
+    pub cannot_field : (ts : List Tag) {o : Presence} {s : ℕ →
+        Schema} {t : Table} {x : Part} {ps qs : Parts} {a b : S} {e : EncodeError} → WritesPart step o s x a b →
+        CannotWriteTail step t ps qs b e → CannotWriteTail step (with_field ts o s t) (with_part x ps) qs a e
     cannot_field ts {o} {s} {t} {x} {ps} {qs} {a} {b} h k = record {
       none = λ w n c f p.
           let g = tail_fits n ts o s t x ps qs f in
           cannot_later _ _ a b c (h.chain n g.0) (k.none w n c g.1) (subst (λ rs. Chain step rs a c) (tail_field n ts o s t x ps qs) p);
     }
 
-    pub cannot_sequence : (t : Table) {ps qs : Parts} {a b : S} {e : EncodeError} → step a (sequence_begins t.extensible (presence_bits t.root)) b → CannotWriteTail step t ps qs b e → CannotWrite step (sequence_type t) (fields ps qs) a e
+    pub cannot_sequence : (t : Table) {ps qs : Parts} {a b : S} {e : EncodeError} →
+        step a (sequence_begins t.extensible (presence_bits t.root)) b → CannotWriteTail step t ps qs b e → CannotWrite step (sequence_type t) (fields ps qs) a e
     unfolding sequence_type scope presents Fits
-    cannot_sequence t {ps} {qs} {a} {b} h z = record { none = λ w n c. elim n as (λ n. Fits (scope n (λ m. sequence (components_at m t.root) t.extensible (components_at m t.additions))) (fields ps qs) → Chain step (presents (scope n (λ m. sequence (components_at m t.root) t.extensible (components_at m t.additions))) (fields ps qs)) a c → ⊥) [ zero ↦ λ f p. f | suc j ↦ λ f p. z.none w j c f (subst (λ (s : S). Chain step (tail_records j t ps qs) s c) (one _ _ _ _ (subst (λ (i : ℕ). step a (sequence_begins t.extensible i) p.0) (presence_bits_at j t.root) p.1) h) p.2) ] }
+    cannot_sequence t {ps} {qs} {a} {b} h z =
+        record {
+          none = λ w n c. elim n as (λ n. Fits
+              (scope n (λ m. sequence (components_at m t.root) t.extensible (components_at m t.additions))) (fields ps qs) →
+              Chain step (presents (scope n (λ m. sequence (components_at m t.root) t.extensible (components_at m t.additions)))
+              (fields ps qs)) a c → ⊥) [
+                | zero ↦ λ f p. f
+                | suc j ↦ λ f p. z.none w j c f
+                    (subst (λ (s : S). Chain step (tail_records j t ps qs) s c) (one _ _ _ _ (subst (λ (i : ℕ). step a (sequence_begins t.extensible i) p.0) (presence_bits_at j t.root) p.1) h) p.2)
+              ];
+        }
 
 -- components that may be absent
 module _ {S : Type 0} {step : S → Record → S → Type 0} where
@@ -75,15 +112,21 @@ module _ {S : Type 0} {step : S → Record → S → Type 0} where
   writes_left_out optional s {b = b} h = record { chain = λ n f. (b, h, refl) }
   writes_left_out (by_default d) s {b = b} h = record { chain = λ n f. (b, h, refl) }
 
-  pub cannot_presence_bit : (o : Presence) (s : ℕ → Schema) (x : Part) (b : Bool) {a : S} {e : EncodeError} → is_required o ≡ false → b ≡ is_there x → Refused step (presence_bit b) a e → CannotWritePart step o s x a e
+  pub cannot_presence_bit : (o : Presence) (s : ℕ → Schema) (x : Part) (b : Bool) {a : S} {e : EncodeError} → is_required o
+      ≡ false → b ≡ is_there x → Refused step (presence_bit b) a e → CannotWritePart step o s x a e
   cannot_presence_bit required s x b r h k = let z : true ≡ false = r in cc
   cannot_presence_bit optional s left_out b r h k = record { none = λ w n c f p. k.none w p.0 (rw h p.1) }
   cannot_presence_bit optional s (there v) b r h k = record { none = λ w n c f p. k.none w p.0 (rw h p.1) }
   cannot_presence_bit (by_default d) s left_out b r h k = record { none = λ w n c f p. k.none w p.0 (rw h p.1) }
   cannot_presence_bit (by_default d) s (there v) b r h k = record { none = λ w n c f p. k.none w p.0 (rw h p.1) }
 
-  pub writes_there : {ts : List Tag} (o : Presence) {s : ℕ → Schema} {v : Value} {a b c : S} → is_required o ≡ false → IsType ts s → ((n : ℕ) → is_at_default o (s n) v ≡ false) → step a (presence_bit true) b → Writes step s v b c → WritesPart step o s (there v) a c
-  writes_there o {s} {v} {a} {b} {c} r t d m h = record { chain = λ n f. subst (λ rs. Chain step rs a c) (sym (present_records o (s n) v r (nothing_noted o (s n) v (not_empty (s n) (normal (s n) v) (t.no_group n)) (d n)))) (b, m, h.chain n f) }
+  pub writes_there : {ts : List Tag} (o : Presence) {s : ℕ → Schema} {v : Value} {a b c : S} → is_required o ≡ false → IsType ts s →
+      ((n : ℕ) → is_at_default o (s n) v ≡ false) → step a (presence_bit true) b → Writes step s v b c → WritesPart step o s (there v) a c
+  writes_there o {s} {v} {a} {b} {c} r t d m h =
+      record {
+        chain = λ n f. subst (λ rs. Chain step rs a c)
+            (sym (present_records o (s n) v r (nothing_noted o (s n) v (not_empty (s n) (normal (s n) v) (t.no_group n)) (d n)))) (b, m, h.chain n f);
+      }
 
 -- SEQUENCE types, by their tables
 module _ {S : Type 0} (step : S → Record → S → Type 0) (t : Table) {x : Bool} {k : ℕ} (e : k ≡ presence_bits t.root) (f : t.extensible ≡ x) where
@@ -99,7 +142,8 @@ module _ {S : Type 0} (step : S → Record → S → Type 0) (t : Table) {x : Bo
   pub cannot_this_here : (ps qs : Parts) {a : S} {y : EncodeError} → Refused step (sequence_begins x k) a y → CannotWrite step (sequence_type t) (fields ps qs) a y
   cannot_this_here ps qs h = cannot_sequence_here t ps qs (record { none = λ w b p. h.none w b (not_by_table p) })
 
-  pub cannot_this : OneAfter step → {ps qs : Parts} {a b : S} {y : EncodeError} → step a (sequence_begins x k) b → CannotWriteTail step t ps qs b y → CannotWrite step (sequence_type t) (fields ps qs) a y
+  pub cannot_this : OneAfter step → {ps qs : Parts} {a b : S} {y : EncodeError} → step a (sequence_begins x k) b →
+      CannotWriteTail step t ps qs b y → CannotWrite step (sequence_type t) (fields ps qs) a y
   cannot_this one h w = cannot_sequence one t (by_table h) w
 
 -- another form of the same type
@@ -121,20 +165,24 @@ module _ {S : Type 0} {step : S → Record → S → Type 0} {s : ℕ → Schema
   cannot_present one {a} {b} m h = record { none = λ w n y c k f p. h.none w n c f (subst (λ (z : S). Chain step (presents (s n) v) z c) (one a (presence_bit true) y b k m) p) }
 
   -- what follows a presence bit under a type's own constraints is a component of the type
-  pub part_present : {ts : List Tag} (o : Presence) {t : ℕ → Schema} {a c : S} → is_required o ≡ false → IsType ts t → ((n : ℕ) → is_at_default o (t n) v ≡ false) → ((n : ℕ) → t n ≡ s n) → WritesPresent step s v a c → WritesPart step o t (there v) a c
+  pub part_present : {ts : List Tag} (o : Presence) {t : ℕ → Schema} {a c : S} → is_required o ≡ false → IsType ts t →
+      ((n : ℕ) → is_at_default o (t n) v ≡ false) → ((n : ℕ) → t n ≡ s n) → WritesPresent step s v a c → WritesPart step o t (there v) a c
   part_present o {t} r k d e h = writes_there o r k d h.presence_bits (writes_as s t e h.writes)
 
-  pub cannot_part_present : {ts : List Tag} (o : Presence) {t : ℕ → Schema} {a : S} {x : EncodeError} → is_required o ≡ false → IsType ts t → ((n : ℕ) → is_at_default o (t n) v ≡ false) → ((n : ℕ) → t n ≡ s n) → CannotWritePresent step s v a x → CannotWritePart step o t (there v) a x
+  pub cannot_part_present : {ts : List Tag} (o : Presence) {t : ℕ → Schema} {a : S} {x : EncodeError} → is_required o ≡ false →
+      IsType ts t → ((n : ℕ) → is_at_default o (t n) v ≡ false) → ((n : ℕ) → t n ≡ s n) → CannotWritePresent step s v a x → CannotWritePart step o t (there v) a x
   cannot_part_present o {t} {a} r k d e h = record {
     none = λ w n c f p.
         let q = subst (λ rs. Chain step rs a c) (present_records o (t n) v r (nothing_noted o (t n) v (not_empty (t n) (normal (t n) v) (k.no_group n)) (d n))) p in
         h.none w n q.0 c q.1 (subst (λ (y : Schema). Fits y v) (e n) f) (subst (λ (y : Schema). Chain step (presents y v) q.0 c) (e n) q.2);
   }
 
-  pub part_unless_equal : {ts : List Tag} {d : Value} (b : Bool) {t : ℕ → Schema} {a c : S} → IsType ts t → IsValue t v → IsValue t d → b ≡ same v d → ((n : ℕ) → t n ≡ s n) → WritesUnless b step s v a c → WritesPart step (by_default d) t (part_unless b v) a c
+  pub part_unless_equal : {ts : List Tag} {d : Value} (b : Bool) {t : ℕ → Schema} {a c : S} → IsType ts t → IsValue t v →
+      IsValue t d → b ≡ same v d → ((n : ℕ) → t n ≡ s n) → WritesUnless b step s v a c → WritesPart step (by_default d) t (part_unless b v) a c
   part_unless_equal {d = d} true {t} k i j q e h = writes_left_out (by_default d) t h
   part_unless_equal {d = d} false k i j q e h = part_present (by_default d) refl k (λ n. rw (i.normal n, j.normal n) (sym q)) e h
 
-  pub cannot_part_unless_equal : {ts : List Tag} {d : Value} (b : Bool) {t : ℕ → Schema} {a : S} {x : EncodeError} → IsType ts t → IsValue t v → IsValue t d → b ≡ same v d → ((n : ℕ) → t n ≡ s n) → CannotWriteUnless b step s v a x → CannotWritePart step (by_default d) t (part_unless b v) a x
+  pub cannot_part_unless_equal : {ts : List Tag} {d : Value} (b : Bool) {t : ℕ → Schema} {a : S} {x : EncodeError} → IsType ts t →
+      IsValue t v → IsValue t d → b ≡ same v d → ((n : ℕ) → t n ≡ s n) → CannotWriteUnless b step s v a x → CannotWritePart step (by_default d) t (part_unless b v) a x
   cannot_part_unless_equal {d = d} true {t} k i j q e h = cannot_presence_bit (by_default d) t left_out false refl refl h
   cannot_part_unless_equal {d = d} false k i j q e h = cannot_part_present (by_default d) refl k (λ n. rw (i.normal n, j.normal n) (sym q)) e h

@@ -17,4 +17,5 @@ never_long CallOutOfPlace e p h = let q : ValueConstraintNotSatisfied ≡ TooLon
 never_long x e p h = let q : x ≡ TooLongValue = sym (p.others (λ z. cc) (λ z. cc) (λ z. cc)) ∙ h in cc
 
 pub no_memory_before : (x e : EncodeError) → PassedOn x e → ¬ (e ≡ OutOfMemory) → ¬ (x ≡ OutOfMemory)
-no_memory_before x e p n h = n (p.others (λ z. let q : OutOfMemory ≡ TooLongValue = sym h ∙ z in cc) (λ z. let q : OutOfMemory ≡ LengthExceedsPlatformSize = sym h ∙ z in cc) (λ z. let q : OutOfMemory ≡ CallOutOfPlace = sym h ∙ z in cc) ∙ h)
+no_memory_before x e p n h = n (p.others (λ z. let q : OutOfMemory ≡ TooLongValue = sym h ∙ z in cc)
+    (λ z. let q : OutOfMemory ≡ LengthExceedsPlatformSize = sym h ∙ z in cc) (λ z. let q : OutOfMemory ≡ CallOutOfPlace = sym h ∙ z in cc) ∙ h)

@@ -40,7 +40,8 @@ more_absent : (ps qs : Parts) → same_parts ps qs ≡ true → same_parts (abse
 unfolding same_parts
 more_absent ps qs e = e
 
-pub like_present : (t : List Tag) (o : Presence) (s : Schema) (cs : Components) (v w : Value) (ps qs : Parts) → Like s v w → LikeParts cs ps qs → LikeParts (component t o s cs) (present v ps) (present w qs)
+pub like_present : (t : List Tag) (o : Presence) (s : Schema) (cs : Components) (v w : Value) (ps qs : Parts) → Like s v w →
+    LikeParts cs ps qs → LikeParts (component t o s cs) (present v ps) (present w qs)
 like_present t o s cs v w ps qs h k = (both_parts v w ps qs h.0 k.0, λ e. let p = and_parts _ _ e in ap (λ x. present x qs) (h.1 p.0) ∙ ap (λ x. present v x) (k.1 p.1))
 
 pub like_absent : (t : List Tag) (o : Presence) (s : Schema) (cs : Components) (ps qs : Parts) → LikeParts cs ps qs → LikeParts (component t o s cs) (absent ps) (absent qs)
@@ -50,7 +51,8 @@ pub both_same : (ps qs rs ss : Parts) → same_parts ps rs ≡ true → same_par
 unfolding same
 both_same ps qs rs ss e f = and_from _ _ e f
 
-pub like_fields : (cs adds : Components) (ps qs rs ss : Parts) → LikeParts cs ps rs → LikeParts adds qs ss → (same (fields ps qs) (fields rs ss) ≡ true) × ((have_no_bag cs && have_no_bag adds) ≡ true → fields rs ss ≡ fields ps qs)
+pub like_fields : (cs adds : Components) (ps qs rs ss : Parts) → LikeParts cs ps rs → LikeParts adds qs ss →
+    (same (fields ps qs) (fields rs ss) ≡ true) × ((have_no_bag cs && have_no_bag adds) ≡ true → fields rs ss ≡ fields ps qs)
 like_fields cs adds ps qs rs ss h k = (both_same ps qs rs ss h.0 k.0, λ e. let p = and_parts _ _ e in ap (λ x. fields x ss) (h.1 p.0) ∙ ap (λ x. fields ps x) (k.1 p.1))
 
 -- what is noted after a component
@@ -96,7 +98,8 @@ in_pairs (u ∷ us) (member w ws) e = let p = and_parts _ _ e in (p.0, in_pairs 
 
 pub bag_like : (vs ws : Values) (is : List ℕ) (us : List Value) → arranged is (listed vs) ≡ Some us → same_members (values_of us) ws ≡ true → same (bag vs) (bag ws) ≡ true
 bag_like vs ws is us e f =
-    let h : same (bag (values_of (listed vs))) (bag (values_of (listed ws))) ≡ true = bags_same is (replicate (length (listed ws)) 0) (listed vs) (listed ws) us (listed ws) e (in_place (listed ws)) (in_pairs us ws f) in
+    let h : same (bag (values_of (listed vs))) (bag (values_of (listed ws))) ≡ true =
+    bags_same is (replicate (length (listed ws)) 0) (listed vs) (listed ws) us (listed ws) e (in_place (listed ws)) (in_pairs us ws f) in
     let k : same (bag (values_of (listed vs))) (bag ws) ≡ true = subst (λ x. same (bag (values_of (listed vs))) (bag x) ≡ true) (listed_again ws) h in
     subst (λ x. same (bag x) (bag ws) ≡ true) (listed_again vs) k
 
@@ -111,7 +114,8 @@ Arranged f vs ys = (is : List ℕ) × (us : List Value) × (arranged is (listed 
 abbrev pub Ordered : {X K : Type 0} → (X → Option K) → (K → K → Bool) → List X → Option (List ℕ) → Option (List X)
 Ordered key before xs o = in_order (ascending key before xs) o xs
 
-pub reordered : {X K : Type 0} (f : Value → X) (key : X → Option K) (before : K → K → Bool) (vs : Values) (o : Option (List ℕ)) (ys : List X) → Ordered key before (each f vs) o ≡ Some ys → Arranged f vs ys
+pub reordered : {X K : Type 0} (f : Value → X) (key : X → Option K) (before : K → K → Bool) (vs : Values) (o : Option (List ℕ))
+    (ys : List X) → Ordered key before (each f vs) o ≡ Some ys → Arranged f vs ys
 reordered f key before vs o ys e =
     let l : each f vs ≡ map f (listed vs) = each_is_map f vs in
     let r = order_map f key before o (listed vs) ys (ap (λ xs. Ordered key before xs o) (sym l) ∙ e) in

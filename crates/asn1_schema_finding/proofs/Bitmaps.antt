@@ -1,5 +1,6 @@
 -- What a presence bitmap says of a type's additions and of unknown ones, whatever represents an addition.
-use Rattle.std.proofs.Common.{◌≡◌, ℕ, zero, suc, ◌+◌, ◌==◌, ltb, not, Bool, true, false, ◌&&◌, ◌||◌, List, [], ◌∷◌, ◌++◌, length, take, drop, map, Option, Some, None, option_map, refl, ap, sym, ◌∙◌, arith}
+use Rattle.std.proofs.Common.{◌≡◌, ℕ, zero, suc, ◌+◌, ◌==◌, ltb, not, Bool, true, false, ◌&&◌, ◌||◌, List, [], ◌∷◌}
+use Rattle.std.proofs.Common.{◌++◌, length, take, drop, map, Option, Some, None, option_map, refl, ap, sym, ◌∙◌, arith}
 use Rattle.std.proofs.lemmas.List.{append-nil}
 use Rattle.std.proofs.lemmas.Bool.{lt-ltb, ltb-true}
 use Rattle.asn1_model.specs.Form.{Form, Bitmap, is_any_present, present_ones, covered_by}
@@ -70,9 +71,11 @@ module _ {X : Type 0} (unknown : List ℕ → X) where
   abbrev pub Covers : List (Option X) → Octets → List Bool → Type 0
   Covers xs us bs = (b : Bitmap) × (all : List (Option X)) × (covered_by unknown b xs ≡ Some all) × (flags all ≡ bs) × (present_ones all ≡ present_ones xs ++ present_ones (unknown_ones us))
 
-  covered_more : (b : Bitmap) (x : Option X) (xs all : List (Option X)) → covered_by unknown b xs ≡ Some all → covered_by unknown (record { covered = suc b.covered; further = b.further }) (x ∷ xs) ≡ Some (x ∷ all)
+  covered_more : (b : Bitmap) (x : Option X) (xs all : List (Option X)) → covered_by unknown b xs ≡ Some all →
+      covered_by unknown (record { covered = suc b.covered; further = b.further }) (x ∷ xs) ≡ Some (x ∷ all)
   covered_more b x xs all e =
-      let q = adding.cond_some (not (is_any_present (drop b.covered xs)) && (ltb (length xs) (b.covered + 1) || length b.further == 0)) (take b.covered xs ++ map (option_map unknown) b.further) all e in
+      let q = adding.cond_some (not (is_any_present (drop b.covered xs))
+      && (ltb (length xs) (b.covered + 1) || length b.further == 0)) (take b.covered xs ++ map (option_map unknown) b.further) all e in
       let l : ltb (suc (length xs)) (suc b.covered + 1) ≡ ltb (length xs) (b.covered + 1) = shift (ltb (length xs) (b.covered + 1)) refl in
       rw (l, q.0, q.1) refl
     where
@@ -91,12 +94,18 @@ module _ {X : Type 0} (unknown : List ℕ → X) where
   covers (x ∷ xs) us (t ∷ bs) e f =
       let g : flags xs ≡ first_bits (length xs) bs = cc in
       let r = covers xs us bs g f in
-      let h : is_some x ≡ t = cc in
-      (record { covered = suc r.0.covered; further = r.0.further }, x ∷ r.1, covered_more r.0 x xs r.1 r.2, ap (λ l. l ∷ flags r.1) h ∙ ap (λ l. t ∷ l) r.3, one_more x x r.1 xs (present_ones (unknown_ones us)) refl r.4)
+      let h : is_some x ≡ t = cc in (
+        record { covered = suc r.0.covered; further = r.0.further },
+        x ∷ r.1,
+        covered_more r.0 x xs r.1 r.2,
+        ap (λ l. l ∷ flags r.1) h ∙ ap (λ l. t ∷ l) r.3,
+        one_more x x r.1 xs (present_ones (unknown_ones us)) refl r.4,
+      )
 
   -- and back
   abbrev pub Told : List (Option X) → List (Option X) → Type 0
-  Told xs all = (us : Octets) × (flags xs ≡ first_bits (length xs) (flags all)) × (flags (unknown_ones us) ≡ drop (length xs) (flags all)) × (present_ones all ≡ present_ones xs ++ present_ones (unknown_ones us))
+  Told xs all = (us : Octets) × (flags xs ≡ first_bits (length xs) (flags all))
+      × (flags (unknown_ones us) ≡ drop (length xs) (flags all)) × (present_ones all ≡ present_ones xs ++ present_ones (unknown_ones us))
 
 module _ {F : Type 0} {D : F → Type 0} {A : Type 0} (free : F → Bool) (unknown : List ℕ → Form F D A) (alike : (os ps : List ℕ) → adding.AlikeHere F D A free (unknown os) (unknown ps) (os ≡ ps)) where
   told_by : (xs all : List (Option (Form F D A))) → adding.Tells F D A free unknown alike xs all → Told unknown xs all

@@ -1,7 +1,10 @@
 -- A chain of steps without a mismatch is one of the records of a value that has the form of its type.
 use Rattle.std.proofs.Common.{◌≡◌, ℕ, zero, suc, not, Bool, true, false, cond, ◌||◌, List, [], ◌∷◌, ◌++◌, refl}
 use Rattle.asn1_model.specs.Value.{Value, truth, nothing, number, item, bit_list, octet_list, text, arcs, members, bag, fields, chosen, Values, no_more, member, Parts, end, absent, present}
-use Rattle.asn1_model.specs.Schema.{Schema, cut, boolean, null, integer, enumerated, bit_string, octet_string, character_string, object_identifier, sequence_of, set_of, sequence, set, group, choice, Components, no_component, component, Alternatives, no_alternative, alternative}
+use Rattle.asn1_model.specs.Schema.{Schema, cut, boolean, null, integer, enumerated, bit_string, octet_string}
+use Rattle.asn1_model.specs.Schema.{character_string, object_identifier, sequence_of, set_of, sequence, set, group}
+use Rattle.asn1_model.specs.Schema.{choice, Components, no_component, component, Alternatives, no_alternative}
+use Rattle.asn1_model.specs.Schema.{alternative}
 use Rattle.asn1_model.specs.Lawful.{are_no_components}
 use Rattle.asn1_model.specs.Normal.{is_required}
 use Rattle.asn1_schema_presented.specs.Records.{Record, presence_bit, additions_begin, addition, addition_ends, ends, mismatch}

@@ -1,7 +1,10 @@
 -- Values that are the same up to the order of bags nest as deep.
 use Rattle.std.proofs.Common.{◌≡◌, ◌==◌, ◌&&◌, ◌≤◌, max, Bool, true, false, cond, Option, Some, None, option_map, refl, subst, arith}
 use Rattle.std.proofs.lemmas.Bool.{and_parts}
-use Rattle.asn1_model.specs.Value.{Value, truth, nothing, number, item, bit_list, octet_list, text, arcs, members, bag, fields, chosen, Values, no_more, member, Parts, end, absent, present, same, same_truth, same_members, same_bag, same_parts, taken_out, depth, depth_of_members, depth_of_parts}
+use Rattle.asn1_model.specs.Value.{Value, truth, nothing, number, item, bit_list, octet_list, text, arcs, members, bag}
+use Rattle.asn1_model.specs.Value.{fields, chosen, Values, no_more, member, Parts, end, absent, present, same}
+use Rattle.asn1_model.specs.Value.{same_truth, same_members, same_bag, same_parts, taken_out, depth, depth_of_members}
+use Rattle.asn1_model.specs.Value.{depth_of_parts}
 use Rattle.std.specs.Option.{option_map_or}
 
 -- what was taken out of some members

@@ -220,7 +220,8 @@ module _ {X : Type 0} (key : X → List ℕ) where
   put_keyed e [] = refl
   put_keyed e (f ∷ fs) = go (before f e) (put_keyed e fs)
     where
-      go : (b : Bool) → put_in_place (stands_before ltb) (keyed e) (map keyed fs) ≡ map keyed (put before e fs) → cond b (keyed f ∷ put_in_place (stands_before ltb) (keyed e) (map keyed fs)) (keyed e ∷ keyed f ∷ map keyed fs) ≡ map keyed (cond b (f ∷ put before e fs) (e ∷ f ∷ fs))
+      go : (b : Bool) → put_in_place (stands_before ltb) (keyed e) (map keyed fs) ≡ map keyed (put before e fs) →
+          cond b (keyed f ∷ put_in_place (stands_before ltb) (keyed e) (map keyed fs)) (keyed e ∷ keyed f ∷ map keyed fs) ≡ map keyed (cond b (f ∷ put before e fs) (e ∷ f ∷ fs))
       go true h = ap (λ l. keyed f ∷ l) h
       go false h = refl
 
@@ -250,6 +251,8 @@ module _ {X : Type 0} (key : X → List ℕ) where
   ascending_in_turn xs = ap (option_map (map (λ e. e.1))) (all_keyed xs) ∙ ap Some (plain (in_turn before xs) ∙ in_turn_same xs)
 
 -- sorted by other keys that agree with these on the list
-pub is_ascending_by : {X : Type 0} (P : X → Type 0) (key near : X → List ℕ) → ((x y : X) → P x → P y → less key x y ≡ less near x y) → (xs ys : List X) → Each P xs → IsSortedBy (less near) ys → IsStableBy (less near) xs ys → ascending (λ x. Some (key x)) (stands_before ltb) xs ≡ Some ys
+pub is_ascending_by : {X : Type 0} (P : X → Type 0) (key near : X → List ℕ) →
+    ((x y : X) → P x → P y → less key x y ≡ less near x y) → (xs ys : List X) → Each P xs → IsSortedBy (less near) ys →
+    IsStableBy (less near) xs ys → ascending (λ x. Some (key x)) (stands_before ltb) xs ≡ Some ys
 is_ascending_by P key near agree xs ys q up stable =
     ascending_in_turn key xs ∙ ap Some (in_turn_alike P (less key) (less near) agree xs q ∙ sorted_in_turn (less near) (ranks near) xs ys up stable)

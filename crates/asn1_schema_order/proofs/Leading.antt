@@ -101,7 +101,8 @@ octets_take (suc n) (o ∷ os) h zero = h 0
 octets_take (suc n) (o ∷ os) h (suc i) = octets_take n os (λ j. h (suc j)) i
 
 -- one more octet, with its weight
-pub with_next : (os : List ℕ) (i front weight octet : ℕ) → i < 8 → i < length os → front ≡ leading 8 (take i os) → weight ≡ worth (8 - i) → octet ≡ get_or os i 0 → front + octet * weight ≡ leading 8 (take (i + 1) os)
+pub with_next : (os : List ℕ) (i front weight octet : ℕ) → i < 8 → i < length os → front ≡ leading 8 (take i os) → weight
+    ≡ worth (8 - i) → octet ≡ get_or os i 0 → front + octet * weight ≡ leading 8 (take (i + 1) os)
 with_next os i front weight octet h k e f g =
     let j : 8 - i ≡ suc (7 - i) = omega (arith, h) in
     let w : weight ≡ 256 ^ (7 - i) = f ∙ ap worth j in
@@ -109,7 +110,8 @@ with_next os i front weight octet h k e f g =
     ∙ sym (leading_next 8 i (7 - i) os 0 (omega (arith, h)) k)
 
 -- it fits
-pub room : (os : List ℕ) (i front weight octet : ℕ) → AreOctets os → i < 8 → i < length os → front ≡ leading 8 (take i os) → weight ≡ worth (8 - i) → octet ≡ get_or os i 0 → front + octet * weight < 2 ^ 64
+pub room : (os : List ℕ) (i front weight octet : ℕ) → AreOctets os → i < 8 → i < length os → front ≡ leading 8 (take i os) → weight
+    ≡ worth (8 - i) → octet ≡ get_or os i 0 → front + octet * weight < 2 ^ 64
 room os i front weight octet a h k e f g =
     let sum = with_next os i front weight octet h k e f g in
     let most = leading_below 8 (take (i + 1) os) (octets_take (i + 1) os a) in

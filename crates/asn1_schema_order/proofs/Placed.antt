@@ -15,7 +15,8 @@ placed_one i (v ∷ vs) [] w e p a b = absurd p
 placed_one i (v ∷ vs) (f ∷ fs) w e p a b = (p.0, p.1, placed_one (suc i) vs fs w e p.2 a (omega (arith, b)))
 
 -- one more of those taken
-pub placed_next : (ws : List (List ℕ)) (es fs : List Entry) (i : ℕ) (e : Entry) → i < length ws → ArePlaced 0 (take i ws) es → octets_of e ≡ get_or ws i [] → e.index ≡ i → fs ≡ es ++ e ∷ [] → ArePlaced 0 (take (i + 1) ws) fs
+pub placed_next : (ws : List (List ℕ)) (es fs : List Entry) (i : ℕ) (e : Entry) → i < length ws → ArePlaced 0 (take i ws) es →
+    octets_of e ≡ get_or ws i [] → e.index ≡ i → fs ≡ es ++ e ∷ [] → ArePlaced 0 (take (i + 1) ws) fs
 placed_next ws es fs i e h p a b c =
     subst (λ l. ArePlaced 0 (take (i + 1) ws) l) (sym c)
     (subst (λ l. ArePlaced 0 l (es ++ e ∷ [])) (sym (take_more ws i [] h)) (placed_one 0 (take i ws) es (get_or ws i []) e p a (omega (arith, b, h, length-take-le i ws (omega (arith, h))))))

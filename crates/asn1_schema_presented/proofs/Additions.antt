@@ -34,7 +34,16 @@ more_addition_types ts o {s} {fs} d h k = record {
 
 pub extensible_types : {fs : Fields} → AreAdditionTypes fs → AreTypes (extensible_table fs)
 unfolding components_at are_lawful are_tidy
-extensible_types h = record { lawful = λ n. refl; tidy = λ n. refl; no_group = λ n. refl; lawful_additions = h.lawful; tidy_additions = h.tidy; optional_groups = h.optional_groups; extensible = λ n. refl }
+extensible_types h = record {
+  lawful = λ n. refl;
+  tidy = λ n. refl;
+  no_group = λ n. refl;
+  lawful_additions =
+      h.lawful;
+  tidy_additions = h.tidy;
+  optional_groups = h.optional_groups;
+  extensible = λ n. refl;
+}
 
 -- ---- values
 
@@ -51,7 +60,8 @@ depth_field (there v) ps n h =
     let k : max (depth v) (depth_of_parts ps) ≤ n = h in
     ((let z : depth v ≤ n = omega arith in z), (let z : depth_of_parts ps ≤ n = omega arith in z))
 
-pub more_addition_values : (ts : List Tag) {o : Presence} {s : ℕ → Schema} {fs : Fields} {x : Part} {qs : Parts} → IsPart o s x → AreAdditionValues fs qs → AreAdditionValues (field ts o s fs) (with_part x qs)
+pub more_addition_values : (ts : List Tag) {o : Presence} {s : ℕ → Schema} {fs : Fields} {x : Part} {qs : Parts} → IsPart o s x →
+    AreAdditionValues fs qs → AreAdditionValues (field ts o s fs) (with_part x qs)
 unfolding components_at
 more_addition_values ts {o} {s} {fs} {x} {qs} h k = record {
   fits = λ n le. let d = depth_field x qs n le in fits_field ts o (s n) (components_at n fs) x qs (h.fits n d.0) (k.fits n d.1);

@@ -35,7 +35,8 @@ pub tags_of_cut : (ts : List Tag) → are_tags ts ≡ true → are_tags_of ts cu
 tags_of_cut ts e = and_from _ _ e (cut_begins ts)
 
 -- a CHOICE: one tag, or those of its alternatives
-pub tags_of_choice : (ts : List Tag) (roots : Alternatives) (e : Bool) (adds : Alternatives) → are_choice_tags ts (alternative_tags roots ++ alternative_tags adds) ≡ true → are_tags_of ts (choice roots e adds) ≡ true
+pub tags_of_choice : (ts : List Tag) (roots : Alternatives) (e : Bool) (adds : Alternatives) →
+    are_choice_tags ts (alternative_tags roots ++ alternative_tags adds) ≡ true → are_tags_of ts (choice roots e adds) ≡ true
 tags_of_choice [] roots e adds h = absurd (let z : false ≡ true = h in cc)
 tags_of_choice (t ∷ []) roots e adds h = and_from _ _ (and_from _ _ refl (and_from _ _ h refl)) refl
 tags_of_choice (t ∷ u ∷ ts) roots e adds h = h
@@ -56,7 +57,8 @@ pub tags_of_group : (ts : List Tag) (cs : Components) → component_tags cs ≡ 
 tags_of_group ts cs h e = and_from _ _ e (ap (pointwise tag_same ts) h ∙ same_tags ts)
 
 -- the smallest of some tags, or a further one
-one_of_two : (b : Bool) (t u : Tag) → is_tag t ≡ true → is_tag u ≡ true → (ts : List Tag) → ((v : Tag) → is_tag v ≡ true → is_tag (smallest v ts) ≡ true) → is_tag (cond b (smallest u ts) (smallest t ts)) ≡ true
+one_of_two : (b : Bool) (t u : Tag) → is_tag t ≡ true → is_tag u ≡ true → (ts : List Tag) →
+    ((v : Tag) → is_tag v ≡ true → is_tag (smallest v ts) ≡ true) → is_tag (cond b (smallest u ts) (smallest t ts)) ≡ true
 one_of_two true t u e f ts h = h u f
 one_of_two false t u e f ts h = h t e
 

@@ -35,7 +35,8 @@ pub octet_string_default : (z : Size) (h : Counts) (os : List ℕ) → (list_all
 unfolding is_of is_normal
 octet_string_default z h os e = record { is_value = octet_string_value z h os; typed = λ n. e; spelled = λ n. refl }
 
-pub character_string_default : (k : StringKind) (z : Size) (a : Alphabet) (h : Counts) (cs : List ℕ) → (may_hold k cs && is_count_within h (length cs) && (is_of_octets k || admits z h (length cs))) ≡ true → IsDefault (λ _. character_string k z a h) (text cs)
+pub character_string_default : (k : StringKind) (z : Size) (a : Alphabet) (h : Counts) (cs : List ℕ) →
+    (may_hold k cs && is_count_within h (length cs) && (is_of_octets k || admits z h (length cs))) ≡ true → IsDefault (λ _. character_string k z a h) (text cs)
 unfolding is_of is_normal
 character_string_default k z a h cs e = record { is_value = character_string_value k z a h cs; typed = λ n. e; spelled = λ n. refl }
 

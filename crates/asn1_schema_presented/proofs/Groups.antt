@@ -6,7 +6,9 @@ use Rattle.asn1_model.specs.Value.{fields, Parts, end, absent, present, are_abse
 use Rattle.asn1_model.specs.Schema.{optional, sequence, group, Components}
 use Rattle.asn1_model.specs.Normal.{normal, normal_parts}
 use Rattle.asn1_model.specs.Tidy.{is_tidy, are_tidy}
-use Rattle.asn1_model.specs.Lawful.{is_lawful, are_lawful, is_group, is_optional, are_no_components, are_distinct, tag_same, component_tags, is_sequence_table, are_tags, are_tags_of, are_groups_in_place}
+use Rattle.asn1_model.specs.Lawful.{is_lawful, are_lawful, is_group, is_optional, are_no_components, are_distinct}
+use Rattle.asn1_model.specs.Lawful.{tag_same, component_tags, is_sequence_table, are_tags, are_tags_of}
+use Rattle.asn1_model.specs.Lawful.{are_groups_in_place}
 use Rattle.asn1_schema_presented.specs.Presents.{left_out, there, Fits, PartsFit}
 use Rattle.asn1_schema_presented.specs.Tables.{Fields, no_field, field, Table, components_at, field_tags, scope, sequence_type, IsValue}
 use Rattle.asn1_schema_presented.proofs.Beginnings.{tags_of_cut, tags_of_group}
@@ -53,8 +55,14 @@ module _ {t : Table} (g : IsGroup t) where
   pub group_addition : ((n : ℕ) → is_lawful (sequence_type t n) ≡ true) → ((n : ℕ) → is_tidy (sequence_type t n) ≡ true) → IsAddition (field_tags t.root) optional (group_type t)
   unfolding group_type sequence_type scope is_lawful is_tidy
   group_addition h k = record {
-    tagged = λ n. elim n as (λ n. are_tags_of (field_tags t.root) (group_type t n) ≡ true) [ zero ↦ tags_of_cut (field_tags t.root) g.tagged | suc m ↦ tags_of_group (field_tags t.root) (components_at m t.root) (tags_at m t.root) g.tagged ];
-    lawful = λ n. elim n as (λ n. is_lawful (group_type t n) ≡ true) [ zero ↦ refl | suc m ↦ lawful_group (components_at m t.root) t.extensible (components_at m t.additions) (some_component m t.root g.tagged) (ap (λ fs. component_tags (components_at m fs)) g.no_additions ∙ no_tags m) (h (suc m)) ];
+    tagged = λ n. elim n as (λ n. are_tags_of (field_tags t.root) (group_type t n)
+        ≡ true) [ zero ↦ tags_of_cut (field_tags t.root) g.tagged | suc m ↦ tags_of_group (field_tags t.root) (components_at m t.root) (tags_at m t.root) g.tagged ];
+    lawful = λ n. elim n as (λ n. is_lawful (group_type t n)
+        ≡ true) [
+          | zero ↦ refl
+          | suc m ↦ lawful_group (components_at m t.root) t.extensible (components_at m t.additions)
+              (some_component m t.root g.tagged) (ap (λ fs. component_tags (components_at m fs)) g.no_additions ∙ no_tags m) (h (suc m))
+        ];
     tidy = λ n. elim n as (λ n. is_tidy (group_type t n) ≡ true) [ zero ↦ refl | suc m ↦ (and_parts (are_tidy (components_at m t.root)) (are_tidy (components_at m t.additions)) (k (suc m))).0 ];
     optional_group = λ n. elim n as (λ n. (not (is_group (group_type t n)) || is_optional optional) ≡ true) [ zero ↦ refl | suc m ↦ refl ];
   }
@@ -86,6 +94,7 @@ module _ {t : Table} (g : IsGroup t) where
 pub group_absent : (t : Table) → IsPart optional (group_type t) left_out
 group_absent t = record { fits = λ n le. refl; normal = λ n. refl }
 
-pub group_valued : {A : Type 0} {t : Table} (parts : A → Parts) (x : Option A) → IsGroup t → ((y : A) → IsValue (sequence_type t) (fields (parts y) end)) → IsPart optional (group_type t) (group_part parts x)
+pub group_valued : {A : Type 0} {t : Table} (parts : A → Parts) (x : Option A) → IsGroup t →
+    ((y : A) → IsValue (sequence_type t) (fields (parts y) end)) → IsPart optional (group_type t) (group_part parts x)
 group_valued {t = t} parts None g h = group_absent t
 group_valued parts (Some y) g h = group_kept g (h y) (are_absent (parts y)) refl

@@ -34,12 +34,14 @@ pub nothing_noted : (o : Presence) (s : Schema) (v : Value) → is_group_left_ou
 nothing_noted o s v g d = rw (d, g) refl
 
 -- a component before the others
-pub tail_field : (n : ℕ) (ts : List Tag) (o : Presence) (s : ℕ → Schema) (t : Table) (x : Part) (ps qs : Parts) → tail_records n (with_field ts o s t) (with_part x ps) qs ≡ part_records (λ v. presents (s n) v) o (s n) x ++ tail_records n t ps qs
+pub tail_field : (n : ℕ) (ts : List Tag) (o : Presence) (s : ℕ → Schema) (t : Table) (x : Part) (ps qs : Parts) →
+    tail_records n (with_field ts o s t) (with_part x ps) qs ≡ part_records (λ v. presents (s n) v) o (s n) x ++ tail_records n t ps qs
 unfolding components_at root_records
 tail_field n ts o s t left_out ps qs = refl
 tail_field n ts o s t (there v) ps qs = refl
 
-pub tail_fits : (n : ℕ) (ts : List Tag) (o : Presence) (s : ℕ → Schema) (t : Table) (x : Part) (ps qs : Parts) → TailFits n (with_field ts o s t) (with_part x ps) qs → PartFits (λ v. Fits (s n) v) o x × TailFits n t ps qs
+pub tail_fits : (n : ℕ) (ts : List Tag) (o : Presence) (s : ℕ → Schema) (t : Table) (x : Part) (ps qs : Parts) →
+    TailFits n (with_field ts o s t) (with_part x ps) qs → PartFits (λ v. Fits (s n) v) o x × TailFits n t ps qs
 unfolding components_at PartsFit
 tail_fits n ts o s t left_out ps qs f = (f.0.0, (f.0.1, f.1))
 tail_fits n ts o s t (there v) ps qs f = (f.0.0, (f.0.1, f.1))

@@ -4,13 +4,20 @@ use Rattle.std.proofs.Math.Dec.{leb-suc-zero, leb-suc-suc}
 use Rattle.std.proofs.lemmas.List.{append-nil}
 use Rattle.std.proofs.lemmas.Bool.Decides.{leb_tells}
 use Rattle.std.specs.Prelude.{◌+◌, max, leb, ltb, not, ◌||◌, Option, Some, None, option_and_then}
-use Rattle.asn1_model.specs.Value.{Value, truth, nothing, number, item, bit_list, octet_list, text, arcs, members, bag, fields, chosen, Values, no_more, member, Parts, end, absent, present, depth, depth_of_members, depth_of_parts}
-use Rattle.asn1_model.specs.Schema.{Presence, Schema, cut, boolean, null, integer, enumerated, bit_string, octet_string, character_string, object_identifier, sequence_of, set_of, sequence, set, group, choice, Components, no_component, component, Alternatives, no_alternative, alternative}
+use Rattle.asn1_model.specs.Value.{Value, truth, nothing, number, item, bit_list, octet_list, text, arcs, members, bag}
+use Rattle.asn1_model.specs.Value.{fields, chosen, Values, no_more, member, Parts, end, absent, present, depth}
+use Rattle.asn1_model.specs.Value.{depth_of_members, depth_of_parts}
+use Rattle.asn1_model.specs.Schema.{Presence, Schema, cut, boolean, null, integer, enumerated, bit_string, octet_string}
+use Rattle.asn1_model.specs.Schema.{character_string, object_identifier, sequence_of, set_of, sequence, set, group}
+use Rattle.asn1_model.specs.Schema.{choice, Components, no_component, component, Alternatives, no_alternative}
+use Rattle.asn1_model.specs.Schema.{alternative}
 use Rattle.asn1_model.specs.Normal.{is_at_default, is_group_left_out}
 use Rattle.asn1_model.specs.Normal.{is_required}
 use Rattle.asn1_model.specs.Lawful.{are_no_components}
 use Rattle.asn1_schema_presented.specs.Records.{Record, presence_bit, addition, addition_ends, additions_begin, is_default, is_empty, ends}
-use Rattle.asn1_schema_presented.specs.Presents.{presents, root_records, added_records, chosen_records, member_records, behind_root, component_count, with_presence_bit, Fits, PartsFit, ChosenFits, AllFit}
+use Rattle.asn1_schema_presented.specs.Presents.{presents, root_records, added_records, chosen_records, member_records}
+use Rattle.asn1_schema_presented.specs.Presents.{behind_root, component_count, with_presence_bit, Fits, PartsFit}
+use Rattle.asn1_schema_presented.specs.Presents.{ChosenFits, AllFit}
 use Rattle.asn1_schema_presented.specs.Chains.{Chain}
 use Rattle.asn1_schema_presented.specs.Levels.{level, levels, inside, Level, LowersAt, Lowers, Nests, Both}
 
@@ -19,7 +26,9 @@ use Rattle.asn1_schema_presented.specs.Levels.{level, levels, inside, Level, Low
 both_within : (a b l : ℕ) (x : Option ℕ) → cond (leb a l) (cond (leb b l) x None) None ≡ cond (leb (max a b) l) x None
 both_within a b l x = go (leb_tells a l) (leb_tells b l) (leb_tells (max a b) l)
   where
-    go : ((leb a l ≡ true) × (a ≤ l)) ⊎ ((leb a l ≡ false) × (l < a)) → ((leb b l ≡ true) × (b ≤ l)) ⊎ ((leb b l ≡ false) × (l < b)) → ((leb (max a b) l ≡ true) × (max a b ≤ l)) ⊎ ((leb (max a b) l ≡ false) × (l < max a b)) → cond (leb a l) (cond (leb b l) x None) None ≡ cond (leb (max a b) l) x None
+    go : ((leb a l ≡ true) × (a ≤ l)) ⊎ ((leb a l ≡ false) × (l < a)) →
+        ((leb b l ≡ true) × (b ≤ l)) ⊎ ((leb b l ≡ false) × (l < b)) → ((leb (max a b) l ≡ true) × (max a b ≤ l))
+        ⊎ ((leb (max a b) l ≡ false) × (l < max a b)) → cond (leb a l) (cond (leb b l) x None) None ≡ cond (leb (max a b) l) x None
     go (inl p) (inl q) (inl r) = rw p.0 (rw q.0 (rw r.0 refl))
     go (inl p) (inl q) (inr r) = let f : ⊥ = omega (arith, p.1, q.1, r.1) in absurd f
     go (inl p) (inr q) (inl r) = let f : ⊥ = omega (arith, q.1, r.1) in absurd f
@@ -62,7 +71,8 @@ none_deep l x = go (leb_tells 0 l)
 
 -- ---- elements
 
-of_members : (s : Schema) → ((v : Value) → Fits s v → LowersAt s v) → (vs : Values) → AllFit (λ v. Fits s v) vs → (most l : ℕ) (rest : List Record) → suc l ≤ most → levels most (member_records (λ v. presents s v) vs ++ rest) l ≡ cond (leb (depth_of_members vs) l) (levels most rest (suc l)) None
+of_members : (s : Schema) → ((v : Value) → Fits s v → LowersAt s v) → (vs : Values) → AllFit (λ v. Fits s v) vs →
+    (most l : ℕ) (rest : List Record) → suc l ≤ most → levels most (member_records (λ v. presents s v) vs ++ rest) l ≡ cond (leb (depth_of_members vs) l) (levels most rest (suc l)) None
 unfolding depth presents
 of_members s ih no_more f most l rest h = back most l rest h ∙ none_deep l (levels most rest (suc l))
 of_members s ih (member v vs) f most l rest h =
@@ -86,16 +96,20 @@ presence_bit_level true rs rest most l = refl
 presence_bit_level false rs rest most l = refl
 
 -- a value that is present, what is noted after it, and further records
-value_there : (s : Schema) (v : Value) → LowersAt s v → (d g : Bool) (rest : List Record) (most l : ℕ) → l ≤ most → levels most ((presents s v ++ noted_by d g) ++ rest) l ≡ cond (leb (depth v) l) (levels most rest l) None
+value_there : (s : Schema) (v : Value) → LowersAt s v → (d g : Bool) (rest : List Record) (most l : ℕ) → l ≤ most →
+    levels most ((presents s v ++ noted_by d g) ++ rest) l ≡ cond (leb (depth v) l) (levels most rest l) None
 value_there s v ih d g rest most l h =
     ap (λ rs. levels most rs l) (append_assoc (presents s v) (noted_by d g) rest)
     ∙ ih most l (noted_by d g ++ rest) h
     ∙ behind (leb (depth v) l) _ _ (noted_level d g most l rest)
 
 abbrev pub Root : Components → Type 0
-Root cs = (ps : Parts) → PartsFit cs ps → (rs more : List Record) (most l : ℕ) → l ≤ most → levels most (root_records cs ps rs ++ more) l ≡ cond (leb (depth_of_parts ps) l) (levels most (rs ++ more) l) None
+Root cs = (ps : Parts) → PartsFit cs ps → (rs more : List Record) (most l : ℕ) → l ≤ most →
+    levels most (root_records cs ps rs ++ more) l ≡ cond (leb (depth_of_parts ps) l) (levels most (rs ++ more) l) None
 
-it_and_others : (cs : Components) (s : Schema) (v : Value) → LowersAt s v → Root cs → (r d g : Bool) (ps : Parts) → PartsFit cs ps → (rs more : List Record) (most l : ℕ) → l ≤ most → levels most ((with_presence_bit r (presents s v ++ noted_by d g) ++ root_records cs ps rs) ++ more) l ≡ cond (leb (max (depth v) (depth_of_parts ps)) l) (levels most (rs ++ more) l) None
+it_and_others : (cs : Components) (s : Schema) (v : Value) → LowersAt s v → Root cs → (r d g : Bool) (ps : Parts) → PartsFit cs ps →
+    (rs more : List Record) (most l : ℕ) → l ≤ most →
+    levels most ((with_presence_bit r (presents s v ++ noted_by d g) ++ root_records cs ps rs) ++ more) l ≡ cond (leb (max (depth v) (depth_of_parts ps)) l) (levels most (rs ++ more) l) None
 it_and_others cs s v ih others r d g ps f rs more most l h =
     ap (λ xs. levels most xs l) (append_assoc (with_presence_bit r (presents s v ++ noted_by d g)) (root_records cs ps rs) more)
     ∙ presence_bit_level r (presents s v ++ noted_by d g) (root_records cs ps rs ++ more) most l
@@ -103,23 +117,31 @@ it_and_others cs s v ih others r d g ps f rs more most l h =
     ∙ behind (leb (depth v) l) _ _ (others ps f rs more most l h)
     ∙ both_within (depth v) (depth_of_parts ps) l (levels most (rs ++ more) l)
 
-absent_and_others : (cs : Components) → Root cs → (r : Bool) → r ≡ false → (x : List Record) (ps : Parts) → PartsFit cs ps → (rs more : List Record) (most l : ℕ) → l ≤ most → levels most ((cond r x (presence_bit false ∷ []) ++ root_records cs ps rs) ++ more) l ≡ cond (leb (depth_of_parts ps) l) (levels most (rs ++ more) l) None
+absent_and_others : (cs : Components) → Root cs → (r : Bool) → r ≡ false → (x : List Record) (ps : Parts) → PartsFit cs ps →
+    (rs more : List Record) (most l : ℕ) → l ≤ most →
+    levels most ((cond r x (presence_bit false ∷ []) ++ root_records cs ps rs) ++ more) l ≡ cond (leb (depth_of_parts ps) l) (levels most (rs ++ more) l) None
 absent_and_others cs others true e x ps f rs more most l h = cc
 absent_and_others cs others false e x ps f rs more most l h = others ps f rs more most l h
 
 -- ---- additions
 
 abbrev pub Added : Components → Type 0
-Added cs = (ps : Parts) → PartsFit cs ps → (rest : List Record) (most l : ℕ) → suc l ≤ most → levels most (added_records cs ps ++ rest) l ≡ cond (leb (depth_of_parts ps) l) (levels most rest (suc l)) None
+Added cs = (ps : Parts) → PartsFit cs ps → (rest : List Record) (most l : ℕ) → suc l ≤ most →
+    levels most (added_records cs ps ++ rest) l ≡ cond (leb (depth_of_parts ps) l) (levels most rest (suc l)) None
 
-addition_and_others : (cs : Components) (s : Schema) (v : Value) → LowersAt s v → Added cs → (d g : Bool) (ps : Parts) → PartsFit cs ps → (rest : List Record) (most l : ℕ) → suc l ≤ most → levels most (((presents s v ++ (addition_ends ∷ noted_by d g)) ++ added_records cs ps) ++ rest) l ≡ cond (leb (max (depth v) (depth_of_parts ps)) l) (levels most rest (suc l)) None
+addition_and_others : (cs : Components) (s : Schema) (v : Value) → LowersAt s v → Added cs → (d g : Bool) (ps : Parts) →
+    PartsFit cs ps → (rest : List Record) (most l : ℕ) → suc l ≤ most →
+    levels most (((presents s v ++ (addition_ends ∷ noted_by d g)) ++ added_records cs ps) ++ rest) l ≡ cond (leb (max (depth v) (depth_of_parts ps)) l) (levels most rest (suc l)) None
 addition_and_others cs s v ih others d g ps f rest most l h =
-    ap (λ xs. levels most xs l) (append_assoc (presents s v ++ (addition_ends ∷ noted_by d g)) (added_records cs ps) rest ∙ append_assoc (presents s v) (addition_ends ∷ noted_by d g) (added_records cs ps ++ rest))
+    ap (λ xs. levels most xs l) (append_assoc (presents s v ++ (addition_ends ∷ noted_by d g)) (added_records cs ps) rest
+    ∙ append_assoc (presents s v) (addition_ends ∷ noted_by d g) (added_records cs ps ++ rest))
     ∙ ih most l (addition_ends ∷ (noted_by d g ++ (added_records cs ps ++ rest))) (room l most h)
     ∙ behind (leb (depth v) l) _ _ (noted_level d g most l (added_records cs ps ++ rest) ∙ others ps f rest most l h)
     ∙ both_within (depth v) (depth_of_parts ps) l (levels most rest (suc l))
 
-absent_addition : (cs : Components) → Added cs → (r : Bool) → r ≡ false → (x : List Record) (ps : Parts) → PartsFit cs ps → (rest : List Record) (most l : ℕ) → suc l ≤ most → levels most ((cond r x (addition false ∷ []) ++ added_records cs ps) ++ rest) l ≡ cond (leb (depth_of_parts ps) l) (levels most rest (suc l)) None
+absent_addition : (cs : Components) → Added cs → (r : Bool) → r ≡ false → (x : List Record) (ps : Parts) → PartsFit cs ps →
+    (rest : List Record) (most l : ℕ) → suc l ≤ most →
+    levels most ((cond r x (addition false ∷ []) ++ added_records cs ps) ++ rest) l ≡ cond (leb (depth_of_parts ps) l) (levels most rest (suc l)) None
 absent_addition cs others true e x ps f rest most l h = cc
 absent_addition cs others false e x ps f rest most l h = others ps f rest most l h
 
@@ -130,7 +152,10 @@ behind_level true n rs rest most l = refl
 behind_level false n rs rest most l = refl
 
 -- inside the components of a sequence or set
-of_fields : (cs : Components) (e : Bool) (adds : Components) → Root cs → Added adds → (ps qs : Parts) → PartsFit cs ps → PartsFit adds qs → (most l : ℕ) (rest : List Record) → l ≤ most → option_and_then (λ m. levels most (root_records cs ps (behind_root e adds (added_records adds qs)) ++ rest) m) (inside l) ≡ cond (leb (max (depth_of_parts ps) (depth_of_parts qs) + 1) l) (levels most rest l) None
+of_fields : (cs : Components) (e : Bool) (adds : Components) → Root cs → Added adds → (ps qs : Parts) → PartsFit cs ps →
+    PartsFit adds qs → (most l : ℕ) (rest : List Record) → l ≤ most →
+    option_and_then (λ m. levels most (root_records cs ps (behind_root e adds (added_records adds qs)) ++ rest) m) (inside l)
+    ≡ cond (leb (max (depth_of_parts ps) (depth_of_parts qs) + 1) l) (levels most rest l) None
 of_fields cs e adds ih jh ps qs f g most zero rest h = no_way_in (max (depth_of_parts ps) (depth_of_parts qs)) (levels most rest 0)
 of_fields cs e adds ih jh ps qs f g most (suc l) rest h = one_deeper (max (depth_of_parts ps) (depth_of_parts qs)) l (levels most rest (suc l)) _ (
     ih ps f (behind_root e adds (added_records adds qs)) rest most l (room l most h)
@@ -147,7 +172,8 @@ unfolding presents Fits depth
 of_set cs e adds ih jh (fields ps qs) f most l rest h = of_fields cs e adds ih jh ps qs f.0 f.1 most l rest h
 of_set cs e adds ih jh v f most l rest h = absurd f
 
-within_group : (cs : Components) → Root cs → (ps : Parts) → PartsFit cs ps → (most l : ℕ) (rest : List Record) → l ≤ most → option_and_then (λ m. levels most (root_records cs ps (ends ∷ []) ++ rest) m) (inside l) ≡ cond (leb (max (depth_of_parts ps) 0 + 1) l) (levels most rest l) None
+within_group : (cs : Components) → Root cs → (ps : Parts) → PartsFit cs ps → (most l : ℕ) (rest : List Record) → l ≤ most →
+    option_and_then (λ m. levels most (root_records cs ps (ends ∷ []) ++ rest) m) (inside l) ≡ cond (leb (max (depth_of_parts ps) 0 + 1) l) (levels most rest l) None
 within_group cs ih ps f most zero rest h = no_way_in (max (depth_of_parts ps) 0) (levels most rest 0)
 within_group cs ih ps f most (suc l) rest h = one_deeper (max (depth_of_parts ps) 0) l (levels most rest (suc l)) _ (
     ih ps f (ends ∷ []) rest most l (room l most h)
@@ -161,7 +187,9 @@ of_group cs ih (fields ps (present v qs)) f most l rest h = let e : present v qs
 of_group cs ih (fields ps (absent qs)) f most l rest h = let e : absent qs ≡ end = f.1 in cc
 of_group cs ih v f most l rest h = absurd f
 
-within_members : (s : Schema) → ((v : Value) → Fits s v → LowersAt s v) → (vs : Values) → AllFit (λ v. Fits s v) vs → (most l : ℕ) (rest : List Record) → l ≤ most → option_and_then (λ m. levels most (member_records (λ v. presents s v) vs ++ rest) m) (inside l) ≡ cond (leb (depth_of_members vs + 1) l) (levels most rest l) None
+within_members : (s : Schema) → ((v : Value) → Fits s v → LowersAt s v) → (vs : Values) → AllFit (λ v. Fits s v) vs →
+    (most l : ℕ) (rest : List Record) → l ≤ most →
+    option_and_then (λ m. levels most (member_records (λ v. presents s v) vs ++ rest) m) (inside l) ≡ cond (leb (depth_of_members vs + 1) l) (levels most rest l) None
 within_members s ih vs f most zero rest h = no_way_in (depth_of_members vs) (levels most rest 0)
 within_members s ih vs f most (suc l) rest h = one_deeper (depth_of_members vs) l (levels most rest (suc l)) _ (of_members s ih vs f most l rest h)
 
@@ -178,15 +206,18 @@ of_bag z k s ih v f most l rest h = absurd f
 -- ---- choices
 
 abbrev pub Chosen : Alternatives → Type 0
-Chosen cs = (i : ℕ) (v : Value) → ChosenFits cs i v → (most l : ℕ) (rest : List Record) → suc l ≤ most → levels most (chosen_records cs i v ++ rest) l ≡ cond (leb (depth v) l) (levels most rest (suc l)) None
+Chosen cs = (i : ℕ) (v : Value) → ChosenFits cs i v → (most l : ℕ) (rest : List Record) → suc l ≤ most →
+    levels most (chosen_records cs i v ++ rest) l ≡ cond (leb (depth v) l) (levels most rest (suc l)) None
 
-value_and_end : (s : Schema) (v : Value) → LowersAt s v → (most l : ℕ) (rest : List Record) → suc l ≤ most → levels most ((presents s v ++ (ends ∷ [])) ++ rest) l ≡ cond (leb (depth v) l) (levels most rest (suc l)) None
+value_and_end : (s : Schema) (v : Value) → LowersAt s v → (most l : ℕ) (rest : List Record) → suc l ≤ most →
+    levels most ((presents s v ++ (ends ∷ [])) ++ rest) l ≡ cond (leb (depth v) l) (levels most rest (suc l)) None
 value_and_end s v ih most l rest h =
     ap (λ rs. levels most rs l) (append_assoc (presents s v) (ends ∷ []) rest)
     ∙ ih most l (ends ∷ rest) (room l most h)
     ∙ behind (leb (depth v) l) _ _ (back most l rest h)
 
-within_choice : (cs : Alternatives) → Chosen cs → (i : ℕ) (v : Value) → ChosenFits cs i v → (most l : ℕ) (rest : List Record) → l ≤ most → option_and_then (λ m. levels most (chosen_records cs i v ++ rest) m) (inside l) ≡ cond (leb (depth v + 1) l) (levels most rest l) None
+within_choice : (cs : Alternatives) → Chosen cs → (i : ℕ) (v : Value) → ChosenFits cs i v → (most l : ℕ) (rest : List Record) →
+    l ≤ most → option_and_then (λ m. levels most (chosen_records cs i v ++ rest) m) (inside l) ≡ cond (leb (depth v + 1) l) (levels most rest l) None
 within_choice cs ih i v f most zero rest h = no_way_in (depth v) (levels most rest 0)
 within_choice cs ih i v f most (suc l) rest h = one_deeper (depth v) l (levels most rest (suc l)) _ (ih i v f most l rest h)
 

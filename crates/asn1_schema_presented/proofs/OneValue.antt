@@ -2,11 +2,20 @@
 use Rattle.std.proofs.Common.{◌≡◌, ℕ, ℤ, zero, suc, Bool, true, false, cond, List, [], ◌∷◌, ◌++◌, refl, subst, sym, ◌∙◌, ap}
 use Rattle.std.specs.Prelude.{◌||◌, not}
 use Rattle.asn1_model.specs.Value.{Value, truth, nothing, number, item, bit_list, octet_list, text, arcs, members, bag, fields, chosen, no_more, member, Parts, end, absent, present}
-use Rattle.asn1_model.specs.Schema.{Tag, Range, Bounds, Counts, Size, Alphabet, StringKind, Presence, required, optional, by_default, Schema, cut, boolean, null, integer, enumerated, bit_string, octet_string, character_string, object_identifier, sequence_of, set_of, sequence, set, group, choice, Components, no_component, component, Alternatives, no_alternative, alternative}
+use Rattle.asn1_model.specs.Schema.{Tag, Range, Bounds, Counts, Size, Alphabet, StringKind, Presence, required}
+use Rattle.asn1_model.specs.Schema.{optional, by_default, Schema, cut, boolean, null, integer, enumerated, bit_string}
+use Rattle.asn1_model.specs.Schema.{octet_string, character_string, object_identifier, sequence_of, set_of, sequence}
+use Rattle.asn1_model.specs.Schema.{set, group, choice, Components, no_component, component, Alternatives}
+use Rattle.asn1_model.specs.Schema.{no_alternative, alternative}
 use Rattle.asn1_model.specs.Lawful.{are_no_components, alternative_tags}
-use Rattle.asn1_schema_presented.specs.Records.{Record, list_begins, bag_begins, further, sequence_begins, set_begins, group_begins, presence_bit, additions_begin, addition, addition_ends, choice_begins, ends, question, told}
+use Rattle.asn1_schema_presented.specs.Records.{Record, list_begins, bag_begins, further, sequence_begins, set_begins}
+use Rattle.asn1_schema_presented.specs.Records.{group_begins, presence_bit, additions_begin, addition, addition_ends}
+use Rattle.asn1_schema_presented.specs.Records.{choice_begins, ends, question, told}
 use Rattle.asn1_model.specs.Lawful.{member_count}
-use Rattle.asn1_schema_presented.specs.Presents.{presents, root_records, added_records, chosen_records, part_records, addition_records, member_records, optional_count, component_count, behind_root, noted, Part, with_part, left_out, there, Fits, PartsFit, ChosenFits, PartFits, AllFit}
+use Rattle.asn1_schema_presented.specs.Presents.{presents, root_records, added_records, chosen_records, part_records}
+use Rattle.asn1_schema_presented.specs.Presents.{addition_records, member_records, optional_count, component_count}
+use Rattle.asn1_schema_presented.specs.Presents.{behind_root, noted, Part, with_part, left_out, there, Fits, PartsFit}
+use Rattle.asn1_schema_presented.specs.Presents.{ChosenFits, PartFits, AllFit}
 use Rattle.asn1_schema_presented.specs.Chains.{Chain, OneRecord}
 use Rattle.asn1_schema_presented.proofs.Chains.{chain_split}
 
@@ -23,7 +32,8 @@ module _ {S : Type 0} {step : S → Record → S → Type 0} (one : OneRecord st
   single r s a b c k p q = let e = one a r s p.0 q.0 k p.1 q.1 in (e.0, p.2 ∙ e.1 ∙ sym q.2)
 
   -- one record, and what follows it
-  pub same_first : (r s : Record) (xs ys : List Record) (a b c : S) → question r ≡ question s → Chain step (r ∷ xs) a b → Chain step (s ∷ ys) a c → (m : S) × (told r ≡ told s) × Chain step xs m b × Chain step ys m c
+  pub same_first : (r s : Record) (xs ys : List Record) (a b c : S) → question r ≡ question s → Chain step (r ∷ xs) a b →
+      Chain step (s ∷ ys) a c → (m : S) × (told r ≡ told s) × Chain step xs m b × Chain step ys m c
   same_first r s xs ys a b c k p q = let e = one a r s p.0 q.0 k p.1 q.1 in (q.0, e.0, subst (λ (z : S). Chain step xs z b) e.1 p.2, q.2)
 
   one_truth : One step (Fits boolean) (presents boolean)
@@ -153,7 +163,8 @@ module _ {S : Type 0} {step : S → Record → S → Type 0} (one : OneRecord st
       let e = one_noted (λ v. Fits s v) (λ v. presents s v) (λ v. noted (by_default d) s v) ih v w r.0 b c u t r.2 r.3 in
       (ap there e.0, e.1)
 
-  one_addition_there : (o : Presence) (s : Schema) → One step (Fits s) (presents s) → (v w : Value) (a b c : S) → Fits s v → Fits s w → Chain step (addition_records (λ v. presents s v) o s (there v)) a b → Chain step (addition_records (λ v. presents s v) o s (there w)) a c → (there v ≡ there w) × (b ≡ c)
+  one_addition_there : (o : Presence) (s : Schema) → One step (Fits s) (presents s) → (v w : Value) (a b c : S) → Fits s v →
+      Fits s w → Chain step (addition_records (λ v. presents s v) o s (there v)) a b → Chain step (addition_records (λ v. presents s v) o s (there w)) a c → (there v ≡ there w) × (b ≡ c)
   one_addition_there o s ih v w a b c u t p q =
       let r = same_first (addition true) (addition true) (presents s v ++ (addition_ends ∷ noted o s v)) (presents s w ++ (addition_ends ∷ noted o s w)) a b c refl p q in
       let e = one_noted (λ v. Fits s v) (λ v. presents s v) (λ v. addition_ends ∷ noted o s v) ih v w r.0 b c u t r.2 r.3 in
@@ -176,7 +187,10 @@ module _ {S : Type 0} {step : S → Record → S → Type 0} (one : OneRecord st
   one_addition (by_default d) s ih (there v) left_out a b c u t p q = absurd (one_addition_not _ a c b q p)
 
   -- a component and those after it
-  behind_part : (o : Presence) (s : Schema) (f : Part → List Record) → One step (PartFits (λ v. Fits s v) o) f → (cs : Components) → OneThen step (PartsFit cs) (root_records cs) → (x y : Part) (ps qs : Parts) (xs ys : List Record) (a b c : S) → PartFits (λ v. Fits s v) o x → PartFits (λ v. Fits s v) o y → PartsFit cs ps → PartsFit cs qs → Chain step (f x ++ root_records cs ps xs) a b → Chain step (f y ++ root_records cs qs ys) a c → (m : S) × (with_part x ps ≡ with_part y qs) × Chain step xs m b × Chain step ys m c
+  behind_part : (o : Presence) (s : Schema) (f : Part → List Record) → One step (PartFits (λ v. Fits s v) o) f → (cs : Components) →
+      OneThen step (PartsFit cs) (root_records cs) → (x y : Part) (ps qs : Parts) (xs ys : List Record) (a b c : S) →
+      PartFits (λ v. Fits s v) o x → PartFits (λ v. Fits s v) o y → PartsFit cs ps → PartsFit cs qs →
+      Chain step (f x ++ root_records cs ps xs) a b → Chain step (f y ++ root_records cs qs ys) a c → (m : S) × (with_part x ps ≡ with_part y qs) × Chain step xs m b × Chain step ys m c
   behind_part o s f ih cs jh x y ps qs xs ys a b c u t g h p q =
       let p' = chain_split step (f x) (root_records cs ps xs) a b p in
       let q' = chain_split step (f y) (root_records cs qs ys) a c q in
@@ -184,12 +198,17 @@ module _ {S : Type 0} {step : S → Record → S → Type 0} (one : OneRecord st
       let d = jh ps qs xs ys q'.0 b c g h (subst (λ (z : S). Chain step (root_records cs ps xs) z b) e.1 p'.2) q'.2 in
       (d.0, ap (λ z. with_part z ps) e.0 ∙ ap (λ z. with_part y z) d.1, d.2, d.3)
 
-  one_component : (t : List Tag) (o : Presence) (s : Schema) (cs : Components) → One step (Fits s) (presents s) → OneThen step (PartsFit cs) (root_records cs) → OneThen step (PartsFit (component t o s cs)) (root_records (component t o s cs))
+  one_component : (t : List Tag) (o : Presence) (s : Schema) (cs : Components) → One step (Fits s) (presents s) →
+      OneThen step (PartsFit cs) (root_records cs) → OneThen step (PartsFit (component t o s cs)) (root_records (component t o s cs))
   unfolding root_records PartsFit
-  one_component t o s cs ih jh (present v ps) (present w qs) xs ys a b c f g p q = behind_part o s (part_records (λ v. presents s v) o s) (one_part o s ih) cs jh (there v) (there w) ps qs xs ys a b c f.0 g.0 f.1 g.1 p q
-  one_component t o s cs ih jh (present v ps) (absent qs) xs ys a b c f g p q = behind_part o s (part_records (λ v. presents s v) o s) (one_part o s ih) cs jh (there v) left_out ps qs xs ys a b c f.0 g.0 f.1 g.1 p q
-  one_component t o s cs ih jh (absent ps) (present w qs) xs ys a b c f g p q = behind_part o s (part_records (λ v. presents s v) o s) (one_part o s ih) cs jh left_out (there w) ps qs xs ys a b c f.0 g.0 f.1 g.1 p q
-  one_component t o s cs ih jh (absent ps) (absent qs) xs ys a b c f g p q = behind_part o s (part_records (λ v. presents s v) o s) (one_part o s ih) cs jh left_out left_out ps qs xs ys a b c f.0 g.0 f.1 g.1 p q
+  one_component t o s cs ih jh (present v ps) (present w qs) xs ys a b c f g p q =
+      behind_part o s (part_records (λ v. presents s v) o s) (one_part o s ih) cs jh (there v) (there w) ps qs xs ys a b c f.0 g.0 f.1 g.1 p q
+  one_component t o s cs ih jh (present v ps) (absent qs) xs ys a b c f g p q =
+      behind_part o s (part_records (λ v. presents s v) o s) (one_part o s ih) cs jh (there v) left_out ps qs xs ys a b c f.0 g.0 f.1 g.1 p q
+  one_component t o s cs ih jh (absent ps) (present w qs) xs ys a b c f g p q =
+      behind_part o s (part_records (λ v. presents s v) o s) (one_part o s ih) cs jh left_out (there w) ps qs xs ys a b c f.0 g.0 f.1 g.1 p q
+  one_component t o s cs ih jh (absent ps) (absent qs) xs ys a b c f g p q =
+      behind_part o s (part_records (λ v. presents s v) o s) (one_part o s ih) cs jh left_out left_out ps qs xs ys a b c f.0 g.0 f.1 g.1 p q
   one_component t o s cs ih jh ps end xs ys a b c f g p q = absurd g
   one_component t o s cs ih jh end qs xs ys a b c f g p q = absurd f
 
@@ -200,7 +219,10 @@ module _ {S : Type 0} {step : S → Record → S → Type 0} (one : OneRecord st
   no_components ps qs xs ys a b c f g p q = absurd f
 
   -- an addition and those after it
-  behind_addition : (o : Presence) (s : Schema) (f : Part → List Record) → One step (PartFits (λ v. Fits s v) o) f → (cs : Components) → One step (PartsFit cs) (added_records cs) → (x y : Part) (ps qs : Parts) (a b c : S) → PartFits (λ v. Fits s v) o x → PartFits (λ v. Fits s v) o y → PartsFit cs ps → PartsFit cs qs → Chain step (f x ++ added_records cs ps) a b → Chain step (f y ++ added_records cs qs) a c → (with_part x ps ≡ with_part y qs) × (b ≡ c)
+  behind_addition : (o : Presence) (s : Schema) (f : Part → List Record) → One step (PartFits (λ v. Fits s v) o) f →
+      (cs : Components) → One step (PartsFit cs) (added_records cs) → (x y : Part) (ps qs : Parts) (a b c : S) →
+      PartFits (λ v. Fits s v) o x → PartFits (λ v. Fits s v) o y → PartsFit cs ps → PartsFit cs qs →
+      Chain step (f x ++ added_records cs ps) a b → Chain step (f y ++ added_records cs qs) a c → (with_part x ps ≡ with_part y qs) × (b ≡ c)
   behind_addition o s f ih cs jh x y ps qs a b c u t g h p q =
       let p' = chain_split step (f x) (added_records cs ps) a b p in
       let q' = chain_split step (f y) (added_records cs qs) a c q in
@@ -208,12 +230,17 @@ module _ {S : Type 0} {step : S → Record → S → Type 0} (one : OneRecord st
       let d = jh ps qs q'.0 b c g h (subst (λ (z : S). Chain step (added_records cs ps) z b) e.1 p'.2) q'.2 in
       (ap (λ z. with_part z ps) e.0 ∙ ap (λ z. with_part y z) d.0, d.1)
 
-  one_added_component : (t : List Tag) (o : Presence) (s : Schema) (cs : Components) → One step (Fits s) (presents s) → One step (PartsFit cs) (added_records cs) → One step (PartsFit (component t o s cs)) (added_records (component t o s cs))
+  one_added_component : (t : List Tag) (o : Presence) (s : Schema) (cs : Components) → One step (Fits s) (presents s) →
+      One step (PartsFit cs) (added_records cs) → One step (PartsFit (component t o s cs)) (added_records (component t o s cs))
   unfolding added_records PartsFit
-  one_added_component t o s cs ih jh (present v ps) (present w qs) a b c f g p q = behind_addition o s (addition_records (λ v. presents s v) o s) (one_addition o s ih) cs jh (there v) (there w) ps qs a b c f.0 g.0 f.1 g.1 p q
-  one_added_component t o s cs ih jh (present v ps) (absent qs) a b c f g p q = behind_addition o s (addition_records (λ v. presents s v) o s) (one_addition o s ih) cs jh (there v) left_out ps qs a b c f.0 g.0 f.1 g.1 p q
-  one_added_component t o s cs ih jh (absent ps) (present w qs) a b c f g p q = behind_addition o s (addition_records (λ v. presents s v) o s) (one_addition o s ih) cs jh left_out (there w) ps qs a b c f.0 g.0 f.1 g.1 p q
-  one_added_component t o s cs ih jh (absent ps) (absent qs) a b c f g p q = behind_addition o s (addition_records (λ v. presents s v) o s) (one_addition o s ih) cs jh left_out left_out ps qs a b c f.0 g.0 f.1 g.1 p q
+  one_added_component t o s cs ih jh (present v ps) (present w qs) a b c f g p q =
+      behind_addition o s (addition_records (λ v. presents s v) o s) (one_addition o s ih) cs jh (there v) (there w) ps qs a b c f.0 g.0 f.1 g.1 p q
+  one_added_component t o s cs ih jh (present v ps) (absent qs) a b c f g p q =
+      behind_addition o s (addition_records (λ v. presents s v) o s) (one_addition o s ih) cs jh (there v) left_out ps qs a b c f.0 g.0 f.1 g.1 p q
+  one_added_component t o s cs ih jh (absent ps) (present w qs) a b c f g p q =
+      behind_addition o s (addition_records (λ v. presents s v) o s) (one_addition o s ih) cs jh left_out (there w) ps qs a b c f.0 g.0 f.1 g.1 p q
+  one_added_component t o s cs ih jh (absent ps) (absent qs) a b c f g p q =
+      behind_addition o s (addition_records (λ v. presents s v) o s) (one_addition o s ih) cs jh left_out left_out ps qs a b c f.0 g.0 f.1 g.1 p q
   one_added_component t o s cs ih jh ps end a b c f g p q = absurd g
   one_added_component t o s cs ih jh end qs a b c f g p q = absurd f
 
@@ -224,11 +251,16 @@ module _ {S : Type 0} {step : S → Record → S → Type 0} (one : OneRecord st
   no_additions ps qs a b c f g p q = absurd f
 
   -- after the root
-  one_behind : (z : Bool) (n : ℕ) (xs ys : List Record) (a b c : S) → Chain step (cond z (additions_begin n ∷ xs) xs) a b → Chain step (cond z (additions_begin n ∷ ys) ys) a c → (m : S) × Chain step xs m b × Chain step ys m c
+  one_behind : (z : Bool) (n : ℕ) (xs ys : List Record) (a b c : S) → Chain step (cond z (additions_begin n ∷ xs) xs) a b →
+      Chain step (cond z (additions_begin n ∷ ys) ys) a c → (m : S) × Chain step xs m b × Chain step ys m c
   one_behind true n xs ys a b c p q = let r = same_first (additions_begin n) (additions_begin n) xs ys a b c refl p q in (r.0, r.2, r.3)
   one_behind false n xs ys a b c p q = (a, p, q)
 
-  one_fields : (cs : Components) (e : Bool) (adds : Components) → OneThen step (PartsFit cs) (root_records cs) → One step (PartsFit adds) (added_records adds) → (first : Record) (ps qs rs ts : Parts) (a b c : S) → PartsFit cs ps → PartsFit adds qs → PartsFit cs rs → PartsFit adds ts → Chain step (first ∷ root_records cs ps (behind_root e adds (added_records adds qs))) a b → Chain step (first ∷ root_records cs rs (behind_root e adds (added_records adds ts))) a c → (fields ps qs ≡ fields rs ts) × (b ≡ c)
+  one_fields : (cs : Components) (e : Bool) (adds : Components) → OneThen step (PartsFit cs) (root_records cs) →
+      One step (PartsFit adds) (added_records adds) → (first : Record) (ps qs rs ts : Parts) (a b c : S) → PartsFit cs ps →
+      PartsFit adds qs → PartsFit cs rs → PartsFit adds ts →
+      Chain step (first ∷ root_records cs ps (behind_root e adds (added_records adds qs))) a b →
+      Chain step (first ∷ root_records cs rs (behind_root e adds (added_records adds ts))) a c → (fields ps qs ≡ fields rs ts) × (b ≡ c)
   one_fields cs e adds ih jh first ps qs rs ts a b c f f' g g' p q =
       let r = same_first first first (root_records cs ps (behind_root e adds (added_records adds qs))) (root_records cs rs (behind_root e adds (added_records adds ts))) a b c refl p q in
       let d = ih ps rs (behind_root e adds (added_records adds qs)) (behind_root e adds (added_records adds ts)) r.0 b c f g r.2 r.3 in
@@ -236,13 +268,15 @@ module _ {S : Type 0} {step : S → Record → S → Type 0} (one : OneRecord st
       let l = jh qs ts k.0 b c f' g' k.1 k.2 in
       (ap (λ z. fields z qs) d.1 ∙ ap (λ z. fields rs z) l.0, l.1)
 
-  one_sequence : (cs : Components) (e : Bool) (adds : Components) → OneThen step (PartsFit cs) (root_records cs) → One step (PartsFit adds) (added_records adds) → One step (Fits (sequence cs e adds)) (presents (sequence cs e adds))
+  one_sequence : (cs : Components) (e : Bool) (adds : Components) → OneThen step (PartsFit cs) (root_records cs) →
+      One step (PartsFit adds) (added_records adds) → One step (Fits (sequence cs e adds)) (presents (sequence cs e adds))
   unfolding presents Fits
   one_sequence cs e adds ih jh (fields ps qs) (fields rs ts) a b c f g p q = one_fields cs e adds ih jh (sequence_begins e (optional_count cs)) ps qs rs ts a b c f.0 f.1 g.0 g.1 p q
   one_sequence cs e adds ih jh (fields ps qs) w a b c f g p q = absurd g
   one_sequence cs e adds ih jh v w a b c f g p q = absurd f
 
-  one_set : (cs : Components) (e : Bool) (adds : Components) → OneThen step (PartsFit cs) (root_records cs) → One step (PartsFit adds) (added_records adds) → One step (Fits (set cs e adds)) (presents (set cs e adds))
+  one_set : (cs : Components) (e : Bool) (adds : Components) → OneThen step (PartsFit cs) (root_records cs) →
+      One step (PartsFit adds) (added_records adds) → One step (Fits (set cs e adds)) (presents (set cs e adds))
   unfolding presents Fits
   one_set cs e adds ih jh (fields ps qs) (fields rs ts) a b c f g p q = one_fields cs e adds ih jh (set_begins e (optional_count cs)) ps qs rs ts a b c f.0 f.1 g.0 g.1 p q
   one_set cs e adds ih jh (fields ps qs) w a b c f g p q = absurd g
@@ -262,28 +296,35 @@ module _ {S : Type 0} {step : S → Record → S → Type 0} (one : OneRecord st
   one_group cs ih v w a b c f g p q = absurd f
 
   -- the chosen alternative
-  one_alternative : (t : Tag) (s : Schema) (cs : Alternatives) → One step (Fits s) (presents s) → ((k : ℕ) → One step (ChosenFits cs k) (chosen_records cs k)) → (k : ℕ) → One step (ChosenFits (alternative t s cs) k) (chosen_records (alternative t s cs) k)
+  one_alternative : (t : Tag) (s : Schema) (cs : Alternatives) → One step (Fits s) (presents s) →
+      ((k : ℕ) → One step (ChosenFits cs k) (chosen_records cs k)) → (k : ℕ) → One step (ChosenFits (alternative t s cs) k) (chosen_records (alternative t s cs) k)
   unfolding chosen_records ChosenFits
   one_alternative t s cs ih jh zero v w a b c f g p q = one_noted (λ v. Fits s v) (λ v. presents s v) (λ v. ends ∷ []) ih v w a b c f g p q
   one_alternative t s cs ih jh (suc k) v w a b c f g p q = jh k v w a b c f g p q
 
-  one_chosen : (roots : Alternatives) (e : Bool) (adds : Alternatives) → ((k : ℕ) → One step (ChosenFits roots k) (chosen_records roots k)) → ((k : ℕ) → One step (ChosenFits adds k) (chosen_records adds k)) → One step (Fits (choice roots e adds)) (presents (choice roots e adds))
+  one_chosen : (roots : Alternatives) (e : Bool) (adds : Alternatives) →
+      ((k : ℕ) → One step (ChosenFits roots k) (chosen_records roots k)) →
+      ((k : ℕ) → One step (ChosenFits adds k) (chosen_records adds k)) → One step (Fits (choice roots e adds)) (presents (choice roots e adds))
   unfolding presents Fits
   one_chosen roots e adds ih jh (chosen false i v) (chosen false j w) a b c f g p q =
-      let r = same_first (choice_begins (alternative_tags roots) e (alternative_tags adds) false i) (choice_begins (alternative_tags roots) e (alternative_tags adds) false j) (chosen_records roots i v) (chosen_records roots j w) a b c refl p q in
+      let r = same_first (choice_begins (alternative_tags roots) e (alternative_tags adds) false i)
+      (choice_begins (alternative_tags roots) e (alternative_tags adds) false j) (chosen_records roots i v) (chosen_records roots j w) a b c refl p q in
       let k : i ≡ j = cc r.1 in
       let d = ih j v w r.0 b c (subst (λ (l : ℕ). ChosenFits roots l v) k f) g (subst (λ (l : ℕ). Chain step (chosen_records roots l v) r.0 b) k r.2) r.3 in
       (ap (λ l. chosen false l v) k ∙ ap (λ z. chosen false j z) d.0, d.1)
   one_chosen roots e adds ih jh (chosen true i v) (chosen true j w) a b c f g p q =
-      let r = same_first (choice_begins (alternative_tags roots) e (alternative_tags adds) true i) (choice_begins (alternative_tags roots) e (alternative_tags adds) true j) (chosen_records adds i v) (chosen_records adds j w) a b c refl p q in
+      let r = same_first (choice_begins (alternative_tags roots) e (alternative_tags adds) true i)
+      (choice_begins (alternative_tags roots) e (alternative_tags adds) true j) (chosen_records adds i v) (chosen_records adds j w) a b c refl p q in
       let k : i ≡ j = cc r.1 in
       let d = jh j v w r.0 b c (subst (λ (l : ℕ). ChosenFits adds l v) k f) g (subst (λ (l : ℕ). Chain step (chosen_records adds l v) r.0 b) k r.2) r.3 in
       (ap (λ l. chosen true l v) k ∙ ap (λ z. chosen true j z) d.0, d.1)
   one_chosen roots e adds ih jh (chosen false i v) (chosen true j w) a b c f g p q =
-      let r = same_first (choice_begins (alternative_tags roots) e (alternative_tags adds) false i) (choice_begins (alternative_tags roots) e (alternative_tags adds) true j) (chosen_records roots i v) (chosen_records adds j w) a b c refl p q in
+      let r = same_first (choice_begins (alternative_tags roots) e (alternative_tags adds) false i)
+      (choice_begins (alternative_tags roots) e (alternative_tags adds) true j) (chosen_records roots i v) (chosen_records adds j w) a b c refl p q in
       let k : choice_begins (alternative_tags roots) e (alternative_tags adds) false i ≡ choice_begins (alternative_tags roots) e (alternative_tags adds) true j = r.1 in cc
   one_chosen roots e adds ih jh (chosen true i v) (chosen false j w) a b c f g p q =
-      let r = same_first (choice_begins (alternative_tags roots) e (alternative_tags adds) true i) (choice_begins (alternative_tags roots) e (alternative_tags adds) false j) (chosen_records adds i v) (chosen_records roots j w) a b c refl p q in
+      let r = same_first (choice_begins (alternative_tags roots) e (alternative_tags adds) true i)
+      (choice_begins (alternative_tags roots) e (alternative_tags adds) false j) (chosen_records adds i v) (chosen_records roots j w) a b c refl p q in
       let k : choice_begins (alternative_tags roots) e (alternative_tags adds) true i ≡ choice_begins (alternative_tags roots) e (alternative_tags adds) false j = r.1 in cc
   one_chosen roots e adds ih jh (chosen false i v) w a b c f g p q = absurd g
   one_chosen roots e adds ih jh (chosen true i v) w a b c f g p q = absurd g

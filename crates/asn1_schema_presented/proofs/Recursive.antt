@@ -18,7 +18,8 @@ cut_type {ts} e = record { tagged = λ n. tags_of_one ts cut refl e; lawful = λ
 type_at : {ts : List Tag} {s : ℕ → Schema} → IsType ts s → (n : ℕ) → IsType ts (λ _. s n)
 type_at h n = record { tagged = λ m. h.tagged n; lawful = λ m. h.lawful n; tidy = λ m. h.tidy n; no_group = λ m. h.no_group n }
 
-module _ {ts : List Tag} (f : (ℕ → Schema) → Table) (e : is_one_tag ts ≡ true) (h : (s : ℕ → Schema) → IsType ts s → AreTypes (f s)) (d : (s : ℕ → Schema) → are_distinct tag_same (field_tags (f s).root ++ field_tags (f s).additions) ≡ true) where
+module _ {ts : List Tag} (f : (ℕ → Schema) → Table) (e : is_one_tag ts ≡ true) (h : (s : ℕ → Schema) → IsType ts s → AreTypes (f s))
+    (d : (s : ℕ → Schema) → are_distinct tag_same (field_tags (f s).root ++ field_tags (f s).additions) ≡ true) where
   each_level : (n : ℕ) → IsType ts (λ _. recursive_sequence f n)
   unfolding recursive_sequence
   each_level zero = cut_type e

@@ -4,7 +4,9 @@ use Rattle.std.specs.Prelude.{◌==◌, nat_eq}
 use Rattle.std.specs.Bool.{beq}
 use Rattle.std.proofs.lemmas.Bool.Decides.{nat_tests}
 use lib.Pointwise.{pointwise}
-use Rattle.asn1_model.specs.Value.{Value, truth, nothing, number, item, bit_list, octet_list, text, arcs, members, bag, fields, chosen, Values, no_more, member, Parts, end, absent, present, same, same_members, same_bag, same_parts, same_truth, same_number}
+use Rattle.asn1_model.specs.Value.{Value, truth, nothing, number, item, bit_list, octet_list, text, arcs, members, bag}
+use Rattle.asn1_model.specs.Value.{fields, chosen, Values, no_more, member, Parts, end, absent, present, same}
+use Rattle.asn1_model.specs.Value.{same_members, same_bag, same_parts, same_truth, same_number}
 
 same_truth_self : (b : Bool) → same_truth b b ≡ true
 same_truth_self true = refl

@@ -62,7 +62,8 @@ pub octet_string_value : (z : Size) (h : Counts) (xs : List ℕ) → IsValue (λ
 unfolding Fits normal
 octet_string_value z h xs = record { fits = λ n le. tt; normal = λ n. refl }
 
-pub character_string_type : {ts : List Tag} (c : StringKind) (z : Size) (a : Alphabet) (h : Counts) → is_one_tag ts ≡ true → (are_counts z.counts && are_counts h) ≡ true → IsType ts (λ _. character_string c z a h)
+pub character_string_type : {ts : List Tag} (c : StringKind) (z : Size) (a : Alphabet) (h : Counts) → is_one_tag ts ≡ true →
+    (are_counts z.counts && are_counts h) ≡ true → IsType ts (λ _. character_string c z a h)
 unfolding is_lawful is_tidy
 character_string_type {ts} c z a h e k = record { tagged = λ n. tags_of_one ts (character_string c z a h) refl e; lawful = λ n. k; tidy = λ n. refl; no_group = λ n. refl }
 

@@ -43,7 +43,8 @@ kept_part : (b : Bool) (w : Value) (ps : Parts) → cond b (absent ps) (present 
 kept_part true w ps = refl
 kept_part false w ps = refl
 
-pub normal_field : (ts : List Tag) (o : Presence) (s : Schema) (cs : Components) (x : Part) (ps : Parts) → normal_parts (component ts o s cs) (with_part x ps) ≡ with_part (normal_part o s x) (normal_parts cs ps)
+pub normal_field : (ts : List Tag) (o : Presence) (s : Schema) (cs : Components) (x : Part) (ps : Parts) →
+    normal_parts (component ts o s cs) (with_part x ps) ≡ with_part (normal_part o s x) (normal_parts cs ps)
 unfolding normal_parts
 normal_field ts o s cs left_out ps = refl
 normal_field ts o s cs (there v) ps = kept_part (is_at_default o s v || is_group_left_out s v) (normal s v) (normal_parts cs ps)
@@ -103,8 +104,11 @@ pub type_sequence : {ts : List Tag} (t : Table) → is_one_tag ts ≡ true → A
 unfolding sequence_type scope is_lawful is_tidy
 type_sequence {ts} t e h d = record {
   tagged = λ n. tags_of_one ts (sequence_type t n) (sequence_is_no_group t n) e;
-  lawful = λ n. elim n as (λ n. is_lawful (scope n (λ m. sequence (components_at m t.root) t.extensible (components_at m t.additions))) ≡ true) [ zero ↦ refl | suc m ↦ rw (h.extensible m, tags_at m t.root, tags_at m t.additions, d, h.no_group m, h.optional_groups m, h.lawful m) (h.lawful_additions m) ];
-  tidy = λ n. elim n as (λ n. is_tidy (scope n (λ m. sequence (components_at m t.root) t.extensible (components_at m t.additions))) ≡ true) [ zero ↦ refl | suc m ↦ rw (h.tidy m) (h.tidy_additions m) ];
+  lawful = λ n. elim n as (λ n. is_lawful (scope n
+      (λ m. sequence (components_at m t.root) t.extensible (components_at m t.additions)))
+      ≡ true) [ zero ↦ refl | suc m ↦ rw (h.extensible m, tags_at m t.root, tags_at m t.additions, d, h.no_group m, h.optional_groups m, h.lawful m) (h.lawful_additions m) ];
+  tidy = λ n. elim n as (λ n. is_tidy (scope n (λ m. sequence (components_at m t.root) t.extensible (components_at m t.additions)))
+      ≡ true) [ zero ↦ refl | suc m ↦ rw (h.tidy m) (h.tidy_additions m) ];
   no_group = λ n. elim n as (λ n. is_group (scope n (λ m. sequence (components_at m t.root) t.extensible (components_at m t.additions))) ≡ false) [ zero ↦ refl | suc m ↦ refl ];
 }
 
@@ -119,5 +123,6 @@ value_sequence t {ps} {qs} h = record {
         let b : depth_of_parts qs ≤ max (depth_of_parts ps) (depth_of_parts qs) = le-max_right _ _ in
         (h.fits m (let z : depth_of_parts ps ≤ m = omega arith in z), h.fits_added m (let z : depth_of_parts qs ≤ m = omega arith in z))
   ];
-  normal = λ n. elim n as (λ n. normal (scope n (λ m. sequence (components_at m t.root) t.extensible (components_at m t.additions))) (fields ps qs) ≡ fields ps qs) [ zero ↦ refl | suc m ↦ ap (λ xs. fields xs (normal_parts (components_at m t.additions) qs)) (h.normal m) ∙ ap (λ xs. fields ps xs) (h.normal_added m) ];
+  normal = λ n. elim n as (λ n. normal (scope n (λ m. sequence (components_at m t.root) t.extensible (components_at m t.additions)))
+      (fields ps qs) ≡ fields ps qs) [ zero ↦ refl | suc m ↦ ap (λ xs. fields xs (normal_parts (components_at m t.additions) qs)) (h.normal m) ∙ ap (λ xs. fields ps xs) (h.normal_added m) ];
 }

@@ -19,7 +19,8 @@ module _ {a b : Left} {k : Record} where
       leaves (one_of roots e adds w) l (f ∙ (ap (λ (t : Bool). one_of [] t [] v) g ∙ ap (λ (t : ℤ). one_of [] e [] t) (sym h)), i) l.levels
 
   -- another record, or one with another extension marker
-  pub no_one_of : {roots adds : List ℤ} {e m : Bool} {y : DecodeError} {failed : Left} → Leaves a k b → m ≡ e → ((v : ℤ) → k ≡ one_of [] m [] v → ⊥) → NoRecord Takes AtOnce (asks_one_of roots e adds) a failed y
+  pub no_one_of : {roots adds : List ℤ} {e m : Bool} {y : DecodeError} {failed : Left} → Leaves a k b → m ≡ e →
+      ((v : ℤ) → k ≡ one_of [] m [] v → ⊥) → NoRecord Takes AtOnce (asks_one_of roots e adds) a failed y
   no_one_of {roots} {adds} {e} {m} l g apart = other l go where
     go : (r : Record) → question r ≡ asks_one_of roots e adds → IsKept k r → ⊥
     go (one_of roots' e' adds' w) q i =
@@ -28,7 +29,8 @@ module _ {a b : Left} {k : Record} where
     go r q i = cc q
 
   -- the number of no item
-  pub no_item : {roots adds : List ℤ} {e m : Bool} {v : ℤ} {y : DecodeError} {failed : Left} → Leaves a k b → k ≡ one_of [] m [] v → IsNone roots e adds v → NoRecord Takes AtOnce (asks_one_of roots e adds) a failed y
+  pub no_item : {roots adds : List ℤ} {e m : Bool} {v : ℤ} {y : DecodeError} {failed : Left} → Leaves a k b → k ≡ one_of [] m [] v →
+      IsNone roots e adds v → NoRecord Takes AtOnce (asks_one_of roots e adds) a failed y
   no_item {roots} {adds} {e} {m} {v} l f n = other l go where
     go : (r : Record) → question r ≡ asks_one_of roots e adds → IsKept k r → ⊥
     go (one_of roots' e' adds' w) q i =
@@ -38,6 +40,7 @@ module _ {a b : Left} {k : Record} where
         let z : e' ≡ e = cc q in
         let u : adds' ≡ adds = cc q in
         let h : IsListed roots e adds v =
-        subst (λ (t : ℤ). IsListed roots e adds t) x (subst (λ (t : List ℤ). IsListed roots e t w) u (subst (λ (t : Bool). IsListed roots t adds' w) z (subst (λ (t : List ℤ). IsListed t e' adds' w) y i.1))) in
+        subst (λ (t : ℤ). IsListed roots e adds t) x
+        (subst (λ (t : List ℤ). IsListed roots e t w) u (subst (λ (t : Bool). IsListed roots t adds' w) z (subst (λ (t : List ℤ). IsListed t e' adds' w) y i.1))) in
         not_both roots e adds v h n
     go r q i = cc q

@@ -1,5 +1,7 @@
 -- The index of a tag among the leaves of trees.
-use Rattle.std.proofs.Common.{◌≡◌, ◌∙◌, refl, sym, ap, ℕ, zero, suc, ◌+◌, ◌-◌, ◌≤◌, ◌<◌, List, [], ◌∷◌, ◌++◌, Bool, true, false, not, cond, ◌&&◌, Option, Some, None, option_map, length, length-append, drop, get_or, slice_get, arith, eq-eqb, eqb-true, ◌==◌, ◌^◌, ltb, lt-ltb, IfSome, IsTrue, rules}
+use Rattle.std.proofs.Common.{◌≡◌, ◌∙◌, refl, sym, ap, ℕ, zero, suc, ◌+◌, ◌-◌, ◌≤◌, ◌<◌, List, [], ◌∷◌, ◌++◌, Bool}
+use Rattle.std.proofs.Common.{true, false, not, cond, ◌&&◌, Option, Some, None, option_map, length, length-append, drop}
+use Rattle.std.proofs.Common.{get_or, slice_get, arith, eq-eqb, eqb-true, ◌==◌, ◌^◌, ltb, lt-ltb, IfSome, IsTrue, rules}
 use Rattle.std.specs.List.{position_from}
 use Rattle.std.proofs.lemmas.Option.{slice_get_within}
 use Rattle.asn1_model.specs.Schema.{Tag as ModelTag}

@@ -1,5 +1,7 @@
 -- The equations of the leaves of a tree, and of functions on them.
-use Rattle.std.proofs.Common.{◌≡◌, ◌∙◌, refl, sym, ap, List, [], ◌∷◌, ◌++◌, map, flat_map, Bool, true, false, not, cond, ◌&&◌, ◌||◌, ℕ, ◌+◌, ◌<◌, length, drop, drop-cons, get_or, add-one, arith, take, ◌-◌, length-drop}
+use Rattle.std.proofs.Common.{◌≡◌, ◌∙◌, refl, sym, ap, List, [], ◌∷◌, ◌++◌, map, flat_map, Bool, true, false, not, cond}
+use Rattle.std.proofs.Common.{◌&&◌, ◌||◌, ℕ, ◌+◌, ◌<◌, length, drop, drop-cons, get_or, add-one, arith, take, ◌-◌}
+use Rattle.std.proofs.Common.{length-drop}
 use Rattle.std.specs.List.{list_any}
 use Rattle.std.proofs.Math.Seq.{drop-length}
 use Rattle.std.proofs.lemmas.List.{take_all}

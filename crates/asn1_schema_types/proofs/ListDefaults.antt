@@ -23,7 +23,8 @@ all_spelled s no_more k n = refl
 all_spelled s (member v vs) k n = rw (k.0.spelled n, all_spelled s vs k.1 n) refl
 
 -- A list with a number of elements that the type holds is allowed as a default if each element is.
-pub list_default : (z : Size) (h : Counts) (s : ℕ → Schema) (vs : Values) → IsValue (list_type z h s) (members vs) → is_count_within h (member_count vs) ≡ true → AreDefaultMembers s vs → IsDefault (list_type z h s) (members vs)
+pub list_default : (z : Size) (h : Counts) (s : ℕ → Schema) (vs : Values) → IsValue (list_type z h s) (members vs) →
+    is_count_within h (member_count vs) ≡ true → AreDefaultMembers s vs → IsDefault (list_type z h s) (members vs)
 unfolding list_type scope is_of is_normal
 list_default z h s vs v e k = record {
   is_value = v;

@@ -26,7 +26,8 @@ pub no_default_parts : AreDefaultParts no_field end
 unfolding components_at are_of are_normal
 no_default_parts = record { typed = λ n. refl; spelled = λ n. refl }
 
-pub more_default_parts : (ts : List Tag) (o : Presence) (s : ℕ → Schema) (x : Part) {cs : Fields} {ps : Parts} → IsDefaultPart o s x → AreDefaultParts cs ps → AreDefaultParts (field ts o s cs) (with_part x ps)
+pub more_default_parts : (ts : List Tag) (o : Presence) (s : ℕ → Schema) (x : Part) {cs : Fields} {ps : Parts} →
+    IsDefaultPart o s x → AreDefaultParts cs ps → AreDefaultParts (field ts o s cs) (with_part x ps)
 unfolding components_at are_of are_normal
 more_default_parts ts o s left_out k rest = record { typed = λ n. rw (k, rest.typed n) refl; spelled = λ n. rest.spelled n }
 more_default_parts ts o s (there v) k rest = record { typed = λ n. rw (k.0.typed n, rest.typed n) refl; spelled = λ n. rw (k.1 n, k.2 n, k.0.spelled n, rest.spelled n) refl }
@@ -36,6 +37,8 @@ pub sequence_default : (t : Table) {ps qs : Parts} → AreValues t ps qs → Are
 unfolding sequence_type scope is_of is_normal
 sequence_default t {ps} {qs} v r a = record {
   is_value = value_sequence t v;
-  typed = λ n. elim n as (λ n. is_of (scope n (λ m. sequence (components_at m t.root) t.extensible (components_at m t.additions))) (fields ps qs) ≡ true) [ zero ↦ refl | suc m ↦ rw (r.typed m, a.typed m) refl ];
-  spelled = λ n. elim n as (λ n. is_normal (scope n (λ m. sequence (components_at m t.root) t.extensible (components_at m t.additions))) (fields ps qs) ≡ true) [ zero ↦ refl | suc m ↦ rw (r.spelled m, a.spelled m) refl ];
+  typed = λ n. elim n as (λ n. is_of (scope n (λ m. sequence (components_at m t.root) t.extensible (components_at m t.additions)))
+      (fields ps qs) ≡ true) [ zero ↦ refl | suc m ↦ rw (r.typed m, a.typed m) refl ];
+  spelled = λ n. elim n as (λ n. is_normal
+      (scope n (λ m. sequence (components_at m t.root) t.extensible (components_at m t.additions))) (fields ps qs) ≡ true) [ zero ↦ refl | suc m ↦ rw (r.spelled m, a.spelled m) refl ];
 }

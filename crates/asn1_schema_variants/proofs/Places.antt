@@ -1,5 +1,7 @@
 -- The indices of items.
-use Rattle.std.proofs.Common.{◌≡◌, ◌∙◌, refl, sym, ap, ℕ, zero, suc, ◌+◌, ◌<◌, ◌≤◌, ℤ, pos, negsuc, Bool, true, false, cond, not, ◌&&◌, List, [], ◌∷◌, ◌++◌, length, map, drop, get_or, slice_get, Option, Some, None, option_map, arith, eqb-true, eq-eqb, Bor, MatchOption, IfSome}
+use Rattle.std.proofs.Common.{◌≡◌, ◌∙◌, refl, sym, ap, ℕ, zero, suc, ◌+◌, ◌<◌, ◌≤◌, ℤ, pos, negsuc, Bool, true, false}
+use Rattle.std.proofs.Common.{cond, not, ◌&&◌, List, [], ◌∷◌, ◌++◌, length, map, drop, get_or, slice_get, Option, Some}
+use Rattle.std.proofs.Common.{None, option_map, arith, eqb-true, eq-eqb, Bor, MatchOption, IfSome}
 use Rattle.std.specs.Option.{option_copied}
 use Rattle.std.specs.List.{HoldsAt}
 use Rattle.asn1_schema_variants.specs.Items.{IsPlaced}
@@ -78,7 +80,8 @@ raised : (o : Option ℕ) (i : ℕ) → option_map suc o ≡ Some i → (j : ℕ
 raised None i h = cc
 raised (Some j) i h = (j, refl, cc)
 
-back_step : (v x : ℤ) (xs : List ℤ) (i : ℕ) → ((j : ℕ) → item_place v xs ≡ Some j → slice_get xs j ≡ Some v) → (b : Bool) → same_number v x ≡ b → cond b (Some zero) (option_map suc (item_place v xs)) ≡ Some i → slice_get (x ∷ xs) i ≡ Some v
+back_step : (v x : ℤ) (xs : List ℤ) (i : ℕ) → ((j : ℕ) → item_place v xs ≡ Some j → slice_get xs j ≡ Some v) → (b : Bool) →
+    same_number v x ≡ b → cond b (Some zero) (option_map suc (item_place v xs)) ≡ Some i → slice_get (x ∷ xs) i ≡ Some v
 back_step v x xs i k true s h = let z : zero ≡ i = cc in let t : v ≡ x = same_number_is v x s in ap (slice_get (x ∷ xs)) (sym z) ∙ ap (λ (y : ℤ). Some y) (sym t)
 back_step v x xs i k false s h = let r = raised (item_place v xs) i h in ap (slice_get (x ∷ xs)) (sym r.2) ∙ k r.0 r.1
 
@@ -98,7 +101,8 @@ nowhere roots e others v false i p r k = let z : Some i ≡ None = sym p ∙ r i
 nowhere roots e others v true i p r k = let z : Some i ≡ None = sym p.2 ∙ k p.1 in cc
 
 -- an element that is copied out of a list
-pub copied_is : {A : Type 0} (xs : List A) (i : ℕ) (o : Option (Bor A)) → IfSome o (λ x. x.now ≡ get_or xs i x.now) → MatchOption o (length xs ≤ i) (λ x. (i < length xs) × HoldsAt (λ y. x.now ≡ y) xs i) → option_copied o ≡ slice_get xs i
+pub copied_is : {A : Type 0} (xs : List A) (i : ℕ) (o : Option (Bor A)) → IfSome o (λ x. x.now ≡ get_or xs i x.now) →
+    MatchOption o (length xs ≤ i) (λ x. (i < length xs) × HoldsAt (λ y. x.now ≡ y) xs i) → option_copied o ≡ slice_get xs i
 copied_is xs i None h k = sym (slice_get_past xs i k)
 copied_is xs i (Some x) h k = sym (slice_get-get_or xs i x.now k.0 ∙ ap (λ y. Some y) (sym h))
 
@@ -117,11 +121,13 @@ module _ {A : Type 0} (f : A → ℤ) (xs : List A) where
   there : (ys : List ℤ) (i : ℕ) (x : A) → map f xs ≡ ys → Some x ≡ slice_get xs i → slice_get ys i ≡ Some (f x)
   there ys i x e k = ap (λ zs. slice_get zs i) (sym e) ∙ slice_get-map f xs i ∙ ap (option_map f) (sym k)
 
-  pub in_roots : (roots : List ℤ) (e : Bool) (others : List ℤ) (i : ℕ) (o : Option A) → map f xs ≡ roots → are_distinct same_number (roots ++ others) ≡ true → o ≡ slice_get xs i → MatchOption o (length roots ≤ i) (λ x. IsPlaced roots e others (f x) false i)
+  pub in_roots : (roots : List ℤ) (e : Bool) (others : List ℤ) (i : ℕ) (o : Option A) → map f xs ≡ roots →
+      are_distinct same_number (roots ++ others) ≡ true → o ≡ slice_get xs i → MatchOption o (length roots ≤ i) (λ x. IsPlaced roots e others (f x) false i)
   in_roots roots e others i None h d k = past roots i h k
   in_roots roots e others i (Some x) h d k = place_at (f x) roots i (distinct_before roots others d) (there roots i x h k)
 
-  pub in_others : (roots : List ℤ) (e : Bool) (others : List ℤ) (i : ℕ) (o : Option A) → (e ≡ true) × (map f xs ≡ others) → are_distinct same_number (roots ++ others) ≡ true → o ≡ slice_get xs i → MatchOption o (e ≡ true → length others ≤ i) (λ x. IsPlaced roots e others (f x) true i)
+  pub in_others : (roots : List ℤ) (e : Bool) (others : List ℤ) (i : ℕ) (o : Option A) → (e ≡ true) × (map f xs ≡ others) →
+      are_distinct same_number (roots ++ others) ≡ true → o ≡ slice_get xs i → MatchOption o (e ≡ true → length others ≤ i) (λ x. IsPlaced roots e others (f x) true i)
   in_others roots e others i None h d k = λ t. past others i h.1 k
   in_others roots e others i (Some x) h d k = (not_before (f x) roots others i d (there others i x h.1 k), h.0, place_at (f x) others i (distinct_behind roots others d) (there others i x h.1 k))
 
@@ -149,5 +155,6 @@ module _ {A : Type 0} (f : A → ℤ) (v : ℤ) (xs : List A) where
   twice i None = refl
   twice i (Some k) = ap (λ (j : ℕ). Some j) (let e : i + suc k ≡ i + 1 + k = omega arith in e)
 
-  pub search_passed : (i : ℕ) (x : A) → i < length xs → x ≡ get_or xs i x → same_number v (f x) ≡ false → option_map (λ k. i + 1 + k) (item_place v (map f (drop (i + 1) xs))) ≡ option_map (λ k. i + k) (item_place v (map f (drop i xs)))
+  pub search_passed : (i : ℕ) (x : A) → i < length xs → x ≡ get_or xs i x → same_number v (f x) ≡ false →
+      option_map (λ k. i + 1 + k) (item_place v (map f (drop (i + 1) xs))) ≡ option_map (λ k. i + k) (item_place v (map f (drop i xs)))
   search_passed i x h is s = sym (ap (λ ys. option_map (λ k. i + k) (item_place v (map f ys))) (opened i x h is) ∙ rw s (twice i (item_place v (map f (drop (i + 1) xs)))))

@@ -1,8 +1,8 @@
 use Rattle.std.proofs.Common.{true, false}
 use Rattle.asn1_model.specs.Rules.{IsEncoding}
 use Rattle.asn1_laws_values.proofs.Normal.{normal_stays}
-use Rattle.asn1_laws_values.proofs.PerStrict.{message_normal}
-use Rattle.asn1_laws_values.proofs.OerStrict.{octets_normal}
+use Rattle.asn1_laws_values.proofs.PerRead.{message_normal}
+use Rattle.asn1_laws_values.proofs.OerRead.{octets_normal}
 use Rattle.asn1_laws_values.proofs.message_laws.strict_reads_normal.Goals as goal
 
 pub returns : goal.returns

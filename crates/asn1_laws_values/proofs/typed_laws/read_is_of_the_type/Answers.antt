@@ -1,7 +1,7 @@
 use Rattle.std.proofs.Common.{true, false}
 use Rattle.asn1_model.specs.Rules.{uper, aper, uper_strict, aper_strict, oer, coer, IsEncoding}
-use Rattle.asn1_laws_values.proofs.PerTyped.{message_of}
-use Rattle.asn1_laws_values.proofs.OerTyped.{octets_are_of}
+use Rattle.asn1_laws_values.proofs.PerRead.{message_of}
+use Rattle.asn1_laws_values.proofs.OerRead.{octets_are_of}
 use Rattle.asn1_laws_values.proofs.typed_laws.read_is_of_the_type.Goals as goal
 
 pub returns : goal.returns

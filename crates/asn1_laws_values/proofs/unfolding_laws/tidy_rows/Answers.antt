@@ -6,5 +6,6 @@ use Rattle.asn1_laws_values.specs.Tidied.{tidied, tidied_each, tidied_alternativ
 use Rattle.asn1_laws_values.proofs.unfolding_laws.tidy_rows.Goals as goal
 
 pub returns : goal.returns
-unfolding normal normal_parts normal_alternative is_normal are_normal is_normal_alternative same same_members same_bag same_parts tidied tidied_each tidied_alternatives is_tidy are_tidy are_tidy_alternatives
+unfolding normal normal_parts normal_alternative is_normal are_normal is_normal_alternative same same_members same_bag
+    same_parts tidied tidied_each tidied_alternatives is_tidy are_tidy are_tidy_alternatives
 returns c = (refl, refl, refl)

@@ -4,7 +4,7 @@ use Rattle.asn1_model.specs.Value.{nothing}
 use Rattle.asn1_model.specs.Schema.{null}
 use Rattle.asn1_model.specs.Rules.{uper, aper_strict, oer, coer}
 use Rattle.asn1_model.specs.Types.{new_type, old_type, required_new, default_old, default_new, colour_old, colour_new, listed, nest_added, nested, no, yes_with}
-use Rattle.asn1_model.specs.Versions.{carried, carried_parts, carried_alternative, grow}
+use Rattle.asn1_model.specs.Versions.{carried, carried_parts, carried_alternative}
 use Rattle.asn1_laws_versions.specs.Answers.{not_an_encoding, no_target}
 use Rattle.asn1_laws_versions.specs.Routes.{at_first}
 use Rattle.asn1_laws_versions.specs.RouteRows.{newer_to, listed_new, three, three_octets, seven, seven_octets, in_default, red, blue}
@@ -56,7 +56,14 @@ returns c = (
       ((goes old_type new_type (at_first uper) (older_to coer ∷ []) seven refl).0, omega arith, (_, refl, refl), some _ _),
       refl,
       refl,
-      (seven_octets, [], refl, some _ _, refl, inr (0, yes_octets, [], ((goes old_type new_type (at_first uper) (older_to coer ∷ []) seven refl).0, omega arith, (_, refl, refl), some _ _), refl, refl, (refl, refl, refl, refl, refl))),
+      (
+        seven_octets,
+        [],
+        refl,
+        some _ _,
+        refl,
+        inr (0, yes_octets, [], ((goes old_type new_type (at_first uper) (older_to coer ∷ []) seven refl).0, omega arith, (_, refl, refl), some _ _), refl, refl, (refl, refl, refl, refl, refl)),
+      ),
     ),
   ),
   (seven_octets, [], refl, some _ _, refl, inl (unread, inr (omega arith), refl, refl, refl, refl)),

@@ -71,7 +71,8 @@ returns-in-Equal-clause-plain c =
     let here = ap (λ xs. slice_get xs (middle c.loop-low.low c.loop-low.high)) s.table ∙ found.1 in
     let same = (c.compare.ensures.equal found.0 here).0 c.in-Equal.is in
     let place = c.place_at.ensures found.0 (ap (λ xs. slice_get xs (middle c.loop-low.low c.loop-low.high)) c.compare.ensures.table ∙ here) in
-    (λ ts h. (ap Some place ∙ sym (just_there ps (middle c.loop-low.low c.loop-low.high) found.0 (tag_of c.args.tag) c.requires.ascending found.1 (ap tag_of same))) ∙ same_as_search ps (tag_of c.args.tag) ts h)
+    (λ ts h. (ap Some place ∙ sym (just_there ps (middle c.loop-low.low c.loop-low.high) found.0 (tag_of c.args.tag)
+    c.requires.ascending found.1 (ap tag_of same))) ∙ same_as_search ps (tag_of c.args.tag) ts h)
 
 -- src/finding.rt:28:32
 pub returns-in-Equal-clause-table : goal.returns-in-Equal-clause-table
@@ -92,7 +93,8 @@ returns-clause-place c =
 -- src/finding.rt:13:1
 pub returns-clause-plain : goal.returns-clause-plain
 returns-clause-plain c =
-    λ ts h. sym (between c.args.probe.now.places (tag_of c.args.tag) c.loop-low.low c.loop-low.high (omega (arith, c.loop-low-test.false)) c.loop-low.invariant.before c.loop-low.invariant.behind) ∙ same_as_search c.args.probe.now.places (tag_of c.args.tag) ts h
+    λ ts h. sym (between c.args.probe.now.places (tag_of c.args.tag) c.loop-low.low c.loop-low.high
+    (omega (arith, c.loop-low-test.false)) c.loop-low.invariant.before c.loop-low.invariant.behind) ∙ same_as_search c.args.probe.now.places (tag_of c.args.tag) ts h
 
 -- src/finding.rt:13:1
 pub returns-clause-table : goal.returns-clause-table

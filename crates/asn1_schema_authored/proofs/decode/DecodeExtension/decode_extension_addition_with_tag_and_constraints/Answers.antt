@@ -11,10 +11,16 @@ pub returns-then-not-present-clause-ok : goal.returns-then-not-present-clause-ok
 returns-then-not-present-clause-ok g c = rw c.if-not-present.true at c.in_ok-present.ensures.ok
 
 pub returns-in_err-value-clause-only : goal.returns-in_err-value-clause-only
-returns-in_err-value-clause-only g c = let one = g.met.Self.Decoder.one_record in let carries = g.met.Self.Decoder.records_carried in raised _ _ _ c.from_residual-in_err-value.ensures.1 (unread_extension one carries (rw c.if-not-present.false at c.in_ok-present.ensures.ok) (rw c.in_ok-present.ensures.level at c.in_err-value.ensures.only))
+returns-in_err-value-clause-only g c = let one = g.met.Self.Decoder.one_record in let carries =
+    g.met.Self.Decoder.records_carried in raised _ _ _ c.from_residual-in_err-value.ensures.1
+    (unread_extension one carries (rw c.if-not-present.false at c.in_ok-present.ensures.ok) (rw c.in_ok-present.ensures.level at c.in_err-value.ensures.only))
 
 pub returns-in_err-end_addition-clause-only : goal.returns-in_err-end_addition-clause-only
-returns-in_err-end_addition-clause-only g c = let one = g.met.Self.Decoder.one_record in let carries = g.met.Self.Decoder.records_carried in let values = g.met.Self.Decoder.values_carried in raised _ _ _ c.from_residual-in_err-end_addition.ensures.1 (unread_extension_end one carries values (rw c.if-not-present.false at c.in_ok-present.ensures.ok) (rw c.in_ok-present.ensures.level at c.in_ok-value.ensures.ok) c.in_err-end_addition.ensures.only)
+returns-in_err-end_addition-clause-only g c = let one = g.met.Self.Decoder.one_record in let carries =
+    g.met.Self.Decoder.records_carried in let values = g.met.Self.Decoder.values_carried in
+    raised _ _ _ c.from_residual-in_err-end_addition.ensures.1
+    (unread_extension_end one carries values (rw c.if-not-present.false at c.in_ok-present.ensures.ok)
+    (rw c.in_ok-present.ensures.level at c.in_ok-value.ensures.ok) c.in_err-end_addition.ensures.only)
 
 pub returns-clause-ok : goal.returns-clause-ok
 returns-clause-ok g c = reads_enclosed (rw c.if-not-present.false at c.in_ok-present.ensures.ok) (rw c.in_ok-present.ensures.level at c.in_ok-value.ensures.ok) c.in_ok-end_addition.ensures.ok
@@ -22,4 +28,5 @@ returns-clause-ok g c = reads_enclosed (rw c.if-not-present.false at c.in_ok-pre
 pub returns-in_err-end_addition-clause-after : goal.returns-in_err-end_addition-clause-after
 returns-in_err-end_addition-clause-after g c =
     let law = g.met.Self.Decoder.goes_on in
-    passed_on _ c.from_residual-in_err-end_addition.ensures.1 (λ h. absurd (law _ _ _ c.in_ok-present.ensures.ok (failed_reads law c.in_ok-value.ensures.ok (c.in_err-end_addition.ensures.after (ap (λ z. Err z) h)))))
+    passed_on _ c.from_residual-in_err-end_addition.ensures.1
+    (λ h. absurd (law _ _ _ c.in_ok-present.ensures.ok (failed_reads law c.in_ok-value.ensures.ok (c.in_err-end_addition.ensures.after (ap (λ z. Err z) h)))))

@@ -13,12 +13,17 @@ pub returns-then-not-is_there-clause-ok : goal.returns-then-not-is_there-clause-
 returns-then-not-is_there-clause-ok g c = omitted c.in-Ok.ensures (rw c.if-not-is_there.true at c.in_ok-is_there.ensures.ok)
 
 pub returns-in_err-value-clause-only : goal.returns-in_err-value-clause-only
-returns-in_err-value-clause-only g c = let one = g.met.Self.Decoder.one_record in let carries = g.met.Self.Decoder.records_carried in let values = g.met.Self.Decoder.values_carried in raised _ _ _ c.from_residual-in_err-value.ensures.1 (unread_default one carries (rw c.if-not-is_there.false at c.in_ok-is_there.ensures.ok) (rw c.in_ok-is_there.ensures.level at c.in_err-value.ensures.only))
+returns-in_err-value-clause-only g c = let one = g.met.Self.Decoder.one_record in let carries =
+    g.met.Self.Decoder.records_carried in let values = g.met.Self.Decoder.values_carried in
+    raised _ _ _ c.from_residual-in_err-value.ensures.1
+    (unread_default one carries (rw c.if-not-is_there.false at c.in_ok-is_there.ensures.ok) (rw c.in_ok-is_there.ensures.level at c.in_err-value.ensures.only))
 
 pub returns-in_err-note_default-clause-only : goal.returns-in_err-note_default-clause-only
 returns-in_err-note_default-clause-only g c =
     let one = g.met.Self.Decoder.one_record in let carries = g.met.Self.Decoder.records_carried in let values = g.met.Self.Decoder.values_carried in
-    raised _ _ _ c.from_residual-in_err-note_default.ensures.1 (unread_noted one carries values (sym c.is_default-is_default.ensures ∙ c.if-is_default.true) (rw c.if-not-is_there.false at c.in_ok-is_there.ensures.ok) (rw c.in_ok-is_there.ensures.level at c.in_ok-value.ensures.ok) c.in_err-note_default.ensures.only)
+    raised _ _ _ c.from_residual-in_err-note_default.ensures.1
+    (unread_noted one carries values (sym c.is_default-is_default.ensures ∙ c.if-is_default.true)
+    (rw c.if-not-is_there.false at c.in_ok-is_there.ensures.ok) (rw c.in_ok-is_there.ensures.level at c.in_ok-value.ensures.ok) c.in_err-note_default.ensures.only)
 
 pub returns-clause-ok : goal.returns-clause-ok
 returns-clause-ok g c =
@@ -32,4 +37,5 @@ returns-clause-ok g c =
 pub returns-in_err-note_default-clause-after : goal.returns-in_err-note_default-clause-after
 returns-in_err-note_default-clause-after g c =
     let law = g.met.Self.Decoder.goes_on in
-    passed_on _ c.from_residual-in_err-note_default.ensures.1 (λ h. absurd (law _ _ _ c.in_ok-is_there.ensures.ok (failed_reads law c.in_ok-value.ensures.ok (c.in_err-note_default.ensures.after (ap (λ z. Err z) h)))))
+    passed_on _ c.from_residual-in_err-note_default.ensures.1
+    (λ h. absurd (law _ _ _ c.in_ok-is_there.ensures.ok (failed_reads law c.in_ok-value.ensures.ok (c.in_err-note_default.ensures.after (ap (λ z. Err z) h)))))

@@ -11,21 +11,33 @@ use Rattle.asn1_schema_decode.proofs.constrained.RangedIntegerDecode.decode_with
 pub returns-in_err-_octet-clause-only : goal.returns-in_err-_octet-clause-only
 returns-in_err-_octet-clause-only g c =
     let order : g.R.Ends.END <ℤ g.R.Ends.START = omega (arith, ints, c.if-START-END.true, c.START.ensures, c.END.ensures) in
-    raised _ _ _ c.from_residual.ensures.1 (unread_unranged g.R.Ends.START g.R.Ends.END (meant c.args.constraints.now) _ c.no_number.result (not_at_most _ _ order) c.no_number.ensures c.in_err-_octet.ensures.only)
+    raised _ _ _ c.from_residual.ensures.1 (unread_unranged g.R.Ends.START g.R.Ends.END (meant c.args.constraints.now)
+    _ c.no_number.result (not_at_most _ _ order) c.no_number.ensures c.in_err-_octet.ensures.only)
 
 pub returns-in_err-number-clause-only : goal.returns-in_err-number-clause-only
 returns-in_err-number-clause-only g c =
     let order : g.R.Ends.START ≤ℤ g.R.Ends.END = omega (arith, ints, c.if-START-END.false, c.START.ensures, c.END.ensures) in
     let start : SFits w64 c.START-2.result = search rules in
     let end : SFits w64 c.END-2.result = search rules in
-    raised _ _ _ c.from_residual-in_err-number.ensures.1 (unread_ranged g.R.Ends.START g.R.Ends.END (meant c.args.constraints.now) _ c.within_range-range.result _ refl (at_most _ _ order) (rw (to_z-of_z w64 c.START-2.result start, to_z-of_z w64 c.END-2.result end, c.START-2.ensures, c.END-2.ensures) at c.within_range-range.ensures) c.in_err-number.ensures.only)
+    raised _ _ _ c.from_residual-in_err-number.ensures.1
+    (unread_ranged g.R.Ends.START g.R.Ends.END (meant c.args.constraints.now) _ c.within_range-range.result _ refl
+    (at_most _ _ order) (rw (
+      to_z-of_z w64 c.START-2.result start,
+      to_z-of_z w64 c.END-2.result end,
+      c.START-2.ensures,
+      c.END-2.ensures,
+    ) at c.within_range-range.ensures) c.in_err-number.ensures.only)
 
 pub ranged_integer-value-requires : goal.ranged_integer-value-requires
 ranged_integer-value-requires g c =
     let fits : SFits w128 c.in_ok-number.number = search rules in
     let start : SFits w64 c.START-2.result = search rules in
     let end : SFits w64 c.END-2.result = search rules in
-    record { within = rw (to_z-of_z w128 c.in_ok-number.number fits) (met_within g.R.Ends.START g.R.Ends.END (meant c.args.constraints.now) c.within_range-range.result (rw (to_z-of_z w64 c.START-2.result start, to_z-of_z w64 c.END-2.result end, c.START-2.ensures, c.END-2.ensures) at c.within_range-range.ensures) _ c.in_ok-number.ensures.within) }
+    record {
+      within = rw (to_z-of_z w128 c.in_ok-number.number fits)
+          (met_within g.R.Ends.START g.R.Ends.END (meant c.args.constraints.now) c.within_range-range.result
+          (rw (to_z-of_z w64 c.START-2.result start, to_z-of_z w64 c.END-2.result end, c.START-2.ensures, c.END-2.ensures) at c.within_range-range.ensures) _ c.in_ok-number.ensures.within);
+    }
 
 pub returns-clause-ok : goal.returns-clause-ok
 returns-clause-ok g c =
@@ -33,4 +45,6 @@ returns-clause-ok g c =
     let fits : SFits w128 c.in_ok-number.number = search rules in
     let start : SFits w64 c.START-2.result = search rules in
     let end : SFits w64 c.END-2.result = search rules in
-    reads_ranged g.R.Ends.START g.R.Ends.END (meant c.args.constraints.now) _ c.within_range-range.result _ refl (at_most _ _ order) (rw (to_z-of_z w64 c.START-2.result start, to_z-of_z w64 c.END-2.result end, c.START-2.ensures, c.END-2.ensures) at c.within_range-range.ensures) (c.ranged_integer-value.ensures ∙ to_z-of_z w128 c.in_ok-number.number fits) c.in_ok-number.ensures.ok
+    reads_ranged g.R.Ends.START g.R.Ends.END (meant c.args.constraints.now) _ c.within_range-range.result _ refl (at_most _ _ order)
+    (rw (to_z-of_z w64 c.START-2.result start, to_z-of_z w64 c.END-2.result end, c.START-2.ensures, c.END-2.ensures)
+    at c.within_range-range.ensures) (c.ranged_integer-value.ensures ∙ to_z-of_z w128 c.in_ok-number.number fits) c.in_ok-number.ensures.ok

@@ -13,7 +13,8 @@ returns-in_err-encode_integer-clause-only g c =
     let end : SFits w64 c.END.result = search rules in
     let m = rw (to_z-of_z w64 c.START.result start, to_z-of_z w64 c.END.result end, c.START.ensures, c.END.ensures) at c.within_range-range.ensures in
     let k = rw c.deref-number.ensures at c.in_err-encode_integer.ensures.only in
-    raised _ _ _ c.from_residual.ensures.1 (cannot_ranged g.R.Ends.START g.R.Ends.END (meant c.args.constraints.now) c.within_range-range.result (constrained_number c.args.self.now) m c.args.self.now.order.is_ordered k)
+    raised _ _ _ c.from_residual.ensures.1 (cannot_ranged g.R.Ends.START g.R.Ends.END (meant c.args.constraints.now)
+    c.within_range-range.result (constrained_number c.args.self.now) m c.args.self.now.order.is_ordered k)
 
 pub returns-clause-ok : goal.returns-clause-ok
 returns-clause-ok g c =

@@ -3,7 +3,8 @@ use Rattle.asn1_schema_encode.proofs.SingleRecords.{writes_octet_string, cannot_
 use Rattle.asn1_schema_encode.proofs.fixed.FixedOctetStringEncode.encode_with_tag_and_constraints.Goals as goal
 
 pub returns-in_err-encode_octet_string-clause-only : goal.returns-in_err-encode_octet_string-clause-only
-returns-in_err-encode_octet_string-clause-only g c = raised _ _ _ c.from_residual.ensures.1 (cannot_octet_string _ _ (rw (c.single_value.ensures, c.as_slice.ensures) at c.in_err-encode_octet_string.ensures.only))
+returns-in_err-encode_octet_string-clause-only g c =
+    raised _ _ _ c.from_residual.ensures.1 (cannot_octet_string _ _ (rw (c.single_value.ensures, c.as_slice.ensures) at c.in_err-encode_octet_string.ensures.only))
 
 pub returns-clause-ok : goal.returns-clause-ok
 returns-clause-ok g c = writes_octet_string _ _ (rw (c.single_value.ensures, c.as_slice.ensures) at c.in_ok-encode_octet_string.ensures.ok)

@@ -4,7 +4,8 @@ use Rattle.asn1_schema_encode.proofs.SingleRecords.{writes_identifier, cannot_id
 use Rattle.asn1_schema_encode.proofs.lent.OidEncode.encode_with_tag_and_constraints.Goals as goal
 
 pub returns-in_err-encode_object_identifier-clause-only : goal.returns-in_err-encode_object_identifier-clause-only
-returns-in_err-encode_object_identifier-clause-only g c = raised _ _ _ c.from_residual.ensures.1 (cannot_identifier (rw (c.new_unchecked-oid.ensures ∙ c.as_slice.ensures.value) at c.in_err-encode_object_identifier.ensures.only))
+returns-in_err-encode_object_identifier-clause-only g c =
+    raised _ _ _ c.from_residual.ensures.1 (cannot_identifier (rw (c.new_unchecked-oid.ensures ∙ c.as_slice.ensures.value) at c.in_err-encode_object_identifier.ensures.only))
 
 pub returns-clause-ok : goal.returns-clause-ok
 returns-clause-ok g c = writes_identifier (rw (c.new_unchecked-oid.ensures ∙ c.as_slice.ensures.value) at c.in_ok-encode_object_identifier.ensures.ok)

@@ -5,16 +5,23 @@ use Rattle.asn1_schema_encode.proofs.Going.{passed, failed_before_value}
 use Rattle.asn1_schema_encode.proofs.lists.EncodeList.encode_sequence_of.Goals as goal
 
 pub returns-in_err-begin_list-clause-only : goal.returns-in_err-begin_list-clause-only
-returns-in_err-begin_list-clause-only g c = raised _ _ _ c.from_residual.ensures.1 (cannot_list_here _ _ _ _ (rw (count_values g.T.Described.meaning c.args.items.now) c.in_err-begin_list.ensures.only))
+returns-in_err-begin_list-clause-only g c =
+    raised _ _ _ c.from_residual.ensures.1 (cannot_list_here _ _ _ _ (rw (count_values g.T.Described.meaning c.args.items.now) c.in_err-begin_list.ensures.only))
 
 pub loop-item-init : goal.loop-item-init
 loop-item-init g c = (from_start _, g.met.Self.Encoder.goes_on _ _ _ c.in_ok-begin_list.ensures.ok, refl)
 
 pub returns-in_err-encode_further-clause-only : goal.returns-in_err-encode_further-clause-only
-returns-in_err-encode_further-clause-only g c = let one = g.met.Self.Encoder.one_after in raised _ _ _ c.from_residual-in_err-encode_further.ensures.1 (cannot_list _ _ _ one (rw (count_values g.T.Described.meaning c.args.items.now) c.in_ok-begin_list.ensures.ok) (from_further (omega arith) c.item-item.is c.loop-item.invariant.0 c.in_err-encode_further.ensures.only))
+returns-in_err-encode_further-clause-only g c = let one = g.met.Self.Encoder.one_after in
+    raised _ _ _ c.from_residual-in_err-encode_further.ensures.1
+    (cannot_list _ _ _ one (rw (count_values g.T.Described.meaning c.args.items.now) c.in_ok-begin_list.ensures.ok)
+    (from_further (omega arith) c.item-item.is c.loop-item.invariant.0 c.in_err-encode_further.ensures.only))
 
 pub returns-in_err-encode-clause-only : goal.returns-in_err-encode-clause-only
-returns-in_err-encode-clause-only g c = let one = g.met.Self.Encoder.one_after in raised _ _ _ c.from_residual-in_err-encode.ensures.1 (cannot_list _ _ _ one (rw (count_values g.T.Described.meaning c.args.items.now) c.in_ok-begin_list.ensures.ok) (from_stuck one (omega arith) c.item-item.is c.loop-item.invariant.0 c.in_ok-encode_further.ensures.ok c.in_err-encode.ensures.only))
+returns-in_err-encode-clause-only g c = let one = g.met.Self.Encoder.one_after in
+    raised _ _ _ c.from_residual-in_err-encode.ensures.1
+    (cannot_list _ _ _ one (rw (count_values g.T.Described.meaning c.args.items.now) c.in_ok-begin_list.ensures.ok)
+    (from_stuck one (omega arith) c.item-item.is c.loop-item.invariant.0 c.in_ok-encode_further.ensures.ok c.in_err-encode.ensures.only))
 
 pub loop-item-preserved : goal.loop-item-preserved
 loop-item-preserved g c =
@@ -26,13 +33,20 @@ loop-item-preserved g c =
     )
 
 pub returns-in_err-encode_further-2-clause-only : goal.returns-in_err-encode_further-2-clause-only
-returns-in_err-encode_further-2-clause-only g c = let one = g.met.Self.Encoder.one_after in raised _ _ _ c.from_residual-in_err-encode_further-2.ensures.1 (cannot_list _ _ _ one (rw (count_values g.T.Described.meaning c.args.items.now) c.in_ok-begin_list.ensures.ok) (from_no_more (omega arith) c.loop-item.invariant.0 c.in_err-encode_further-2.ensures.only))
+returns-in_err-encode_further-2-clause-only g c = let one = g.met.Self.Encoder.one_after in
+    raised _ _ _ c.from_residual-in_err-encode_further-2.ensures.1
+    (cannot_list _ _ _ one (rw (count_values g.T.Described.meaning c.args.items.now) c.in_ok-begin_list.ensures.ok)
+    (from_no_more (omega arith) c.loop-item.invariant.0 c.in_err-encode_further-2.ensures.only))
 
 pub returns-in_err-end-clause-only : goal.returns-in_err-end-clause-only
-returns-in_err-end-clause-only g c = let one = g.met.Self.Encoder.one_after in raised _ _ _ c.from_residual-in_err-end.ensures.1 (cannot_list _ _ _ one (rw (count_values g.T.Described.meaning c.args.items.now) c.in_ok-begin_list.ensures.ok) (from_close one (omega arith) c.loop-item.invariant.0 c.in_ok-encode_further-2.ensures.ok c.in_err-end.ensures.only))
+returns-in_err-end-clause-only g c = let one = g.met.Self.Encoder.one_after in
+    raised _ _ _ c.from_residual-in_err-end.ensures.1
+    (cannot_list _ _ _ one (rw (count_values g.T.Described.meaning c.args.items.now) c.in_ok-begin_list.ensures.ok)
+    (from_close one (omega arith) c.loop-item.invariant.0 c.in_ok-encode_further-2.ensures.ok c.in_err-end.ensures.only))
 
 pub returns-clause-ok : goal.returns-clause-ok
-returns-clause-ok g c = writes_list _ _ _ (rw (count_values g.T.Described.meaning c.args.items.now) c.in_ok-begin_list.ensures.ok) (from_end (omega arith) c.loop-item.invariant.0 c.in_ok-encode_further-2.ensures.ok c.in_ok-end.ensures.ok)
+returns-clause-ok g c = writes_list _ _ _ (rw (count_values g.T.Described.meaning c.args.items.now) c.in_ok-begin_list.ensures.ok)
+    (from_end (omega arith) c.loop-item.invariant.0 c.in_ok-encode_further-2.ensures.ok c.in_ok-end.ensures.ok)
 
 pub returns-in_err-encode_further-clause-after : goal.returns-in_err-encode_further-clause-after
 returns-in_err-encode_further-clause-after g c = passed c.from_residual-in_err-encode_further.ensures.1 (λ e. absurd (c.loop-item.invariant.1 (c.in_err-encode_further.ensures.after e)))

@@ -22,7 +22,8 @@ loop-index-preserved c =
 pub returns : goal.returns
 returns c = record {
   all = c.loop-index.all.items;
-  placed = placed_all c.args.self.now c.loop-index.all.items c.loop-index.index (omega (arith, c.loop-index-test.false, c.loop-index.auto.index-end, c.len-index-end.ensures)) c.loop-index.invariant.placed;
+  placed = placed_all c.args.self.now c.loop-index.all.items c.loop-index.index
+      (omega (arith, c.loop-index-test.false, c.loop-index.auto.index-end, c.len-index-end.ensures)) c.loop-index.invariant.placed;
   ascend =
       is_ascending_by HasFront octets_of fronted fronts_agree c.loop-index.all.items c.sort_by.new.self.items c.loop-index.invariant.fronts
       (c.in_ok-sort_by.ensures.sorted (less fronted) (ranks fronted) (answers_always _ _ _ (λ f a r f' k. search rules)))

@@ -17,12 +17,14 @@ overflow_add-result t c = omega (
 
 pub returns-in-Some : goal.returns-in-Some
 returns-in-Some t c =
-    sym (place_found (tag_of c.args.tag.now) c.loop-node.before c.in-Some.place c.in-Choice.nodes.now c.loop-node.node-index c.node-item.result c.loop-node-test.true c.node-item.is (sym c.in-Some.ensures))
+    sym (place_found (tag_of c.args.tag.now)
+    c.loop-node.before c.in-Some.place c.in-Choice.nodes.now c.loop-node.node-index c.node-item.result c.loop-node-test.true c.node-item.is (sym c.in-Some.ensures))
     ∙ c.loop-node.invariant.passed
 
 pub loop-node-preserved : goal.loop-node-preserved
 loop-node-preserved t c =
-    let count : length (leaves c.node-item.result) ≡ c.unwrap-before.result = counted_is (length (leaves c.node-item.result)) c.unwrap-before.result (sym c.leaf_count.ensures.counted ∙ c.unwrap-before.ensures) in
+    let count : length (leaves c.node-item.result) ≡ c.unwrap-before.result =
+    counted_is (length (leaves c.node-item.result)) c.unwrap-before.result (sym c.leaf_count.ensures.counted ∙ c.unwrap-before.ensures) in
     record {
       counted = omega (arith, count, c.loop-node.invariant.counted, length_step c.in-Choice.nodes.now c.loop-node.node-index c.node-item.result c.loop-node-test.true c.node-item.is);
       passed =

@@ -25,7 +25,8 @@ overflow_sub-left t c =
 
 pub loop-node-preserved : goal.loop-node-preserved
 loop-node-preserved t c =
-    let count : length (leaves c.node-item.result) ≡ c.unwrap-left.result = counted_is (length (leaves c.node-item.result)) c.unwrap-left.result (sym c.leaf_count.ensures.counted ∙ c.unwrap-left.ensures) in
+    let count : length (leaves c.node-item.result) ≡ c.unwrap-left.result =
+    counted_is (length (leaves c.node-item.result)) c.unwrap-left.result (sym c.leaf_count.ensures.counted ∙ c.unwrap-left.ensures) in
     ap (λ k. slice_get (leaves_of (drop (c.loop-node.node-index + 1) c.in-Choice.nodes.now)) (c.loop-node.left - k)) (sym count)
     ∙ (sym (tag_passed c.in-Choice.nodes.now c.loop-node.node-index c.loop-node.left c.node-item.result c.loop-node-test.true c.node-item.is
     (sym c.tag_at.ensures ∙ ap (option_map tag_of) c.in_default.is))
